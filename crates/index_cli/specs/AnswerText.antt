@@ -1,0 +1,42 @@
+-- The text of an answer: compact JSON with keys in byte order.
+use Rattle.std.specs.Prelude.{ℕ, List, codes}
+use Rattle.serde_json.specs.Data.{Data, number, unsigned, string, object, Members, no_members, member}
+use Rattle.serde_json.specs.Written.{compact_text}
+use Rattle.index_rules.specs.declared.answer.Answer.{Answer}
+use Rattle.index_rules.specs.declared.answer.Answer.TheVariants as answer
+use Rattle.index_rules.specs.declared.answer.Fault.{Fault}
+use Rattle.index_rules.specs.declared.answer.Fault.TheVariants.{OutOfMemory, Store}
+use Rattle.index_rules.specs.declared.answer.Refusal.{Refusal}
+use Rattle.index_rules.specs.declared.answer.Refusal.TheVariants.{BadMoment, BadToken, BadName, NameProhibited, NameHeld}
+use Rattle.index_rules.specs.Refusals.{number_of}
+
+abbrev pub refusal_name : Refusal → List ℕ
+refusal_name BadMoment = codes "BadMoment"
+refusal_name BadToken = codes "BadToken"
+refusal_name BadName = codes "BadName"
+refusal_name NameProhibited = codes "NameProhibited"
+refusal_name NameHeld = codes "NameHeld"
+
+abbrev pub fault_name : Fault → List ℕ
+fault_name OutOfMemory = codes "OutOfMemory"
+fault_name Store = codes "Store"
+
+-- an answer of this kind, with more members
+abbrev pub answered : List ℕ → Members → Data
+answered kind more = object (member (codes "answer") (string kind) more)
+
+abbrev pub named : List ℕ → Members
+named name = member (codes "name") (string name) no_members
+
+abbrev pub answer_value : Answer → Data
+answer_value answer.Accepted = answered (codes "accepted") no_members
+answer_value answer.Already = answered (codes "already") no_members
+answer_value (answer.Refused refusal) = answered (codes "refused") (member (codes "code") (number (unsigned (number_of refusal))) (named (refusal_name refusal)))
+answer_value (answer.Fault fault) = answered (codes "fault") (named (fault_name fault))
+
+unfoldable pub answer_text_of : Answer → List ℕ
+answer_text_of answer = compact_text (answer_value answer)
+
+-- the answer to what asks nothing
+unfoldable pub bad_body_text : List ℕ
+bad_body_text = compact_text (answered (codes "message") (named (codes "BadBody")))

@@ -1,0 +1,29 @@
+-- The JSON value that bytes are, and what its members say.
+use Rattle.std.specs.Prelude.{ℕ, List, if◌then◌else◌, Option, Some, None, option_map, option_and_then, unwrap_or}
+use Rattle.std.specs.Str.{is_utf8}
+use Rattle.serde_json.specs.Data.{Data}
+use Rattle.serde_json.specs.Events.{members_len}
+use Rattle.serde_json.specs.Read.{read}
+use Rattle.serde_json.specs.Find.{get, as_object, as_str, as_number, as_u64}
+
+-- the next step, where this one gave something
+infixl 10 ◌>>=◌
+abbrev pub ◌>>=◌ : {A B : Type 0} → Option A → (A → Option B) → Option B
+None >>= f = None
+Some x >>= f = f x
+
+-- the value of a JSON text, which has to be UTF-8 (RFC 8259, sections 2 and 8.1)
+abbrev pub json_of : List ℕ → Option Data
+json_of bytes = if is_utf8 bytes then read bytes else None
+
+-- how many keys an object has, each of which stands once; no other value has one
+abbrev pub key_count : Data → ℕ
+key_count value = unwrap_or (option_map members_len (as_object value)) 0
+
+-- the text at a key, as its UTF-8 bytes
+abbrev pub text_at : List ℕ → Data → Option (List ℕ)
+text_at key value = option_and_then as_str (get key value)
+
+-- the whole number of 64 bits at a key
+abbrev pub number_at : List ℕ → Data → Option ℕ
+number_at key value = option_and_then as_u64 (option_and_then as_number (get key value))

@@ -1,0 +1,7 @@
+pub mod Json
+pub mod Requests
+pub mod Line
+pub mod AnswerText
+pub mod StandingText
+pub mod Lines
+pub mod Told

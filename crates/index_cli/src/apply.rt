@@ -1,0 +1,66 @@
+//! Answers to the lines of an input.
+ghost use Rattle.std.specs.Prelude.{◌≡◌, ◌≢◌, ◌<◌, ℕ, List, [], ◌∷◌, ◌++◌, length, take, IfErr, IfOk};
+ghost use Rattle.std.specs.Io.KnownBytes.{Appends};
+ghost use Rattle.index_cli.specs.Lines.{lines_of, IsInput};
+ghost use Rattle.index_cli.specs.Told.{Told};
+
+use crate::end::LineEnd;
+use crate::input::next_line;
+use crate::output::write_line;
+use crate::reply::reply_to;
+use index_desk::Desk;
+use index_rules::Books;
+use std::alloc::Global;
+use std::io::{Read, Write};
+
+/// The most bytes that are read.
+const MOST_BYTES: u64 = 1_099_511_627_776;
+
+/// Answers each line of an input by a line, and tells how many lines there were. A last line may have no line feed.
+/// Where a line could not be answered, the lines before it were. Reads may give any number of bytes; the reader
+/// takes one at a time, so hand in a buffered one.
+pub fn apply_lines<R: Read, W: Write, B: Books>(
+    alloc: Global,
+    reader: &mut R,
+    writer: &mut W,
+    desk: &mut Desk<B>,
+) -> Result<u64, LineEnd>
+    // Every line was answered.
+    ensures ok { B.IsHonest desk.new → IfOk result (λ count. (input : List ℕ) × (text : List ℕ)
+        × IsInput (R.remaining reader.old) input
+        × Told (B.tables desk.old) (lines_of input) text (B.tables desk.new)
+        × Appends (W.contents writer.old) (W.contents writer.new) text
+        × (count ≡ length (lines_of input))) }
+
+    // Just the lines before the one in hand were, and that one was not applied.
+    ensures before { B.IsHonest desk.new → IfErr result (λ end. end ≢ LineEnd.WriteFault →
+        (input : List ℕ) × (done : List (List ℕ)) × (left : List (List ℕ)) × (text : List ℕ)
+        × IsInput (R.remaining reader.old) input
+        × (lines_of input ≡ done ++ left)
+        × Told (B.tables desk.old) done text (B.tables desk.new)
+        × Appends (W.contents writer.old) (W.contents writer.new) text) }
+
+    // The one in hand was too, and a front of the text went out.
+    ensures during { B.IsHonest desk.new → IfErr result (λ end. end ≡ LineEnd.WriteFault →
+        (input : List ℕ) × (done : List (List ℕ)) × (line : List ℕ) × (left : List (List ℕ)) × (text : List ℕ) × (count : ℕ)
+        × IsInput (R.remaining reader.old) input
+        × (lines_of input ≡ (done ++ line ∷ []) ++ left)
+        × Told (B.tables desk.old) (done ++ line ∷ []) text (B.tables desk.new)
+        × (count < length text)
+        × Appends (W.contents writer.old) (W.contents writer.new) (take count text)) }
+    ensures honest { B.IsHonest desk.new → B.IsHonest desk.old }
+{
+    let mut line = Vec::new(alloc);
+    let mut left = MOST_BYTES;
+    for count in 0..MOST_BYTES {
+        let Some(size) = next_line(reader, &mut line, left)? else {
+            return Ok(count);
+        };
+        left -= size + 1;
+        let reply = reply_to(alloc, desk, line.as_slice(), size)?;
+        let Ok(()) = write_line(writer, reply.as_bytes()) else {
+            return Err(LineEnd::WriteFault);
+        };
+    }
+    Err(LineEnd::ReadFault)
+}

@@ -1,0 +1,25 @@
+//! The ends of a run over lines.
+use std::error::Error;
+use std::fmt;
+
+/// Why a run over lines ended before the end of its input.
+#[derive(Clone, Copy, Debug, PartialEq, Eq, Hash)]
+pub enum LineEnd {
+    /// A read failed, or the input has more than 1,099,511,627,776 bytes.
+    ReadFault,
+    /// A write failed, or took no byte.
+    WriteFault,
+    OutOfMemory,
+}
+
+impl fmt::Display for LineEnd {
+    fn fmt<W: fmt::Write>(&self, f: &mut fmt::Formatter<W>) -> fmt::Result {
+        f.write_str(match self {
+            LineEnd::ReadFault => "ReadFault",
+            LineEnd::WriteFault => "WriteFault",
+            LineEnd::OutOfMemory => "OutOfMemory",
+        })
+    }
+}
+
+impl Error for LineEnd {}

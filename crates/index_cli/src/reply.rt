@@ -1,0 +1,97 @@
+//! The reply to one line.
+ghost use Rattle.std.specs.Prelude.{◌≡◌, ℕ, List, Some, length, take, IfErr, IfOk, OnErr};
+ghost use Rattle.index_cli.specs.Line.{line_of};
+ghost use Rattle.index_cli.specs.Told.{Tells, TellsLine, reply_text};
+
+use crate::answer::{answer_text, bad_body};
+use crate::end::LineEnd;
+use crate::input::LONGEST_LINE;
+use crate::line::{Line, read_line};
+use crate::standing::standing_text;
+use index_desk::Desk;
+use index_names::{NameFault, normal};
+use index_rules::{Answer, Books, Fault, Refusal};
+use std::alloc::Global;
+
+/// The reply to a line, without a line feed. That to a call is fixed, so that it takes no memory once the call was
+/// applied.
+#[derive(Debug, Drop)]
+pub enum Reply {
+    Fixed(&'static str),
+    Made(String),
+}
+
+impl Reply {
+    /// The reply's text.
+    pub fn as_bytes(&self) -> &[u8]
+        ensures { result.now ≡ reply_text self.now }
+    {
+        match self {
+            Reply::Fixed(text) => text.as_bytes(),
+            Reply::Made(text) => text.as_str().as_bytes(),
+        }
+    }
+}
+
+/// The reply to a line of this size, of which `front` has the first 65,536 bytes. A longer one asks nothing.
+/// After `OutOfMemory`, its one error, the tables are what they were.
+pub fn reply_to<B: Books>(
+    alloc: Global,
+    desk: &mut Desk<B>,
+    front: &[u8],
+    size: u64,
+) -> Result<Reply, LineEnd>
+    ensures reply { B.IsHonest desk.new → IfOk result (λ reply. (line : List ℕ) → length line ≡ size → front.now ≡ take 65536 line
+        → Tells line (B.tables desk.old) (reply_text reply) (B.tables desk.new)) }
+    ensures unchanged { B.IsHonest desk.new → OnErr result (B.tables desk.new ≡ B.tables desk.old) }
+    ensures memory { IfErr result (λ end. end ≡ LineEnd.OutOfMemory) }
+    ensures honest { B.IsHonest desk.new → B.IsHonest desk.old }
+{
+    if size > LONGEST_LINE {
+        return Ok(Reply::Fixed(bad_body()));
+    }
+    reply_to_read(alloc, desk, front)
+}
+
+/// The reply to a line that is not too long.
+fn reply_to_read<B: Books>(alloc: Global, desk: &mut Desk<B>, line: &[u8]) -> Result<Reply, LineEnd>
+    ensures reply { B.IsHonest desk.new → IfOk result (λ reply. TellsLine (line_of line.now) (B.tables desk.old) (reply_text reply) (B.tables desk.new)) }
+    ensures unchanged { B.IsHonest desk.new → OnErr result (B.tables desk.new ≡ B.tables desk.old) }
+    ensures memory { IfErr result (λ end. end ≡ LineEnd.OutOfMemory) }
+    ensures honest { B.IsHonest desk.new → B.IsHonest desk.old }
+{
+    let Ok(asked) = read_line(alloc, line) else {
+        return Err(LineEnd::OutOfMemory);
+    };
+    match asked {
+        None => Ok(Reply::Fixed(bad_body())),
+        Some(Line::Call(call)) => Ok(Reply::Fixed(answer_text(&desk.apply(alloc, call)))),
+        Some(Line::Standing(name)) => standing_reply(alloc, desk, name.as_slice()),
+    }
+}
+
+/// The reply to the question for a standing.
+fn standing_reply<B: Books>(
+    alloc: Global,
+    desk: &mut Desk<B>,
+    name: &[u8],
+) -> Result<Reply, LineEnd>
+    ensures reply { B.IsHonest desk.new → IfOk result (λ reply. TellsLine (Some (Line.Standing name.now)) (B.tables desk.old) (reply_text reply) (B.tables desk.new)) }
+    ensures unchanged { B.IsHonest desk.new → OnErr result (B.tables desk.new ≡ B.tables desk.old) }
+    ensures memory { IfErr result (λ end. end ≡ LineEnd.OutOfMemory) }
+    ensures honest { B.IsHonest desk.new → B.IsHonest desk.old }
+{
+    let name = match normal(alloc, name) {
+        Ok(name) => name,
+        Err(NameFault::OutOfMemory) => return Err(LineEnd::OutOfMemory),
+        Err(_) => return Ok(Reply::Fixed(answer_text(&Answer::Refused(Refusal::BadName)))),
+    };
+    let standing = match desk.standing(alloc, &name) {
+        Ok(standing) => standing,
+        Err(fault) => return Ok(Reply::Fixed(answer_text(&Answer::Fault(fault)))),
+    };
+    match standing_text(alloc, &standing) {
+        Ok(text) => Ok(Reply::Made(text)),
+        Err(_) => Err(LineEnd::OutOfMemory),
+    }
+}

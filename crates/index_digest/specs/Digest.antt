@@ -1,0 +1,34 @@
+-- SHA-256 digests as lists of bytes, and the texts that they are written in.
+use Rattle.std.specs.Prelude.{◌≡◌, ℕ, ◌==◌, ◌&&◌, Bool, if◌then◌else◌, List, length, codes, Option, None}
+use Rattle.std.specs.List.{list_all, list_any}
+use Rattle.std.specs.Result.{result_ok}
+use Rattle.hex.specs.Hex.{IsBytes, decode_of, encode_lower}
+use Rattle.sha2.specs.Sha256 as standard
+
+-- the SHA-256 of a message (FIPS 180-4, section 6.2)
+unfoldable pub sha256 : List ℕ → List ℕ
+sha256 message = standard.sha256 message
+
+-- a digest is 32 bytes (FIPS 180-4, figure 1)
+pub record IsDigest (digest : List ℕ) : Type 0 where
+  pub size : length digest ≡ 32
+  pub bytes : IsBytes digest
+
+-- the sixteen digits of a digest's text, in the order of their values
+abbrev pub text_digits : List ℕ
+text_digits = codes "0123456789abcdef"
+
+unfoldable pub is_text_digit : ℕ → Bool
+is_text_digit c = list_any (λ digit. digit == c) text_digits
+
+-- a digest's text is 64 of these digits
+abbrev pub is_digest_text : List ℕ → Bool
+is_digest_text text = (length text == 64) && list_all is_text_digit text
+
+-- the text of a digest: two digits for each byte, that of the high four bits first
+unfoldable pub text_of : List ℕ → List ℕ
+text_of digest = encode_lower digest
+
+-- the digest that a text is of, if it is of one
+unfoldable pub digest_in : List ℕ → Option (List ℕ)
+digest_in text = if is_digest_text text then result_ok (decode_of text) else None

@@ -1,0 +1,10 @@
+//! SHA-256 digests (FIPS 180-4): their values, their texts, and bytes beside their digest.
+#![tactic(auto)]
+
+mod digest;
+mod sealed;
+#[cfg(test)]
+mod tests;
+
+pub use digest::Digest256;
+pub use sealed::Sealed;

@@ -1,0 +1,9 @@
+pub mod AsciiLemmas
+pub mod HyphenLemmas
+pub mod NameLemmas
+pub mod NormalForm
+pub mod NormalFormLaws
+pub mod ReleaseLaws
+pub mod Spelling
+pub mod SpellingLaws
+pub mod WheelCuts

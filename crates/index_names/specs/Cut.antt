@@ -1,0 +1,23 @@
+-- What the code's cut of a file name says of what is read.
+use Rattle.std.specs.Prelude.{◌≡◌, Option, Some, None, option_copied, IsTrue}
+use Rattle.index_names.specs.declared.cut.Cut.{Cut}
+use Rattle.index_names.specs.declared.wheel.WheelParts.{WheelParts}
+use Rattle.index_names.specs.Project.{is_project_name, normal_form}
+use Rattle.index_names.specs.Release.{is_version_text, release_named_by}
+use Rattle.index_names.specs.FileName.{Spelled}
+use Rattle.index_names.specs.Spelling.{WheelCut}
+
+-- the name and the version of a cut are such, and what is read are their project, their release and the kind
+pub record IsReadAs (cut : Cut) (spelled : Option Spelled) : Type 0 where
+  pub value : spelled ≡ Some (record { project = normal_form cut.name.now; release = release_named_by cut.version.now; kind = cut.kind })
+  pub name : IsTrue (is_project_name cut.name.now)
+  pub version : IsTrue (is_version_text cut.version.now)
+
+-- nothing is read where there is no cut
+abbrev pub IsCutOf : Option Cut → Option Spelled → Type 0
+IsCutOf None spelled = spelled ≡ None
+IsCutOf (Some cut) spelled = IsReadAs cut spelled
+
+abbrev pub wheel_cut : WheelParts → WheelCut
+wheel_cut parts =
+    record { distribution = parts.distribution.now; version = parts.version.now; build = option_copied parts.build; python = parts.python.now; abi = parts.abi.now; platform = parts.platform.now }

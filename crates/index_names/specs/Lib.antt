@@ -1,0 +1,6 @@
+pub mod Cut
+pub mod FileName
+pub mod Project
+pub mod Release
+pub mod Spelling
+pub mod Steps

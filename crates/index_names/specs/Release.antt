@@ -1,0 +1,27 @@
+-- Version texts, and the releases that they name. Versions are not parsed (PEP 440 is left to the installer).
+use Rattle.std.specs.Prelude.{◌≡◌, ℕ, ◌-◌, Bool, ◌&&◌, ◌||◌, ◌==◌, nat_le, if◌then◌else◌, List, Option, Some, None, map, length, slice_index}
+use Rattle.std.specs.List.{list_all}
+use Rattle.std.specs.Str.{byte}
+use Rattle.std.specs.Char.{is_ascii_alphanumeric, to_ascii_lowercase}
+
+abbrev pub is_version_byte : ℕ → Bool
+is_version_byte c = is_ascii_alphanumeric c || (c == byte ".") || (c == byte "_") || (c == byte "+") || (c == byte "!")
+
+-- 1 to 64 of these bytes, of which the first and the last are letters or digits
+abbrev pub is_version_text : List ℕ → Bool
+is_version_text x =
+    nat_le 1 (length x) && nat_le (length x) 64 && list_all is_version_byte x
+    && is_ascii_alphanumeric (slice_index x 0)
+    && is_ascii_alphanumeric (slice_index x (length x - 1))
+
+-- the release that a version text names: the text in lower case
+abbrev pub release_named_by : List ℕ → List ℕ
+release_named_by version = map to_ascii_lowercase version
+
+-- what a text is read as: the release of a version text, and nothing of any other text
+unfoldable pub read_release : List ℕ → Option (List ℕ)
+read_release x = if is_version_text x then Some (release_named_by x) else None
+
+-- a release: it is read as itself
+abbrev pub IsRelease : List ℕ → Type 0
+IsRelease release = read_release release ≡ Some release

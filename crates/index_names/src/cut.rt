@@ -1,0 +1,51 @@
+ghost use Rattle.index_names.specs.FileName.{read_file_name, read_source};
+ghost use Rattle.index_names.specs.Cut.{IsCutOf};
+
+use crate::file_name::FileKind;
+use crate::hyphens::split_at_last_hyphen;
+use crate::project::is_name;
+use crate::release::is_version_text;
+use crate::wheel::cut_wheel;
+
+/// The most bytes of a file name.
+const LONGEST_FILE_NAME: usize = 255;
+
+/// A file name's parts that name its project and its release.
+#[derive(Clone, Copy)]
+pub struct Cut<'a> {
+    pub name: &'a [u8],
+    pub version: &'a [u8],
+    pub kind: FileKind,
+}
+
+/// The cut of a file name, and `None` of bytes that are none.
+#[tactic(auto, unfolding(crate::specs::FileName::read_file_name))]
+pub fn cut_of(bytes: &[u8]) -> Option<Cut<'_>>
+    ensures { IsCutOf result (read_file_name bytes.now) }
+{
+    if bytes.len() > LONGEST_FILE_NAME {
+        return None;
+    }
+    if let Some(stem) = bytes.strip_suffix(b".whl") {
+        return cut_wheel(stem);
+    }
+    if let Some(stem) = bytes.strip_suffix(b".tar.gz") {
+        return cut_source(stem);
+    }
+    None
+}
+
+fn cut_source(stem: &[u8]) -> Option<Cut<'_>>
+    ensures { IsCutOf result (read_source stem.now) }
+{
+    let (name, version) = split_at_last_hyphen(stem)?;
+    if is_name(name) && is_version_text(version) {
+        Some(Cut {
+            name,
+            version,
+            kind: FileKind::Source,
+        })
+    } else {
+        None
+    }
+}

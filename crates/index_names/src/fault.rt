@@ -1,0 +1,65 @@
+ghost use Rattle.std.specs.Prelude.{◌≡◌};
+ghost use Rattle.index_names.specs.declared.fault.NameFault.TheVariants.{OutOfMemory};
+
+use std::alloc::AllocError;
+use std::error::Error;
+use std::fmt;
+
+/// Why bytes were not read.
+#[derive(Clone, Copy, Debug, PartialEq, Eq)]
+pub enum NameFault {
+    /// The bytes are no project name.
+    BadName,
+    /// The bytes are no file name of a wheel or a source archive.
+    BadFileName,
+    /// The bytes are no version text.
+    BadRelease,
+    /// There was no memory for the value.
+    OutOfMemory,
+}
+
+impl fmt::Display for NameFault {
+    fn fmt<W: fmt::Write>(&self, f: &mut fmt::Formatter<W>) -> fmt::Result {
+        match self {
+            NameFault::BadName => write!(f, "not a project name"),
+            NameFault::BadFileName => write!(f, "not a file name of a wheel or a source archive"),
+            NameFault::BadRelease => write!(f, "not a version text"),
+            NameFault::OutOfMemory => write!(f, "out of memory"),
+        }
+    }
+}
+
+impl Error for NameFault {}
+
+impl From<AllocError> for NameFault {
+    ghost from_gives = { λ _ fault. fault ≡ OutOfMemory };
+
+    fn from(_error: AllocError) -> NameFault {
+        NameFault::OutOfMemory
+    }
+}
+
+#[cfg(test)]
+mod tests {
+    use super::*;
+    use std::test::Fail;
+
+    #[test]
+    fn printed_faults(rt: HostRuntime) -> Result<(), Fail> {
+        let faults = [
+            NameFault::BadName,
+            NameFault::BadFileName,
+            NameFault::BadRelease,
+            NameFault::OutOfMemory,
+        ];
+        let printed = format!(in rt.alloc();
+            "{}, {}, {}, {}",
+            faults[0], faults[1], faults[2], faults[3]
+        )?;
+        assert_eq!(rt;
+            printed.as_str(),
+            "not a project name, not a file name of a wheel or a source archive, not a version text, out of memory"
+        );
+        Ok(())
+    }
+}

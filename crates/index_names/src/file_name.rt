@@ -1,0 +1,156 @@
+ghost use Rattle.std.specs.Prelude.{◌≡◌, ◌⊎◌, ◌↔◌, None, Some, IfOk, IfErr, IsErrOf, IsSome, bytes_eq, refl};
+ghost use Rattle.std.specs.Ordering.{nat_cmp};
+ghost use Rattle.std.specs.Cmp.{partial_equiv_from_equiv};
+ghost use Rattle.std.specs.Cmp.Lexicographic.{slice_cmp, nat_list_eq_equiv, nat_list_cmp_total, texts_ties, texts_po};
+ghost use Rattle.index_names.specs.FileName.{read_file_name, project_of, release_of, kind_of};
+
+use crate::cut::cut_of;
+use crate::fault::NameFault;
+use crate::project::NormalName;
+use crate::release::Release;
+use crate::text::{Text, ascii};
+use std::alloc::{AllocError, Global};
+use std::cmp::Ordering;
+use std::marker::Model;
+
+/// What a file is.
+#[derive(Clone, Copy, Debug, PartialEq, Eq)]
+pub enum FileKind {
+    /// A built distribution (PEP 427).
+    Wheel,
+    /// A source archive (PEP 625).
+    Source,
+}
+
+/// The name of a wheel (PEP 427, "File name convention") or of a source archive (PEP 625, "Specification"), with the
+/// project, the release and the kind that it decides by itself.
+///
+/// Contracts see its bytes. Two names that differ, in letter case alone too, are two file names; they compare in byte
+/// order.
+#[derive(Debug, Drop)]
+pub struct FileName {
+    text: Text,
+    project: NormalName,
+    release: Release,
+    kind: FileKind,
+}
+
+impl Model for FileName {
+    ghost use Rattle.std.specs.Prelude.{◌≡◌, List, ℕ, Some};
+    ghost use Rattle.index_names.specs.FileName.{read_file_name};
+
+    ghost Value = { List ℕ };
+
+    ghost view = { λ name. name.text };
+
+    ghost invariant = { λ name. read_file_name name.text ≡ Some (record { project = name.project; release = name.release; kind = name.kind }) };
+}
+
+impl FileName {
+    /// Reads the name of a wheel or a source archive, of 1 to 255 bytes.
+    ///
+    /// A wheel's name ends with `.whl`. Before that it has five or six parts joined by `-`: the distribution (a project
+    /// name without `-`), a version text, where there are six a build tag, then the python, abi and platform tags. A
+    /// source archive's name ends with `.tar.gz`. Before that stand a project name, a `-` and a version text.
+    ///
+    /// `BadFileName` exactly where the bytes are no such name; else `OutOfMemory` is the one error.
+    pub fn read(alloc: Global, bytes: &[u8]) -> Result<FileName, NameFault>
+        ensures text { IfOk result (λ name. name ≡ bytes.now) }
+        ensures read { IfOk result (λ name. IsSome (read_file_name bytes.now)) }
+        ensures bad_file_name { IsErrOf result NameFault.BadFileName ↔ (read_file_name bytes.now ≡ None) }
+        ensures fault { IfErr result (λ fault. (fault ≡ NameFault.BadFileName) ⊎ (fault ≡ NameFault.OutOfMemory)) }
+    {
+        let Some(cut) = cut_of(bytes) else {
+            return Err(NameFault::BadFileName);
+        };
+        Ok(FileName {
+            text: Text::new(String::from_str(alloc, ascii(bytes))?),
+            project: NormalName::of(alloc, cut.name)?,
+            release: Release::of(alloc, cut.version)?,
+            kind: cut.kind,
+        })
+    }
+
+    /// The bytes that were read.
+    pub fn text(&self) -> &str
+        ensures text { result.now ≡ self.now }
+        ensures file_name { IsSome (read_file_name self.now) }
+    {
+        self.text.as_str()
+    }
+
+    /// The project that the file belongs to.
+    pub fn project(&self) -> &NormalName
+        ensures { result.now ≡ project_of self.now }
+    {
+        &self.project
+    }
+
+    /// The release that the file belongs to.
+    pub fn release(&self) -> &Release
+        ensures { result.now ≡ release_of self.now }
+    {
+        &self.release
+    }
+
+    /// Whether the file is a wheel or a source archive.
+    pub fn kind(&self) -> FileKind
+        ensures { result ≡ kind_of self.now }
+    {
+        self.kind
+    }
+}
+
+impl Clone for FileName {
+    ghost is_clone = { λ name copy. copy ≡ name };
+
+    fn clone(&self) -> Result<FileName, AllocError> {
+        Ok(FileName {
+            text: self.text.clone()?,
+            project: self.project.clone()?,
+            release: self.release.clone()?,
+            kind: self.kind,
+        })
+    }
+}
+
+impl PartialEq for FileName {
+    ghost eq = { bytes_eq };
+
+    ghost laws = { partial_equiv_from_equiv nat_list_eq_equiv };
+
+    fn eq(&self, other: &FileName) -> bool {
+        self.text == other.text
+    }
+}
+
+impl Eq for FileName {
+    ghost laws = { nat_list_eq_equiv };
+}
+
+impl PartialOrd for FileName {
+    ghost partial_cmp = { λ a b. Some (slice_cmp nat_cmp a b) };
+
+    ghost laws = { texts_po };
+
+    fn partial_cmp(&self, other: &FileName) -> Option<Ordering> {
+        Some(self.cmp(other))
+    }
+}
+
+impl Ord for FileName {
+    ghost cmp = { slice_cmp nat_cmp };
+
+    ghost total = { nat_list_cmp_total };
+
+    ghost matches_partial_cmp = { λ a b. refl };
+
+    ghost matches_eq = { texts_ties };
+
+    fn cmp(&self, other: &FileName) -> Ordering {
+        self.text.cmp(&other.text)
+    }
+}
+
+#[cfg(test)]
+mod tests;

@@ -1,0 +1,22 @@
+//! Project names, releases and file names of a Python package index, read from bytes.
+//!
+//! Each is read exactly where its grammar has it (`docs/NAMES.md`): a project name to its normal form (PEP 503), a
+//! version text to its release, and the name of a wheel (PEP 427) or a source archive (PEP 625) to the one project,
+//! release and kind that it spells.
+#![tactic(auto)]
+
+mod cut;
+mod fault;
+mod file_name;
+mod hyphens;
+pub mod laws;
+mod project;
+mod release;
+mod text;
+mod wheel;
+
+pub use fault::NameFault;
+pub use file_name::{FileKind, FileName};
+pub use project::{NormalName, is_name, normal};
+pub use release::{Release, release_key};
+pub use text::{Text, ascii};

@@ -1,0 +1,168 @@
+ghost use Rattle.std.specs.Prelude.{◌≡◌, ◌||◌, ◌++◌, ◌⊎◌, ◌↔◌, None, Some, IfOk, IfErr, OnOk, IsErrOf, IsSome, IsTrue, string_bytes};
+ghost use Rattle.std.specs.List.{list_all};
+ghost use Rattle.index_names.specs.Project.{is_separator, is_project_name, normal_form, read_name, IsNormalName};
+ghost use Rattle.std.specs.Char.{is_ascii_alphanumeric};
+ghost use Rattle.index_names.specs.Steps.{added};
+
+use crate::fault::NameFault;
+use crate::text::Text;
+use std::alloc::{AllocError, Global};
+use std::marker::Model;
+
+/// The most bytes of a project name.
+const LONGEST_NAME: usize = 128;
+
+/// The normal form of a project's name (PEP 503, "Normalized Names"), by which two spellings are one name.
+///
+/// Contracts see its bytes, and it compares in byte order.
+#[derive(Clone, Debug, Drop, PartialEq, Eq, PartialOrd, Ord)]
+pub struct NormalName {
+    text: Text,
+}
+
+impl Model for NormalName {
+    ghost use Rattle.std.specs.Prelude.{List, ℕ};
+    ghost use Rattle.index_names.specs.Project.{IsNormalName};
+
+    ghost Value = { List ℕ };
+
+    ghost view = { λ name. name.text };
+
+    ghost invariant = { λ name. IsNormalName name.text };
+
+    ghost inverse = { λ bytes. record { text = bytes } };
+}
+
+impl NormalName {
+    #[tactic(auto, using(crate::proofs::NormalFormLaws::normal_names))]
+    pub(crate) fn of(alloc: Global, name: &[u8]) -> Result<NormalName, AllocError>
+        requires { IsTrue (is_project_name name.now) }
+        ensures { IfOk result (λ normal. normal ≡ normal_form name.now) }
+    {
+        Ok(NormalName {
+            text: Text::new(normalized(alloc, name)?),
+        })
+    }
+
+    /// The normal form: letters and digits in lower case, and single hyphens.
+    pub fn text(&self) -> &str
+        ensures text { result.now ≡ self.now }
+        ensures normal { IsNormalName self.now }
+    {
+        self.text.as_str()
+    }
+}
+
+/// Whether these bytes are a project name: 1 to 128 ASCII letters, digits, `.`, `_` and `-`, of which the first and
+/// the last are letters or digits (PEP 508, "Names"; the limit of 128 is this index's own).
+#[tactic(auto, unfolding(crate::specs::Project::read_name))]
+pub fn is_name(bytes: &[u8]) -> bool
+    ensures name { result ≡ is_project_name bytes.now }
+    ensures readable { IsTrue result ↔ IsSome (read_name bytes.now) }
+{
+    1 <= bytes.len()
+        && bytes.len() <= LONGEST_NAME
+        && has_name_bytes(bytes)
+        && bytes[0].is_ascii_alphanumeric()
+        && bytes[bytes.len() - 1].is_ascii_alphanumeric()
+}
+
+/// The normal form of a project name (PEP 503, "Normalized Names"): in lower case, with one `-` for each run of
+/// `-`, `_` and `.`.
+///
+/// `BadName` exactly where the bytes are no project name; else `OutOfMemory` is the one error.
+#[tactic(auto, unfolding(crate::specs::Project::read_name))]
+pub fn normal(alloc: Global, bytes: &[u8]) -> Result<NormalName, NameFault>
+    ensures normal { IfOk result (λ name. read_name bytes.now ≡ Some name) }
+    ensures bad_name { IsErrOf result NameFault.BadName ↔ (read_name bytes.now ≡ None) }
+    ensures fault { IfErr result (λ fault. (fault ≡ NameFault.BadName) ⊎ (fault ≡ NameFault.OutOfMemory)) }
+{
+    if !is_name(bytes) {
+        return Err(NameFault::BadName);
+    }
+    Ok(NormalName::of(alloc, bytes)?)
+}
+
+fn is_separator(byte: u8) -> bool
+    ensures { result ≡ is_separator byte }
+{
+    matches!(byte, b'-' | b'_' | b'.')
+}
+
+fn has_name_bytes(bytes: &[u8]) -> bool
+    ensures { result ≡ list_all (λ c. is_ascii_alphanumeric c || is_separator c) bytes.now }
+{
+    bytes
+        .iter()
+        .all(|&byte| byte.is_ascii_alphanumeric() || is_separator(byte))
+}
+
+#[tactic(auto, using(crate::proofs::NormalForm::steps))]
+fn normalized(alloc: Global, bytes: &[u8]) -> Result<String, AllocError>
+    requires { IsTrue (is_project_name bytes.now) }
+    ensures { IfOk result (λ normal. string_bytes normal ≡ normal_form bytes.now) }
+{
+    let mut normal = String::new(alloc);
+    let mut is_apart = false;
+    for byte in bytes {
+        push(&mut normal, is_apart, *byte)?;
+        is_apart = !byte.is_ascii_alphanumeric();
+    }
+    Ok(normal)
+}
+
+// Adds a letter or digit, behind a hyphen where separators stand before it.
+fn push(normal: &mut String, is_apart: bool, byte: u8) -> Result<(), AllocError>
+    ensures { OnOk result (string_bytes normal.new ≡ string_bytes normal.old ++ added is_apart byte) }
+{
+    if byte.is_ascii_alphanumeric() {
+        if is_apart {
+            normal.push('-')?;
+        }
+        normal.push(char::from(byte.to_ascii_lowercase()))?;
+    }
+    Ok(())
+}
+
+#[cfg(test)]
+mod tests {
+    use super::*;
+    use std::test::Fail;
+
+    // The spellings that the PyPA specification "Names and normalization" gives for one project, PEP 503's project
+    // names, and the shortest and longest names.
+    #[test]
+    fn normal_forms(rt: HostRuntime) -> Result<(), Fail> {
+        let cases = [
+            ("friendly-bard", "friendly-bard"),
+            ("Friendly-Bard", "friendly-bard"),
+            ("FRIENDLY-BARD", "friendly-bard"),
+            ("friendly.bard", "friendly-bard"),
+            ("friendly_bard", "friendly-bard"),
+            ("friendly--bard", "friendly-bard"),
+            ("FrIeNdLy-._.-bArD", "friendly-bard"),
+            ("frob", "frob"),
+            ("spamspamspam", "spamspamspam"),
+            ("a", "a"),
+            ("7", "7"),
+            ("a..b", "a-b"),
+        ];
+        for (spelling, want) in cases {
+            assert!(rt; is_name(spelling.as_bytes()), "{spelling}");
+            assert_eq!(rt; normal(rt.alloc(), spelling.as_bytes())?.text(), want);
+        }
+        let longest = normal(rt.alloc(), &[b'A'; 128])?;
+        assert_eq!(rt; longest.text().as_bytes(), [b'a'; 128].as_slice());
+        assert!(rt; normal(rt.alloc(), b"Frob._-Nest")? == normal(rt.alloc(), b"frob-nest")?);
+        Ok(())
+    }
+
+    #[test]
+    fn no_names(rt: HostRuntime) {
+        for text in ["", "-", "-a", "a-", ".a", "a_", "a b", "a/b", "a+b", "é"] {
+            assert!(rt; !is_name(text.as_bytes()), "{text}");
+            assert!(rt; matches!(normal(rt.alloc(), text.as_bytes()), Err(NameFault::BadName)));
+        }
+        assert!(rt; matches!(normal(rt.alloc(), &[b'a'; 129]), Err(NameFault::BadName)));
+    }
+}

@@ -1,0 +1,141 @@
+ghost use Rattle.std.specs.Prelude.{◌≡◌, ◌||◌, ◌⊎◌, ◌↔◌, None, Some, IfOk, IfErr, IsErrOf, IsTrue};
+ghost use Rattle.std.specs.List.{list_all};
+ghost use Rattle.index_names.specs.Release.{is_version_byte, is_version_text, release_named_by, read_release, IsRelease};
+
+use crate::fault::NameFault;
+use crate::text::{Text, ascii};
+use std::alloc::{AllocError, Global};
+use std::marker::Model;
+
+/// The most bytes of a version text.
+const LONGEST_VERSION: usize = 64;
+
+/// A release of a project: a version text in lower case. Versions are not parsed, so `1.0` and `1.00` are two
+/// releases (PEP 440 is left to the installer).
+///
+/// Contracts see its bytes, and it compares in byte order.
+#[derive(Clone, Debug, Drop, PartialEq, Eq, PartialOrd, Ord)]
+pub struct Release {
+    text: Text,
+}
+
+impl Model for Release {
+    ghost use Rattle.std.specs.Prelude.{List, ℕ};
+    ghost use Rattle.index_names.specs.Release.{IsRelease};
+
+    ghost Value = { List ℕ };
+
+    ghost view = { λ release. release.text };
+
+    ghost invariant = { λ release. IsRelease release.text };
+
+    ghost inverse = { λ bytes. record { text = bytes } };
+}
+
+impl Release {
+    #[tactic(auto, using(crate::proofs::AsciiLemmas::texts, crate::proofs::ReleaseLaws::releases))]
+    pub(crate) fn of(alloc: Global, version: &[u8]) -> Result<Release, AllocError>
+        requires { IsTrue (is_version_text version.now) }
+        ensures { IfOk result (λ release. release ≡ release_named_by version.now) }
+    {
+        let mut text = String::from_str(alloc, ascii(version))?;
+        text.make_ascii_lowercase();
+        Ok(Release {
+            text: Text::new(text),
+        })
+    }
+
+    /// The version text in lower case.
+    pub fn text(&self) -> &str
+        ensures text { result.now ≡ self.now }
+        ensures release { IsRelease self.now }
+    {
+        self.text.as_str()
+    }
+}
+
+/// The release that a version text names: the text in lower case. A version text is 1 to 64 ASCII letters, digits,
+/// `.`, `_`, `+` and `!`, of which the first and the last are letters or digits (this index's own rule; it holds the
+/// versions of PEP 440 with `-` written as `_`, as PEP 427, "Escaping and Unicode", writes them).
+///
+/// `BadRelease` exactly where the bytes are no version text; else `OutOfMemory` is the one error.
+#[tactic(auto, unfolding(crate::specs::Release::read_release))]
+pub fn release_key(alloc: Global, bytes: &[u8]) -> Result<Release, NameFault>
+    ensures release { IfOk result (λ release. read_release bytes.now ≡ Some release) }
+    ensures bad_release { IsErrOf result NameFault.BadRelease ↔ (read_release bytes.now ≡ None) }
+    ensures fault { IfErr result (λ fault. (fault ≡ NameFault.BadRelease) ⊎ (fault ≡ NameFault.OutOfMemory)) }
+{
+    if !is_version_text(bytes) {
+        return Err(NameFault::BadRelease);
+    }
+    Ok(Release::of(alloc, bytes)?)
+}
+
+pub(crate) fn is_version_text(bytes: &[u8]) -> bool
+    ensures { result ≡ is_version_text bytes.now }
+{
+    1 <= bytes.len()
+        && bytes.len() <= LONGEST_VERSION
+        && has_version_bytes(bytes)
+        && bytes[0].is_ascii_alphanumeric()
+        && bytes[bytes.len() - 1].is_ascii_alphanumeric()
+}
+
+fn is_version_byte(byte: u8) -> bool
+    ensures { result ≡ is_version_byte byte }
+{
+    byte.is_ascii_alphanumeric() || matches!(byte, b'.' | b'_' | b'+' | b'!')
+}
+
+fn has_version_bytes(bytes: &[u8]) -> bool
+    ensures { result ≡ list_all is_version_byte bytes.now }
+{
+    bytes.iter().all(|&byte| is_version_byte(byte))
+}
+
+#[cfg(test)]
+mod tests {
+    use super::*;
+    use std::test::Fail;
+
+    // Versions as PEP 440 and PEP 427 write them, and the shortest and longest texts.
+    #[test]
+    fn releases(rt: HostRuntime) -> Result<(), Fail> {
+        let cases = [
+            ("1.0RC1", "1.0rc1"),
+            ("1.0", "1.0"),
+            ("1.00", "1.00"),
+            ("2012.4", "2012.4"),
+            ("1!1.0", "1!1.0"),
+            ("1.0+ubuntu.1", "1.0+ubuntu.1"),
+            ("1.0_1", "1.0_1"),
+            ("v1.0", "v1.0"),
+            ("7", "7"),
+        ];
+        for (text, want) in cases {
+            assert_eq!(rt; release_key(rt.alloc(), text.as_bytes())?.text(), want);
+        }
+        let longest = release_key(rt.alloc(), &[b'A'; 64])?;
+        assert_eq!(rt; longest.text().as_bytes(), [b'a'; 64].as_slice());
+        assert!(rt; longest.clone()? == longest);
+        Ok(())
+    }
+
+    #[test]
+    fn no_releases(rt: HostRuntime) {
+        for text in ["", "1.0-1", ".1", "1.", "+1", "1!", "1 0", "1.0é"] {
+            assert!(rt;
+                matches!(
+                    release_key(rt.alloc(), text.as_bytes()),
+                    Err(NameFault::BadRelease)
+                )
+            );
+        }
+        assert!(rt;
+            matches!(
+                release_key(rt.alloc(), &[b'1'; 65]),
+                Err(NameFault::BadRelease)
+            )
+        );
+    }
+}

@@ -1,0 +1,38 @@
+//! A table as a vector of entries. Of entries with one key the first counts.
+ghost use Rattle.std.specs.Prelude.{◌≡◌, ◌<◌, ◌≤◌, option_copied, vec_len, vec_capacity};
+ghost use Rattle.std.specs.FinMap.{get, insert, remove as without, from_entries};
+
+use crate::key::Key;
+
+/// The value at a key.
+pub fn find<'a, K: Key, V>(entries: &'a [(K, V)], key: &K) -> Option<&'a V>
+    ensures { option_copied result ≡ get (from_entries {R = K.order} entries.now) key.now }
+{
+    for entry in entries {
+        if key.is_same(&entry.0) {
+            return Some(&entry.1);
+        }
+    }
+    None
+}
+
+/// Takes a key away with its value.
+pub fn remove<K: Key, V: Drop>(entries: &mut Vec<(K, V)>, key: &K)
+    ensures len { vec_len entries.new ≤ vec_len entries.old }
+    ensures capacity { vec_capacity entries.new ≡ vec_capacity entries.old }
+    ensures removed { from_entries {R = K.order} entries.new.items ≡ without (from_entries entries.old.items) key.now }
+{
+    entries.retain(|entry| !key.is_same(&entry.0));
+}
+
+/// Puts a value at a key, in place of the one that stood there.
+pub fn put<K: Key, V: Drop>(entries: &mut Vec<(K, V)>, key: K, value: V)
+    requires { vec_len entries.old < vec_capacity entries.old }
+    ensures { from_entries {R = K.order} entries.new.items ≡ insert (from_entries entries.old.items) key value }
+{
+    remove(entries, &key);
+    match entries.push((key, value)) {
+        Ok(()) => {}
+        Err(_) => unreachable!(),
+    }
+}

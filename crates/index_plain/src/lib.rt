@@ -1,0 +1,11 @@
+//! The tables of the index as plain vectors in memory.
+#![tactic(auto)]
+
+mod entries;
+mod key;
+mod look;
+mod owners;
+mod plain;
+mod sets;
+
+pub use plain::PlainBooks;

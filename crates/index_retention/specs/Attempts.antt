@@ -1,0 +1,75 @@
+-- The attempts to reach a name's owner, and what a case keeps of them.
+use Rattle.std.specs.Prelude.{ℕ, ◌+◌, ◌<◌, ◌≤◌, ◌↔◌, ◌==◌, Bool, true, false, ◌||◌, if◌then◌else◌, List, length, count_by, reverse, Option, Some, None, IsSome}
+use Rattle.std.specs.List.{find, list_any}
+use Rattle.std.specs.Option.{option_map, option_or}
+use Rattle.index_retention.specs.declared.attempts.Means.{Means}
+use Rattle.index_retention.specs.declared.attempts.Means.TheVariants.{Profile, Author, Pages}
+
+-- the most attempts of a case
+abbrev pub most_attempts : ℕ
+most_attempts = 1000
+
+-- one attempt: by which means, whether it was sent, and its moment in Unix seconds
+pub record Attempt : Type 0 where
+  pub means : Means
+  pub sent : Bool
+  pub at : ℕ
+
+abbrev pub attempt_of : Means → Bool → ℕ → Attempt
+attempt_of means sent at = record { means = means; sent = sent; at = at }
+
+abbrev pub is_same_means : Means → Means → Bool
+is_same_means Profile Profile = true
+is_same_means Author Author = true
+is_same_means Pages Pages = true
+is_same_means a b = false
+
+abbrev pub is_by : Means → Attempt → Bool
+is_by means attempt = is_same_means means attempt.means
+
+-- what a case keeps of its attempts: how many there are, how many were sent, which means occur, and
+-- the moment of the first that was sent
+pub record Tally : Type 0 where
+  pub attempts : ℕ
+  pub sent : ℕ
+  pub profile : Bool
+  pub author : Bool
+  pub pages : Bool
+  pub first : Option ℕ
+
+-- no attempt more is recorded
+abbrev pub is_full : Tally → Bool
+is_full tally = tally.attempts == most_attempts
+
+-- the numbers fit together: no more sent than there are, no more than the most, and a first moment
+-- exactly where one was sent
+pub record IsTally (attempts sent : ℕ) (first : Option ℕ) : Type 0 where
+  pub sent_within : sent ≤ attempts
+  pub attempts_within : attempts ≤ most_attempts
+  pub first_sent : IsSome first ↔ (0 < sent)
+
+-- the first sent, in the order of recording, of attempts of which the newest stands first
+abbrev pub first_sent : List Attempt → Option Attempt
+first_sent attempts = find (λ attempt. attempt.sent) (reverse attempts)
+
+-- the tally of attempts of which the newest stands first
+unfoldable pub tally_of : List Attempt → Tally
+tally_of attempts = record {
+  attempts = length attempts;
+  sent = count_by (λ attempt. attempt.sent) attempts;
+  profile = list_any (is_by Profile) attempts;
+  author = list_any (is_by Author) attempts;
+  pages = list_any (is_by Pages) attempts;
+  first = option_map (λ attempt. attempt.at) (first_sent attempts);
+}
+
+-- a tally with one attempt more
+abbrev pub noted : Tally → Attempt → Tally
+noted tally attempt = record {
+  attempts = tally.attempts + 1;
+  sent = tally.sent + (if attempt.sent then 1 else 0);
+  profile = is_by Profile attempt || tally.profile;
+  author = is_by Author attempt || tally.author;
+  pages = is_by Pages attempt || tally.pages;
+  first = option_or tally.first (if attempt.sent then Some attempt.at else None);
+}

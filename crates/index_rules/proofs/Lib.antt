@@ -1,0 +1,4 @@
+pub mod Counts
+pub mod OwnerLists
+pub mod Rising
+pub mod RunLemmas

@@ -1,0 +1,11 @@
+pub mod Maps
+pub mod Users
+pub mod Refusals
+pub mod Tables
+pub mod Facts
+pub mod Verdict
+pub mod Effect
+pub mod Decided
+pub mod Failures
+pub mod Runs
+pub mod Printed

@@ -1,0 +1,14 @@
+-- What the faults print.
+use Rattle.std.specs.Prelude.{ℕ, List, codes}
+use Rattle.index_rules.specs.declared.answer.Fault.{Fault}
+use Rattle.index_rules.specs.declared.answer.Fault.TheVariants as fault
+use Rattle.index_rules.specs.declared.user.UserFault.{UserFault}
+use Rattle.index_rules.specs.declared.user.UserFault.TheVariants as user_fault
+
+abbrev pub fault_text : Fault → List ℕ
+fault_text fault.OutOfMemory = codes "OutOfMemory"
+fault_text fault.Store = codes "Store"
+
+abbrev pub user_fault_text : UserFault → List ℕ
+user_fault_text user_fault.BadUser = codes "not a user id"
+user_fault_text user_fault.OutOfMemory = codes "out of memory"

@@ -1,0 +1,15 @@
+-- The tables: finite maps of records, so that each key stands once.
+use Rattle.std.specs.Prelude.{List, map, filter}
+use Rattle.std.specs.FinMap.{keys}
+use Rattle.index_rules.specs.declared.records.NameRecord.{NameRecord}
+use Rattle.index_rules.specs.Maps.{Bytes, Map, Pairs, same}
+
+pub record Tables : Type 0 where
+  -- by normal name: the held names and the prohibited ones
+  pub names : Map NameRecord
+  -- each name with each user who owns it
+  pub owners : Pairs
+
+-- the owners of a name, in byte order
+abbrev pub owners_in : Tables → Bytes → List Bytes
+owners_in T name = map (λ pair. pair.1) (filter (λ pair. same name pair.0) (keys T.owners))

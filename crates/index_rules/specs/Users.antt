@@ -1,0 +1,16 @@
+-- User ids.
+use Rattle.std.specs.Prelude.{ℕ, Bool, ◌&&◌, ◌||◌, nat_le, length, Option, Some, None, if◌then◌else◌}
+use Rattle.std.specs.List.{list_all}
+use Rattle.index_rules.specs.Maps.{Bytes}
+
+-- a letter of `a-z`, or a digit
+abbrev pub is_user_letter : ℕ → Bool
+is_user_letter c = (nat_le 97 c && nat_le c 122) || (nat_le 48 c && nat_le c 57)
+
+-- 1 to 32 of these
+abbrev pub is_user_id : Bytes → Bool
+is_user_id x = nat_le 1 (length x) && nat_le (length x) 32 && list_all is_user_letter x
+
+-- the user id that bytes are
+unfoldable pub read_user : Bytes → Option Bytes
+read_user x = if is_user_id x then Some x else None

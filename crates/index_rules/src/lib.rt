@@ -1,0 +1,27 @@
+//! The rules of the index: requests, the tables that they read and write, and the decision on each.
+#![tactic(auto)]
+
+mod answer;
+mod books;
+mod bytes;
+mod call;
+mod change;
+mod decision;
+mod keys;
+mod records;
+mod user;
+mod view;
+
+pub use answer::{Answer, Fault, Refusal};
+pub use books::Books;
+pub use bytes::Bytes;
+pub use call::{Call, Request};
+pub use change::Change;
+pub use decision::{Decision, Stop, decide};
+pub use keys::Keys;
+pub use records::{NameRecord, Project};
+pub use user::{UserFault, UserId};
+pub use view::{Owners, View};
+
+#[cfg(test)]
+mod tests;

@@ -1,0 +1,92 @@
+//! User ids.
+ghost use Rattle.std.specs.Prelude.{◌≡◌, ◌↔◌, IfOk, Some, None, Err};
+ghost use Rattle.std.specs.List.{list_all};
+ghost use Rattle.index_rules.specs.Users.{is_user_id, is_user_letter as is_user_letter_lem, read_user};
+
+use index_names::{Text, ascii};
+use std::alloc::{AllocError, Global};
+use std::error::Error;
+use std::fmt;
+use std::marker::Model;
+
+/// A user id: 1 to 32 bytes of `a-z0-9`. Contracts see its bytes, and it compares in byte order.
+#[derive(Clone, Debug, Drop, PartialEq, Eq, PartialOrd, Ord)]
+pub struct UserId {
+    text: Text,
+}
+
+impl Model for UserId {
+    ghost use Rattle.std.specs.Prelude.{List, ℕ};
+
+    ghost Value = { List ℕ };
+
+    ghost view = { λ user. user.text };
+
+    ghost inverse = { λ bytes. record { text = bytes } };
+}
+
+/// Why no user id was read.
+#[derive(Clone, Copy, Debug, PartialEq, Eq, Hash)]
+pub enum UserFault {
+    BadUser,
+    OutOfMemory,
+}
+
+impl fmt::Display for UserFault {
+    ghost use Rattle.index_rules.specs.Printed.{user_fault_text};
+
+    ghost output = { λ fault. Some (user_fault_text fault) };
+
+    fn fmt<W: fmt::Write>(&self, f: &mut fmt::Formatter<W>) -> fmt::Result {
+        f.write_str(match self {
+            UserFault::BadUser => "not a user id",
+            UserFault::OutOfMemory => "out of memory",
+        })
+    }
+}
+
+impl Error for UserFault {}
+
+impl From<AllocError> for UserFault {
+    ghost use Rattle.index_rules.specs.declared.user.UserFault.TheVariants.{OutOfMemory};
+
+    ghost from_gives = { λ _ e. e ≡ OutOfMemory };
+
+    fn from(_error: AllocError) -> UserFault {
+        UserFault::OutOfMemory
+    }
+}
+
+impl UserId {
+    /// The user id that these bytes are. `BadUser` where they are none.
+    #[tactic(auto, unfolding(crate::specs::Users::read_user))]
+    pub fn read(alloc: Global, bytes: &[u8]) -> Result<UserId, UserFault>
+        ensures id { IfOk result (λ id. read_user bytes.now ≡ Some id) }
+        ensures bad { (result ≡ Err UserFault.BadUser) ↔ (read_user bytes.now ≡ None) }
+    {
+        if bytes.is_empty() || bytes.len() > 32 || !has_user_letters(bytes) {
+            return Err(UserFault::BadUser);
+        }
+        let text = Text::new(String::from_str(alloc, ascii(bytes))?);
+        Ok(UserId { text })
+    }
+
+    /// The id's text.
+    pub fn text(&self) -> &str
+        ensures { result.now ≡ self.now }
+    {
+        self.text.as_str()
+    }
+}
+
+fn has_user_letters(bytes: &[u8]) -> bool
+    ensures { result ≡ list_all is_user_letter_lem bytes.now }
+{
+    bytes.iter().all(|&byte| is_user_letter(byte))
+}
+
+fn is_user_letter(byte: u8) -> bool
+    ensures { result ≡ is_user_letter_lem byte }
+{
+    matches!(byte, b'a'..=b'z' | b'0'..=b'9')
+}
