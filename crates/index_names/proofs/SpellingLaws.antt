@@ -1,12 +1,13 @@
 -- The laws of what a file name spells.
-use Rattle.std.proofs.Common.{◌≡◌, ℕ, true, List, Option, Some, None, sym, ap, ◌∙◌, refl, subst}
+use Rattle.std.proofs.Common.{◌≡◌, ℕ, true, List, [], Option, Some, None, sym, ap, ◌∙◌, refl, subst}
+use Rattle.std.specs.Option.{option_map_or}
 use Rattle.std.proofs.lemmas.Bool.{and_parts}
 use Rattle.std.proofs.lemmas.Option.{none-some, same_Some}
 use Rattle.index_names.specs.declared.file_name.FileKind.{FileKind}
 use Rattle.index_names.specs.declared.file_name.FileKind.TheVariants.{Wheel, Source}
 use Rattle.index_names.specs.Project.{is_project_name, normal_form, IsNormalName}
 use Rattle.index_names.specs.Release.{is_version_text, release_named_by, IsRelease}
-use Rattle.index_names.specs.FileName.{Spelled, SpellsAtMostOne, IsReadAsSpelled, IsUnreadWhereUnspelled, read_file_name}
+use Rattle.index_names.specs.FileName.{Spelled, SpellsAtMostOne, IsReadAsSpelled, IsUnreadWhereUnspelled, read_file_name, project_of, release_of, kind_of}
 use Rattle.index_names.specs.Spelling.{Spells}
 use Rattle.index_names.proofs.NormalFormLaws.{IsNormalName-normal_form}
 use Rattle.index_names.proofs.ReleaseLaws.{IsRelease-release_named_by}
@@ -20,6 +21,10 @@ spells_at_most_one f project release other_project other_release kind other_kind
 
 pub read_as_spelled : (f : List ℕ) → IsReadAsSpelled f
 read_as_spelled f spelled = (IsSpelled-read f spelled, read-Spells f spelled.project spelled.release spelled.kind)
+
+pub Spells-read_file_name : (f : List ℕ) (spelled : Spelled) → read_file_name f ≡ Some spelled → Spells f (project_of f) (release_of f) (kind_of f)
+Spells-read_file_name f spelled reads =
+    subst (λ read. Spells f (option_map_or (λ s. s.project) read []) (option_map_or (λ s. s.release) read []) (option_map_or (λ s. s.kind) read Source)) (sym reads) (IsSpelled-read f spelled reads)
 
 unread : (f : List ℕ) (read : Option Spelled) → read_file_name f ≡ read → ((spelled : Spelled) → ¬ (read_file_name f ≡ Some spelled)) → read_file_name f ≡ None
 unread f None is lacks = is

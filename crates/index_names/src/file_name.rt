@@ -1,8 +1,9 @@
-ghost use Rattle.std.specs.Prelude.{◌≡◌, ◌⊎◌, ◌↔◌, None, Some, IfOk, IfErr, IsErrOf, IsSome, bytes_eq, refl};
+ghost use Rattle.std.specs.Prelude.{◌≡◌, ◌⊎◌, ◌↔◌, None, Some, IfOk, OnOk, IfErr, IsErrOf, IsSome, bytes_eq, refl};
 ghost use Rattle.std.specs.Ordering.{nat_cmp};
 ghost use Rattle.std.specs.Cmp.{partial_equiv_from_equiv};
 ghost use Rattle.std.specs.Cmp.Lexicographic.{slice_cmp, nat_list_eq_equiv, nat_list_cmp_total, texts_ties, texts_po};
 ghost use Rattle.index_names.specs.FileName.{read_file_name, project_of, release_of, kind_of};
+ghost use Rattle.index_names.specs.Spelling.{Spells};
 
 use crate::cut::cut_of;
 use crate::fault::NameFault;
@@ -56,7 +57,8 @@ impl FileName {
     /// `BadFileName` exactly where the bytes are no such name; else `OutOfMemory` is the one error.
     pub fn read(alloc: Global, bytes: &[u8]) -> Result<FileName, NameFault>
         ensures text { IfOk result (λ name. name ≡ bytes.now) }
-        ensures read { IfOk result (λ name. IsSome (read_file_name bytes.now)) }
+        ensures read { OnOk result (IsSome (read_file_name bytes.now)) }
+        ensures spells { let f = bytes.now in OnOk result (Spells f (project_of f) (release_of f) (kind_of f)) }
         ensures bad_file_name { IsErrOf result NameFault.BadFileName ↔ (read_file_name bytes.now ≡ None) }
         ensures fault { IfErr result (λ fault. (fault ≡ NameFault.BadFileName) ⊎ (fault ≡ NameFault.OutOfMemory)) }
     {
