@@ -5,3 +5,4 @@ pub mod AnswerText
 pub mod StandingText
 pub mod Lines
 pub mod Told
+pub mod Printed

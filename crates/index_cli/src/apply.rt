@@ -17,8 +17,11 @@ use std::io::{Read, Write};
 const MOST_BYTES: u64 = 1_099_511_627_776;
 
 /// Answers each line of an input by a line, and tells how many lines there were. A last line may have no line feed.
-/// Where a line could not be answered, the lines before it were. Reads may give any number of bytes; the reader
-/// takes one at a time, so hand in a buffered one.
+/// A fault of the tables is the answer to its line, and the next one is read.
+///
+/// It ends with `ReadFault` where a read fails or after 1,099,511,627,776 bytes, with `WriteFault` where a write
+/// fails or takes no byte, and with `OutOfMemory` where there is none to keep or to read a line, or for the text of
+/// a standing. Bytes are read one by one, so hand in a buffered reader.
 pub fn apply_lines<R: Read, W: Write, B: Books>(
     alloc: Global,
     reader: &mut R,

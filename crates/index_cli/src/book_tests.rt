@@ -21,7 +21,7 @@ const BAD_TOKEN: &str = "{\"answer\":\"refused\",\"code\":2,\"name\":\"BadToken\
 #[test]
 fn the_moment_comes_before_the_token(rt: HostRuntime) -> Result<(), Fail> {
     let calls = [
-        (253_402_300_799, "ann", "{\"answer\":\"accepted\"}\n"),
+        (253_402_300_799_u64, "ann", "{\"answer\":\"accepted\"}\n"),
         (253_402_300_800, "ann", BAD_MOMENT),
         (253_402_300_800, "-", BAD_MOMENT),
         (5, "-", BAD_TOKEN),

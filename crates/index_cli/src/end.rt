@@ -13,6 +13,11 @@ pub enum LineEnd {
 }
 
 impl fmt::Display for LineEnd {
+    ghost use Rattle.std.specs.Prelude.{Some};
+    ghost use Rattle.index_cli.specs.Printed.{line_end_text};
+
+    ghost output = { λ end. Some (line_end_text end) };
+
     fn fmt<W: fmt::Write>(&self, f: &mut fmt::Formatter<W>) -> fmt::Result {
         f.write_str(match self {
             LineEnd::ReadFault => "ReadFault",

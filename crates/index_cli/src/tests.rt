@@ -5,7 +5,7 @@ use crate::{Line, LineEnd, answer_text, apply_lines, read_line, standing_text};
 use index_desk::{Desk, HeldName, Standing};
 use index_names::{NormalName, Text, normal};
 use index_rules::{
-    Answer, Books, Call, Change, Fault, Keys, Owners, Project, Refusal, Request, Text, UserId, View,
+    Answer, Books, Call, Change, Fault, Keys, Owners, Project, Refusal, Request, UserId, View,
 };
 use std::alloc::Global;
 use std::io;
@@ -309,18 +309,5 @@ fn ends_where_a_write_fails(rt: HostRuntime) -> Result<(), Fail> {
     assert!(rt; ended == Err(LineEnd::WriteFault));
     assert!(rt; writer.taken.as_slice() == b"{\"ans".as_slice());
     assert_eq!(rt; desk.into_books().changes, 1);
-    Ok(())
-}
-
-#[test]
-fn names_the_ends(rt: HostRuntime) -> Result<(), Fail> {
-    let ends = [
-        (LineEnd::ReadFault, "ReadFault"),
-        (LineEnd::WriteFault, "WriteFault"),
-        (LineEnd::OutOfMemory, "OutOfMemory"),
-    ];
-    for (end, name) in ends {
-        assert!(rt; format!(in rt.alloc(); "{end}")?.as_str() == name);
-    }
     Ok(())
 }

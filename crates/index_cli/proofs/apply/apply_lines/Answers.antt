@@ -1,4 +1,4 @@
-use Rattle.std.proofs.Common.{◌≢◌, ℕ, Result, Ok, Err, IfErr, sym}
+use Rattle.std.proofs.Common.{◌≢◌, ℕ, Result, Ok, Err, IfErr}
 use Rattle.index_cli.specs.declared.end.LineEnd.{LineEnd}
 use Rattle.index_cli.specs.declared.end.LineEnd.TheVariants.{WriteFault}
 use Rattle.index_cli.proofs.Runs.{Progress-before, Progress-during, Progress-push, Progress-whole}

@@ -1,0 +1,9 @@
+-- What the ends of a run print.
+use Rattle.std.specs.Prelude.{ℕ, List, codes}
+use Rattle.index_cli.specs.declared.end.LineEnd.{LineEnd}
+use Rattle.index_cli.specs.declared.end.LineEnd.TheVariants.{ReadFault, WriteFault, OutOfMemory}
+
+abbrev pub line_end_text : LineEnd → List ℕ
+line_end_text ReadFault = codes "ReadFault"
+line_end_text WriteFault = codes "WriteFault"
+line_end_text OutOfMemory = codes "OutOfMemory"
