@@ -1,10 +1,12 @@
 //! The program `index`: a Python package index, one command at a time.
 #![tactic(auto)]
 
-use index_cli::{LineEnd, apply_lines};
+use index_cli::apply_lines;
 use index_desk::Desk;
+use index_digest::Digest256;
 use index_plain::PlainBooks;
 use index_words::{Job, WordsEnd, read_words};
+use std::fmt::Display;
 use std::io::{BufReader, ErrorKind};
 use std::process::ExitCode;
 use std::{env, io};
@@ -12,7 +14,7 @@ use std::{env, io};
 fn main(rt: HostRuntime) -> ExitCode {
     match words(&rt) {
         Ok(words) => run(&rt, words.as_slice()),
-        Err(error) if error.kind() == ErrorKind::OutOfMemory => failed(&rt, LineEnd::OutOfMemory),
+        Err(error) if error.kind() == ErrorKind::OutOfMemory => failed(&rt, "OutOfMemory"),
         Err(_) => refused(&rt),
     }
 }
@@ -25,30 +27,34 @@ fn words(rt: &HostRuntime) -> io::Result<Vec<String>> {
 /// Does what the words ask for.
 fn run(rt: &HostRuntime, words: &[String]) -> ExitCode {
     match read_words(rt.alloc(), words) {
-        Ok(Job::Apply) => match apply(rt) {
-            Ok(_) => ExitCode::SUCCESS,
-            Err(end) => failed(rt, end),
-        },
+        Ok(Job::Apply) => apply(rt),
         Err(WordsEnd::Clap(error)) => match error.print(rt) {
-            Err(_) if !error.use_stderr() => failed(rt, LineEnd::WriteFault),
+            Err(_) if !error.use_stderr() => failed(rt, "WriteFault"),
             _ => ExitCode::from(error.exit_code() as u8),
         },
-        Err(WordsEnd::OutOfMemory) => failed(rt, LineEnd::OutOfMemory),
+        Err(WordsEnd::OutOfMemory) => failed(rt, "OutOfMemory"),
     }
 }
 
-/// Answers the lines of standard input, on books that begin empty.
-fn apply(rt: &HostRuntime) -> Result<u64, LineEnd> {
+/// Answers the lines of standard input, on tables whose one user is `office`, with the token `office`.
+fn apply(rt: &HostRuntime) -> ExitCode {
     let Ok(mut reader) = BufReader::new(rt.alloc(), rt.stdin()) else {
-        return Err(LineEnd::OutOfMemory);
+        return failed(rt, "OutOfMemory");
+    };
+    let books = match PlainBooks::new(rt.alloc(), b"office", Digest256::of(b"office")) {
+        Ok(books) => books,
+        Err(fault) => return failed(rt, fault),
     };
     let mut writer = io::writer(rt);
-    let mut desk = Desk::new(PlainBooks::new(rt.alloc()));
-    apply_lines(rt.alloc(), &mut reader, &mut writer, &mut desk)
+    let mut desk = Desk::new(books);
+    match apply_lines(rt.alloc(), &mut reader, &mut writer, &mut desk) {
+        Ok(_) => ExitCode::SUCCESS,
+        Err(end) => failed(rt, end),
+    }
 }
 
 /// Names a fault on standard error, where that takes it.
-fn failed(rt: &HostRuntime, name: LineEnd) -> ExitCode {
+fn failed(rt: &HostRuntime, name: impl Display + Drop) -> ExitCode {
     let _ = eprintln!(rt; "index: {name}");
     ExitCode::from(1)
 }

@@ -7,15 +7,32 @@ use Rattle.index_rules.specs.declared.answer.Answer.TheVariants as answer
 use Rattle.index_rules.specs.declared.answer.Fault.{Fault}
 use Rattle.index_rules.specs.declared.answer.Fault.TheVariants.{OutOfMemory, Store}
 use Rattle.index_rules.specs.declared.answer.Refusal.{Refusal}
-use Rattle.index_rules.specs.declared.answer.Refusal.TheVariants.{BadMoment, BadToken, BadName, NameProhibited, NameHeld}
+use Rattle.index_rules.specs.declared.answer.Refusal.TheVariants.{BadMoment, BadToken, NotOffice, BadUser, BadName, BadFileName, BadText, BadDigest, TooLarge, DigestMismatch, QuotaTooLarge, NoUser, UserExists, TokenTaken, NameProhibited, NoProject, NotOwner, NameHeld, LastOwner, FileNameTaken, OverQuota, QuotaBelowCharge}
 use Rattle.index_rules.specs.Refusals.{number_of}
 
 abbrev pub refusal_name : Refusal → List ℕ
 refusal_name BadMoment = codes "BadMoment"
 refusal_name BadToken = codes "BadToken"
+refusal_name NotOffice = codes "NotOffice"
+refusal_name BadUser = codes "BadUser"
 refusal_name BadName = codes "BadName"
+refusal_name BadFileName = codes "BadFileName"
+refusal_name BadText = codes "BadText"
+refusal_name BadDigest = codes "BadDigest"
+refusal_name TooLarge = codes "TooLarge"
+refusal_name DigestMismatch = codes "DigestMismatch"
+refusal_name QuotaTooLarge = codes "QuotaTooLarge"
+refusal_name NoUser = codes "NoUser"
+refusal_name UserExists = codes "UserExists"
+refusal_name TokenTaken = codes "TokenTaken"
 refusal_name NameProhibited = codes "NameProhibited"
+refusal_name NoProject = codes "NoProject"
+refusal_name NotOwner = codes "NotOwner"
 refusal_name NameHeld = codes "NameHeld"
+refusal_name LastOwner = codes "LastOwner"
+refusal_name FileNameTaken = codes "FileNameTaken"
+refusal_name OverQuota = codes "OverQuota"
+refusal_name QuotaBelowCharge = codes "QuotaBelowCharge"
 
 abbrev pub fault_name : Fault → List ℕ
 fault_name OutOfMemory = codes "OutOfMemory"

@@ -1,10 +1,12 @@
 -- The JSON value that bytes are, and what its members say.
-use Rattle.std.specs.Prelude.{ℕ, List, if◌then◌else◌, Option, Some, None, option_map, option_and_then, unwrap_or}
+use Rattle.std.specs.Prelude.{ℕ, Bool, List, if◌then◌else◌, Option, Some, None, option_map, option_and_then, unwrap_or}
 use Rattle.std.specs.Str.{is_utf8}
+use Rattle.std.specs.Result.{result_ok}
+use Rattle.hex.specs.Hex.{decode_of}
 use Rattle.serde_json.specs.Data.{Data}
 use Rattle.serde_json.specs.Events.{members_len}
 use Rattle.serde_json.specs.Read.{read}
-use Rattle.serde_json.specs.Find.{get, as_object, as_str, as_number, as_u64}
+use Rattle.serde_json.specs.Find.{get, as_object, as_str, as_bool, as_number, as_u64}
 
 -- the next step, where this one gave something
 infixl 10 ◌>>=◌
@@ -27,3 +29,11 @@ text_at key value = option_and_then as_str (get key value)
 -- the whole number of 64 bits at a key
 abbrev pub number_at : List ℕ → Data → Option ℕ
 number_at key value = option_and_then as_u64 (option_and_then as_number (get key value))
+
+-- true or false at a key
+abbrev pub flag_at : List ℕ → Data → Option Bool
+flag_at key value = option_and_then as_bool (get key value)
+
+-- the bytes of a text of hex digits, in either case
+abbrev pub hex_bytes : List ℕ → Option (List ℕ)
+hex_bytes digits = result_ok (decode_of digits)

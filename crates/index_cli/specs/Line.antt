@@ -1,18 +1,19 @@
 -- What a line asks.
 use Rattle.std.specs.Prelude.{ℕ, ◌==◌, List, if◌then◌else◌, Option, Some, None, bytes_eq, codes}
 use Rattle.serde_json.specs.Data.{Data}
+use Rattle.index_digest.specs.Digest.{sha256}
 use Rattle.index_cli.specs.Json.{◌>>=◌, json_of, key_count, number_at, text_at}
 use Rattle.index_cli.specs.Requests.{request_within}
 use Rattle.index_cli.specs.declared.line.Line.{Line}
 use Rattle.index_cli.specs.declared.line.Line.TheVariants as line
 
--- a request with two keys more, its moment and the token of its caller; the token's bytes are the actor
+-- a request with two keys more, its moment and the token of its caller; whose digest is kept
 abbrev pub call_of : Data → Option Line
 call_of value = do
   at ← number_at (codes "at") value
   token ← text_at (codes "token") value
   request ← request_within 2 value
-  Some (line.Call (record { at = at; actor = token; request = request }))
+  Some (line.Call (record { at = at; token = sha256 token; request = request }))
 
 abbrev pub standing_of : Data → Option Line
 standing_of value = do

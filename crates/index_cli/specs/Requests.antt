@@ -2,21 +2,67 @@
 use Rattle.std.specs.Prelude.{ℕ, ◌+◌, ◌==◌, List, if◌then◌else◌, Option, Some, None, bytes_eq, codes}
 use Rattle.serde_json.specs.Data.{Data}
 use Rattle.index_rules.specs.declared.call.Request.{Request}
-use Rattle.index_rules.specs.declared.call.Request.TheVariants.{Claim}
-use Rattle.index_cli.specs.Json.{◌>>=◌, key_count, text_at}
+use Rattle.index_rules.specs.declared.call.Request.TheVariants.{AddUser, SetToken, SetQuota, Claim, AddOwner, RemoveOwner, Upload}
+use Rattle.index_cli.specs.Json.{◌>>=◌, key_count, text_at, number_at, flag_at, hex_bytes}
 
 -- the request, of an object with so many keys
 abbrev pub sized : ℕ → Data → Request → Option Request
 sized keys value request = if key_count value == keys then Some request else None
+
+abbrev pub add_user_of : ℕ → Data → Option Request
+add_user_of others value = do
+  user ← text_at (codes "user") value
+  office ← flag_at (codes "office") value
+  token ← text_at (codes "token_sha256") value
+  sized (others + 4) value (AddUser user office token)
+
+abbrev pub set_token_of : ℕ → Data → Option Request
+set_token_of others value = do
+  user ← text_at (codes "user") value
+  token ← text_at (codes "token_sha256") value
+  sized (others + 3) value (SetToken user token)
+
+abbrev pub set_quota_of : ℕ → Data → Option Request
+set_quota_of others value = do
+  name ← text_at (codes "name") value
+  quota ← number_at (codes "quota") value
+  sized (others + 3) value (SetQuota name quota)
 
 abbrev pub claim_of : ℕ → Data → Option Request
 claim_of others value = do
   name ← text_at (codes "name") value
   sized (others + 2) value (Claim name)
 
+abbrev pub add_owner_of : ℕ → Data → Option Request
+add_owner_of others value = do
+  name ← text_at (codes "name") value
+  user ← text_at (codes "user") value
+  sized (others + 3) value (AddOwner name user)
+
+abbrev pub remove_owner_of : ℕ → Data → Option Request
+remove_owner_of others value = do
+  name ← text_at (codes "name") value
+  user ← text_at (codes "user") value
+  sized (others + 3) value (RemoveOwner name user)
+
+abbrev pub upload_of : ℕ → Data → Option Request
+upload_of others value = do
+  file ← text_at (codes "file") value
+  sha256 ← text_at (codes "sha256") value
+  digits ← text_at (codes "hex") value
+  body ← hex_bytes digits
+  requires ← text_at (codes "requires_python") value
+  sized (others + 5) value (Upload file sha256 body requires)
+
 abbrev pub request_by : List ℕ → ℕ → Data → Option Request
 request_by word others value =
-    if bytes_eq word (codes "claim") then claim_of others value
+    if bytes_eq word (codes "add_user") then add_user_of others value
+    else if bytes_eq word (codes "set_token") then set_token_of others value
+    else if bytes_eq word (codes "set_quota") then set_quota_of others value
+    else if bytes_eq word (codes "claim") then claim_of others value
+    else if bytes_eq word (codes "add_owner") then add_owner_of others value
+    else if bytes_eq word (codes "remove_owner") then remove_owner_of others value
+    else if bytes_eq word (codes "upload") then upload_of others value
     else None
 
 abbrev pub request_within : ℕ → Data → Option Request

@@ -24,10 +24,29 @@ fn refusal_text(refusal: Refusal) -> &'static str
     match refusal {
         Refusal::BadMoment => "{\"answer\":\"refused\",\"code\":1,\"name\":\"BadMoment\"}",
         Refusal::BadToken => "{\"answer\":\"refused\",\"code\":2,\"name\":\"BadToken\"}",
+        Refusal::NotOffice => "{\"answer\":\"refused\",\"code\":3,\"name\":\"NotOffice\"}",
+        Refusal::BadUser => "{\"answer\":\"refused\",\"code\":4,\"name\":\"BadUser\"}",
         Refusal::BadName => "{\"answer\":\"refused\",\"code\":5,\"name\":\"BadName\"}",
+        Refusal::BadFileName => "{\"answer\":\"refused\",\"code\":6,\"name\":\"BadFileName\"}",
+        Refusal::BadText => "{\"answer\":\"refused\",\"code\":8,\"name\":\"BadText\"}",
+        Refusal::BadDigest => "{\"answer\":\"refused\",\"code\":9,\"name\":\"BadDigest\"}",
+        Refusal::TooLarge => "{\"answer\":\"refused\",\"code\":10,\"name\":\"TooLarge\"}",
+        Refusal::DigestMismatch =>
+            "{\"answer\":\"refused\",\"code\":11,\"name\":\"DigestMismatch\"}",
+        Refusal::QuotaTooLarge => "{\"answer\":\"refused\",\"code\":12,\"name\":\"QuotaTooLarge\"}",
+        Refusal::NoUser => "{\"answer\":\"refused\",\"code\":13,\"name\":\"NoUser\"}",
+        Refusal::UserExists => "{\"answer\":\"refused\",\"code\":14,\"name\":\"UserExists\"}",
+        Refusal::TokenTaken => "{\"answer\":\"refused\",\"code\":15,\"name\":\"TokenTaken\"}",
         Refusal::NameProhibited =>
             "{\"answer\":\"refused\",\"code\":16,\"name\":\"NameProhibited\"}",
+        Refusal::NoProject => "{\"answer\":\"refused\",\"code\":17,\"name\":\"NoProject\"}",
+        Refusal::NotOwner => "{\"answer\":\"refused\",\"code\":18,\"name\":\"NotOwner\"}",
         Refusal::NameHeld => "{\"answer\":\"refused\",\"code\":19,\"name\":\"NameHeld\"}",
+        Refusal::LastOwner => "{\"answer\":\"refused\",\"code\":20,\"name\":\"LastOwner\"}",
+        Refusal::FileNameTaken => "{\"answer\":\"refused\",\"code\":24,\"name\":\"FileNameTaken\"}",
+        Refusal::OverQuota => "{\"answer\":\"refused\",\"code\":26,\"name\":\"OverQuota\"}",
+        Refusal::QuotaBelowCharge =>
+            "{\"answer\":\"refused\",\"code\":27,\"name\":\"QuotaBelowCharge\"}",
     }
 }
 

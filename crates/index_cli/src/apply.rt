@@ -1,6 +1,8 @@
 //! Answers to the lines of an input.
 ghost use Rattle.std.specs.Prelude.{◌≡◌, ◌≢◌, ◌<◌, ℕ, List, [], ◌∷◌, ◌++◌, length, take, IfErr, IfOk};
 ghost use Rattle.std.specs.Io.KnownBytes.{Appends};
+ghost use Rattle.index_rules.specs.Facts.{HasOneBearer};
+ghost use Rattle.index_rules.specs.Sound.{IsSound};
 ghost use Rattle.index_cli.specs.Lines.{lines_of, IsInput};
 ghost use Rattle.index_cli.specs.Told.{Told};
 
@@ -29,14 +31,14 @@ pub fn apply_lines<R: Read, W: Write, B: Books>(
     desk: &mut Desk<B>,
 ) -> Result<u64, LineEnd>
     // Every line was answered.
-    ensures ok { B.IsHonest desk.new → IfOk result (λ count. (input : List ℕ) × (text : List ℕ)
+    ensures ok { B.IsHonest desk.new → HasOneBearer (B.tables desk.old) → IfOk result (λ count. (input : List ℕ) × (text : List ℕ)
         × IsInput (R.remaining reader.old) input
         × Told (B.tables desk.old) (lines_of input) text (B.tables desk.new)
         × Appends (W.contents writer.old) (W.contents writer.new) text
         × (count ≡ length (lines_of input))) }
 
     // Just the lines before the one in hand were, and that one was not applied.
-    ensures before { B.IsHonest desk.new → IfErr result (λ end. end ≢ LineEnd.WriteFault →
+    ensures before { B.IsHonest desk.new → HasOneBearer (B.tables desk.old) → IfErr result (λ end. end ≢ LineEnd.WriteFault →
         (input : List ℕ) × (done : List (List ℕ)) × (left : List (List ℕ)) × (text : List ℕ)
         × IsInput (R.remaining reader.old) input
         × (lines_of input ≡ done ++ left)
@@ -44,13 +46,16 @@ pub fn apply_lines<R: Read, W: Write, B: Books>(
         × Appends (W.contents writer.old) (W.contents writer.new) text) }
 
     // The one in hand was too, and a front of the text went out.
-    ensures during { B.IsHonest desk.new → IfErr result (λ end. end ≡ LineEnd.WriteFault →
+    ensures during { B.IsHonest desk.new → HasOneBearer (B.tables desk.old) → IfErr result (λ end. end ≡ LineEnd.WriteFault →
         (input : List ℕ) × (done : List (List ℕ)) × (line : List ℕ) × (left : List (List ℕ)) × (text : List ℕ) × (count : ℕ)
         × IsInput (R.remaining reader.old) input
         × (lines_of input ≡ (done ++ line ∷ []) ++ left)
         × Told (B.tables desk.old) (done ++ line ∷ []) text (B.tables desk.new)
         × (count < length text)
         × Appends (W.contents writer.old) (W.contents writer.new) (take count text)) }
+
+    // However it ends, tables whose accounts add up keep adding up.
+    ensures sound { B.IsHonest desk.new → IsSound (B.tables desk.old) → IsSound (B.tables desk.new) }
     ensures honest { B.IsHonest desk.new → B.IsHonest desk.old }
 {
     let mut line = Vec::new(alloc);

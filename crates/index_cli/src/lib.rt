@@ -19,6 +19,4 @@ pub use line::{Line, read_line};
 pub use standing::standing_text;
 
 #[cfg(test)]
-mod book_tests;
-#[cfg(test)]
 mod tests;

@@ -6,6 +6,7 @@ ghost use Rattle.index_cli.specs.Line.{call_of, line_of, line_within, standing_o
 
 use crate::members;
 use crate::request::request_in;
+use index_digest::Digest256;
 use index_rules::{Bytes, Call, Fault};
 use serde_json::Value;
 use std::alloc::Global;
@@ -82,6 +83,6 @@ fn call_in(alloc: Global, value: &Value) -> Result<Option<Line>, Fault>
     let Some(request) = request_in(alloc, value, 2)? else {
         return Ok(None);
     };
-    let actor = Bytes::copy_of(alloc, token.as_bytes())?;
-    Ok(Some(Line::Call(Call { at, actor, request })))
+    let token = Digest256::of(token.as_bytes());
+    Ok(Some(Line::Call(Call { at, token, request })))
 }

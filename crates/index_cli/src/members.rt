@@ -1,7 +1,7 @@
 //! The members of a JSON object.
 ghost use Rattle.std.specs.Prelude.{◌≡◌, option_map};
 ghost use Rattle.serde_json.specs.View.{view};
-ghost use Rattle.index_cli.specs.Json.{key_count, number_at, text_at};
+ghost use Rattle.index_cli.specs.Json.{flag_at, key_count, number_at, text_at};
 
 use serde_json::Value;
 
@@ -17,6 +17,13 @@ pub fn number(value: &Value, key: &str) -> Option<u64>
     ensures { result ≡ number_at key.now (view value.now) }
 {
     value.get(key).and_then(Value::as_u64)
+}
+
+/// True or false at a key.
+pub fn flag(value: &Value, key: &str) -> Option<bool>
+    ensures { result ≡ flag_at key.now (view value.now) }
+{
+    value.get(key).and_then(Value::as_bool)
 }
 
 /// How many keys an object has. Any other value has none.

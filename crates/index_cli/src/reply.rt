@@ -1,5 +1,7 @@
 //! The reply to one line.
 ghost use Rattle.std.specs.Prelude.{◌≡◌, ℕ, List, Some, length, take, IfErr, IfOk, OnErr};
+ghost use Rattle.index_rules.specs.Facts.{HasOneBearer};
+ghost use Rattle.index_rules.specs.Sound.{IsSound};
 ghost use Rattle.index_cli.specs.Line.{line_of};
 ghost use Rattle.index_cli.specs.Told.{Tells, TellsLine, reply_text};
 
@@ -41,10 +43,12 @@ pub fn reply_to<B: Books>(
     front: &[u8],
     size: u64,
 ) -> Result<Reply, LineEnd>
-    ensures reply { B.IsHonest desk.new → IfOk result (λ reply. (line : List ℕ) → length line ≡ size → front.now ≡ take 65536 line
+    ensures reply { B.IsHonest desk.new → HasOneBearer (B.tables desk.old) → IfOk result (λ reply. (line : List ℕ) → length line ≡ size → front.now ≡ take 65536 line
         → Tells line (B.tables desk.old) (reply_text reply) (B.tables desk.new)) }
     ensures unchanged { B.IsHonest desk.new → OnErr result (B.tables desk.new ≡ B.tables desk.old) }
     ensures memory { IfErr result (λ end. end ≡ LineEnd.OutOfMemory) }
+    ensures one_bearer { B.IsHonest desk.new → HasOneBearer (B.tables desk.old) → HasOneBearer (B.tables desk.new) }
+    ensures sound { B.IsHonest desk.new → IsSound (B.tables desk.old) → IsSound (B.tables desk.new) }
     ensures honest { B.IsHonest desk.new → B.IsHonest desk.old }
 {
     if size > LONGEST_LINE {
@@ -55,9 +59,11 @@ pub fn reply_to<B: Books>(
 
 /// The reply to a line that is not too long.
 fn reply_to_read<B: Books>(alloc: Global, desk: &mut Desk<B>, line: &[u8]) -> Result<Reply, LineEnd>
-    ensures reply { B.IsHonest desk.new → IfOk result (λ reply. TellsLine (line_of line.now) (B.tables desk.old) (reply_text reply) (B.tables desk.new)) }
+    ensures reply { B.IsHonest desk.new → HasOneBearer (B.tables desk.old) → IfOk result (λ reply. TellsLine (line_of line.now) (B.tables desk.old) (reply_text reply) (B.tables desk.new)) }
     ensures unchanged { B.IsHonest desk.new → OnErr result (B.tables desk.new ≡ B.tables desk.old) }
     ensures memory { IfErr result (λ end. end ≡ LineEnd.OutOfMemory) }
+    ensures one_bearer { B.IsHonest desk.new → HasOneBearer (B.tables desk.old) → HasOneBearer (B.tables desk.new) }
+    ensures sound { B.IsHonest desk.new → IsSound (B.tables desk.old) → IsSound (B.tables desk.new) }
     ensures honest { B.IsHonest desk.new → B.IsHonest desk.old }
 {
     let Ok(asked) = read_line(alloc, line) else {
@@ -76,9 +82,11 @@ fn standing_reply<B: Books>(
     desk: &mut Desk<B>,
     name: &[u8],
 ) -> Result<Reply, LineEnd>
-    ensures reply { B.IsHonest desk.new → IfOk result (λ reply. TellsLine (Some (Line.Standing name.now)) (B.tables desk.old) (reply_text reply) (B.tables desk.new)) }
+    ensures reply { B.IsHonest desk.new → HasOneBearer (B.tables desk.old) → IfOk result (λ reply. TellsLine (Some (Line.Standing name.now)) (B.tables desk.old) (reply_text reply) (B.tables desk.new)) }
     ensures unchanged { B.IsHonest desk.new → OnErr result (B.tables desk.new ≡ B.tables desk.old) }
     ensures memory { IfErr result (λ end. end ≡ LineEnd.OutOfMemory) }
+    ensures one_bearer { B.IsHonest desk.new → HasOneBearer (B.tables desk.old) → HasOneBearer (B.tables desk.new) }
+    ensures sound { B.IsHonest desk.new → IsSound (B.tables desk.old) → IsSound (B.tables desk.new) }
     ensures honest { B.IsHonest desk.new → B.IsHonest desk.old }
 {
     let name = match normal(alloc, name) {

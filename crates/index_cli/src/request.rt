@@ -1,9 +1,11 @@
 //! The rows of requests: which JSON object is which request.
 ghost use Rattle.std.specs.Prelude.{◌≡◌, ◌≤◌, IfOk, IfErr};
 ghost use Rattle.serde_json.specs.View.{view};
-ghost use Rattle.index_cli.specs.Requests.{claim_of, request_within};
+ghost use Rattle.index_cli.specs.Json.{hex_bytes};
+ghost use Rattle.index_cli.specs.Requests.{add_owner_of, add_user_of, claim_of, remove_owner_of, request_within, set_quota_of, set_token_of, upload_of};
 
 use crate::members;
+use hex::FromHexError;
 use index_rules::{Bytes, Fault, Request};
 use serde_json::Value;
 use std::alloc::Global;
@@ -15,9 +17,78 @@ pub fn request_in(alloc: Global, value: &Value, others: usize) -> Result<Option<
     ensures memory { IfErr result (λ fault. fault ≡ Fault.OutOfMemory) }
 {
     match members::text(value, "do") {
+        Some("add_user") => add_user(alloc, value, others),
+        Some("set_token") => set_token(alloc, value, others),
+        Some("set_quota") => set_quota(alloc, value, others),
         Some("claim") => claim(alloc, value, others),
+        Some("add_owner") => add_owner(alloc, value, others),
+        Some("remove_owner") => remove_owner(alloc, value, others),
+        Some("upload") => upload(alloc, value, others),
         _ => Ok(None),
     }
+}
+
+fn add_user(alloc: Global, value: &Value, others: usize) -> Result<Option<Request>, Fault>
+    requires { others ≤ 2 }
+    ensures request { IfOk result (λ request. request ≡ add_user_of others (view value.now)) }
+    ensures memory { IfErr result (λ fault. fault ≡ Fault.OutOfMemory) }
+{
+    let Some(user) = members::text(value, "user") else {
+        return Ok(None);
+    };
+    let Some(office) = members::flag(value, "office") else {
+        return Ok(None);
+    };
+    let Some(token) = members::text(value, "token_sha256") else {
+        return Ok(None);
+    };
+    if members::count(value) != others + 4 {
+        return Ok(None);
+    }
+    let user = Bytes::copy_of(alloc, user.as_bytes())?;
+    let token = Bytes::copy_of(alloc, token.as_bytes())?;
+    Ok(Some(Request::AddUser {
+        user,
+        office,
+        token,
+    }))
+}
+
+fn set_token(alloc: Global, value: &Value, others: usize) -> Result<Option<Request>, Fault>
+    requires { others ≤ 2 }
+    ensures request { IfOk result (λ request. request ≡ set_token_of others (view value.now)) }
+    ensures memory { IfErr result (λ fault. fault ≡ Fault.OutOfMemory) }
+{
+    let Some(user) = members::text(value, "user") else {
+        return Ok(None);
+    };
+    let Some(token) = members::text(value, "token_sha256") else {
+        return Ok(None);
+    };
+    if members::count(value) != others + 3 {
+        return Ok(None);
+    }
+    let user = Bytes::copy_of(alloc, user.as_bytes())?;
+    let token = Bytes::copy_of(alloc, token.as_bytes())?;
+    Ok(Some(Request::SetToken { user, token }))
+}
+
+fn set_quota(alloc: Global, value: &Value, others: usize) -> Result<Option<Request>, Fault>
+    requires { others ≤ 2 }
+    ensures request { IfOk result (λ request. request ≡ set_quota_of others (view value.now)) }
+    ensures memory { IfErr result (λ fault. fault ≡ Fault.OutOfMemory) }
+{
+    let Some(name) = members::text(value, "name") else {
+        return Ok(None);
+    };
+    let Some(quota) = members::number(value, "quota") else {
+        return Ok(None);
+    };
+    if members::count(value) != others + 3 {
+        return Ok(None);
+    }
+    let name = Bytes::copy_of(alloc, name.as_bytes())?;
+    Ok(Some(Request::SetQuota { name, quota }))
 }
 
 fn claim(alloc: Global, value: &Value, others: usize) -> Result<Option<Request>, Fault>
@@ -33,4 +104,88 @@ fn claim(alloc: Global, value: &Value, others: usize) -> Result<Option<Request>,
     }
     let name = Bytes::copy_of(alloc, name.as_bytes())?;
     Ok(Some(Request::Claim { name }))
+}
+
+fn add_owner(alloc: Global, value: &Value, others: usize) -> Result<Option<Request>, Fault>
+    requires { others ≤ 2 }
+    ensures request { IfOk result (λ request. request ≡ add_owner_of others (view value.now)) }
+    ensures memory { IfErr result (λ fault. fault ≡ Fault.OutOfMemory) }
+{
+    let Some(name) = members::text(value, "name") else {
+        return Ok(None);
+    };
+    let Some(user) = members::text(value, "user") else {
+        return Ok(None);
+    };
+    if members::count(value) != others + 3 {
+        return Ok(None);
+    }
+    let name = Bytes::copy_of(alloc, name.as_bytes())?;
+    let user = Bytes::copy_of(alloc, user.as_bytes())?;
+    Ok(Some(Request::AddOwner { name, user }))
+}
+
+fn remove_owner(alloc: Global, value: &Value, others: usize) -> Result<Option<Request>, Fault>
+    requires { others ≤ 2 }
+    ensures request { IfOk result (λ request. request ≡ remove_owner_of others (view value.now)) }
+    ensures memory { IfErr result (λ fault. fault ≡ Fault.OutOfMemory) }
+{
+    let Some(name) = members::text(value, "name") else {
+        return Ok(None);
+    };
+    let Some(user) = members::text(value, "user") else {
+        return Ok(None);
+    };
+    if members::count(value) != others + 3 {
+        return Ok(None);
+    }
+    let name = Bytes::copy_of(alloc, name.as_bytes())?;
+    let user = Bytes::copy_of(alloc, user.as_bytes())?;
+    Ok(Some(Request::RemoveOwner { name, user }))
+}
+
+fn upload(alloc: Global, value: &Value, others: usize) -> Result<Option<Request>, Fault>
+    requires { others ≤ 2 }
+    ensures request { IfOk result (λ request. request ≡ upload_of others (view value.now)) }
+    ensures memory { IfErr result (λ fault. fault ≡ Fault.OutOfMemory) }
+{
+    let Some(file) = members::text(value, "file") else {
+        return Ok(None);
+    };
+    let Some(sha256) = members::text(value, "sha256") else {
+        return Ok(None);
+    };
+    let Some(digits) = members::text(value, "hex") else {
+        return Ok(None);
+    };
+    let Some(body) = bytes_of_hex(alloc, digits)? else {
+        return Ok(None);
+    };
+    let Some(requires_python) = members::text(value, "requires_python") else {
+        return Ok(None);
+    };
+    if members::count(value) != others + 5 {
+        return Ok(None);
+    }
+    let file = Bytes::copy_of(alloc, file.as_bytes())?;
+    let sha256 = Bytes::copy_of(alloc, sha256.as_bytes())?;
+    let requires_python = Bytes::copy_of(alloc, requires_python.as_bytes())?;
+    Ok(Some(Request::Upload {
+        file,
+        sha256,
+        body,
+        requires_python,
+    }))
+}
+
+/// The bytes of a text of hex digits, in either case.
+fn bytes_of_hex(alloc: Global, digits: &str) -> Result<Option<Bytes>, Fault>
+    ensures bytes { IfOk result (λ bytes. bytes ≡ hex_bytes digits.now) }
+    ensures memory { IfErr result (λ fault. fault ≡ Fault.OutOfMemory) }
+{
+    match hex::decode(alloc, digits) {
+        Ok(bytes) => Ok(Some(Bytes::new(bytes))),
+        Err(FromHexError::OutOfMemory) => Err(Fault::OutOfMemory),
+        Err(_) => Ok(None),
+    }
 }

@@ -1,13 +1,21 @@
 //! Calls in order, over any books.
-ghost use Rattle.std.specs.Prelude.{◌≡◌, ◌≤◌, ◌+◌, ℕ, [], IfOk, IfErr, OnErr, Contains, length, vec_len, vec_capacity};
-ghost use Rattle.index_rules.specs.Runs.{Answers, Runs, tables_after};
-ghost use Rattle.index_rules.specs.Verdict.{verdict_now};
+ghost use Rattle.std.specs.Prelude.{◌≡◌, ◌≤◌, ◌+◌, ℕ, [], IfOk, IfErr, OnOk, OnErr, Contains, length, vec_len, vec_capacity};
+ghost use Rattle.std.specs.FinMap.{get};
+ghost use Rattle.index_rules.specs.Runs.{Answers, Runs, tables_after, tables_by};
+ghost use Rattle.index_rules.specs.Decided.{Decides};
+ghost use Rattle.index_rules.specs.Effect.{effect};
+ghost use Rattle.index_rules.specs.Verdict.{Verdict, verdict_now};
+ghost use Rattle.index_rules.specs.Facts.{HasOneBearer, facts_in};
+ghost use Rattle.index_rules.specs.Sound.{IsSound};
 ghost use Rattle.index_rules.specs.Failures.{FailsAtMostOnce, HasFailed};
 ghost use Rattle.index_desk.specs.Standings.{standing_in};
 
 use crate::standing::{HeldName, Standing};
-use index_names::NormalName;
-use index_rules::{Answer, Books, Call, Decision, Fault, Keys, NameRecord, Stop, View, decide};
+use index_digest::Sealed;
+use index_names::{FileName, NormalName};
+use index_rules::{
+    Answer, Books, Call, Change, Decision, Fault, Keys, NameRecord, Stop, View, decide,
+};
 use std::alloc::Global;
 use std::marker::Model;
 
@@ -46,10 +54,14 @@ impl<B: Books> Desk<B> {
     /// Takes one call. After a refusal, an `Already` or a fault the tables are what they were.
     pub fn apply(&mut self, alloc: Global, call: Call) -> Answer
         // The answer is the verdict on the tables as they are, or a fault.
-        ensures answer { B.IsHonest self.new → Answers (verdict_now (B.tables self.old) call) result }
+        ensures answer { B.IsHonest self.new → HasOneBearer (B.tables self.old) → Answers (verdict_now (B.tables self.old) call) result }
 
         // After an acceptance the tables are those after the call, else what they were.
-        ensures tables { B.IsHonest self.new → B.tables self.new ≡ tables_after (B.tables self.old) call result }
+        ensures tables { B.IsHonest self.new → HasOneBearer (B.tables self.old) → B.tables self.new ≡ tables_after (B.tables self.old) call result }
+
+        // No two users come to bear one digest, and tables whose accounts add up keep adding up.
+        ensures one_bearer { B.IsHonest self.new → HasOneBearer (B.tables self.old) → HasOneBearer (B.tables self.new) }
+        ensures sound { B.IsHonest self.new → IsSound (B.tables self.old) → IsSound (B.tables self.new) }
         ensures store { result ≡ Answer.Fault Fault.Store → HasFailed (B.failures self.old) (B.failures self.new) }
         ensures failures { FailsAtMostOnce (B.failures self.old) (B.failures self.new) }
         ensures honest { B.IsHonest self.new → B.IsHonest self.old }
@@ -61,7 +73,10 @@ impl<B: Books> Desk<B> {
     /// was taken.
     pub fn run(&mut self, alloc: Global, calls: Vec<Call>) -> Result<Vec<Answer>, Fault>
         // Each answer is the verdict at its point or a fault, and the tables are those after the accepted calls.
-        ensures answers { B.IsHonest self.new → IfOk result (λ answers. Runs (B.tables self.old) calls.items answers.items (B.tables self.new)) }
+        ensures answers { B.IsHonest self.new → HasOneBearer (B.tables self.old) → IfOk result (λ answers. Runs (B.tables self.old) calls.items answers.items (B.tables self.new)) }
+
+        // The accounts add up as before.
+        ensures sound { B.IsHonest self.new → IsSound (B.tables self.old) → IsSound (B.tables self.new) }
         ensures store { IfOk result (λ answers. Contains answers.items (Answer.Fault Fault.Store) → HasFailed (B.failures self.old) (B.failures self.new)) }
         ensures none { OnErr result (self.new ≡ self.old) }
         ensures fault { IfErr result (λ fault. fault ≡ Fault.OutOfMemory) }
@@ -82,24 +97,61 @@ impl<B: Books> Desk<B> {
     {
         standing_of(&mut self.books, alloc, name)
     }
+
+    /// The bytes of a file with their digest, or `None` where it is not undeleted. It changes nothing.
+    pub fn body(&mut self, alloc: Global, file: &FileName) -> Result<Option<Sealed>, Fault>
+        ensures body { B.IsHonest self.new → IfOk result (λ body. body ≡ get (B.tables self.old).bodies file.now) }
+        ensures unchanged { B.IsHonest self.new → B.tables self.new ≡ B.tables self.old }
+        ensures store { IfErr result (λ fault. fault ≡ Fault.Store → HasFailed (B.failures self.old) (B.failures self.new)) }
+        ensures failures { FailsAtMostOnce (B.failures self.old) (B.failures self.new) }
+        ensures honest { B.IsHonest self.new → B.IsHonest self.old }
+    {
+        body_of(&mut self.books, alloc, file)
+    }
 }
 
 fn apply_to<B: Books>(books: &mut B, alloc: Global, call: Call) -> Answer
-    ensures answer { B.IsHonest books.new → Answers (verdict_now (B.tables books.old) call) result }
-    ensures tables { B.IsHonest books.new → B.tables books.new ≡ tables_after (B.tables books.old) call result }
+    ensures answer { B.IsHonest books.new → HasOneBearer (B.tables books.old) → Answers (verdict_now (B.tables books.old) call) result }
+    ensures tables { B.IsHonest books.new → HasOneBearer (B.tables books.old) → B.tables books.new ≡ tables_after (B.tables books.old) call result }
     ensures store { result ≡ Answer.Fault Fault.Store → HasFailed (B.failures books.old) (B.failures books.new) }
     ensures failures { FailsAtMostOnce (B.failures books.old) (B.failures books.new) }
     ensures honest { B.IsHonest books.new → B.IsHonest books.old }
 {
-    let keys = match call.keys(alloc) {
-        Ok(keys) => keys,
-        Err(fault) => return Answer::Fault(fault),
-    };
-    let view = match books.view(alloc, &keys) {
-        Ok(view) => view,
-        Err(fault) => return Answer::Fault(fault),
-    };
-    match decide(alloc, call, &view) {
+    match consider(books, alloc, call) {
+        Ok(decision) => settle(books, alloc, decision),
+        Err(fault) => Answer::Fault(fault),
+    }
+}
+
+/// The decision on a call. It changes nothing.
+fn consider<B: Books>(
+    books: &mut B,
+    alloc: Global,
+    call: Call,
+) -> Result<Result<Decision, Stop>, Fault>
+    ensures decision { B.IsHonest books.new → HasOneBearer (B.tables books.old) → IfOk result (λ decision.
+        Decides decision (verdict_now (B.tables books.old) call) (effect call.request (facts_in (B.tables books.old) call))) }
+    ensures unchanged { B.IsHonest books.new → B.tables books.new ≡ B.tables books.old }
+    ensures kept { OnOk result (B.failures books.new ≡ B.failures books.old) }
+    ensures store { IfErr result (λ fault. fault ≡ Fault.Store → HasFailed (B.failures books.old) (B.failures books.new)) }
+    ensures failures { FailsAtMostOnce (B.failures books.old) (B.failures books.new) }
+    ensures honest { B.IsHonest books.new → B.IsHonest books.old }
+{
+    let keys = call.keys(alloc)?;
+    let view = books.view(alloc, &keys)?;
+    Ok(decide(alloc, call, &view))
+}
+
+/// The answer by a decision, whose change is written.
+fn settle<B: Books>(books: &mut B, alloc: Global, decision: Result<Decision, Stop>) -> Answer
+    ensures answer { B.IsHonest books.new → (verdict : Verdict) (change : Change) → Decides decision verdict change → Answers verdict result }
+    ensures tables { B.IsHonest books.new → (verdict : Verdict) (change : Change) → Decides decision verdict change
+        → B.tables books.new ≡ tables_by (B.tables books.old) change result }
+    ensures store { result ≡ Answer.Fault Fault.Store → HasFailed (B.failures books.old) (B.failures books.new) }
+    ensures failures { FailsAtMostOnce (B.failures books.old) (B.failures books.new) }
+    ensures honest { B.IsHonest books.new → B.IsHonest books.old }
+{
+    match decision {
         Ok(Decision::Already) => Answer::Already,
         Ok(Decision::Change(change)) => match books.write(alloc, change) {
             Ok(()) => Answer::Accepted,
@@ -113,7 +165,7 @@ fn apply_to<B: Books>(books: &mut B, alloc: Global, call: Call) -> Answer
 fn run_on<B: Books>(books: &mut B, alloc: Global, calls: Vec<Call>, answers: &mut Vec<Answer>)
     requires room { vec_capacity answers.old ≡ length calls.items }
     requires none { answers.old.items ≡ [] }
-    ensures runs { B.IsHonest books.new → Runs (B.tables books.old) calls.items answers.new.items (B.tables books.new) }
+    ensures runs { B.IsHonest books.new → HasOneBearer (B.tables books.old) → Runs (B.tables books.old) calls.items answers.new.items (B.tables books.new) }
     ensures store { Contains answers.new.items (Answer.Fault Fault.Store) → HasFailed (B.failures books.old) (B.failures books.new) }
     ensures honest { B.IsHonest books.new → B.IsHonest books.old }
 {
@@ -134,10 +186,7 @@ fn standing_of<B: Books>(books: &mut B, alloc: Global, name: &NormalName) -> Res
     ensures honest { B.IsHonest books.new → B.IsHonest books.old }
 {
     let keys = Keys::of_name(name)?;
-    let View {
-        name: found,
-        owners: _,
-    } = books.view(alloc, &keys)?;
+    let View { name: found, .. } = books.view(alloc, &keys)?;
     let name = name.clone()?;
     match found {
         None => Ok(Standing::Free { name }),
@@ -151,4 +200,14 @@ fn standing_of<B: Books>(books: &mut B, alloc: Global, name: &NormalName) -> Res
             }))
         }
     }
+}
+
+fn body_of<B: Books>(books: &mut B, alloc: Global, file: &FileName) -> Result<Option<Sealed>, Fault>
+    ensures body { B.IsHonest books.new → IfOk result (λ body. body ≡ get (B.tables books.old).bodies file.now) }
+    ensures unchanged { B.IsHonest books.new → B.tables books.new ≡ B.tables books.old }
+    ensures store { IfErr result (λ fault. fault ≡ Fault.Store → HasFailed (B.failures books.old) (B.failures books.new)) }
+    ensures failures { FailsAtMostOnce (B.failures books.old) (B.failures books.new) }
+    ensures honest { B.IsHonest books.new → B.IsHonest books.old }
+{
+    books.bytes_of(alloc, file)
 }

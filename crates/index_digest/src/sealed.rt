@@ -3,6 +3,7 @@ ghost use Rattle.std.specs.Prelude.{◌≡◌, ◌↔◌, IsOk, IfOk, IfErr};
 ghost use Rattle.index_digest.specs.Digest.{sha256};
 
 use crate::digest::Digest256;
+use std::alloc::AllocError;
 use std::marker::Model;
 
 /// Bytes beside their SHA-256 digest. Contracts see the list of the bytes.
@@ -50,5 +51,16 @@ impl Sealed {
         ensures { result ≡ sha256 self.now }
     {
         self.digest
+    }
+}
+
+impl Clone for Sealed {
+    ghost is_clone = { λ sealed copy. copy ≡ sealed };
+
+    fn clone(&self) -> Result<Sealed, AllocError> {
+        Ok(Sealed {
+            bytes: self.bytes.clone()?,
+            digest: self.digest,
+        })
     }
 }

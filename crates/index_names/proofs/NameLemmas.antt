@@ -1,15 +1,26 @@
--- Project names are texts.
-use Rattle.std.proofs.Common.{◌≡◌, Bool, true, false, cond, List, ℕ, Option, Some, None, refl}
+-- What is no text is read as nothing.
+use Rattle.std.proofs.Common.{◌≡◌, ℕ, List, Option, Some, None, refl}
 use Rattle.std.specs.Str.{IsUtf8}
 use Rattle.std.proofs.lemmas.Str.{IsUtf8-from_ascii}
-use Rattle.index_names.specs.Project.{is_project_name, normal_form, read_name}
-use Rattle.index_names.proofs.AsciiLemmas.{IsAscii-name}
+use Rattle.index_names.specs.Project.{read_name}
+use Rattle.index_names.specs.Release.{read_release}
+use Rattle.index_names.specs.FileName.{read_file_name}
+use Rattle.index_names.proofs.AsciiLemmas.{IsAscii-name, IsAscii-version_text, IsAscii-file_name}
+use Rattle.index_names.proofs.NormalFormLaws.{project_name-read_name}
+use Rattle.index_names.proofs.ReleaseLaws.{version_text-read_release}
 
--- what is no text is read as no name
+none_where : {A : Type 0} (read : Option A) → ((x : A) → ¬ (read ≡ Some x)) → read ≡ None
+none_where None lacks = refl
+none_where (Some x) lacks = absurd (lacks x refl)
+
 pub read_name-no_text : (x : List ℕ) → ¬ (IsUtf8 x) → read_name x ≡ None
-unfolding read_name
-read_name-no_text x no_text = none_where (is_project_name x) (λ is_name. no_text (IsUtf8-from_ascii x (IsAscii-name x is_name)))
-  where
-    none_where : (b : Bool) → ¬ (b ≡ true) → cond b (Some (normal_form x)) None ≡ None
-    none_where true not_true = absurd (not_true refl)
-    none_where false not_true = refl
+read_name-no_text x no_text =
+    none_where (read_name x) (λ name reads. no_text (IsUtf8-from_ascii x (IsAscii-name x (project_name-read_name x name reads))))
+
+pub read_release-no_text : (x : List ℕ) → ¬ (IsUtf8 x) → read_release x ≡ None
+read_release-no_text x no_text =
+    none_where (read_release x) (λ release reads. no_text (IsUtf8-from_ascii x (IsAscii-version_text x (version_text-read_release x release reads))))
+
+pub read_file_name-no_text : (f : List ℕ) → ¬ (IsUtf8 f) → read_file_name f ≡ None
+read_file_name-no_text f no_text =
+    none_where (read_file_name f) (λ spelled reads. no_text (IsUtf8-from_ascii f (IsAscii-file_name f spelled reads)))

@@ -160,9 +160,9 @@ pub read_name-name : (x : List ℕ) → is_project_name x ≡ true → read_name
 unfolding read_name
 read_name-name x is_name = cond-true _ _ _ is_name
 
-name-read_name : (x name : List ℕ) → read_name x ≡ Some name → is_project_name x ≡ true
+pub project_name-read_name : (x name : List ℕ) → read_name x ≡ Some name → is_project_name x ≡ true
 unfolding read_name
-name-read_name x name reads = elim (cases_Bool (is_project_name x)) [
+project_name-read_name x name reads = elim (cases_Bool (is_project_name x)) [
   | inl is_name ↦ is_name
   | inr no_name ↦ absurd (none-some name (sym (cond-false _ _ _ no_name) ∙ reads))
 ]
@@ -173,7 +173,7 @@ IsNormalName-normal_form x is_name =
 
 pub IsNormalName-read_name : (x name : List ℕ) → read_name x ≡ Some name → IsNormalName name
 IsNormalName-read_name x name reads =
-    let is_name : is_project_name x ≡ true = name-read_name x name reads in
+    let is_name : is_project_name x ≡ true = project_name-read_name x name reads in
     let same : normal_form x ≡ name = same_Some _ name (sym (read_name-name x is_name) ∙ reads) in
     subst IsNormalName same (IsNormalName-normal_form x is_name)
 

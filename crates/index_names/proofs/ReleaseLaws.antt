@@ -43,9 +43,9 @@ pub read_release-version : (x : List ℕ) → is_version_text x ≡ true → rea
 unfolding read_release
 read_release-version x is_version = cond-true _ _ _ is_version
 
-version-read_release : (x release : List ℕ) → read_release x ≡ Some release → is_version_text x ≡ true
+pub version_text-read_release : (x release : List ℕ) → read_release x ≡ Some release → is_version_text x ≡ true
 unfolding read_release
-version-read_release x release reads = elim (cases_Bool (is_version_text x)) [
+version_text-read_release x release reads = elim (cases_Bool (is_version_text x)) [
   | inl is_version ↦ is_version
   | inr no_version ↦ absurd (none-some release (sym (cond-false _ _ _ no_version) ∙ reads))
 ]
@@ -56,7 +56,7 @@ IsRelease-release_named_by x is_version =
 
 pub IsRelease-read_release : (x release : List ℕ) → read_release x ≡ Some release → IsRelease release
 IsRelease-read_release x release reads =
-    let is_version : is_version_text x ≡ true = version-read_release x release reads in
+    let is_version : is_version_text x ≡ true = version_text-read_release x release reads in
     let same : release_named_by x ≡ release = same_Some _ release (sym (read_release-version x is_version) ∙ reads) in
     subst IsRelease same (IsRelease-release_named_by x is_version)
 

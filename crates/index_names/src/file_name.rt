@@ -1,4 +1,4 @@
-ghost use Rattle.std.specs.Prelude.{◌≡◌, ◌⊎◌, ◌↔◌, None, Some, IfOk, OnOk, IfErr, IsErrOf, IsSome, bytes_eq, refl};
+ghost use Rattle.std.specs.Prelude.{◌≡◌, ◌⊎◌, ◌↔◌, None, Some, IfOk, OnOk, IfErr, IsErrOf, IsSome, option_map, bytes_eq, refl};
 ghost use Rattle.std.specs.Ordering.{nat_cmp};
 ghost use Rattle.std.specs.Cmp.{partial_equiv_from_equiv};
 ghost use Rattle.std.specs.Cmp.Lexicographic.{slice_cmp, nat_list_eq_equiv, nat_list_cmp_total, texts_ties, texts_po};
@@ -83,21 +83,24 @@ impl FileName {
 
     /// The project that the file belongs to.
     pub fn project(&self) -> &NormalName
-        ensures { result.now ≡ project_of self.now }
+        ensures project { result.now ≡ project_of self.now }
+        ensures spelled { option_map (λ spelled. spelled.project) (read_file_name self.now) ≡ Some result.now }
     {
         &self.project
     }
 
     /// The release that the file belongs to.
     pub fn release(&self) -> &Release
-        ensures { result.now ≡ release_of self.now }
+        ensures release { result.now ≡ release_of self.now }
+        ensures spelled { option_map (λ spelled. spelled.release) (read_file_name self.now) ≡ Some result.now }
     {
         &self.release
     }
 
     /// Whether the file is a wheel or a source archive.
     pub fn kind(&self) -> FileKind
-        ensures { result ≡ kind_of self.now }
+        ensures kind { result ≡ kind_of self.now }
+        ensures spelled { option_map (λ spelled. spelled.kind) (read_file_name self.now) ≡ Some result }
     {
         self.kind
     }

@@ -1,11 +1,15 @@
 -- A map as the list of its entries, of which the first at a key counts.
-use Rattle.std.proofs.Common.{◌≡◌, ℕ, suc, ◌+◌, ◌<◌, length, drop, get_or, add-one, drop-cons, Bool, true, false, cond, not, refl, sym, ap, ◌∙◌, List, [], ◌∷◌, ◌++◌, Option, Some, None, filter}
+use Rattle.std.proofs.Common.{arith, ◌≡◌, ℕ, suc, ◌+◌, ◌<◌, length, drop, get_or, add-one, drop-cons, Bool, true, false, cond, not, refl, sym, ap, ◌∙◌, List, [], ◌∷◌, ◌++◌, Option, Some, None, filter}
 use Rattle.std.specs.declared.cmp.Ordering.{Ordering}
 use Rattle.std.specs.declared.cmp.Ordering.TheVariants.{Equal}
 use Rattle.std.specs.Ordering.{eq_by_cmp, is_eq}
-use Rattle.std.specs.Cmp.{IsTotalOrder, eq_by_cmp_equiv, tied_itself}
+use Rattle.std.specs.Cmp.{IsTotalOrder, eq_by_cmp_equiv, tied_itself, Equal-is}
 use Rattle.std.specs.FinMap.{FinMap, IsAntisymmetric, get, insert, remove, retain_keys, from_entries, find, get-from_entries, get-insert, get-remove, get-retain_keys, same_map, from_entries_push}
 use Rattle.std.specs.FinMap.Entries.{find-where_key}
+
+-- keys that tie are equal
+pub tie-is : {K : Type 0} {R : K → K → Ordering} (exact : IsAntisymmetric R) (x y : K) → eq_by_cmp R x y ≡ true → x ≡ y
+tie-is {R} exact x y t = exact x y ((Equal-is (R x y)).0 t)
 
 module _ {K X : Type 0} {R : K → K → Ordering} (o : IsTotalOrder R) (exact : IsAntisymmetric R) where
   -- to keep the entries whose keys pass a test is to keep these keys
@@ -51,3 +55,11 @@ module _ {K X : Type 0} (R : K → K → Ordering) (es : List (K × X)) (q : K) 
 
   pub find_here : eq_by_cmp R q e.0 ≡ true → find R q (drop i es) ≡ Some e.1
   find_here one = front ∙ ap (λ b. cond b (Some e.1) (find R q (drop (suc i) es))) one
+
+-- a value that is found stands somewhere with its key
+pub entry_at : {K X : Type 0} {R : K → K → Ordering} (exact : IsAntisymmetric R) (es : List (K × X)) (q : K) (x : X) → find R q es ≡ Some x → (k : ℕ) × (k < length es) × ((d : K × X) → get_or es k d ≡ (q, x))
+entry_at exact [] q x found = cc
+entry_at {K} {X} {R} exact (e ∷ es) q x found = elim (eq_by_cmp R q e.0) as (λ b. eq_by_cmp R q e.0 ≡ b → cond b (Some e.1) (find R q es) ≡ Some x → (k : ℕ) × (k < length (e ∷ es)) × ((d : K × X) → get_or (e ∷ es) k d ≡ (q, x))) [
+  | true ↦ λ tied found. let value : e.1 ≡ x = cc in (0, omega arith, λ d i. (sym (tie-is exact q e.0 tied) i, value i))
+  | false ↦ λ _ found. let there = entry_at exact es q x found in (suc there.0, omega (arith, there.1), there.2)
+] refl found

@@ -1,18 +1,18 @@
 -- A set as the list of its elements.
-use Rattle.std.proofs.Common.{◌≡◌, Bool, true, false, cond, refl, sym, ap, ◌∙◌, List, [], ◌∷◌, ◌++◌, map, filter, Option, Some, is_some}
+use Rattle.std.proofs.Common.{◌≡◌, Bool, true, false, cond, not, refl, sym, ap, ◌∙◌, List, [], ◌∷◌, ◌++◌, map, filter, Option, Some, is_some}
 use Rattle.std.specs.declared.cmp.Ordering.{Ordering}
 use Rattle.std.specs.Ordering.{eq_by_cmp}
-use Rattle.std.specs.Cmp.{IsTotalOrder, IsEquivalence, eq_by_cmp_equiv, Equal-is}
+use Rattle.std.specs.Cmp.{IsTotalOrder, IsEquivalence, eq_by_cmp_equiv}
 use Rattle.std.specs.List.{list_any, dedup}
 use Rattle.std.specs.List.Sorted.{IsPermutation, IsSorted, IsStrictlySortedBy}
-use Rattle.std.specs.FinMap.{IsAntisymmetric, insert, retain_keys, from_entries, find, keys, contains_key, contains_key-keys, get-from_entries, get-insert, same_map}
+use Rattle.std.specs.FinMap.{IsAntisymmetric, insert, remove, retain_keys, from_entries, find, keys, contains_key, contains_key-keys, get-from_entries, get-insert, same_map}
 use Rattle.std.specs.FinMap.Entries.{is_some-find}
 use Rattle.std.proofs.lemmas.List.Kept.{Contains-dedup, Contains-from_dedup, IsStrictlySortedBy-dedup}
 use Rattle.std.proofs.lemmas.List.Sorted.{list_any-IsPermutation}
 use Rattle.std.proofs.lemmas.Map.Views.{list_any-from_Contains, Contains-from_any}
 use Rattle.index_rules.proofs.Rising.{IsStrictlySortedBy-keys, same_rising}
 use Rattle.index_plain.specs.Sets.{set_of}
-use Rattle.index_plain.proofs.EntryLemmas.{from_kept}
+use Rattle.index_plain.proofs.EntryLemmas.{from_kept, from_others, tie-is}
 
 agree : (a b : Bool) → (a ≡ true → b ≡ true) → (b ≡ true → a ≡ true) → a ≡ b
 agree true b f g = sym (f refl)
@@ -40,6 +40,10 @@ module _ {K : Type 0} {R : K → K → Ordering} (o : IsTotalOrder R) (exact : I
   pub set_of-filter : (p : K → Bool) (ks : List K) → set_of R (filter p ks) ≡ retain_keys (set_of R ks) p
   set_of-filter p ks = ap (from_entries {R = R}) (marked-filter p ks) ∙ from_kept o exact p (marked ks)
 
+  -- to keep the other elements is to take one away
+  pub set_of-others : (k : K) (ks : List K) → set_of R (filter (λ x. not (eq_by_cmp R k x)) ks) ≡ remove (set_of R ks) k
+  set_of-others k ks = ap (from_entries {R = R}) (marked-filter (λ x. not (eq_by_cmp R k x)) ks) ∙ from_others o exact k (marked ks)
+
   swapped : (a b : Bool) (x : Option (Unit {0})) → cond a (Some tt) (cond b (Some tt) x) ≡ cond b (Some tt) (cond a (Some tt) x)
   swapped true true x = refl
   swapped true false x = refl
@@ -59,15 +63,12 @@ module _ {K : Type 0} {R : K → K → Ordering} (o : IsTotalOrder R) (exact : I
   pub keys-set_of : (xs ys : List K) → IsStrictlySortedBy R ys → ((q : K) → list_any (eq_by_cmp R q) ys ≡ list_any (eq_by_cmp R q) xs) → ys ≡ keys (set_of R xs)
   keys-set_of xs ys up is = same_rising o exact ys _ up (IsStrictlySortedBy-keys R (set_of R xs)) (λ q. is q ∙ sym (contains_key-set_of xs q) ∙ contains_key-keys (set_of R xs) q)
 
-  tie-is : (x y : K) → eq_by_cmp R x y ≡ true → x ≡ y
-  tie-is x y t = exact x y ((Equal-is (R x y)).0 t)
-
   list_any-dedup : (q : K) (ks : List K) → list_any (eq_by_cmp R q) (dedup (eq_by_cmp R) ks) ≡ list_any (eq_by_cmp R q) ks
   list_any-dedup q ks =
       let laws : IsEquivalence (eq_by_cmp R) = eq_by_cmp_equiv o in
       agree _ _
-      (λ h. list_any-from_Contains laws q ks (Contains-from_dedup (eq_by_cmp R) ks q (Contains-from_any tie-is q _ h)))
-      (λ h. list_any-from_Contains laws q _ (Contains-dedup laws tie-is ks q (Contains-from_any tie-is q ks h)))
+      (λ h. list_any-from_Contains laws q ks (Contains-from_dedup (eq_by_cmp R) ks q (Contains-from_any (tie-is exact) q _ h)))
+      (λ h. list_any-from_Contains laws q _ (Contains-dedup laws (tie-is exact) ks q (Contains-from_any (tie-is exact) q ks h)))
 
   -- what a sort and then a `dedup` leave is the set in order
   pub dedup-sorted : (xs ys : List K) → IsPermutation xs ys → IsSorted R ys → dedup (eq_by_cmp R) ys ≡ keys (set_of R xs)

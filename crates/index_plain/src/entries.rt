@@ -1,8 +1,9 @@
 //! A table as a vector of entries. Of entries with one key the first counts.
-ghost use Rattle.std.specs.Prelude.{◌≡◌, ◌<◌, ◌≤◌, option_copied, vec_len, vec_capacity};
+ghost use Rattle.std.specs.Prelude.{◌≡◌, ◌<◌, ◌≤◌, IfOk, option_and_then, option_copied, vec_len, vec_capacity};
 ghost use Rattle.std.specs.FinMap.{get, insert, remove as without, from_entries};
 
 use crate::key::Key;
+use std::alloc::AllocError;
 
 /// The value at a key.
 pub fn find<'a, K: Key, V>(entries: &'a [(K, V)], key: &K) -> Option<&'a V>
@@ -14,6 +15,28 @@ pub fn find<'a, K: Key, V>(entries: &'a [(K, V)], key: &K) -> Option<&'a V>
         }
     }
     None
+}
+
+/// A copy of the value at a key.
+pub fn copy_at<K: Key, V: Clone>(entries: &[(K, V)], key: &K) -> Result<Option<V>, AllocError>
+    requires exact { (value copy : V) → V.is_clone value copy → copy ≡ value }
+    ensures { IfOk result (λ found. found ≡ get (from_entries {R = K.order} entries.now) key.now) }
+{
+    find(entries, key).cloned()
+}
+
+/// A copy of the value at a key, where there is a key.
+pub fn copy_at_key<K: Key, V: Clone>(
+    entries: &[(K, V)],
+    key: &Option<K>,
+) -> Result<Option<V>, AllocError>
+    requires exact { (value copy : V) → V.is_clone value copy → copy ≡ value }
+    ensures { IfOk result (λ found. found ≡ option_and_then (get (from_entries {R = K.order} entries.now)) key.now) }
+{
+    match key {
+        Some(key) => copy_at(entries, key),
+        None => Ok(None),
+    }
 }
 
 /// Takes a key away with its value.

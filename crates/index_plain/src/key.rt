@@ -5,7 +5,7 @@ ghost use Rattle.std.specs.Ordering.{eq_by_cmp};
 ghost use Rattle.std.specs.Cmp.{IsTotalOrder};
 ghost use Rattle.std.specs.FinMap.{IsAntisymmetric};
 
-use index_names::NormalName;
+use index_names::{FileName, NormalName};
 use index_rules::UserId;
 use std::cmp::Ordering;
 
@@ -57,6 +57,22 @@ impl Key for UserId {
     ghost exact = { exact_bytes };
 
     fn compare(&self, other: &UserId) -> Ordering {
+        self.text().cmp(other.text())
+    }
+}
+
+impl Key for FileName {
+    ghost use Rattle.index_rules.specs.Maps.{bytes_cmp};
+    ghost use Rattle.std.proofs.lemmas.Cmp.{nat_list_cmp_total};
+    ghost use Rattle.std.proofs.lemmas.Map.Lookups.{exact_bytes};
+
+    ghost order = { bytes_cmp };
+
+    ghost total = { nat_list_cmp_total };
+
+    ghost exact = { exact_bytes };
+
+    fn compare(&self, other: &FileName) -> Ordering {
         self.text().cmp(other.text())
     }
 }

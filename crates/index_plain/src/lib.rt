@@ -3,7 +3,6 @@
 
 mod entries;
 mod key;
-mod look;
 mod owners;
 mod plain;
 mod sets;

@@ -1,6 +1,6 @@
 //! The owners of the names as a vector of pairs.
 ghost use Rattle.std.specs.Prelude.{◌≡◌, ◌<◌, ◌≤◌, IfOk, not, map, filter, vec_len, vec_capacity};
-ghost use Rattle.std.specs.FinMap.{insert, retain_keys};
+ghost use Rattle.std.specs.FinMap.{insert, remove as without, retain_keys};
 ghost use Rattle.index_rules.specs.Maps.{pair_cmp, same};
 ghost use Rattle.index_plain.specs.Sets.{set_of};
 
@@ -27,6 +27,13 @@ pub fn add(owners: &mut Vec<(NormalName, UserId)>, name: NormalName, user: UserI
         Ok(()) => {}
         Err(_) => unreachable!(),
     }
+}
+
+/// Takes an owner of a name away.
+pub fn remove(owners: &mut Vec<(NormalName, UserId)>, name: &NormalName, user: &UserId)
+    ensures { set_of pair_cmp owners.new.items ≡ without (set_of pair_cmp owners.old.items) (name.now, user.now) }
+{
+    owners.retain(|pair| !(name.is_same(&pair.0) && user.is_same(&pair.1)));
 }
 
 /// The users that are paired with a name, in the order of the pairs.

@@ -1,34 +1,89 @@
 -- What an accepted call writes, and what a change means for the tables.
-use Rattle.std.specs.Prelude.{ℕ, not, [], Option, unwrap_or}
-use Rattle.std.specs.FinMap.{insert, retain_keys}
-use Rattle.index_names.specs.Project.{read_name}
+use Rattle.std.specs.Prelude.{ℕ, ◌+◌, true, false, not, [], Option, unwrap_or, option_map, length}
+use Rattle.std.specs.FinMap.{insert, remove, retain_keys}
+use Rattle.index_names.specs.FileName.{project_of, release_of}
 use Rattle.index_rules.specs.declared.call.Call.{Call}
 use Rattle.index_rules.specs.declared.call.Request.{Request}
-use Rattle.index_rules.specs.declared.call.Request.TheVariants.{Claim}
+use Rattle.index_rules.specs.declared.call.Request.TheVariants.{AddUser, SetToken, SetQuota, Claim, AddOwner, RemoveOwner, Upload}
 use Rattle.index_rules.specs.declared.change.Change.{Change}
 use Rattle.index_rules.specs.declared.change.Change.TheVariants as change
 use Rattle.index_rules.specs.declared.records.NameRecord.TheVariants.{Held}
+use Rattle.index_rules.specs.declared.records.Project.{Project}
+use Rattle.index_rules.specs.declared.records.UserRecord.{UserRecord}
 use Rattle.index_rules.specs.Maps.{Bytes, same}
 use Rattle.index_rules.specs.Tables.{Tables}
+use Rattle.index_rules.specs.Requests.{user_key, name_key, declared_digest}
 use Rattle.index_rules.specs.Facts.{Facts, facts_in}
+use Rattle.index_rules.specs.Verdict.{project_in}
 
--- what was read, of a request that is accepted
+-- ---- what is there, of a request that is accepted
+
 abbrev pub key : Option Bytes → Bytes
 key read = unwrap_or read []
+
+abbrev pub caller_in : Facts → Bytes
+caller_in f = key (option_map (λ caller. caller.user) f.caller)
+
+abbrev pub no_project : Project
+no_project = record { shown = []; quota = 0; charge = 0; undeleted = 0 }
+
+abbrev pub held_in : Facts → Project
+held_in f = unwrap_or (project_in f.name) no_project
+
+abbrev pub no_user : UserRecord
+no_user = record { office = false; token = [] }
+
+abbrev pub user_in : Facts → UserRecord
+user_in f = unwrap_or f.user no_user
+
+-- ---- what is written
 
 -- the quota that a claim brings: one gibibyte
 abbrev pub first_quota : ℕ
 first_quota = 1073741824
 
+-- one more undeleted file of this size
+abbrev pub with_file : ℕ → Project → Project
+with_file size project = record project { charge = project.charge + size; undeleted = project.undeleted + 1 }
+
 -- what an accepted request writes
 abbrev pub effect : Request → Facts → Change
-effect (Claim name) f = change.Claim (key (read_name name)) (record { shown = name; quota = first_quota; charge = 0 }) (key f.caller)
+effect (AddUser user office token) f =
+    change.AddUser (key (user_key (AddUser user office token))) (record { office = office; token = key (declared_digest (AddUser user office token)) })
+effect (SetToken user token) f =
+    change.SetToken (key (user_key (SetToken user token))) (record { office = (user_in f).office; token = key (declared_digest (SetToken user token)) })
+effect (SetQuota name quota) f = change.SetQuota (key (name_key (SetQuota name quota))) (record (held_in f) { quota = quota })
+effect (Claim name) f =
+    change.Claim (key (name_key (Claim name))) (record { shown = name; quota = first_quota; charge = 0; undeleted = 0 }) (caller_in f)
+effect (AddOwner name user) f = change.AddOwner (key (name_key (AddOwner name user))) (key (user_key (AddOwner name user)))
+effect (RemoveOwner name user) f = change.RemoveOwner (key (name_key (RemoveOwner name user))) (key (user_key (RemoveOwner name user)))
+effect (Upload file sha256 body requires) f =
+    change.Upload (project_of file) (with_file (length body) (held_in f)) file
+    (record {
+      project = project_of file;
+      release = release_of file;
+      digest = key (declared_digest (Upload file sha256 body requires));
+      size = length body;
+      requires_python = requires;
+      is_undeleted = true;
+    })
+    body
 
 -- what a change means for the tables
 abbrev pub means : Change → Tables → Tables
+means (change.AddUser user account) T = record T { users = insert T.users user account }
+means (change.SetToken user account) T = record T { users = insert T.users user account }
+means (change.SetQuota name project) T = record T { names = insert T.names name (Held project) }
 means (change.Claim name project owner) T = record T {
   names = insert T.names name (Held project);
   owners = insert (retain_keys T.owners (λ pair. not (same name pair.0))) (name, owner) tt;
+}
+means (change.AddOwner name user) T = record T { owners = insert T.owners (name, user) tt }
+means (change.RemoveOwner name user) T = record T { owners = remove T.owners (name, user) }
+means (change.Upload name project file known body) T = record T {
+  names = insert T.names name (Held project);
+  files = insert T.files file known;
+  bodies = insert T.bodies file body;
 }
 
 -- the tables after an accepted call

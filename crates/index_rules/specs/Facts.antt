@@ -1,40 +1,44 @@
 -- What a verdict rests on.
-use Rattle.std.specs.Prelude.{◌≡◌, Bool, false, List, [], Option, Some, None, option_and_then}
+use Rattle.std.specs.Prelude.{◌≡◌, Bool, true, false, not, ◌&&◌, ◌||◌, List, [], Option, Some, None, find, option_map, option_and_then}
 use Rattle.std.specs.Option.{option_map_or}
-use Rattle.std.specs.List.{list_any}
-use Rattle.std.specs.FinMap.{get, contains_key}
-use Rattle.index_names.specs.Project.{read_name}
+use Rattle.std.specs.List.{list_any, list_all}
+use Rattle.std.specs.FinMap.{get, entries, keys, contains_key}
 use Rattle.index_rules.specs.declared.call.Call.{Call}
 use Rattle.index_rules.specs.declared.call.Request.{Request}
-use Rattle.index_rules.specs.declared.call.Request.TheVariants.{Claim}
 use Rattle.index_rules.specs.declared.keys.Keys.{Keys}
+use Rattle.index_rules.specs.declared.records.UserRecord.{UserRecord}
 use Rattle.index_rules.specs.declared.records.NameRecord.{NameRecord}
+use Rattle.index_rules.specs.declared.records.FileRecord.{FileRecord}
+use Rattle.index_rules.specs.declared.view.Caller.{Caller}
 use Rattle.index_rules.specs.declared.view.View.{View}
 use Rattle.index_rules.specs.Maps.{Bytes, same}
-use Rattle.index_rules.specs.Users.{read_user}
 use Rattle.index_rules.specs.Tables.{Tables}
+use Rattle.index_rules.specs.Requests.{user_key, token_key, name_key, file_key}
 
 pub record Facts : Type 0 where
-  -- who calls
-  pub caller : Option Bytes
-  -- the record of the name that the call speaks of
+  -- who bears the caller's token
+  pub caller : Option Caller
+  -- the record of the named user
+  pub user : Option UserRecord
+  -- who bears the token that the request brings
+  pub bearer : Option Bytes
+  -- the record of the name that the request speaks of
   pub name : Option NameRecord
-  -- whether the caller owns that name
+  -- whether the caller owns that name, whether the named user does, and whether that user alone does
   pub owns : Bool
-
--- ---- the readable parts of a call
-
--- every user id is a user
-abbrev pub caller_of : Call → Option Bytes
-caller_of c = read_user c.actor
-
-abbrev pub name_key : Request → Option Bytes
-name_key (Claim name) = read_name name
-
-abbrev pub keys_of : Call → Keys
-keys_of c = record { name = name_key c.request }
+  pub named_owns : Bool
+  pub sole : Bool
+  -- the record of the file
+  pub file : Option FileRecord
 
 -- ---- read off the tables
+
+-- who bears the token with this digest
+abbrev pub bearer_in : Tables → Bytes → Option (Bytes × UserRecord)
+bearer_in T token = find (λ user. same token user.1.token) (entries T.users)
+
+abbrev pub caller_by : Bytes × UserRecord → Caller
+caller_by user = record { user = user.0; office = user.1.office }
 
 -- a question on a name and a user, where both are there
 abbrev pub of_both : (Bytes → Bytes → Bool) → Option Bytes → Option Bytes → Bool
@@ -45,15 +49,38 @@ of_both question (Some name) (Some user) = question name user
 abbrev pub owns_in : Tables → Bytes → Bytes → Bool
 owns_in T name user = contains_key T.owners (name, user)
 
+-- the user owns the name, and nobody else does
+abbrev pub alone_owns_in : Tables → Bytes → Bytes → Bool
+alone_owns_in T name user = owns_in T name user && list_all (λ pair. not (same name pair.0) || same user pair.1) (keys T.owners)
+
 -- what the tables say of a call
 abbrev pub facts_in : Tables → Call → Facts
 facts_in T c = record {
-  caller = caller_of c;
+  caller = option_map caller_by (bearer_in T c.token);
+  user = option_and_then (get T.users) (user_key c.request);
+  bearer = option_map (λ user. user.0) (option_and_then (bearer_in T) (token_key c.request));
   name = option_and_then (get T.names) (name_key c.request);
-  owns = of_both (owns_in T) (name_key c.request) (caller_of c);
+  owns = of_both (owns_in T) (name_key c.request) (option_map (λ user. user.0) (bearer_in T c.token));
+  named_owns = of_both (owns_in T) (name_key c.request) (user_key c.request);
+  sole = of_both (alone_owns_in T) (name_key c.request) (user_key c.request);
+  file = option_and_then (get T.files) (file_key c.request);
 }
 
+-- no two users bear one digest
+abbrev pub HasOneBearer : Tables → Type 0
+HasOneBearer T = (u v : Bytes) (x y : UserRecord) → get T.users u ≡ Some x → get T.users v ≡ Some y → x.token ≡ y.token → u ≡ v
+
 -- ---- read off a view
+
+-- this user bears the token with this digest, or nobody does
+abbrev pub IsBearer : Tables → Bytes → Option (Bytes × UserRecord) → Type 0
+IsBearer T token None = (u : Bytes) (user : UserRecord) → get T.users u ≡ Some user → same token user.token ≡ false
+IsBearer T token (Some user) = (get T.users user.0 ≡ Some user.1) × (same token user.1.token ≡ true)
+
+-- a part of such a user, where there is a digest to look for
+abbrev pub IsBearerAs : {A : Type 0} → (Bytes × UserRecord → A) → Tables → Option Bytes → Option A → Type 0
+IsBearerAs part T None found = found ≡ None
+IsBearerAs part T (Some token) found = (user : Option (Bytes × UserRecord)) × IsBearer T token user × (found ≡ option_map part user)
 
 -- the owners of a name, each of them, in any order
 abbrev pub AreOwners : Tables → Option Bytes → List Bytes → Type 0
@@ -62,13 +89,29 @@ AreOwners T (Some name) users = (user : Bytes) → list_any (same user) users �
 
 -- the view has the records of the tables that the keys name
 pub record Sees (T : Tables) (k : Keys) (v : View) : Type 0 where
+  pub caller : IsBearerAs caller_by T k.caller v.caller
+  pub user : v.user ≡ option_and_then (get T.users) k.user
+  pub bearer : IsBearerAs (λ user. user.0) T k.token v.bearer
   pub name : v.name ≡ option_and_then (get T.names) k.name
   pub owners : AreOwners T k.name v.owners
+  pub file : v.file ≡ option_and_then (get T.files) k.file
 
 -- whether a user is there, and is one of these
 abbrev pub is_one_of : List Bytes → Option Bytes → Bool
 is_one_of users user = option_map_or (λ one. list_any (same one) users) user false
 
--- what a view says of a call
-abbrev pub facts_seen : View → Call → Facts
-facts_seen v c = record { caller = caller_of c; name = v.name; owns = is_one_of v.owners (caller_of c) }
+abbrev pub is_only_one_of : List Bytes → Option Bytes → Bool
+is_only_one_of users user = option_map_or (λ one. list_any (same one) users && list_all (same one) users) user false
+
+-- what a view says of a request
+abbrev pub facts_seen : View → Request → Facts
+facts_seen v r = record {
+  caller = v.caller;
+  user = v.user;
+  bearer = v.bearer;
+  name = v.name;
+  owns = is_one_of v.owners (option_map (λ caller. caller.user) v.caller);
+  named_owns = is_one_of v.owners (user_key r);
+  sole = is_only_one_of v.owners (user_key r);
+  file = v.file;
+}

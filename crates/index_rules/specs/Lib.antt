@@ -1,11 +1,15 @@
 pub mod Maps
 pub mod Users
+pub mod Texts
 pub mod Refusals
 pub mod Tables
+pub mod Opened
+pub mod Requests
 pub mod Facts
 pub mod Verdict
 pub mod Effect
 pub mod Decided
 pub mod Failures
 pub mod Runs
+pub mod Sound
 pub mod Printed

@@ -1,11 +1,28 @@
 -- The numbers of the refusals.
 use Rattle.std.specs.Prelude.{ℕ}
 use Rattle.index_rules.specs.declared.answer.Refusal.{Refusal}
-use Rattle.index_rules.specs.declared.answer.Refusal.TheVariants.{BadMoment, BadToken, BadName, NameProhibited, NameHeld}
+use Rattle.index_rules.specs.declared.answer.Refusal.TheVariants.{BadMoment, BadToken, NotOffice, BadUser, BadName, BadFileName, BadText, BadDigest, TooLarge, DigestMismatch, QuotaTooLarge, NoUser, UserExists, TokenTaken, NameProhibited, NoProject, NotOwner, NameHeld, LastOwner, FileNameTaken, OverQuota, QuotaBelowCharge}
 
 abbrev pub number_of : Refusal → ℕ
 number_of BadMoment = 1
 number_of BadToken = 2
+number_of NotOffice = 3
+number_of BadUser = 4
 number_of BadName = 5
+number_of BadFileName = 6
+number_of BadText = 8
+number_of BadDigest = 9
+number_of TooLarge = 10
+number_of DigestMismatch = 11
+number_of QuotaTooLarge = 12
+number_of NoUser = 13
+number_of UserExists = 14
+number_of TokenTaken = 15
 number_of NameProhibited = 16
+number_of NoProject = 17
+number_of NotOwner = 18
 number_of NameHeld = 19
+number_of LastOwner = 20
+number_of FileNameTaken = 24
+number_of OverQuota = 26
+number_of QuotaBelowCharge = 27

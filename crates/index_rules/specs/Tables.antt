@@ -1,14 +1,22 @@
 -- The tables: finite maps of records, so that each key stands once.
 use Rattle.std.specs.Prelude.{List, map, filter}
 use Rattle.std.specs.FinMap.{keys}
+use Rattle.index_rules.specs.declared.records.UserRecord.{UserRecord}
 use Rattle.index_rules.specs.declared.records.NameRecord.{NameRecord}
+use Rattle.index_rules.specs.declared.records.FileRecord.{FileRecord}
 use Rattle.index_rules.specs.Maps.{Bytes, Map, Pairs, same}
 
 pub record Tables : Type 0 where
+  -- by user id
+  pub users : Map UserRecord
   -- by normal name: the held names and the prohibited ones
   pub names : Map NameRecord
   -- each name with each user who owns it
   pub owners : Pairs
+  -- by file name: each file that was ever accepted
+  pub files : Map FileRecord
+  -- the bytes of the undeleted files
+  pub bodies : Map Bytes
 
 -- the owners of a name, in byte order
 abbrev pub owners_in : Tables → Bytes → List Bytes

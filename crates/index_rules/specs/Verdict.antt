@@ -1,49 +1,172 @@
 -- The verdict on a call: the least refusal that applies, else that it is so already, else that it is accepted.
-use Rattle.std.specs.Prelude.{ℕ, Bool, true, false, not, ◌&&◌, nat_lt, List, [], ◌∷◌, Option, Some, None, is_none, find}
+use Rattle.std.specs.Prelude.{ℕ, ◌+◌, Bool, true, false, not, ◌&&◌, ◌==◌, nat_lt, List, [], ◌∷◌, length, Option, Some, None, is_some, is_none, find}
+use Rattle.std.specs.Option.{option_map_or}
+use Rattle.index_digest.specs.Digest.{sha256}
 use Rattle.index_rules.specs.declared.call.Call.{Call}
 use Rattle.index_rules.specs.declared.call.Request.{Request}
-use Rattle.index_rules.specs.declared.call.Request.TheVariants.{Claim}
+use Rattle.index_rules.specs.declared.call.Request.TheVariants.{AddUser, SetToken, SetQuota, Claim, AddOwner, RemoveOwner, Upload}
 use Rattle.index_rules.specs.declared.answer.Refusal.{Refusal}
-use Rattle.index_rules.specs.declared.answer.Refusal.TheVariants.{BadMoment, BadToken, BadName, NameProhibited, NameHeld}
+use Rattle.index_rules.specs.declared.answer.Refusal.TheVariants.{BadMoment, BadToken, NotOffice, BadUser, BadName, BadFileName, BadText, BadDigest, TooLarge, DigestMismatch, QuotaTooLarge, NoUser, UserExists, TokenTaken, NameProhibited, NoProject, NotOwner, NameHeld, LastOwner, FileNameTaken, OverQuota, QuotaBelowCharge}
+use Rattle.index_rules.specs.declared.records.UserRecord.{UserRecord}
 use Rattle.index_rules.specs.declared.records.NameRecord.{NameRecord}
 use Rattle.index_rules.specs.declared.records.NameRecord.TheVariants.{Held, Prohibited}
+use Rattle.index_rules.specs.declared.records.Project.{Project}
+use Rattle.index_rules.specs.declared.records.FileRecord.{FileRecord}
+use Rattle.index_rules.specs.Maps.{Bytes, same}
+use Rattle.index_rules.specs.Texts.{is_text}
 use Rattle.index_rules.specs.Tables.{Tables}
-use Rattle.index_rules.specs.Facts.{Facts, facts_in, name_key}
+use Rattle.index_rules.specs.Requests.{user_key, name_key, file_key, declared_digest}
+use Rattle.index_rules.specs.Facts.{Facts, facts_in}
 
 pub data Verdict : Type 0 where
   Accept : Verdict
   AlreadySo : Verdict
   Refuse : Refusal → Verdict
 
+-- ---- limits
+
+-- the last second of the year 9999
+abbrev pub last_moment : ℕ
+last_moment = 253402300799
+
+-- the most bytes of a body
+abbrev pub largest_body : ℕ
+largest_body = 16777216
+
+-- the most bytes of a quota
+abbrev pub largest_quota : ℕ
+largest_quota = 1099511627776
+
+-- ---- questions on the facts
+
+-- the held name of a record
+abbrev pub project_in : Option NameRecord → Option Project
+project_in None = None
+project_in (Some (Held project)) = Some project
+project_in (Some Prohibited) = None
+
 abbrev pub is_held : Option NameRecord → Bool
-is_held None = false
-is_held (Some (Held project)) = true
-is_held (Some Prohibited) = false
+is_held name = is_some (project_in name)
 
 abbrev pub is_prohibited : Option NameRecord → Bool
 is_prohibited None = false
 is_prohibited (Some (Held project)) = false
 is_prohibited (Some Prohibited) = true
 
--- the last second of the year 9999
-abbrev pub last_moment : ℕ
-last_moment = 253402300799
+abbrev pub is_of_office : Facts → Bool
+is_of_office f = option_map_or (λ caller. caller.office) f.caller false
 
--- the refusals that a request can meet beside BadMoment and BadToken, least first
-abbrev pub refusals_of : Request → List Refusal
-refusals_of (Claim name) = BadName ∷ NameProhibited ∷ NameHeld ∷ []
+-- a user with this flag and this digest
+abbrev pub is_user_with : Bool → Option Bytes → UserRecord → Bool
+is_user_with office None user = false
+is_user_with true (Some token) user = user.office && same token user.token
+is_user_with false (Some token) user = not user.office && same token user.token
+
+abbrev pub bears : Option Bytes → Option UserRecord → Bool
+bears None user = false
+bears (Some token) None = false
+bears (Some token) (Some user) = same token user.token
+
+-- somebody else than the named user bears the digest
+abbrev pub is_taken : Option Bytes → Option Bytes → Bool
+is_taken None user = false
+is_taken (Some bearer) None = true
+is_taken (Some bearer) (Some user) = not (same user bearer)
+
+abbrev pub is_undeleted : Option FileRecord → Bool
+is_undeleted file = option_map_or (λ known. known.is_undeleted) file false
+
+-- the file is known with another digest or size
+abbrev pub is_other_file : Option Bytes → ℕ → Option FileRecord → Bool
+is_other_file declared size None = false
+is_other_file None size (Some known) = false
+is_other_file (Some digest) size (Some known) = not (same digest known.digest && (size == known.size))
+
+-- more bytes would bring the charge above the quota
+abbrev pub exceeds_quota : ℕ → Option NameRecord → Bool
+exceeds_quota size name = option_map_or (λ project. nat_lt project.quota (project.charge + size)) (project_in name) false
+
+-- ---- questions on the request
+
+abbrev pub brings_text : Request → Bool
+brings_text (Upload file sha256 body requires) = is_text requires
+brings_text r = true
+
+abbrev pub is_too_large : Request → Bool
+is_too_large (Upload file sha256 body requires) = nat_lt largest_body (length body)
+is_too_large r = false
+
+-- the body has not the digest that is declared
+abbrev pub is_mismatched : Request → Bool
+is_mismatched (Upload file declared body requires) = option_map_or (λ digest. not (same digest (sha256 body))) (declared_digest (Upload file declared body requires)) false
+is_mismatched r = false
+
+abbrev pub is_quota_too_large : Request → Bool
+is_quota_too_large (SetQuota name quota) = nat_lt largest_quota quota
+is_quota_too_large r = false
+
+abbrev pub is_quota_below_charge : Request → Facts → Bool
+is_quota_below_charge (SetQuota name quota) f = option_map_or (λ project. nat_lt quota project.charge) (project_in f.name) false
+is_quota_below_charge r f = false
+
+abbrev pub uploads_other_file : Request → Facts → Bool
+uploads_other_file (Upload file sha256 body requires) f = is_other_file (declared_digest (Upload file sha256 body requires)) (length body) f.file
+uploads_other_file r f = false
+
+abbrev pub uploads_over_quota : Request → Facts → Bool
+uploads_over_quota (Upload file sha256 body requires) f = not (is_undeleted f.file) && exceeds_quota (length body) f.name
+uploads_over_quota r f = false
+
+-- ---- the verdict
+
+-- where a request that nothing refuses changes nothing
+abbrev pub is_already : Request → Facts → Bool
+is_already (AddUser user office token) f = option_map_or (is_user_with office (declared_digest (AddUser user office token))) f.user false
+is_already (SetToken user token) f = bears (declared_digest (SetToken user token)) f.user
+is_already (SetQuota name quota) f = option_map_or (λ project. quota == project.quota) (project_in f.name) false
+is_already (Claim name) f = f.owns
+is_already (AddOwner name user) f = f.named_owns
+is_already (RemoveOwner name user) f = not f.named_owns
+is_already (Upload file sha256 body requires) f = is_undeleted f.file
 
 -- where each refusal applies, to a request at a moment
 abbrev pub applies : ℕ → Request → Facts → Refusal → Bool
 applies at r f BadMoment = nat_lt last_moment at
 applies at r f BadToken = is_none f.caller
+applies at r f NotOffice = not (is_of_office f)
+applies at r f BadUser = is_none (user_key r)
 applies at r f BadName = is_none (name_key r)
+applies at r f BadFileName = is_none (file_key r)
+applies at r f BadText = not (brings_text r)
+applies at r f BadDigest = is_none (declared_digest r)
+applies at r f TooLarge = is_too_large r
+applies at r f DigestMismatch = is_mismatched r
+applies at r f QuotaTooLarge = is_quota_too_large r
+applies at r f NoUser = is_none f.user
+applies at r f UserExists = is_some f.user && not (is_already r f)
+applies at r f TokenTaken = is_taken f.bearer (user_key r)
 applies at r f NameProhibited = is_prohibited f.name
+applies at r f NoProject = not (is_held f.name)
+applies at r f NotOwner = not f.owns
 applies at r f NameHeld = is_held f.name && not f.owns
+applies at r f LastOwner = f.sole
+applies at r f FileNameTaken = uploads_other_file r f
+applies at r f OverQuota = uploads_over_quota r f
+applies at r f QuotaBelowCharge = is_quota_below_charge r f
 
--- where a request that nothing refuses changes nothing
-abbrev pub is_already : Request → Facts → Bool
-is_already (Claim name) f = f.owns
+-- those of an upload whose parts are in order
+abbrev pub file_refusals : List Refusal
+file_refusals = NoProject ∷ NotOwner ∷ FileNameTaken ∷ OverQuota ∷ []
+
+-- the refusals that a request can meet beside BadMoment and BadToken, least first
+abbrev pub refusals_of : Request → List Refusal
+refusals_of (AddUser user office token) = NotOffice ∷ BadUser ∷ BadDigest ∷ UserExists ∷ TokenTaken ∷ []
+refusals_of (SetToken user token) = NotOffice ∷ BadUser ∷ BadDigest ∷ NoUser ∷ TokenTaken ∷ []
+refusals_of (SetQuota name quota) = NotOffice ∷ BadName ∷ QuotaTooLarge ∷ NoProject ∷ QuotaBelowCharge ∷ []
+refusals_of (Claim name) = BadName ∷ NameProhibited ∷ NameHeld ∷ []
+refusals_of (AddOwner name user) = BadUser ∷ BadName ∷ NoUser ∷ NoProject ∷ NotOwner ∷ []
+refusals_of (RemoveOwner name user) = BadUser ∷ BadName ∷ NoUser ∷ NoProject ∷ NotOwner ∷ LastOwner ∷ []
+refusals_of (Upload file sha256 body requires) = BadFileName ∷ BadText ∷ BadDigest ∷ TooLarge ∷ DigestMismatch ∷ file_refusals
 
 abbrev pub decided : Option Refusal → Bool → Verdict
 decided (Some r) already = Refuse r

@@ -10,14 +10,48 @@ use std::fmt;
 pub enum Refusal {
     /// The moment is greater than 253,402,300,799.
     BadMoment,
-    /// Nobody bears the token.
+    /// No user bears the token's digest.
     BadToken,
+    /// The caller is not of the office.
+    NotOffice,
+    /// The bytes are no user id.
+    BadUser,
     /// The bytes are no project name.
     BadName,
+    /// The bytes are no file name of a wheel or a source archive.
+    BadFileName,
+    /// The bytes are no text that the index keeps.
+    BadText,
+    /// The bytes are no digest's text; for a token, also the digest of the empty text.
+    BadDigest,
+    /// The body has more than 16,777,216 bytes.
+    TooLarge,
+    /// The body's SHA-256 digest is not the declared one.
+    DigestMismatch,
+    /// The quota is greater than 1,099,511,627,776 bytes.
+    QuotaTooLarge,
+    /// The named user is not there.
+    NoUser,
+    /// The user is there, with another flag or token.
+    UserExists,
+    /// Another user bears the token's digest.
+    TokenTaken,
     /// The name is prohibited.
     NameProhibited,
+    /// The name is not held.
+    NoProject,
+    /// The caller does not own the name.
+    NotOwner,
     /// The name is held, and the caller does not own it.
     NameHeld,
+    /// The user is the name's one owner.
+    LastOwner,
+    /// The file name is bound to another digest or size.
+    FileNameTaken,
+    /// The file is not undeleted, and its size would bring the charge above the quota.
+    OverQuota,
+    /// The quota is less than the charge.
+    QuotaBelowCharge,
 }
 
 /// Why a call could not be answered. It changed nothing.
@@ -46,9 +80,26 @@ impl Refusal {
         match self {
             Refusal::BadMoment => 1,
             Refusal::BadToken => 2,
+            Refusal::NotOffice => 3,
+            Refusal::BadUser => 4,
             Refusal::BadName => 5,
+            Refusal::BadFileName => 6,
+            Refusal::BadText => 8,
+            Refusal::BadDigest => 9,
+            Refusal::TooLarge => 10,
+            Refusal::DigestMismatch => 11,
+            Refusal::QuotaTooLarge => 12,
+            Refusal::NoUser => 13,
+            Refusal::UserExists => 14,
+            Refusal::TokenTaken => 15,
             Refusal::NameProhibited => 16,
+            Refusal::NoProject => 17,
+            Refusal::NotOwner => 18,
             Refusal::NameHeld => 19,
+            Refusal::LastOwner => 20,
+            Refusal::FileNameTaken => 24,
+            Refusal::OverQuota => 26,
+            Refusal::QuotaBelowCharge => 27,
         }
     }
 }

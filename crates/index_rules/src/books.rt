@@ -1,5 +1,6 @@
 //! The tables behind a trait.
 ghost use Rattle.std.specs.Prelude.{◌≡◌, ℕ, IfOk, OnOk, OnErr, is_ok};
+ghost use Rattle.std.specs.FinMap.{get};
 ghost use Rattle.index_rules.specs.Tables.{Tables, owners_in};
 ghost use Rattle.index_rules.specs.Facts.{Sees};
 ghost use Rattle.index_rules.specs.Effect.{means};
@@ -9,7 +10,8 @@ use crate::answer::Fault;
 use crate::change::Change;
 use crate::keys::Keys;
 use crate::view::{Owners, View};
-use index_names::NormalName;
+use index_digest::Sealed;
+use index_names::{FileName, NormalName};
 use std::alloc::Global;
 
 /// The tables, however they are kept. A store that is honest as a call ends was honest before it.
@@ -40,6 +42,13 @@ pub trait Books {
     /// The owners of a name in byte order. It changes nothing.
     fn owners_of(&mut self, alloc: Global, name: &NormalName) -> Result<Owners, Fault>
         ensures found { IsHonest self.new → IfOk result (λ owners. owners ≡ owners_in (tables self.old) name.now) }
+        ensures unchanged { IsHonest self.new → tables self.new ≡ tables self.old }
+        ensures honest { IsHonest self.new → IsHonest self.old }
+        ensures failures { failures self.new ≡ counted (failures self.old) (is_ok result) };
+
+    /// The bytes of a file, or `None` where it is not undeleted. It changes nothing.
+    fn bytes_of(&mut self, alloc: Global, file: &FileName) -> Result<Option<Sealed>, Fault>
+        ensures found { IsHonest self.new → IfOk result (λ body. body ≡ get (tables self.old).bodies file.now) }
         ensures unchanged { IsHonest self.new → tables self.new ≡ tables self.old }
         ensures honest { IsHonest self.new → IsHonest self.old }
         ensures failures { failures self.new ≡ counted (failures self.old) (is_ok result) };

@@ -1,17 +1,53 @@
 //! Calls: what is asked, by whom and when.
 use crate::bytes::Bytes;
+use index_digest::Digest256;
 
-/// What is asked. Names are the bytes that came.
+/// What is asked. Names, digests and texts are the bytes that came, which nothing has read yet.
 #[derive(Debug, Drop)]
 pub enum Request {
+    /// The office adds a user, whose token has this SHA-256 digest.
+    AddUser {
+        user: Bytes,
+        office: bool,
+        token: Bytes,
+    },
+    /// The office replaces the digest of a user's token.
+    SetToken {
+        user: Bytes,
+        token: Bytes,
+    },
+    /// The office sets how many bytes the undeleted files of a project may have.
+    SetQuota {
+        name: Bytes,
+        quota: u64,
+    },
     /// The caller takes a free name.
-    Claim { name: Bytes },
+    Claim {
+        name: Bytes,
+    },
+    /// An owner makes a user an owner too.
+    AddOwner {
+        name: Bytes,
+        user: Bytes,
+    },
+    /// An owner makes an owner one no more.
+    RemoveOwner {
+        name: Bytes,
+        user: Bytes,
+    },
+    /// An owner uploads a file of the project that its name decides.
+    Upload {
+        file: Bytes,
+        sha256: Bytes,
+        body: Bytes,
+        requires_python: Bytes,
+    },
 }
 
-/// A request at a moment, in Unix seconds, by the user whose id the bytes of `actor` are.
+/// A request at a moment, in Unix seconds, by the user whose token has this SHA-256 digest.
 #[derive(Debug, Drop)]
 pub struct Call {
     pub at: u64,
-    pub actor: Bytes,
+    pub token: Digest256,
     pub request: Request,
 }

@@ -8,6 +8,8 @@ mod call;
 mod change;
 mod decision;
 mod keys;
+mod open;
+mod reading;
 mod records;
 mod user;
 mod view;
@@ -19,9 +21,11 @@ pub use call::{Call, Request};
 pub use change::Change;
 pub use decision::{Decision, Stop, decide};
 pub use keys::Keys;
-pub use records::{NameRecord, Project};
+pub use open::{OpenFault, first_user};
+pub use reading::read_token;
+pub use records::{FileRecord, NameRecord, Project, UserRecord};
 pub use user::{UserFault, UserId};
-pub use view::{Owners, View};
+pub use view::{Caller, Owners, View};
 
 #[cfg(test)]
 mod tests;

@@ -1,122 +1,20 @@
+use crate::reading::readable_text;
 use crate::{
-    Bytes, Call, Change, Decision, Fault, Keys, NameRecord, Owners, Project, Refusal, Request,
-    Stop, UserFault, UserId, View, decide,
+    Bytes, Call, Fault, Keys, OpenFault, Owners, Refusal, Request, UserFault, UserId, first_user,
+    read_token,
 };
-use index_names::{Text, normal};
-use std::alloc::Global;
+use index_digest::Digest256;
+use index_names::{NormalName, normal};
+use std::alloc::{AllocError, Global};
 use std::test::Fail;
 
-/// The end of the year 9999.
-const LAST_MOMENT: u64 = 253_402_300_799;
+/// The digests of "abc" and of the empty text (FIPS 180-4).
+const ABC: &str = "ba7816bf8f01cfea414140de5dae2223b00361a396177a9cb410ff61f20015ad";
 
-fn claim(alloc: Global, at: u64, actor: &str, name: &str) -> Result<Call, Fail> {
-    Ok(Call {
-        at,
-        actor: Bytes::new(Vec::from_slice(alloc, actor.as_bytes())?),
-        request: Request::Claim {
-            name: Bytes::copy_of(alloc, name.as_bytes())?,
-        },
-    })
-}
+const EMPTY: &str = "e3b0c44298fc1c149afbf4c8996fb92427ae41e4649b934ca495991b7852b855";
 
-fn free(alloc: Global) -> View {
-    View {
-        name: None,
-        owners: Owners::new(Vec::new(alloc)),
-    }
-}
-
-fn prohibited(alloc: Global) -> View {
-    View {
-        name: Some(NameRecord::Prohibited),
-        owners: Owners::new(Vec::new(alloc)),
-    }
-}
-
-/// Held by alice and bob.
-fn held(alloc: Global) -> Result<View, Fail> {
-    let mut users = Vec::new(alloc);
-    users.push(UserId::read(alloc, b"bob")?)?;
-    users.push(UserId::read(alloc, b"alice")?)?;
-    let owners = Owners::new(users);
-    Ok(View {
-        name: Some(NameRecord::Held(Project {
-            shown: Text::new(String::from_str(alloc, "Flask")?),
-            quota: 7,
-            charge: 3,
-        })),
-        owners,
-    })
-}
-
-#[test]
-fn a_free_name_is_held_by_its_claimer(rt: HostRuntime) -> Result<(), Fail> {
-    let alloc = rt.alloc();
-    let view = free(alloc);
-    for (at, actor, name, key) in [
-        (0, "alice", "Flask", "flask"),
-        (5, "7", "a..B", "a-b"),
-        (LAST_MOMENT, "bob", "zope.interface", "zope-interface"),
-    ] {
-        let decision = decide(alloc, claim(alloc, at, actor, name)?, &view)?;
-        let Decision::Change(change) = decision else {
-            return Err(Fail::new("no change"));
-        };
-        let Change::Claim {
-            name: normal,
-            project,
-            owner,
-        } = change;
-        assert_eq!(rt; normal.text(), key);
-        assert_eq!(rt; project.shown.as_str(), name);
-        assert_eq!(rt; project.quota, 1_073_741_824);
-        assert_eq!(rt; project.charge, 0);
-        assert_eq!(rt; owner.text(), actor);
-    }
-    Ok(())
-}
-
-#[test]
-fn an_owner_holds_the_name_already(rt: HostRuntime) -> Result<(), Fail> {
-    let alloc = rt.alloc();
-    let view = held(alloc)?;
-    assert_eq!(rt; view.owners.as_slice().len(), 2);
-    for actor in ["alice", "bob"] {
-        let decision = decide(alloc, claim(alloc, 5, actor, "FLASK")?, &view)?;
-        assert!(rt; matches!(&decision, Decision::Already), "{actor}");
-    }
-    Ok(())
-}
-
-#[test]
-fn the_least_refusal_is_answered(rt: HostRuntime) -> Result<(), Fail> {
-    let alloc = rt.alloc();
-    let free = free(alloc);
-    let held = held(alloc)?;
-    let prohibited = prohibited(alloc);
-    for (at, actor, name, view, refusal) in [
-        (LAST_MOMENT + 1, "alice", "flask", &free, Refusal::BadMoment),
-        (LAST_MOMENT + 1, "-", "flask", &free, Refusal::BadMoment),
-        (u64::MAX, "alice", "-", &free, Refusal::BadMoment),
-        (LAST_MOMENT, "-", "flask", &free, Refusal::BadToken),
-        (5, "-", "flask", &free, Refusal::BadToken),
-        (5, "-", "-flask", &free, Refusal::BadToken),
-        (5, "Alice", "flask", &held, Refusal::BadToken),
-        (5, "alice", "", &free, Refusal::BadName),
-        (5, "alice", "-flask", &free, Refusal::BadName),
-        (5, "alice", "flask é", &free, Refusal::BadName),
-        (5, "alice", "flask", &prohibited, Refusal::NameProhibited),
-        (5, "carol", "flask", &held, Refusal::NameHeld),
-        (LAST_MOMENT, "ali", "Flask", &held, Refusal::NameHeld),
-    ] {
-        let stop = decide(alloc, claim(alloc, at, actor, name)?, view).err();
-        assert_eq!(rt;
-            stop,
-            Some(Stop::Refused(refusal)),
-            "{actor} claims {name} at {at}"
-        );
-    }
-    Ok(())
+fn bytes(alloc: Global, text: &str) -> Result<Bytes, AllocError> {
+    Bytes::copy_of(alloc, text.as_bytes())
 }
 
 #[test]
@@ -124,9 +22,26 @@ fn refusals_have_their_numbers(rt: HostRuntime) {
     for (refusal, number) in [
         (Refusal::BadMoment, 1),
         (Refusal::BadToken, 2),
+        (Refusal::NotOffice, 3),
+        (Refusal::BadUser, 4),
         (Refusal::BadName, 5),
+        (Refusal::BadFileName, 6),
+        (Refusal::BadText, 8),
+        (Refusal::BadDigest, 9),
+        (Refusal::TooLarge, 10),
+        (Refusal::DigestMismatch, 11),
+        (Refusal::QuotaTooLarge, 12),
+        (Refusal::NoUser, 13),
+        (Refusal::UserExists, 14),
+        (Refusal::TokenTaken, 15),
         (Refusal::NameProhibited, 16),
+        (Refusal::NoProject, 17),
+        (Refusal::NotOwner, 18),
         (Refusal::NameHeld, 19),
+        (Refusal::LastOwner, 20),
+        (Refusal::FileNameTaken, 24),
+        (Refusal::OverQuota, 26),
+        (Refusal::QuotaBelowCharge, 27),
     ] {
         assert_eq!(rt; refusal.number(), number, "{refusal:?}");
     }
@@ -155,39 +70,169 @@ fn user_ids_are_lower_case_letters_and_digits(rt: HostRuntime) -> Result<(), Fai
 }
 
 #[test]
+fn tokens_are_digests_in_lower_case(rt: HostRuntime) {
+    assert_eq!(rt; read_token(ABC.as_bytes()), Some(Digest256::of(b"abc")));
+    for text in [
+        "BA7816BF8F01CFEA414140DE5DAE2223B00361A396177A9CB410FF61F20015AD",
+        "ba7816bf8f01cfea414140de5dae2223b00361a396177a9cb410ff61f20015a",
+        EMPTY,
+        "",
+    ] {
+        assert_eq!(rt; read_token(text.as_bytes()), None, "{text}");
+    }
+}
+
+#[test]
+fn texts_are_short_and_have_no_controls(rt: HostRuntime) -> Result<(), Fail> {
+    let alloc = rt.alloc();
+    for (text, is_text) in [
+        ("", true),
+        (">=3.8, <4", true),
+        ("\u{20}\u{7e}\u{a0}é", true),
+        ("\u{0}", false),
+        ("a\u{1f}", false),
+        ("\u{7f}a", false),
+        ("a\u{80}", false),
+        ("\u{9f}", false),
+    ] {
+        let kept = readable_text(bytes(alloc, text)?);
+        let want = if is_text { Some(text) } else { None };
+        assert_eq!(rt; kept.as_ref().map(|kept| kept.as_str()), want, "{text:?}");
+    }
+    for (size, is_text) in [(512, true), (513, false)] {
+        let text = Bytes::new(vec![in alloc; b'a'; size]?);
+        assert_eq!(rt; readable_text(text).is_some(), is_text, "{size}");
+    }
+    let invalid = Bytes::copy_of(alloc, b"\xff")?;
+    assert!(rt; readable_text(invalid).is_none());
+    Ok(())
+}
+
+/// The texts of the keys' user, name and file, each empty where it is not there.
+fn key_texts(keys: &Keys) -> (&str, &str, &str) {
+    (
+        keys.user.as_ref().map_or("", |user| user.text()),
+        keys.name.as_ref().map_or("", |name| name.text()),
+        keys.file.as_ref().map_or("", |file| file.text()),
+    )
+}
+
+#[test]
 fn keys_are_what_can_be_read(rt: HostRuntime) -> Result<(), Fail> {
     let alloc = rt.alloc();
-    for (name, key) in [
-        ("Flask", Some("flask")),
-        ("a.-_B", Some("a-b")),
-        ("-a", None),
-        ("", None),
+    let token = Digest256::of(b"abc");
+    let archive = "Flask-1.0.tar.gz";
+    for (request, want, digest) in [
+        (
+            Request::AddUser {
+                user: bytes(alloc, "bob")?,
+                office: true,
+                token: bytes(alloc, ABC)?,
+            },
+            ("bob", "", ""),
+            Some(token),
+        ),
+        (
+            Request::SetToken {
+                user: bytes(alloc, "Bob")?,
+                token: bytes(alloc, EMPTY)?,
+            },
+            ("", "", ""),
+            None,
+        ),
+        (
+            Request::Claim {
+                name: bytes(alloc, "a.-_B")?,
+            },
+            ("", "a-b", ""),
+            None,
+        ),
+        (
+            Request::RemoveOwner {
+                name: bytes(alloc, "-a")?,
+                user: bytes(alloc, "bob")?,
+            },
+            ("bob", "", ""),
+            None,
+        ),
+        (
+            Request::Upload {
+                file: bytes(alloc, archive)?,
+                sha256: bytes(alloc, ABC)?,
+                body: bytes(alloc, "abc")?,
+                requires_python: bytes(alloc, "")?,
+            },
+            ("", "flask", archive),
+            None,
+        ),
     ] {
-        let keys = claim(alloc, 5, "-", name)?.keys(alloc)?;
-        assert_eq!(rt; keys.name.as_ref().map(|name| name.text()), key);
+        let call = Call {
+            at: 5,
+            token,
+            request,
+        };
+        let keys = call.keys(alloc)?;
+        assert_eq!(rt; keys.caller, Some(token));
+        assert_eq!(rt; key_texts(&keys), want);
+        assert_eq!(rt; keys.token, digest);
     }
-    let keys = Keys::of_name(&normal(alloc, b"Zope.Interface")?)?;
-    assert_eq!(rt;
-        keys.name.as_ref().map(|name| name.text()),
-        Some("zope-interface")
-    );
     Ok(())
 }
 
 #[test]
-fn bytes_come_back_as_they_went_in(rt: HostRuntime) -> Result<(), Fail> {
+fn keys_of_a_name(rt: HostRuntime) -> Result<(), Fail> {
+    let name: NormalName = normal(rt.alloc(), b"Zope.Interface")?;
+    let keys = Keys::of_name(&name)?;
+    assert_eq!(rt; key_texts(&keys), ("", "zope-interface", ""));
+    assert_eq!(rt; (keys.caller, keys.token), (None, None));
+    Ok(())
+}
+
+#[test]
+fn the_first_user_is_of_the_office(rt: HostRuntime) -> Result<(), Fail> {
+    let alloc = rt.alloc();
+    let token = Digest256::of(b"office");
+    let (user, record) = first_user(alloc, b"office", token)?;
+    assert_eq!(rt; user.text(), "office");
+    assert_eq!(rt; (record.office, record.token), (true, token));
+    for (user, token) in [
+        ("Office", token),
+        ("", token),
+        ("office", Digest256::of(b"")),
+    ] {
+        let fault = first_user(alloc, user.as_bytes(), token).err();
+        assert_eq!(rt; fault, Some(OpenFault::BadFirstUser), "{user}");
+    }
+    Ok(())
+}
+
+#[test]
+fn bytes_and_owners_come_back_as_they_went_in(rt: HostRuntime) -> Result<(), Fail> {
     let alloc = rt.alloc();
     let bytes = Bytes::copy_of(alloc, b"Flask\xff")?;
     assert_eq!(rt; bytes.as_slice(), b"Flask\xff".as_slice());
     let vector = bytes.into_vec();
     assert_eq!(rt; vector.as_slice(), b"Flask\xff".as_slice());
+    let mut users = Vec::new(alloc);
+    users.push(UserId::read(alloc, b"bob")?)?;
+    users.push(UserId::read(alloc, b"alice")?)?;
+    let owners = Owners::new(users);
+    let texts = [owners.as_slice()[0].text(), owners.as_slice()[1].text()];
+    assert_eq!(rt; texts, ["bob", "alice"]);
     Ok(())
 }
 
 #[test]
 fn faults_print_their_names(rt: HostRuntime) -> Result<(), Fail> {
-    for (fault, name) in [(Fault::OutOfMemory, "OutOfMemory"), (Fault::Store, "Store")] {
-        assert_eq!(rt; fault.to_string(rt.alloc())?.as_str(), name);
+    let alloc = rt.alloc();
+    for (fault, text) in [(Fault::OutOfMemory, "OutOfMemory"), (Fault::Store, "Store")] {
+        assert_eq!(rt; fault.to_string(alloc)?.as_str(), text);
+    }
+    for (fault, text) in [
+        (OpenFault::BadFirstUser, "BadFirstUser"),
+        (OpenFault::OutOfMemory, "OutOfMemory"),
+    ] {
+        assert_eq!(rt; fault.to_string(alloc)?.as_str(), text);
     }
     Ok(())
 }

@@ -1,7 +1,7 @@
 //! What a decision rests on.
 ghost use Rattle.std.specs.Prelude.{◌≡◌, List, ℕ};
 
-use crate::records::NameRecord;
+use crate::records::{FileRecord, NameRecord, UserRecord};
 use crate::user::UserId;
 use std::marker::Model;
 
@@ -33,10 +33,24 @@ impl Owners {
     }
 }
 
+/// The user who bears a token.
+#[derive(Clone, Debug, Drop)]
+pub struct Caller {
+    pub user: UserId,
+    /// Whether the user is of the office.
+    pub office: bool,
+}
+
 /// The records that a call's keys name.
 #[derive(Debug, Drop)]
 pub struct View {
+    /// Who bears the caller's token.
+    pub caller: Option<Caller>,
+    pub user: Option<UserRecord>,
+    /// Who bears the token that the call brings for a user.
+    pub bearer: Option<UserId>,
     pub name: Option<NameRecord>,
     /// The owners of the name, in any order.
     pub owners: Owners,
+    pub file: Option<FileRecord>,
 }

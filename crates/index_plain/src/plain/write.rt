@@ -1,0 +1,71 @@
+//! What a change writes.
+ghost use Rattle.std.specs.Prelude.{◌≡◌, ◌<◌, OnOk, OnErr, vec_len, vec_capacity};
+ghost use Rattle.index_rules.specs.Effect.{means};
+ghost use Rattle.index_plain.specs.Plain.{tables_of, failures_of};
+
+use crate::plain::PlainBooks;
+use crate::{entries, owners};
+use index_rules::{Change, NameRecord};
+use std::alloc::AllocError;
+
+impl PlainBooks {
+    /// Makes a change, or leaves the tables as they were.
+    pub(crate) fn make(&mut self, change: Change) -> Result<(), AllocError>
+        ensures written { OnOk result (tables_of self.new ≡ means change (tables_of self.old)) }
+        ensures unchanged { OnErr result (tables_of self.new ≡ tables_of self.old) }
+        ensures failures { failures_of self.new ≡ failures_of self.old }
+    {
+        self.reserve()?;
+        match change {
+            Change::AddUser { user, record } | Change::SetToken { user, record } => {
+                entries::put(&mut self.users, user, record);
+            }
+            Change::SetQuota { name, project } => {
+                entries::put(&mut self.names, name, NameRecord::Held(project));
+            }
+            Change::Claim {
+                name,
+                project,
+                owner,
+            } => {
+                let key = name.clone()?;
+                owners::clear(&mut self.owners, &name);
+                owners::add(&mut self.owners, key, owner);
+                entries::put(&mut self.names, name, NameRecord::Held(project));
+            }
+            Change::AddOwner { name, user } => owners::add(&mut self.owners, name, user),
+            Change::RemoveOwner { name, user } => owners::remove(&mut self.owners, &name, &user),
+            Change::Upload {
+                name,
+                project,
+                file,
+                record,
+                body,
+            } => {
+                let key = file.clone()?;
+                entries::put(&mut self.names, name, NameRecord::Held(project));
+                entries::put(&mut self.files, file, record);
+                entries::put(&mut self.bodies, key, body);
+            }
+        }
+        Ok(())
+    }
+
+    /// Takes room for one more entry in each vector, so that what follows needs none.
+    fn reserve(&mut self) -> Result<(), AllocError>
+        ensures tables { tables_of self.new ≡ tables_of self.old }
+        ensures failures { failures_of self.new ≡ failures_of self.old }
+        ensures users { OnOk result (vec_len self.new.users < vec_capacity self.new.users) }
+        ensures names { OnOk result (vec_len self.new.names < vec_capacity self.new.names) }
+        ensures owners { OnOk result (vec_len self.new.owners < vec_capacity self.new.owners) }
+        ensures files { OnOk result (vec_len self.new.files < vec_capacity self.new.files) }
+        ensures bodies { OnOk result (vec_len self.new.bodies < vec_capacity self.new.bodies) }
+    {
+        self.users.reserve(1)?;
+        self.names.reserve(1)?;
+        self.owners.reserve(1)?;
+        self.files.reserve(1)?;
+        self.bodies.reserve(1)?;
+        Ok(())
+    }
+}

@@ -1,0 +1,43 @@
+-- Each call keeps apart who bears which digest.
+use Rattle.std.proofs.Common.{◌≡◌}
+use Rattle.index_rules.specs.declared.answer.Answer.{Answer}
+use Rattle.index_rules.specs.declared.answer.Answer.TheVariants.{Accepted, Already, Refused, Fault}
+use Rattle.index_rules.specs.declared.call.Call.{Call}
+use Rattle.index_rules.specs.declared.call.Request.{Request}
+use Rattle.index_rules.specs.declared.call.Request.TheVariants.{AddUser, SetToken, SetQuota, Claim, AddOwner, RemoveOwner, Upload}
+use Rattle.index_rules.specs.Maps.{Bytes}
+use Rattle.index_rules.specs.Users.{read_user}
+use Rattle.index_rules.specs.Texts.{read_token}
+use Rattle.index_rules.specs.Tables.{Tables}
+use Rattle.std.specs.Prelude.{ℕ}
+use Rattle.index_rules.specs.Facts.{HasOneBearer, facts_in}
+use Rattle.index_rules.specs.Verdict.{Accept, verdict_now}
+use Rattle.index_rules.specs.Effect.{key, user_in, after}
+use Rattle.index_rules.specs.Runs.{Answers, tables_after}
+use Rattle.index_rules.proofs.Accepted.{accepted}
+use Rattle.index_rules.proofs.SoundUsers.{HasOneBearer-put, not_taken}
+
+module _ (T : Tables) (one : HasOneBearer T) (at : ℕ) (token : Bytes) where
+  abbrev of : Request → Call
+  of request = record { at = at; token = token; request = request }
+
+  each_request : (request : Request) → verdict_now T (of request) ≡ Accept → HasOneBearer (after T (of request))
+  each_request (AddUser user office digest) accepts =
+      let all = accepted (of (AddUser user office digest)) (facts_in T (of (AddUser user office digest))) accepts in
+      HasOneBearer-put T one (key (read_user user)) (record { office = office; token = key (read_token digest) })
+      (not_taken T one (read_token digest) (read_user user) all.0.1.1.1.1.0 all.0.1.1.1.0 all.0.1.1.1.1.1.1.0)
+  each_request (SetToken user digest) accepts =
+      let all = accepted (of (SetToken user digest)) (facts_in T (of (SetToken user digest))) accepts in
+      HasOneBearer-put T one (key (read_user user)) (record { office = (user_in (facts_in T (of (SetToken user digest)))).office; token = key (read_token digest) })
+      (not_taken T one (read_token digest) (read_user user) all.0.1.1.1.1.0 all.0.1.1.1.0 all.0.1.1.1.1.1.1.0)
+  each_request (SetQuota name quota) accepts = one
+  each_request (Claim name) accepts = one
+  each_request (AddOwner name user) accepts = one
+  each_request (RemoveOwner name user) accepts = one
+  each_request (Upload file digest body requires) accepts = one
+
+pub HasOneBearer-tables_after : (T : Tables) → HasOneBearer T → (c : Call) (answer : Answer) → Answers (verdict_now T c) answer → HasOneBearer (tables_after T c answer)
+HasOneBearer-tables_after T one c Accepted answers = each_request T one c.at c.token c.request answers
+HasOneBearer-tables_after T one c Already answers = one
+HasOneBearer-tables_after T one c (Refused refusal) answers = one
+HasOneBearer-tables_after T one c (Fault fault) answers = one

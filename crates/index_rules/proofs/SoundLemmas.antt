@@ -1,0 +1,143 @@
+-- Sound tables stay sound: after an accepted call, after any answer, after calls in a row.
+use Rattle.std.proofs.Common.{◌≡◌, ℕ, ◌+◌, ◌≤◌, true, false, not, ◌&&◌, refl, sym, ap, ◌∙◌, subst, List, [], ◌∷◌, Option, Some, None, is_some, is_none, option_map, option_and_then, unwrap_or, length, nat_lt}
+use Rattle.std.specs.Option.{option_map_or}
+use Rattle.std.specs.FinMap.{get, remove}
+use Rattle.std.proofs.lemmas.Bool.{true≢false, false≢true, not-false, ltb-false}
+use Rattle.index_names.specs.Project.{read_name}
+use Rattle.index_names.specs.FileName.{Spelled, read_file_name, project_of, release_of}
+use Rattle.index_digest.specs.Digest.{sha256, digest_in}
+use Rattle.index_rules.specs.declared.answer.Answer.{Answer}
+use Rattle.index_rules.specs.declared.answer.Answer.TheVariants.{Accepted, Already, Refused, Fault}
+use Rattle.index_rules.specs.declared.call.Call.{Call}
+use Rattle.index_rules.specs.declared.call.Request.{Request}
+use Rattle.index_rules.specs.declared.call.Request.TheVariants.{AddUser, SetToken, SetQuota, Claim, AddOwner, RemoveOwner, Upload}
+use Rattle.index_rules.specs.declared.records.Project.{Project}
+use Rattle.index_rules.specs.Maps.{Bytes, same}
+use Rattle.index_rules.specs.Users.{read_user}
+use Rattle.index_rules.specs.Texts.{read_token}
+use Rattle.index_rules.specs.Tables.{Tables}
+use Rattle.index_rules.specs.Requests.{read_file}
+use Rattle.index_rules.specs.Facts.{Facts, facts_in, of_both, owns_in, alone_owns_in}
+use Rattle.index_rules.specs.Verdict.{Accept, verdict_now, exceeds_quota, project_in, is_held, is_undeleted}
+use Rattle.index_rules.specs.Effect.{key, no_project, user_in, held_in, caller_in, first_quota, after}
+use Rattle.index_rules.specs.Runs.{Answers, Runs, tables_after}
+use Rattle.index_rules.specs.Sound.{IsSound}
+use Rattle.index_rules.proofs.OwnerLists.{same-is}
+use Rattle.index_rules.proofs.Accepted.{accepted, some_there, and_not}
+use Rattle.index_rules.proofs.SoundUsers.{IsSound-user, not_taken}
+use Rattle.index_rules.proofs.SoundNames.{IsSound-project, IsSound-claim}
+use Rattle.index_rules.proofs.SoundOwners.{IsSound-owner, IsSound-no_owner}
+use Rattle.index_rules.proofs.SoundUploads.{IsSound-upload}
+
+-- ---- what the parts of an accepted request are
+
+-- a record that holds the name has a project
+project_there : (found : Option Project) → not (is_some found) ≡ false → found ≡ Some (unwrap_or found no_project)
+project_there found missing = some_there found no_project (not-false _ missing)
+
+project_at : (T : Tables) (name : Option Bytes) → not (is_held (option_and_then (get T.names) name)) ≡ false
+    → project_in (get T.names (key name)) ≡ Some (unwrap_or (project_in (option_and_then (get T.names) name)) no_project)
+project_at T None missing = absurd (true≢false missing)
+project_at T (Some name) missing = project_there (project_in (get T.names name)) missing
+
+free_at : (T : Tables) (name : Option Bytes) → is_none name ≡ false → is_held (option_and_then (get T.names) name) ≡ false → is_held (get T.names (key name)) ≡ false
+free_at T None unread free = absurd (true≢false unread)
+free_at T (Some name) unread free = free
+
+no_owner : (T : Tables) → IsSound T → (name user : Option Bytes) → of_both (owns_in T) name user ≡ true → of_both (alone_owns_in T) name user ≡ false
+    → IsSound (record T { owners = remove T.owners (key name, key user) })
+no_owner T sound None user owns sole = absurd (false≢true owns)
+no_owner T sound (Some name) None owns sole = absurd (false≢true owns)
+no_owner T sound (Some name) (Some user) owns sole = IsSound-no_owner T sound name user owns sole
+
+file_read : (file : Bytes) → is_none (read_file file) ≡ false → (is_some (read_file_name file) ≡ true) × (read_file file ≡ Some file)
+unfolding read_file
+file_read file unread = by (read_file_name file) unread
+  where
+    by : (spelled : Option Spelled) → is_none (option_map (λ _. file) spelled) ≡ false → (is_some spelled ≡ true) × (option_map (λ _. file) spelled ≡ Some file)
+    by None unread = absurd (true≢false unread)
+    by (Some spelled) unread = (refl, refl)
+
+digest_is : (declared : Option Bytes) (body : Bytes) → is_none declared ≡ false → option_map_or (λ digest. not (same digest (sha256 body))) declared false ≡ false → sha256 body ≡ key declared
+digest_is None body unread mismatched = absurd (true≢false unread)
+digest_is (Some digest) body unread mismatched = sym (same-is digest (sha256 body) (not-false _ mismatched))
+
+-- ---- each request
+
+module _ (T : Tables) (sound : IsSound T) (at : ℕ) (token : Bytes) where
+  abbrev of : Request → Call
+  of request = record { at = at; token = token; request = request }
+
+  abbrev facts : Request → Facts
+  facts request = facts_in T (of request)
+
+  quota_set : (name : Bytes) (quota : ℕ) → verdict_now T (of (SetQuota name quota)) ≡ Accept → IsSound (after T (of (SetQuota name quota)))
+  quota_set name quota accepts =
+      let all = accepted (of (SetQuota name quota)) (facts (SetQuota name quota)) accepts in
+      let project : Project = held_in (facts (SetQuota name quota)) in
+      let held : project_in (facts (SetQuota name quota)).name ≡ Some project = project_there _ all.0.1.1.1.1.1.0 in
+      let fits : project.charge ≤ quota = ltb-false quota project.charge (sym (λ i. option_map_or (λ p. nat_lt quota p.charge) (held i) false) ∙ all.0.1.1.1.1.1.1.0) in
+      IsSound-project T sound (key (read_name name)) project (record project { quota = quota }) (project_at T (read_name name) all.0.1.1.1.1.1.0) refl refl fits
+
+  claimed : (name : Bytes) → verdict_now T (of (Claim name)) ≡ Accept → IsSound (after T (of (Claim name)))
+  claimed name accepts =
+      let all = accepted (of (Claim name)) (facts (Claim name)) accepts in
+      let free : is_held (get T.names (key (read_name name))) ≡ false = free_at T (read_name name) all.0.1.1.0 (and_not _ _ all.0.1.1.1.1.0 all.1) in
+      IsSound-claim T sound (key (read_name name)) free (record { shown = name; quota = first_quota; charge = 0; undeleted = 0 }) (caller_in (facts (Claim name))) refl refl
+
+  uploaded : (file digest body requires : Bytes) → verdict_now T (of (Upload file digest body requires)) ≡ Accept → IsSound (after T (of (Upload file digest body requires)))
+  uploaded file digest body requires accepts =
+      let all = accepted (of (Upload file digest body requires)) (facts (Upload file digest body requires)) accepts in
+      let f : Facts = facts (Upload file digest body requires) in
+      let read = file_read file all.0.1.1.0 in
+      let name_is : f.name ≡ get T.names (project_of file) = ap (λ o. option_and_then (get T.names) (option_map project_of o)) read.1 in
+      let file_is : f.file ≡ get T.files file = ap (option_and_then (get T.files)) read.1 in
+      let held : project_in f.name ≡ Some (held_in f) = project_there _ all.0.1.1.1.1.1.1.1.0 in
+      let within : exceeds_quota (length body) f.name ≡ false = sym (λ i. not (all.1 i) && exceeds_quota (length body) f.name) ∙ all.0.1.1.1.1.1.1.1.1.1.1.0 in
+      let fits : (held_in f).charge + length body ≤ (held_in f).quota = ltb-false _ _ (sym (ap (λ o. option_map_or (λ project. nat_lt project.quota (project.charge + length body)) o false) held) ∙ within) in
+      IsSound-upload T sound file
+      (record { project = project_of file; release = release_of file; digest = key (digest_in digest); size = length body; requires_python = requires; is_undeleted = true })
+      body (held_in f) refl (sym (ap is_undeleted file_is) ∙ all.1) (sym (ap project_in name_is) ∙ held)
+      (record { is_file_name = read.0; project = refl; release = refl })
+      (record { size = refl; digest = digest_is (digest_in digest) body all.0.1.1.1.1.0 all.0.1.1.1.1.1.1.0 })
+      fits
+
+  each_request : (request : Request) → verdict_now T (of request) ≡ Accept → IsSound (after T (of request))
+  each_request (AddUser user office digest) accepts =
+      let all = accepted (of (AddUser user office digest)) (facts (AddUser user office digest)) accepts in
+      IsSound-user T sound (key (read_user user)) (record { office = office; token = key (read_token digest) })
+      (not_taken T sound.one_bearer (read_token digest) (read_user user) all.0.1.1.1.1.0 all.0.1.1.1.0 all.0.1.1.1.1.1.1.0)
+  each_request (SetToken user digest) accepts =
+      let all = accepted (of (SetToken user digest)) (facts (SetToken user digest)) accepts in
+      IsSound-user T sound (key (read_user user)) (record { office = (user_in (facts (SetToken user digest))).office; token = key (read_token digest) })
+      (not_taken T sound.one_bearer (read_token digest) (read_user user) all.0.1.1.1.1.0 all.0.1.1.1.0 all.0.1.1.1.1.1.1.0)
+  each_request (SetQuota name quota) accepts = quota_set name quota accepts
+  each_request (Claim name) accepts = claimed name accepts
+  each_request (AddOwner name user) accepts =
+      let all = accepted (of (AddOwner name user)) (facts (AddOwner name user)) accepts in
+      IsSound-owner T sound (key (read_name name)) (key (read_user user)) (ap is_some (project_at T (read_name name) all.0.1.1.1.1.1.0))
+  each_request (RemoveOwner name user) accepts =
+      let all = accepted (of (RemoveOwner name user)) (facts (RemoveOwner name user)) accepts in
+      no_owner T sound (read_name name) (read_user user) (not-false _ all.1) all.0.1.1.1.1.1.1.1.0
+  each_request (Upload file digest body requires) accepts = uploaded file digest body requires accepts
+
+-- ---- the theorems
+
+-- an accepted call leaves sound tables
+pub IsSound-after : (T : Tables) → IsSound T → (c : Call) → verdict_now T c ≡ Accept → IsSound (after T c)
+IsSound-after T sound c accepts = each_request T sound c.at c.token c.request accepts
+
+-- so does each call, however it is answered
+pub IsSound-tables_after : (T : Tables) → IsSound T → (c : Call) (answer : Answer) → Answers (verdict_now T c) answer → IsSound (tables_after T c answer)
+IsSound-tables_after T sound c Accepted answers = IsSound-after T sound c answers
+IsSound-tables_after T sound c Already answers = sound
+IsSound-tables_after T sound c (Refused refusal) answers = sound
+IsSound-tables_after T sound c (Fault fault) answers = sound
+
+-- and so do calls in a row
+pub IsSound-Runs : (T : Tables) → IsSound T → (calls : List Call) (answers : List Answer) (T' : Tables) → Runs T calls answers T' → IsSound T'
+IsSound-Runs T sound [] [] T' run = subst IsSound (sym run) sound
+IsSound-Runs T sound [] (answer ∷ answers) T' run = absurd run
+IsSound-Runs T sound (call ∷ calls) [] T' run = absurd run
+IsSound-Runs T sound (call ∷ calls) (answer ∷ answers) T' run =
+    IsSound-Runs (tables_after T call answer) (IsSound-tables_after T sound call answer run.0) calls answers T' run.1

@@ -1,0 +1,107 @@
+-- Sound tables stay sound where a held name's quota changes and where a free name is claimed.
+use Rattle.std.proofs.Common.{◌≡◌, ◌≤◌, true, false, cond, not, ◌&&◌, inl, inr, refl, sym, ap, ◌∙◌, subst, Some, is_some, arith}
+use Rattle.std.specs.FinMap.{get, insert, retain_keys}
+use Rattle.std.proofs.lemmas.Bool.{false≢true, cases_Bool, and_parts}
+use Rattle.index_rules.specs.declared.records.NameRecord.TheVariants.{Held}
+use Rattle.index_rules.specs.declared.records.Project.{Project}
+use Rattle.index_rules.specs.declared.records.FileRecord.{FileRecord}
+use Rattle.index_rules.specs.Maps.{Bytes, same}
+use Rattle.index_rules.specs.Tables.{Tables}
+use Rattle.index_rules.specs.Facts.{owns_in}
+use Rattle.index_rules.specs.Verdict.{project_in, is_held}
+use Rattle.index_rules.specs.Sound.{IsSound, is_undeleted_of, charged_size, charge_in, undeleted_in}
+use Rattle.index_rules.proofs.OwnerLists.{same-is}
+use Rattle.index_rules.proofs.KeyLemmas.{same-refl, has-put, has-cleared}
+use Rattle.index_rules.proofs.Totals.{total-zero}
+use Rattle.index_rules.proofs.PutLemmas.{each_put, other-sym}
+
+-- a name that was held before is held where one is put
+pub still_held : (T : Tables) (name : Bytes) (project : Project) (q : Bytes) → is_held (get T.names q) ≡ true → is_held (get (insert T.names name (Held project)) q) ≡ true
+still_held T name project = each_put T.names name (Held project) (λ q found. is_held (get T.names q) ≡ true → is_held found ≡ true) (λ _. refl) (λ _ _ held. held)
+
+-- ---- a held name with another quota
+
+pub IsSound-project : (T : Tables) → IsSound T → (name : Bytes) (before project : Project) → project_in (get T.names name) ≡ Some before
+    → project.charge ≡ before.charge → project.undeleted ≡ before.undeleted → project.charge ≤ project.quota
+    → IsSound (record T { names = insert T.names name (Held project) })
+IsSound-project T sound name before project at charge undeleted quota = record {
+  one_bearer = sound.one_bearer;
+  owners = λ n user owns. still_held T name project n (sound.owners n user owns);
+  owned = each_put T.names name (Held project) (λ n found. is_held found ≡ true → (user : Bytes) × (owns_in T n user ≡ true))
+      (λ _. sound.owned name (ap is_some at))
+      (λ n _. sound.owned n);
+  spelled = sound.spelled;
+  undeleted_held = λ file known there is. still_held T name project known.project (sound.undeleted_held file known there is);
+  charge = each_put T.names name (Held project) (λ n found. (p : Project) → project_in found ≡ Some p → p.charge ≡ charge_in T n)
+      (λ p e. let is : project ≡ p = cc in ap (λ (r : Project). r.charge) (sym is) ∙ charge ∙ sound.charge name before at)
+      (λ n _. sound.charge n);
+  undeleted = each_put T.names name (Held project) (λ n found. (p : Project) → project_in found ≡ Some p → p.undeleted ≡ undeleted_in T n)
+      (λ p e. let is : project ≡ p = cc in ap (λ (r : Project). r.undeleted) (sym is) ∙ undeleted ∙ sound.undeleted name before at)
+      (λ n _. sound.undeleted n);
+  quota = each_put T.names name (Held project) (λ n found. (p : Project) → project_in found ≡ Some p → p.charge ≤ p.quota)
+      (λ p e. let is : project ≡ p = cc in subst (λ (r : Project). r.charge ≤ r.quota) is quota)
+      (λ n _. sound.quota n);
+  bodies = sound.bodies;
+  bytes = sound.bytes;
+}
+
+-- ---- a free name
+
+module _ (T : Tables) (sound : IsSound T) (name : Bytes) (free : is_held (get T.names name) ≡ false) where
+  none_of_free : (file : Bytes) (known : FileRecord) → get T.files file ≡ Some known → is_undeleted_of name known ≡ false
+  none_of_free file known there = elim (cases_Bool (is_undeleted_of name known)) [
+    | inl e ↦
+        let parts = and_parts _ _ e in
+        absurd (false≢true (sym free ∙ ap (λ n. is_held (get T.names n)) (same-is name known.project parts.1) ∙ sound.undeleted_held file known there parts.0))
+    | inr e ↦ e
+  ]
+
+  -- a free name is charged nothing
+  charge_in-free : charge_in T name ≡ 0
+  charge_in-free = total-zero (charged_size name) T.files (λ file known there. ap (λ b. cond b known.size 0) (none_of_free file known there))
+
+  undeleted_in-free : undeleted_in T name ≡ 0
+  undeleted_in-free = total-zero (λ known. cond (is_undeleted_of name known) 1 0) T.files (λ file known there. ap (λ b. cond b 1 0) (none_of_free file known there))
+
+  module _ (project : Project) (owner : Bytes) where
+    abbrev claimed : Tables
+    claimed = record T {
+      names = insert T.names name (Held project);
+      owners = insert (retain_keys T.owners (λ pair. not (same name pair.0))) (name, owner) tt;
+    }
+
+    owns_in-claimed : (n user : Bytes) → owns_in claimed n user ≡ cond (same n name && same user owner) true (cond (not (same name n)) (owns_in T n user) false)
+    owns_in-claimed n user =
+        has-put (retain_keys T.owners (λ pair. not (same name pair.0))) name owner n user
+        ∙ ap (λ b. cond (same n name && same user owner) true b) (has-cleared T.owners name n user)
+
+    owner_claimed : owns_in claimed name owner ≡ true
+    owner_claimed = owns_in-claimed name owner ∙ (λ i. cond (same-refl name i && same-refl owner i) true (cond (not (same name name)) (owns_in T name owner) false))
+
+    owns_in-other : (n user : Bytes) → same n name ≡ false → owns_in claimed n user ≡ owns_in T n user
+    owns_in-other n user other =
+        owns_in-claimed n user ∙ (λ i. cond (other i && same user owner) true (cond (not (other-sym n name other i)) (owns_in T n user) false))
+
+    pub IsSound-claim : project.charge ≡ 0 → project.undeleted ≡ 0 → IsSound claimed
+    IsSound-claim charge undeleted = record {
+      one_bearer = sound.one_bearer;
+      owners = each_put T.names name (Held project) (λ n found. (user : Bytes) → owns_in claimed n user ≡ true → is_held found ≡ true)
+          (λ _ _. refl)
+          (λ n other user owns. sound.owners n user (sym (owns_in-other n user other) ∙ owns));
+      owned = each_put T.names name (Held project) (λ n found. is_held found ≡ true → (user : Bytes) × (owns_in claimed n user ≡ true))
+          (λ _. (owner, owner_claimed))
+          (λ n other held. let one = sound.owned n held in (one.0, owns_in-other n one.0 other ∙ one.1));
+      spelled = sound.spelled;
+      undeleted_held = λ file known there is. still_held T name project known.project (sound.undeleted_held file known there is);
+      charge = each_put T.names name (Held project) (λ n found. (p : Project) → project_in found ≡ Some p → p.charge ≡ charge_in T n)
+          (λ p e. let is : project ≡ p = cc in ap (λ (r : Project). r.charge) (sym is) ∙ charge ∙ sym charge_in-free)
+          (λ n _. sound.charge n);
+      undeleted = each_put T.names name (Held project) (λ n found. (p : Project) → project_in found ≡ Some p → p.undeleted ≡ undeleted_in T n)
+          (λ p e. let is : project ≡ p = cc in ap (λ (r : Project). r.undeleted) (sym is) ∙ undeleted ∙ sym undeleted_in-free)
+          (λ n _. sound.undeleted n);
+      quota = each_put T.names name (Held project) (λ n found. (p : Project) → project_in found ≡ Some p → p.charge ≤ p.quota)
+          (λ p e. let is : project ≡ p = cc in subst (λ (r : Project). r.charge ≤ r.quota) is (omega (arith, charge)))
+          (λ n _. sound.quota n);
+      bodies = sound.bodies;
+      bytes = sound.bytes;
+    }

@@ -1,0 +1,77 @@
+-- A sum over the entries of a map, where one entry is put, and where each entry weighs nothing.
+use Rattle.std.proofs.Common.{◌≡◌, ℕ, ◌+◌, Bool, true, false, cond, not, ◌&&◌, refl, sym, ap, ◌∙◌, List, [], ◌∷◌, Some, None, T, arith, sum_by, find, eqb}
+use Rattle.std.specs.Option.{option_map_or}
+use Rattle.std.specs.declared.cmp.Ordering.{Ordering}
+use Rattle.std.specs.declared.cmp.Ordering.TheVariants.{Less, Equal, Greater}
+use Rattle.std.specs.Ordering.{is_eq, is_lt}
+use Rattle.std.specs.FinMap.{get, insert, entries, entries_sorted, entries-insert, get-entries, put, is_sorted}
+use Rattle.std.specs.FinMap as fin
+use Rattle.std.specs.FinMap.Entries.{below_all, by_order}
+use Rattle.std.proofs.lemmas.Bool.{false≢true, eqb-true, eq-eqb}
+use Rattle.std.proofs.lemmas.Cmp.{nat_list_cmp_total}
+use Rattle.std.proofs.lemmas.List.Sums.{sum_by-cons}
+use Rattle.index_rules.specs.Maps.{Bytes, Map, bytes_cmp}
+use Rattle.index_rules.proofs.EntryLemmas.{get-found, find-passes}
+
+both : (a b : Bool) → T (a && b) → T a × T b
+both true b p = (tt, p)
+both false b p = absurd p
+
+is_less : (o : Ordering) → T (is_lt o) → o ≡ Less
+is_less Less p = refl
+is_less Equal p = absurd p
+is_less Greater p = absurd p
+
+-- a key below one that is below all is none of them
+find-below : {X : Type 0} (q k : Bytes) (es : List (Bytes × X)) → bytes_cmp q k ≡ Less → T (below_all bytes_cmp k es) → fin.find bytes_cmp q es ≡ None
+find-below q k [] lower low = refl
+find-below q k (e ∷ es) lower low =
+    let parts = both _ _ low in
+    ap (λ o. cond (is_eq o) (Some e.1) (fin.find bytes_cmp q es)) (nat_list_cmp_total.trans q k e.0 lower (is_less _ parts.0)) ∙ find-below q k es lower parts.1
+
+module _ {X : Type 0} (weight : X → ℕ) where
+  abbrev pub total_of : List (Bytes × X) → ℕ
+  total_of es = sum_by (λ e. weight e.1) es
+
+  total_of-cons : (e : Bytes × X) (es : List (Bytes × X)) → total_of (e ∷ es) ≡ weight e.1 + total_of es
+  total_of-cons e es = sum_by-cons (λ (f : Bytes × X). weight f.1) e es
+
+  total_of-put : (k : Bytes) (v : X) (es : List (Bytes × X)) → T (is_sorted bytes_cmp es) → total_of (put bytes_cmp k v es) + option_map_or weight (fin.find bytes_cmp k es) 0 ≡ total_of es + weight v
+  total_of-put k v [] sorted = omega (arith, total_of-cons (k, v) [])
+  total_of-put k v (e ∷ es) sorted =
+      let parts = both _ _ sorted in
+      elim (bytes_cmp k e.0) as (λ o. bytes_cmp k e.0 ≡ o → total_of (by_order o ((k, v) ∷ e ∷ es) ((e.0, v) ∷ es) (e ∷ put bytes_cmp k v es)) + option_map_or weight (cond (is_eq o) (Some e.1) (fin.find bytes_cmp k es)) 0 ≡ total_of (e ∷ es) + weight v) [
+        | Less ↦ λ lower.
+            let gone : option_map_or weight (fin.find bytes_cmp k es) 0 ≡ 0 = ap (λ o. option_map_or weight o 0) (find-below k e.0 es lower parts.0) in
+            omega (arith, total_of-cons (k, v) (e ∷ es), gone)
+        | Equal ↦ λ _. omega (arith, total_of-cons (e.0, v) es, total_of-cons e es)
+        | Greater ↦ λ _. omega (arith, total_of-put k v es parts.1, total_of-cons e (put bytes_cmp k v es), total_of-cons e es)
+      ] refl
+
+  -- an entry that is put takes the weight of the one before it
+  pub total-insert : (m : Map X) (k : Bytes) (v : X) → total_of (entries (insert m k v)) + option_map_or weight (get m k) 0 ≡ total_of (entries m) + weight v
+  total-insert m k v =
+      ap (λ es. total_of es + option_map_or weight (get m k) 0) (entries-insert nat_list_cmp_total m k v)
+      ∙ ap (λ o. total_of (put bytes_cmp k v (entries m)) + option_map_or weight o 0) (get-entries m k)
+      ∙ total_of-put k v (entries m) (entries_sorted m)
+
+  weighs : Bytes × X → Bool
+  weighs e = not (eqb (weight e.1) 0)
+
+  total_of-none : (es : List (Bytes × X)) → find weighs es ≡ None → total_of es ≡ 0
+  unfolding weighs
+  total_of-none [] none = refl
+  total_of-none (e ∷ es) none = elim (eqb (weight e.1) 0) as (λ b. eqb (weight e.1) 0 ≡ b → cond (not b) (Some e) (find weighs es) ≡ None → total_of (e ∷ es) ≡ 0) [
+    | true ↦ λ is none. omega (arith, total_of-cons e es, eqb-true (weight e.1) 0 is, total_of-none es none)
+    | false ↦ λ _ none. cc
+  ] refl none
+
+  -- where each entry weighs nothing, so do all
+  pub total-zero : (m : Map X) → ((k : Bytes) (v : X) → get m k ≡ Some v → weight v ≡ 0) → total_of (entries m) ≡ 0
+  unfolding weighs
+  total-zero m each = elim (find weighs (entries m)) as (λ o. find weighs (entries m) ≡ o → total_of (entries m) ≡ 0) [
+    | None ↦ λ none. total_of-none (entries m) none
+    | Some e ↦ λ found.
+        let nothing : weight e.1 ≡ 0 = each e.0 e.1 (get-found m weighs e found) in
+        absurd (false≢true (ap not (sym (eq-eqb (weight e.1) 0 nothing)) ∙ find-passes weighs (entries m) e found))
+  ] refl

@@ -1,0 +1,59 @@
+-- The readable parts of a request.
+use Rattle.std.specs.Prelude.{Option, Some, None, option_map}
+use Rattle.index_names.specs.Project.{read_name}
+use Rattle.index_names.specs.FileName.{read_file_name, project_of}
+use Rattle.index_digest.specs.Digest.{digest_in}
+use Rattle.index_rules.specs.declared.call.Call.{Call}
+use Rattle.index_rules.specs.declared.call.Request.{Request}
+use Rattle.index_rules.specs.declared.call.Request.TheVariants.{AddUser, SetToken, SetQuota, Claim, AddOwner, RemoveOwner, Upload}
+use Rattle.index_rules.specs.declared.keys.Keys.{Keys}
+use Rattle.index_rules.specs.Maps.{Bytes}
+use Rattle.index_rules.specs.Users.{read_user}
+use Rattle.index_rules.specs.Texts.{read_token}
+
+-- the file name that bytes are
+unfoldable pub read_file : Bytes → Option Bytes
+read_file file = option_map (λ spelled. file) (read_file_name file)
+
+-- the user that a request names
+abbrev pub user_key : Request → Option Bytes
+user_key (AddUser user office token) = read_user user
+user_key (SetToken user token) = read_user user
+user_key (AddOwner name user) = read_user user
+user_key (RemoveOwner name user) = read_user user
+user_key r = None
+
+-- the digest of the token that it brings for that user
+abbrev pub token_key : Request → Option Bytes
+token_key (AddUser user office token) = read_token token
+token_key (SetToken user token) = read_token token
+token_key r = None
+
+-- the name that it speaks of; a file name decides its project
+abbrev pub name_key : Request → Option Bytes
+name_key (AddUser user office token) = None
+name_key (SetToken user token) = None
+name_key (SetQuota name quota) = read_name name
+name_key (Claim name) = read_name name
+name_key (AddOwner name user) = read_name name
+name_key (RemoveOwner name user) = read_name name
+name_key (Upload file sha256 body requires) = option_map project_of (read_file file)
+
+-- the file
+abbrev pub file_key : Request → Option Bytes
+file_key (Upload file sha256 body requires) = read_file file
+file_key r = None
+
+-- the digest that it declares, of a token or of a body
+abbrev pub declared_digest : Request → Option Bytes
+declared_digest (Upload file sha256 body requires) = digest_in sha256
+declared_digest r = token_key r
+
+abbrev pub keys_of : Call → Keys
+keys_of c = record {
+  caller = Some c.token;
+  user = user_key c.request;
+  token = token_key c.request;
+  name = name_key c.request;
+  file = file_key c.request;
+}

@@ -1,0 +1,15 @@
+-- Texts and token digests that requests bring.
+use Rattle.std.specs.Prelude.{Bool, not, ◌&&◌, nat_le, [], length, Option, Some, None, option_and_then, if◌then◌else◌}
+use Rattle.std.specs.Char.{is_control}
+use Rattle.std.specs.List.{list_all}
+use Rattle.std.specs.Str.{is_utf8, chars}
+use Rattle.index_digest.specs.Digest.{digest_in, sha256}
+use Rattle.index_rules.specs.Maps.{Bytes, same}
+
+-- 0 to 512 bytes of UTF-8 without control characters (the code points 0 to 31 and 127 to 159)
+unfoldable pub is_text : Bytes → Bool
+is_text x = nat_le (length x) 512 && is_utf8 x && list_all (λ c. not (is_control c)) (chars x)
+
+-- the digest of a token that a text gives; the empty text is no token
+unfoldable pub read_token : Bytes → Option Bytes
+read_token text = option_and_then (λ digest. if same digest (sha256 []) then None else Some digest) (digest_in text)

@@ -1,0 +1,74 @@
+//! The opening of a new index with its first user.
+ghost use Rattle.std.specs.Prelude.{◌≡◌, ◌⊎◌, ◌↔◌, IfOk, IfErr, IsErrOf};
+ghost use Rattle.index_rules.specs.Opened.{IsBadFirstUser, first_record};
+
+use crate::records::UserRecord;
+use crate::user::{UserFault, UserId};
+use index_digest::Digest256;
+use std::alloc::{AllocError, Global};
+use std::error::Error;
+use std::fmt;
+
+/// Why no index was opened.
+#[derive(Clone, Copy, Debug, PartialEq, Eq, Hash)]
+pub enum OpenFault {
+    /// The bytes are no user id, or the digest is that of the empty text, which is no token.
+    BadFirstUser,
+    OutOfMemory,
+}
+
+impl fmt::Display for OpenFault {
+    ghost use Rattle.std.specs.Prelude.{Some};
+    ghost use Rattle.index_rules.specs.Printed.{open_fault_text};
+
+    ghost output = { λ fault. Some (open_fault_text fault) };
+
+    fn fmt<W: fmt::Write>(&self, f: &mut fmt::Formatter<W>) -> fmt::Result {
+        f.write_str(match self {
+            OpenFault::BadFirstUser => "BadFirstUser",
+            OpenFault::OutOfMemory => "OutOfMemory",
+        })
+    }
+}
+
+impl Error for OpenFault {}
+
+impl From<AllocError> for OpenFault {
+    ghost use Rattle.index_rules.specs.declared.open.OpenFault.TheVariants.{OutOfMemory};
+
+    ghost from_gives = { λ _ fault. fault ≡ OutOfMemory };
+
+    fn from(_error: AllocError) -> OpenFault {
+        OpenFault::OutOfMemory
+    }
+}
+
+/// The first user of a new index, who is of the office and whose token has this SHA-256 digest.
+///
+/// `BadFirstUser` exactly where the bytes are no user id, or the digest is that of the empty text; else `OutOfMemory`
+/// is the one error.
+#[tactic(auto, unfolding(crate::specs::Users::read_user))]
+pub fn first_user(
+    alloc: Global,
+    user: &[u8],
+    token: Digest256,
+) -> Result<(UserId, UserRecord), OpenFault>
+    ensures first { IfOk result (λ first. first ≡ (user.now, first_record token)) }
+    ensures bad_first_user { IsErrOf result OpenFault.BadFirstUser ↔ IsBadFirstUser user.now token }
+    ensures fault { IfErr result (λ fault. (fault ≡ OpenFault.BadFirstUser) ⊎ (fault ≡ OpenFault.OutOfMemory)) }
+{
+    if token == Digest256::of(b"") {
+        return Err(OpenFault::BadFirstUser);
+    }
+    match UserId::read(alloc, user) {
+        Ok(user) => Ok((
+            user,
+            UserRecord {
+                office: true,
+                token,
+            },
+        )),
+        Err(UserFault::BadUser) => Err(OpenFault::BadFirstUser),
+        Err(UserFault::OutOfMemory) => Err(OpenFault::OutOfMemory),
+    }
+}
