@@ -1,10 +1,17 @@
 //! The program `index`: a Python package index, one command at a time.
 #![tactic(auto)]
 
+ghost use Rattle.std.specs.Prelude.{◌≡◌, IfOk, codes};
+ghost use Rattle.std.specs.Process.{exit_status};
+ghost use Rattle.index_digest.specs.Digest.{sha256};
+ghost use Rattle.index_plain.specs.Plain.{tables_of};
+ghost use Rattle.index_rules.specs.Opened.{opened};
+
 use index_cli::apply_lines;
 use index_desk::Desk;
 use index_digest::Digest256;
 use index_plain::PlainBooks;
+use index_rules::OpenFault;
 use index_words::{Job, WordsEnd, read_words};
 use std::fmt::Display;
 use std::io::{BufReader, ErrorKind};
@@ -41,7 +48,7 @@ fn apply(rt: &HostRuntime) -> ExitCode {
     let Ok(mut reader) = BufReader::new(rt.alloc(), rt.stdin()) else {
         return failed(rt, "OutOfMemory");
     };
-    let books = match PlainBooks::new(rt.alloc(), b"office", Digest256::of(b"office")) {
+    let books = match office_books(rt) {
         Ok(books) => books,
         Err(fault) => return failed(rt, fault),
     };
@@ -53,14 +60,25 @@ fn apply(rt: &HostRuntime) -> ExitCode {
     }
 }
 
+/// Tables whose one user is `office`, of the office, with the token `office`.
+fn office_books(rt: &HostRuntime) -> Result<PlainBooks, OpenFault>
+    ensures tables { IfOk result (λ books. tables_of books ≡ opened (codes "office") (sha256 (codes "office"))) }
+{
+    PlainBooks::new(rt.alloc(), b"office", Digest256::of(b"office"))
+}
+
 /// Names a fault on standard error, where that takes it.
-fn failed(rt: &HostRuntime, name: impl Display + Drop) -> ExitCode {
+fn failed(rt: &HostRuntime, name: impl Display + Drop) -> ExitCode
+    ensures status { exit_status result ≡ 1 }
+{
     let _ = eprintln!(rt; "index: {name}");
     ExitCode::from(1)
 }
 
 /// Says that the words are no text.
-fn refused(rt: &HostRuntime) -> ExitCode {
+fn refused(rt: &HostRuntime) -> ExitCode
+    ensures status { exit_status result ≡ 2 }
+{
     let _ = eprintln!(rt; "error: a word of the command line is not UTF-8");
     ExitCode::from(2)
 }
