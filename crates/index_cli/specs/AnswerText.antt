@@ -7,7 +7,7 @@ use Rattle.index_rules.specs.declared.answer.Answer.TheVariants as answer
 use Rattle.index_rules.specs.declared.answer.Fault.{Fault}
 use Rattle.index_rules.specs.declared.answer.Fault.TheVariants.{OutOfMemory, Store}
 use Rattle.index_rules.specs.declared.answer.Refusal.{Refusal}
-use Rattle.index_rules.specs.declared.answer.Refusal.TheVariants.{BadMoment, BadToken, NotOffice, BadUser, BadName, BadFileName, BadText, BadDigest, TooLarge, DigestMismatch, QuotaTooLarge, NoUser, UserExists, TokenTaken, NameProhibited, NoProject, NotOwner, NameHeld, LastOwner, FileNameTaken, OverQuota, QuotaBelowCharge}
+use Rattle.index_rules.specs.declared.answer.Refusal.TheVariants.{BadMoment, BadToken, NotOffice, BadUser, BadName, BadFileName, BadRelease, BadText, BadDigest, TooLarge, DigestMismatch, QuotaTooLarge, NoUser, UserExists, TokenTaken, NameProhibited, NoProject, NotOwner, NameHeld, LastOwner, FilesRemain, NoFile, NoRelease, FileNameTaken, OverQuota, QuotaBelowCharge}
 use Rattle.index_rules.specs.Refusals.{number_of}
 
 abbrev pub refusal_name : Refusal → List ℕ
@@ -17,6 +17,7 @@ refusal_name NotOffice = codes "NotOffice"
 refusal_name BadUser = codes "BadUser"
 refusal_name BadName = codes "BadName"
 refusal_name BadFileName = codes "BadFileName"
+refusal_name BadRelease = codes "BadRelease"
 refusal_name BadText = codes "BadText"
 refusal_name BadDigest = codes "BadDigest"
 refusal_name TooLarge = codes "TooLarge"
@@ -30,6 +31,9 @@ refusal_name NoProject = codes "NoProject"
 refusal_name NotOwner = codes "NotOwner"
 refusal_name NameHeld = codes "NameHeld"
 refusal_name LastOwner = codes "LastOwner"
+refusal_name FilesRemain = codes "FilesRemain"
+refusal_name NoFile = codes "NoFile"
+refusal_name NoRelease = codes "NoRelease"
 refusal_name FileNameTaken = codes "FileNameTaken"
 refusal_name OverQuota = codes "OverQuota"
 refusal_name QuotaBelowCharge = codes "QuotaBelowCharge"

@@ -6,3 +6,4 @@ pub mod StandingText
 pub mod Lines
 pub mod Told
 pub mod Printed
+pub mod ToldAfter

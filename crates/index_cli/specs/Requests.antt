@@ -2,12 +2,27 @@
 use Rattle.std.specs.Prelude.{ℕ, ◌+◌, ◌==◌, List, if◌then◌else◌, Option, Some, None, bytes_eq, codes}
 use Rattle.serde_json.specs.Data.{Data}
 use Rattle.index_rules.specs.declared.call.Request.{Request}
-use Rattle.index_rules.specs.declared.call.Request.TheVariants.{AddUser, SetToken, SetQuota, Claim, AddOwner, RemoveOwner, Upload}
+use Rattle.index_rules.specs.declared.call.Request.TheVariants.{AddUser, SetToken, SetQuota, Claim, AddOwner, RemoveOwner, Upload, Delete, Yank, Unyank, Relinquish, Prohibit, Allow}
 use Rattle.index_cli.specs.Json.{◌>>=◌, key_count, text_at, number_at, flag_at, hex_bytes}
 
 -- the request, of an object with so many keys
 abbrev pub sized : ℕ → Data → Request → Option Request
 sized keys value request = if key_count value == keys then Some request else None
+
+-- ---- rows of one form, by what is made of their keys
+
+abbrev pub name_row : (List ℕ → Request) → ℕ → Data → Option Request
+name_row request others value = do
+  name ← text_at (codes "name") value
+  sized (others + 2) value (request name)
+
+abbrev pub owner_row : (List ℕ → List ℕ → Request) → ℕ → Data → Option Request
+owner_row request others value = do
+  name ← text_at (codes "name") value
+  user ← text_at (codes "user") value
+  sized (others + 3) value (request name user)
+
+-- ---- the other rows
 
 abbrev pub add_user_of : ℕ → Data → Option Request
 add_user_of others value = do
@@ -28,23 +43,6 @@ set_quota_of others value = do
   quota ← number_at (codes "quota") value
   sized (others + 3) value (SetQuota name quota)
 
-abbrev pub claim_of : ℕ → Data → Option Request
-claim_of others value = do
-  name ← text_at (codes "name") value
-  sized (others + 2) value (Claim name)
-
-abbrev pub add_owner_of : ℕ → Data → Option Request
-add_owner_of others value = do
-  name ← text_at (codes "name") value
-  user ← text_at (codes "user") value
-  sized (others + 3) value (AddOwner name user)
-
-abbrev pub remove_owner_of : ℕ → Data → Option Request
-remove_owner_of others value = do
-  name ← text_at (codes "name") value
-  user ← text_at (codes "user") value
-  sized (others + 3) value (RemoveOwner name user)
-
 abbrev pub upload_of : ℕ → Data → Option Request
 upload_of others value = do
   file ← text_at (codes "file") value
@@ -54,15 +52,41 @@ upload_of others value = do
   requires ← text_at (codes "requires_python") value
   sized (others + 5) value (Upload file sha256 body requires)
 
+abbrev pub delete_of : ℕ → Data → Option Request
+delete_of others value = do
+  file ← text_at (codes "file") value
+  sized (others + 2) value (Delete file)
+
+abbrev pub yank_of : ℕ → Data → Option Request
+yank_of others value = do
+  name ← text_at (codes "name") value
+  release ← text_at (codes "release") value
+  reason ← text_at (codes "reason") value
+  sized (others + 4) value (Yank name release reason)
+
+abbrev pub unyank_of : ℕ → Data → Option Request
+unyank_of others value = do
+  name ← text_at (codes "name") value
+  release ← text_at (codes "release") value
+  sized (others + 3) value (Unyank name release)
+
+-- ---- the row that an object names
+
 abbrev pub request_by : List ℕ → ℕ → Data → Option Request
 request_by word others value =
     if bytes_eq word (codes "add_user") then add_user_of others value
     else if bytes_eq word (codes "set_token") then set_token_of others value
     else if bytes_eq word (codes "set_quota") then set_quota_of others value
-    else if bytes_eq word (codes "claim") then claim_of others value
-    else if bytes_eq word (codes "add_owner") then add_owner_of others value
-    else if bytes_eq word (codes "remove_owner") then remove_owner_of others value
+    else if bytes_eq word (codes "prohibit") then name_row Prohibit others value
+    else if bytes_eq word (codes "allow") then name_row Allow others value
+    else if bytes_eq word (codes "claim") then name_row Claim others value
+    else if bytes_eq word (codes "relinquish") then name_row Relinquish others value
+    else if bytes_eq word (codes "add_owner") then owner_row AddOwner others value
+    else if bytes_eq word (codes "remove_owner") then owner_row RemoveOwner others value
     else if bytes_eq word (codes "upload") then upload_of others value
+    else if bytes_eq word (codes "delete") then delete_of others value
+    else if bytes_eq word (codes "yank") then yank_of others value
+    else if bytes_eq word (codes "unyank") then unyank_of others value
     else None
 
 abbrev pub request_within : ℕ → Data → Option Request

@@ -28,6 +28,7 @@ fn refusal_text(refusal: Refusal) -> &'static str
         Refusal::BadUser => "{\"answer\":\"refused\",\"code\":4,\"name\":\"BadUser\"}",
         Refusal::BadName => "{\"answer\":\"refused\",\"code\":5,\"name\":\"BadName\"}",
         Refusal::BadFileName => "{\"answer\":\"refused\",\"code\":6,\"name\":\"BadFileName\"}",
+        Refusal::BadRelease => "{\"answer\":\"refused\",\"code\":7,\"name\":\"BadRelease\"}",
         Refusal::BadText => "{\"answer\":\"refused\",\"code\":8,\"name\":\"BadText\"}",
         Refusal::BadDigest => "{\"answer\":\"refused\",\"code\":9,\"name\":\"BadDigest\"}",
         Refusal::TooLarge => "{\"answer\":\"refused\",\"code\":10,\"name\":\"TooLarge\"}",
@@ -43,6 +44,9 @@ fn refusal_text(refusal: Refusal) -> &'static str
         Refusal::NotOwner => "{\"answer\":\"refused\",\"code\":18,\"name\":\"NotOwner\"}",
         Refusal::NameHeld => "{\"answer\":\"refused\",\"code\":19,\"name\":\"NameHeld\"}",
         Refusal::LastOwner => "{\"answer\":\"refused\",\"code\":20,\"name\":\"LastOwner\"}",
+        Refusal::FilesRemain => "{\"answer\":\"refused\",\"code\":21,\"name\":\"FilesRemain\"}",
+        Refusal::NoFile => "{\"answer\":\"refused\",\"code\":22,\"name\":\"NoFile\"}",
+        Refusal::NoRelease => "{\"answer\":\"refused\",\"code\":23,\"name\":\"NoRelease\"}",
         Refusal::FileNameTaken => "{\"answer\":\"refused\",\"code\":24,\"name\":\"FileNameTaken\"}",
         Refusal::OverQuota => "{\"answer\":\"refused\",\"code\":26,\"name\":\"OverQuota\"}",
         Refusal::QuotaBelowCharge =>

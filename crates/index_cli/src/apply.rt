@@ -4,7 +4,11 @@ ghost use Rattle.std.specs.Io.KnownBytes.{Appends};
 ghost use Rattle.index_rules.specs.Facts.{HasOneBearer};
 ghost use Rattle.index_rules.specs.Sound.{IsSound};
 ghost use Rattle.index_cli.specs.Lines.{lines_of, IsInput};
+ghost use Rattle.index_rules.specs.History.{History};
+ghost use Rattle.index_rules.specs.StandsFor.{StandsFor};
+ghost use Rattle.index_rules.specs.Legal.{IsLegal};
 ghost use Rattle.index_cli.specs.Told.{Told};
+ghost use Rattle.index_cli.specs.ToldAfter.{TellsHistory};
 
 use crate::end::LineEnd;
 use crate::input::next_line;
@@ -54,7 +58,61 @@ pub fn apply_lines<R: Read, W: Write, B: Books>(
         × (count < length text)
         × Appends (W.contents writer.old) (W.contents writer.new) (take count text)) }
 
+    // Over tables that stand for a legal history: every line was answered by what the history gives, a fault in its place.
+    ensures ok_after { B.IsHonest desk.new → (h : History) → IsLegal h → StandsFor (B.tables desk.old) h → IfOk result (λ count. (input : List ℕ) × (text : List ℕ)
+        × IsInput (R.remaining reader.old) input
+        × TellsHistory h (lines_of input) text (B.tables desk.new)
+        × Appends (W.contents writer.old) (W.contents writer.new) text
+        × (count ≡ length (lines_of input))) }
+
+    // Just the lines before the one in hand were.
+    ensures before_after { B.IsHonest desk.new → (h : History) → IsLegal h → StandsFor (B.tables desk.old) h → IfErr result (λ end. end ≢ LineEnd.WriteFault →
+        (input : List ℕ) × (done : List (List ℕ)) × (left : List (List ℕ)) × (text : List ℕ)
+        × IsInput (R.remaining reader.old) input
+        × (lines_of input ≡ done ++ left)
+        × TellsHistory h done text (B.tables desk.new)
+        × Appends (W.contents writer.old) (W.contents writer.new) text) }
+
+    // The one in hand was too, and a front of the text went out.
+    ensures during_after { B.IsHonest desk.new → (h : History) → IsLegal h → StandsFor (B.tables desk.old) h → IfErr result (λ end. end ≡ LineEnd.WriteFault →
+        (input : List ℕ) × (done : List (List ℕ)) × (line : List ℕ) × (left : List (List ℕ)) × (text : List ℕ) × (count : ℕ)
+        × IsInput (R.remaining reader.old) input
+        × (lines_of input ≡ (done ++ line ∷ []) ++ left)
+        × TellsHistory h (done ++ line ∷ []) text (B.tables desk.new)
+        × (count < length text)
+        × Appends (W.contents writer.old) (W.contents writer.new) (take count text)) }
+
     // However it ends, tables whose accounts add up keep adding up.
+    ensures sound { B.IsHonest desk.new → IsSound (B.tables desk.old) → IsSound (B.tables desk.new) }
+    ensures honest { B.IsHonest desk.new → B.IsHonest desk.old }
+{
+    answer_lines(alloc, reader, writer, desk)
+}
+
+fn answer_lines<R: Read, W: Write, B: Books>(
+    alloc: Global,
+    reader: &mut R,
+    writer: &mut W,
+    desk: &mut Desk<B>,
+) -> Result<u64, LineEnd>
+    ensures ok { B.IsHonest desk.new → HasOneBearer (B.tables desk.old) → IfOk result (λ count. (input : List ℕ) × (text : List ℕ)
+        × IsInput (R.remaining reader.old) input
+        × Told (B.tables desk.old) (lines_of input) text (B.tables desk.new)
+        × Appends (W.contents writer.old) (W.contents writer.new) text
+        × (count ≡ length (lines_of input))) }
+    ensures before { B.IsHonest desk.new → HasOneBearer (B.tables desk.old) → IfErr result (λ end. end ≢ LineEnd.WriteFault →
+        (input : List ℕ) × (done : List (List ℕ)) × (left : List (List ℕ)) × (text : List ℕ)
+        × IsInput (R.remaining reader.old) input
+        × (lines_of input ≡ done ++ left)
+        × Told (B.tables desk.old) done text (B.tables desk.new)
+        × Appends (W.contents writer.old) (W.contents writer.new) text) }
+    ensures during { B.IsHonest desk.new → HasOneBearer (B.tables desk.old) → IfErr result (λ end. end ≡ LineEnd.WriteFault →
+        (input : List ℕ) × (done : List (List ℕ)) × (line : List ℕ) × (left : List (List ℕ)) × (text : List ℕ) × (count : ℕ)
+        × IsInput (R.remaining reader.old) input
+        × (lines_of input ≡ (done ++ line ∷ []) ++ left)
+        × Told (B.tables desk.old) (done ++ line ∷ []) text (B.tables desk.new)
+        × (count < length text)
+        × Appends (W.contents writer.old) (W.contents writer.new) (take count text)) }
     ensures sound { B.IsHonest desk.new → IsSound (B.tables desk.old) → IsSound (B.tables desk.new) }
     ensures honest { B.IsHonest desk.new → B.IsHonest desk.old }
 {

@@ -9,11 +9,15 @@ use std::test::Fail;
 
 mod answers;
 mod bodies;
+mod calls;
+mod deletes;
 mod ends;
 mod lines;
 mod names;
+mod prohibitions;
 mod uploads;
 mod users;
+mod yanks;
 
 /// The SHA-256 digest of `abc`, an example of FIPS 180-4.
 const OF_ABC: &str = "ba7816bf8f01cfea414140de5dae2223b00361a396177a9cb410ff61f20015ad";
@@ -51,6 +55,13 @@ fn desk_with_frob(rt: &(impl Abort + AllocGlobal)) -> Result<Desk<PlainBooks>, F
     Ok(desk)
 }
 
+/// A desk where ann has uploaded `frob-1.0.tar.gz` too, the bytes `abc`.
+fn desk_with_file(rt: &(impl Abort + AllocGlobal)) -> Result<Desk<PlainBooks>, Fail> {
+    let mut desk = desk_with_frob(rt)?;
+    assert_upload(rt, &mut desk, &FROB, "accepted")?;
+    Ok(desk)
+}
+
 /// What is written for these lines.
 fn answers_to(
     rt: &impl AllocGlobal,
@@ -62,6 +73,18 @@ fn answers_to(
     apply_lines(rt.alloc(), &mut reader, &mut written, desk)?;
     let text = String::from_utf8(written).ok().ok_or("not UTF-8")?;
     Ok(text)
+}
+
+/// Asks these lines, which are answered so.
+fn assert_answers(
+    rt: &(impl Abort + AllocGlobal),
+    desk: &mut Desk<PlainBooks>,
+    lines: &str,
+    answers: &str,
+) -> Result<(), Fail> {
+    let told = answers_to(rt, desk, lines)?;
+    assert_eq!(rt; told.as_str(), answers);
+    Ok(())
 }
 
 /// Asks one line. Its answer is `accepted`, `already`, a refusal's number and name, or a whole text in JSON.

@@ -1,10 +1,16 @@
 -- The standing of a name.
-use Rattle.std.specs.Prelude.{Option, Some, None}
+use Rattle.std.specs.Prelude.{◌≡◌, List, Option, Some, None}
+use Rattle.std.specs.List.{list_any}
+use Rattle.std.specs.List.Sorted.{IsStrictlySortedBy}
 use Rattle.std.specs.FinMap.{get}
 use Rattle.index_rules.specs.declared.records.NameRecord.{NameRecord}
 use Rattle.index_rules.specs.declared.records.NameRecord.TheVariants.{Held, Prohibited}
-use Rattle.index_rules.specs.Maps.{Bytes}
+use Rattle.index_rules.specs.Maps.{Bytes, same, bytes_cmp}
 use Rattle.index_rules.specs.Tables.{Tables, owners_in}
+use Rattle.index_rules.specs.History.{History}
+use Rattle.index_rules.specs.PastNames.{state_of, owns}
+use Rattle.index_rules.specs.PastNames as past
+use Rattle.index_rules.specs.StandsFor.{project_at}
 use Rattle.index_desk.specs.declared.standing.Standing.{Standing}
 use Rattle.index_desk.specs.declared.standing.Standing.TheVariants as standing
 
@@ -16,3 +22,15 @@ standing_by T name (Some (Held project)) = standing.Held (record { name = name; 
 
 abbrev pub standing_in : Tables → Bytes → Standing
 standing_in T name = standing_by T name (get T.names name)
+
+-- ---- after a history
+
+-- the owners of a name, each once, in byte order
+abbrev pub AreOwnersAfter : History → Bytes → List Bytes → Type 0
+AreOwnersAfter h name users = IsStrictlySortedBy bytes_cmp users × ((user : Bytes) → list_any (same user) users ≡ owns h name user)
+
+-- what stands of a name after a history
+abbrev pub IsStandingAfter : History → Bytes → Standing → Type 0
+IsStandingAfter h name (standing.Free of) = (of ≡ name) × (state_of h name ≡ past.Free)
+IsStandingAfter h name (standing.Prohibited of) = (of ≡ name) × (state_of h name ≡ past.Prohibited)
+IsStandingAfter h name (standing.Held held) = (held.name ≡ name) × (state_of h name ≡ past.Held) × (held.project ≡ project_at h name) × AreOwnersAfter h name held.owners

@@ -8,7 +8,10 @@ ghost use Rattle.index_rules.specs.Verdict.{Verdict, verdict_now};
 ghost use Rattle.index_rules.specs.Facts.{HasOneBearer, facts_in};
 ghost use Rattle.index_rules.specs.Sound.{IsSound};
 ghost use Rattle.index_rules.specs.Failures.{FailsAtMostOnce, HasFailed};
-ghost use Rattle.index_desk.specs.Standings.{standing_in};
+ghost use Rattle.index_rules.specs.History.{History};
+ghost use Rattle.index_rules.specs.StandsFor.{StandsFor};
+ghost use Rattle.index_rules.specs.Legal.{CarriesOn, CarriesOnBy, IsLegal};
+ghost use Rattle.index_desk.specs.Standings.{IsStandingAfter, standing_in};
 
 use crate::standing::{HeldName, Standing};
 use index_digest::Sealed;
@@ -62,6 +65,9 @@ impl<B: Books> Desk<B> {
         // No two users come to bear one digest, and tables whose accounts add up keep adding up.
         ensures one_bearer { B.IsHonest self.new → HasOneBearer (B.tables self.old) → HasOneBearer (B.tables self.new) }
         ensures sound { B.IsHonest self.new → IsSound (B.tables self.old) → IsSound (B.tables self.new) }
+
+        // Tables that stood for a legal history stand for it with the call, where it was accepted, and else for the same.
+        ensures history { B.IsHonest self.new → (h : History) → IsLegal h → StandsFor (B.tables self.old) h → CarriesOn h call result (B.tables self.new) }
         ensures store { result ≡ Answer.Fault Fault.Store → HasFailed (B.failures self.old) (B.failures self.new) }
         ensures failures { FailsAtMostOnce (B.failures self.old) (B.failures self.new) }
         ensures honest { B.IsHonest self.new → B.IsHonest self.old }
@@ -75,8 +81,12 @@ impl<B: Books> Desk<B> {
         // Each answer is the verdict at its point or a fault, and the tables are those after the accepted calls.
         ensures answers { B.IsHonest self.new → HasOneBearer (B.tables self.old) → IfOk result (λ answers. Runs (B.tables self.old) calls.items answers.items (B.tables self.new)) }
 
-        // The accounts add up as before.
+        // No two users come to bear one digest, and the accounts add up as before.
+        ensures one_bearer { B.IsHonest self.new → HasOneBearer (B.tables self.old) → HasOneBearer (B.tables self.new) }
         ensures sound { B.IsHonest self.new → IsSound (B.tables self.old) → IsSound (B.tables self.new) }
+
+        // Tables that stood for a legal history stand for it with exactly the accepted calls, in order.
+        ensures history { B.IsHonest self.new → IfOk result (λ answers. (h : History) → IsLegal h → StandsFor (B.tables self.old) h → CarriesOnBy h calls.items answers.items (B.tables self.new)) }
         ensures store { IfOk result (λ answers. Contains answers.items (Answer.Fault Fault.Store) → HasFailed (B.failures self.old) (B.failures self.new)) }
         ensures none { OnErr result (self.new ≡ self.old) }
         ensures fault { IfErr result (λ fault. fault ≡ Fault.OutOfMemory) }
@@ -90,6 +100,7 @@ impl<B: Books> Desk<B> {
     /// What stands of a name. It changes nothing.
     pub fn standing(&mut self, alloc: Global, name: &NormalName) -> Result<Standing, Fault>
         ensures standing { B.IsHonest self.new → IfOk result (λ standing. standing ≡ standing_in (B.tables self.old) name.now) }
+        ensures history { B.IsHonest self.new → IfOk result (λ standing. (h : History) → StandsFor (B.tables self.old) h → IsStandingAfter h name.now standing) }
         ensures unchanged { B.IsHonest self.new → B.tables self.new ≡ B.tables self.old }
         ensures store { IfErr result (λ fault. fault ≡ Fault.Store → HasFailed (B.failures self.old) (B.failures self.new)) }
         ensures failures { FailsAtMostOnce (B.failures self.old) (B.failures self.new) }
@@ -185,8 +196,7 @@ fn standing_of<B: Books>(books: &mut B, alloc: Global, name: &NormalName) -> Res
     ensures failures { FailsAtMostOnce (B.failures books.old) (B.failures books.new) }
     ensures honest { B.IsHonest books.new → B.IsHonest books.old }
 {
-    let keys = Keys::of_name(name)?;
-    let View { name: found, .. } = books.view(alloc, &keys)?;
+    let found = record_of(books, alloc, name)?;
     let name = name.clone()?;
     match found {
         None => Ok(Standing::Free { name }),
@@ -200,6 +210,24 @@ fn standing_of<B: Books>(books: &mut B, alloc: Global, name: &NormalName) -> Res
             }))
         }
     }
+}
+
+/// The record of a name, `None` where the name is free. It changes nothing.
+fn record_of<B: Books>(
+    books: &mut B,
+    alloc: Global,
+    name: &NormalName,
+) -> Result<Option<NameRecord>, Fault>
+    ensures found { B.IsHonest books.new → IfOk result (λ found. found ≡ get (B.tables books.old).names name.now) }
+    ensures unchanged { B.IsHonest books.new → B.tables books.new ≡ B.tables books.old }
+    ensures kept { OnOk result (B.failures books.new ≡ B.failures books.old) }
+    ensures store { IfErr result (λ fault. fault ≡ Fault.Store → HasFailed (B.failures books.old) (B.failures books.new)) }
+    ensures failures { FailsAtMostOnce (B.failures books.old) (B.failures books.new) }
+    ensures honest { B.IsHonest books.new → B.IsHonest books.old }
+{
+    let keys = Keys::of_name(name)?;
+    let View { name: found, .. } = books.view(alloc, &keys)?;
+    Ok(found)
 }
 
 fn body_of<B: Books>(books: &mut B, alloc: Global, file: &FileName) -> Result<Option<Sealed>, Fault>

@@ -1,3 +1,4 @@
 pub mod EntryLemmas
 pub mod SetLemmas
 pub mod OwnerLemmas
+pub mod FileLemmas

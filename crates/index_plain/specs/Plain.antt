@@ -13,6 +13,7 @@ tables_of b = record {
   owners = set_of pair_cmp b.owners.items;
   files = from_entries {R = bytes_cmp} b.files.items;
   bodies = from_entries {R = bytes_cmp} b.bodies.items;
+  yanks = from_entries {R = pair_cmp} b.yanks.items;
 }
 
 -- how many calls answered a fault

@@ -2,9 +2,11 @@
 #![tactic(auto)]
 
 mod entries;
+mod files;
 mod key;
 mod owners;
 mod plain;
 mod sets;
+mod yanks;
 
 pub use plain::PlainBooks;

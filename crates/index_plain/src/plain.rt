@@ -4,14 +4,16 @@ ghost use Rattle.index_rules.specs.Failures.{counted};
 
 use crate::entries;
 use index_digest::{Digest256, Sealed};
-use index_names::{FileName, NormalName};
+use index_names::{FileName, NormalName, Release, Text};
 use index_rules::{
     Books, Change, Fault, FileRecord, Keys, NameRecord, OpenFault, Owners, UserId, UserRecord,
     View, first_user,
 };
 use std::alloc::Global;
 
+mod files;
 mod look;
+mod names;
 #[cfg(test)]
 mod tests;
 mod write;
@@ -24,12 +26,15 @@ pub struct PlainBooks {
     owners: Vec<(NormalName, UserId)>,
     files: Vec<(FileName, FileRecord)>,
     bodies: Vec<(FileName, Sealed)>,
+    yanks: Vec<((NormalName, Release), Text)>,
     failures: u64,
 }
 
 impl PlainBooks {
     ghost use Rattle.index_rules.specs.Opened.{IsBadFirstUser, opened};
     ghost use Rattle.index_rules.specs.Sound.{IsSound};
+    ghost use Rattle.index_rules.specs.History.{begins};
+    ghost use Rattle.index_rules.specs.StandsFor.{StandsFor};
     ghost use Rattle.index_plain.specs.Plain.{tables_of, failures_of};
 
     /// A new index with one user, who is of the office and whose token has this SHA-256 digest.
@@ -39,6 +44,7 @@ impl PlainBooks {
     pub fn new(alloc: Global, user: &[u8], token: Digest256) -> Result<PlainBooks, OpenFault>
         ensures tables { IfOk result (λ books. tables_of books ≡ opened user.now token) }
         ensures sound { IfOk result (λ books. IsSound (tables_of books)) }
+        ensures history { IfOk result (λ books. StandsFor (tables_of books) (begins user.now token)) }
         ensures failures { IfOk result (λ books. failures_of books ≡ 0) }
         ensures bad_first_user { IsErrOf result OpenFault.BadFirstUser ↔ IsBadFirstUser user.now token }
         ensures fault { IfErr result (λ fault. (fault ≡ OpenFault.BadFirstUser) ⊎ (fault ≡ OpenFault.OutOfMemory)) }
@@ -62,6 +68,7 @@ impl PlainBooks {
             owners: Vec::new(alloc),
             files: Vec::new(alloc),
             bodies: Vec::new(alloc),
+            yanks: Vec::new(alloc),
             failures: 0,
         })
     }

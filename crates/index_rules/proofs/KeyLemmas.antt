@@ -1,11 +1,16 @@
--- Texts as keys: the test `same`, and what a map or a set of pairs has after a change.
-use Rattle.std.proofs.Common.{◌≡◌, Bool, true, false, cond, not, ◌&&◌, ◌⊎◌, inl, inr, refl, sym, ap, ◌∙◌, Option, Some, None, is_some}
-use Rattle.std.specs.FinMap.{get, insert, remove, retain_keys, contains_key, get-insert, get-remove, get-retain_keys}
+-- Texts as keys: the test `same`, and what a map or a map from pairs has after a change.
+use Rattle.std.proofs.Common.{◌≡◌, Bool, true, false, cond, not, ◌&&◌, ◌⊎◌, inl, inr, refl, sym, ap, ◌∙◌, subst, List, [], ◌∷◌, Option, Some, None, is_some, map, option_map, T}
+use Rattle.std.specs.Ordering.{eq_by_cmp, is_lt}
+use Rattle.std.specs.FinMap.{get, insert, remove, retain_keys, contains_key, entries, entries_sorted, is_sorted, get-insert, get-remove, get-retain_keys, get-entries, get-from_sorted, entries-from_sorted}
+use Rattle.std.specs.FinMap as fin
+use Rattle.std.specs.FinMap.Entries.{below_all}
 use Rattle.std.proofs.lemmas.Cmp.{nat_list_cmp_total}
 use Rattle.std.proofs.lemmas.Slice.Eq.{bytes_eq-Decides}
 use Rattle.std.proofs.lemmas.Map.Text.{is_eq-slice_cmp}
+use Rattle.std.proofs.lemmas.Map.Lookups.{exact_bytes}
 use Rattle.std.proofs.lemmas.Bool.{cases_Bool}
-use Rattle.index_rules.specs.Maps.{Bytes, Map, Pairs, same}
+use Rattle.index_rules.specs.Maps.{Bytes, Map, PairMap, Pairs, same, bytes_cmp, change_values}
+use Rattle.index_rules.specs.Effect.{without_name}
 use Rattle.index_rules.proofs.OwnerLists.{same-is, pair_total, exact_pair, same_pair}
 
 pub same-refl : (a : Bytes) → same a a ≡ true
@@ -26,8 +31,69 @@ same_truth false false f g = refl
 
 -- ---- maps
 
-pub get-put : {X : Type 0} (m : Map X) (k : Bytes) (v : X) (q : Bytes) → get (insert m k v) q ≡ cond (same q k) (Some v) (get m q)
-get-put m k v q = get-insert nat_list_cmp_total m k v q ∙ ap (λ b. cond b (Some v) (get m q)) (is_eq-slice_cmp q k)
+-- after an entry was put, after one was taken away, after those whose keys fail a test went
+module _ {X : Type 0} (m : Map X) where
+  pub get-put : (k : Bytes) (v : X) (q : Bytes) → get (insert m k v) q ≡ cond (same q k) (Some v) (get m q)
+  get-put k v q = get-insert nat_list_cmp_total m k v q ∙ ap (λ b. cond b (Some v) (get m q)) (is_eq-slice_cmp q k)
+
+  pub get-without : (k q : Bytes) → get (remove m k) q ≡ cond (same q k) None (get m q)
+  get-without k q = get-remove nat_list_cmp_total m k q ∙ ap (λ b. cond b None (get m q)) (is_eq-slice_cmp q k)
+
+  pub get-kept : (p : Bytes → Bool) (q : Bytes) → get (retain_keys m p) q ≡ cond (p q) (get m q) None
+  get-kept p q = get-retain_keys m p q (λ x t. ap p (sym (exact_bytes q x t)))
+
+-- after each value was changed
+module _ {X : Type 0} (change : X → X) where
+  abbrev pub changed : List (Bytes × X) → List (Bytes × X)
+  changed es = map (λ e. (e.0, change e.1)) es
+
+  below_all-changed : (k : Bytes) (es : List (Bytes × X)) → below_all bytes_cmp k (changed es) ≡ below_all bytes_cmp k es
+  below_all-changed k [] = refl
+  below_all-changed k (e ∷ es) = λ i. is_lt (bytes_cmp k e.0) && below_all-changed k es i
+
+  is_sorted-changed : (es : List (Bytes × X)) → is_sorted bytes_cmp (changed es) ≡ is_sorted bytes_cmp es
+  is_sorted-changed [] = refl
+  is_sorted-changed (e ∷ es) = λ i. below_all-changed e.0 es i && is_sorted-changed es i
+
+  find-changed : (q : Bytes) (es : List (Bytes × X)) → fin.find bytes_cmp q (changed es) ≡ option_map change (fin.find bytes_cmp q es)
+  find-changed q [] = refl
+  find-changed q (e ∷ es) =
+      elim (eq_by_cmp bytes_cmp q e.0) as (λ b. cond b (Some (change e.1)) (fin.find bytes_cmp q (changed es)) ≡ option_map change (cond b (Some e.1) (fin.find bytes_cmp q es))) [
+        | true ↦ refl
+        | false ↦ find-changed q es
+      ]
+
+  sorted_changed : (m : Map X) → T (is_sorted bytes_cmp (changed (entries m)))
+  sorted_changed m = subst T (sym (is_sorted-changed (entries m))) (entries_sorted m)
+
+  pub entries-change_values : (m : Map X) → entries (change_values change m) ≡ changed (entries m)
+  entries-change_values m = entries-from_sorted bytes_cmp (changed (entries m)) (sorted_changed m)
+
+  pub get-change_values : (m : Map X) (q : Bytes) → get (change_values change m) q ≡ option_map change (get m q)
+  get-change_values m q =
+      get-from_sorted bytes_cmp (changed (entries m)) q (sorted_changed m)
+      ∙ find-changed q (entries m)
+      ∙ ap (option_map change) (sym (get-entries m q))
+
+-- ---- maps from pairs
+
+-- after an entry was put, after one was taken away, after those whose keys fail a test went
+module _ {X : Type 0} (m : PairMap X) where
+  pub get-put_pair : (k l : Bytes) (v : X) (n u : Bytes) → get (insert m (k, l) v) (n, u) ≡ cond (same n k && same u l) (Some v) (get m (n, u))
+  get-put_pair k l v n u = get-insert pair_total m (k, l) v (n, u) ∙ ap (λ b. cond b (Some v) (get m (n, u))) (same_pair (n, u) (k, l))
+
+  pub get-without_pair : (k l n u : Bytes) → get (remove m (k, l)) (n, u) ≡ cond (same n k && same u l) None (get m (n, u))
+  get-without_pair k l n u = get-remove pair_total m (k, l) (n, u) ∙ ap (λ b. cond b None (get m (n, u))) (same_pair (n, u) (k, l))
+
+  pub get-kept_pair : (p : Bytes × Bytes → Bool) (n u : Bytes) → get (retain_keys m p) (n, u) ≡ cond (p (n, u)) (get m (n, u)) None
+  get-kept_pair p n u = get-retain_keys m p (n, u) (λ x t. ap p (sym (exact_pair (n, u) x t)))
+
+-- what stands at a name goes, and the rest stays
+pub get-without_name : {X : Type 0} (k : Bytes) (m : PairMap X) (n u : Bytes) → get (without_name k m) (n, u) ≡ cond (not (same k n)) (get m (n, u)) None
+get-without_name k m n u = get-kept_pair m (λ pair. not (same k pair.0)) n u
+
+pub get-without_name_other : {X : Type 0} (m : PairMap X) (k n u : Bytes) → same k n ≡ false → get (without_name k m) (n, u) ≡ get m (n, u)
+get-without_name_other m k n u other = get-without_name k m n u ∙ ap (λ b. cond (not b) (get m (n, u)) None) other
 
 -- ---- sets of pairs
 
@@ -45,14 +111,10 @@ is_some-cond_some false x = refl
 
 -- after a pair was added, after one was taken away, after those with one first part went
 pub has-put : (m : Pairs) (k l n u : Bytes) → contains_key (insert m (k, l) tt) (n, u) ≡ cond (same n k && same u l) true (contains_key m (n, u))
-has-put m k l n u =
-    ap is_some (get-insert pair_total m (k, l) tt (n, u)) ∙ is_some-cond _ _ ∙ ap (λ b. cond b true (contains_key m (n, u))) (same_pair (n, u) (k, l))
+has-put m k l n u = ap is_some (get-put_pair m k l tt n u) ∙ is_some-cond _ _
 
 pub has-without : (m : Pairs) (k l n u : Bytes) → contains_key (remove m (k, l)) (n, u) ≡ cond (same n k && same u l) false (contains_key m (n, u))
-has-without m k l n u =
-    ap is_some (get-remove pair_total m (k, l) (n, u)) ∙ is_some-cond_none _ _ ∙ ap (λ b. cond b false (contains_key m (n, u))) (same_pair (n, u) (k, l))
+has-without m k l n u = ap is_some (get-without_pair m k l n u) ∙ is_some-cond_none _ _
 
-pub has-cleared : (m : Pairs) (k n u : Bytes) → contains_key (retain_keys m (λ pair. not (same k pair.0))) (n, u) ≡ cond (not (same k n)) (contains_key m (n, u)) false
-has-cleared m k n u =
-    ap is_some (get-retain_keys m (λ pair. not (same k pair.0)) (n, u) (λ x t. ap (λ (p : Bytes × Bytes). not (same k p.0)) (sym (exact_pair (n, u) x t))))
-    ∙ is_some-cond_some _ _
+pub has-cleared : (m : Pairs) (k n u : Bytes) → contains_key (without_name k m) (n, u) ≡ cond (not (same k n)) (contains_key m (n, u)) false
+has-cleared m k n u = ap is_some (get-without_name k m n u) ∙ is_some-cond_some _ _

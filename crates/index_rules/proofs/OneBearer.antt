@@ -1,10 +1,10 @@
 -- Each call keeps apart who bears which digest.
-use Rattle.std.proofs.Common.{◌≡◌}
+use Rattle.std.proofs.Common.{◌≡◌, sym, subst, List, [], ◌∷◌}
 use Rattle.index_rules.specs.declared.answer.Answer.{Answer}
 use Rattle.index_rules.specs.declared.answer.Answer.TheVariants.{Accepted, Already, Refused, Fault}
 use Rattle.index_rules.specs.declared.call.Call.{Call}
 use Rattle.index_rules.specs.declared.call.Request.{Request}
-use Rattle.index_rules.specs.declared.call.Request.TheVariants.{AddUser, SetToken, SetQuota, Claim, AddOwner, RemoveOwner, Upload}
+use Rattle.index_rules.specs.declared.call.Request.TheVariants.{AddUser, SetToken, SetQuota, Claim, AddOwner, RemoveOwner, Upload, Delete, Yank, Unyank, Relinquish, Prohibit, Allow}
 use Rattle.index_rules.specs.Maps.{Bytes}
 use Rattle.index_rules.specs.Users.{read_user}
 use Rattle.index_rules.specs.Texts.{read_token}
@@ -13,7 +13,7 @@ use Rattle.std.specs.Prelude.{ℕ}
 use Rattle.index_rules.specs.Facts.{HasOneBearer, facts_in}
 use Rattle.index_rules.specs.Verdict.{Accept, verdict_now}
 use Rattle.index_rules.specs.Effect.{key, user_in, after}
-use Rattle.index_rules.specs.Runs.{Answers, tables_after}
+use Rattle.index_rules.specs.Runs.{Answers, Runs, tables_after}
 use Rattle.index_rules.proofs.Accepted.{accepted}
 use Rattle.index_rules.proofs.SoundUsers.{HasOneBearer-put, not_taken}
 
@@ -35,9 +35,23 @@ module _ (T : Tables) (one : HasOneBearer T) (at : ℕ) (token : Bytes) where
   each_request (AddOwner name user) accepts = one
   each_request (RemoveOwner name user) accepts = one
   each_request (Upload file digest body requires) accepts = one
+  each_request (Delete file) accepts = one
+  each_request (Yank name release reason) accepts = one
+  each_request (Unyank name release) accepts = one
+  each_request (Relinquish name) accepts = one
+  each_request (Prohibit name) accepts = one
+  each_request (Allow name) accepts = one
 
 pub HasOneBearer-tables_after : (T : Tables) → HasOneBearer T → (c : Call) (answer : Answer) → Answers (verdict_now T c) answer → HasOneBearer (tables_after T c answer)
 HasOneBearer-tables_after T one c Accepted answers = each_request T one c.at c.token c.request answers
 HasOneBearer-tables_after T one c Already answers = one
 HasOneBearer-tables_after T one c (Refused refusal) answers = one
 HasOneBearer-tables_after T one c (Fault fault) answers = one
+
+-- and so do calls in a row
+pub HasOneBearer-Runs : (T : Tables) → HasOneBearer T → (calls : List Call) (answers : List Answer) (T' : Tables) → Runs T calls answers T' → HasOneBearer T'
+HasOneBearer-Runs T one [] [] T' run = subst HasOneBearer (sym run) one
+HasOneBearer-Runs T one [] (answer ∷ answers) T' run = absurd run
+HasOneBearer-Runs T one (call ∷ calls) [] T' run = absurd run
+HasOneBearer-Runs T one (call ∷ calls) (answer ∷ answers) T' run =
+    HasOneBearer-Runs (tables_after T call answer) (HasOneBearer-tables_after T one call answer run.0) calls answers T' run.1

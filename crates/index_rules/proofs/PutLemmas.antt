@@ -1,9 +1,9 @@
--- What each key of a map finds after one entry is put.
-use Rattle.std.proofs.Common.{◌≡◌, false, cond, inl, inr, sym, ap, ◌∙◌, subst, Option, Some}
-use Rattle.std.specs.FinMap.{get, insert}
+-- What each key of a map finds after one entry is put, after one is taken away, and after each value is changed.
+use Rattle.std.proofs.Common.{◌≡◌, false, cond, inl, inr, refl, sym, ap, ◌∙◌, subst, Option, Some, None, option_map}
+use Rattle.std.specs.FinMap.{get, insert, remove}
 use Rattle.std.proofs.lemmas.Bool.{false≢true, cases_Bool}
-use Rattle.index_rules.specs.Maps.{Bytes, Map, same}
-use Rattle.index_rules.proofs.KeyLemmas.{same-refl, same-sym, cases_same, get-put}
+use Rattle.index_rules.specs.Maps.{Bytes, Map, same, change_values}
+use Rattle.index_rules.proofs.KeyLemmas.{same-refl, same-sym, cases_same, get-put, get-without, get-change_values}
 
 pub other-sym : (a b : Bytes) → same a b ≡ false → same b a ≡ false
 other-sym a b other = elim (cases_Bool (same b a)) [
@@ -24,3 +24,26 @@ module _ {X : Type 0} (m : Map X) (k : Bytes) (v : X) where
     | inl e ↦ subst (λ x. P x (get (insert m k v) x)) (sym e) (subst (P k) (sym get-put_here) here)
     | inr other ↦ subst (P q) (sym (get-put_other q other)) (others q other)
   ]
+
+module _ {X : Type 0} (m : Map X) (k : Bytes) where
+  pub get-without_here : get (remove m k) k ≡ None
+  get-without_here = get-without m k k ∙ ap (λ b. cond b None (get m k)) (same-refl k)
+
+  pub get-without_other : (q : Bytes) → same q k ≡ false → get (remove m k) q ≡ get m q
+  get-without_other q other = get-without m k q ∙ ap (λ b. cond b None (get m q)) other
+
+  -- what holds of the key with nothing, and of each other key with what it had, holds of each
+  pub each_without : (P : Bytes → Option X → Type 0) → P k None → ((q : Bytes) → same q k ≡ false → P q (get m q)) → (q : Bytes) → P q (get (remove m k) q)
+  each_without P here others q = elim (cases_same q k) [
+    | inl e ↦ subst (λ x. P x (get (remove m k) x)) (sym e) (subst (P k) (sym get-without_here) here)
+    | inr other ↦ subst (P q) (sym (get-without_other q other)) (others q other)
+  ]
+
+-- what holds of each changed value holds of each that is found
+pub each_changed : {X : Type 0} (change : X → X) (m : Map X) (P : Bytes → X → Type 0) → ((q : Bytes) (v : X) → get m q ≡ Some v → P q (change v))
+    → (q : Bytes) (v : X) → get (change_values change m) q ≡ Some v → P q v
+each_changed {X = X} change m P each q v at = by (get m q) refl (sym (get-change_values change m q) ∙ at)
+  where
+    by : (found : Option X) → get m q ≡ found → option_map change found ≡ Some v → P q v
+    by None there at = cc
+    by (Some before) there at = let is : change before ≡ v = cc in subst (P q) is (each q before there)

@@ -1,16 +1,20 @@
 -- Sound tables stay sound: after an accepted call, after any answer, after calls in a row.
-use Rattle.std.proofs.Common.{◌≡◌, ℕ, ◌+◌, ◌≤◌, true, false, not, ◌&&◌, refl, sym, ap, ◌∙◌, subst, List, [], ◌∷◌, Option, Some, None, is_some, is_none, option_map, option_and_then, unwrap_or, length, nat_lt}
+use Rattle.std.proofs.Common.{◌≡◌, ℕ, ◌+◌, ◌≤◌, true, false, not, ◌&&◌, refl, sym, ap, ◌∙◌, subst, List, [], ◌∷◌, Option, Some, None, is_some, is_none, option_map, option_and_then, unwrap_or, length, nat_lt, arith}
 use Rattle.std.specs.Option.{option_map_or}
 use Rattle.std.specs.FinMap.{get, remove}
 use Rattle.std.proofs.lemmas.Bool.{true≢false, false≢true, not-false, ltb-false}
 use Rattle.index_names.specs.Project.{read_name}
+use Rattle.index_names.specs.Release.{read_release}
 use Rattle.index_names.specs.FileName.{Spelled, read_file_name, project_of, release_of}
 use Rattle.index_digest.specs.Digest.{sha256, digest_in}
 use Rattle.index_rules.specs.declared.answer.Answer.{Answer}
 use Rattle.index_rules.specs.declared.answer.Answer.TheVariants.{Accepted, Already, Refused, Fault}
 use Rattle.index_rules.specs.declared.call.Call.{Call}
 use Rattle.index_rules.specs.declared.call.Request.{Request}
-use Rattle.index_rules.specs.declared.call.Request.TheVariants.{AddUser, SetToken, SetQuota, Claim, AddOwner, RemoveOwner, Upload}
+use Rattle.index_rules.specs.declared.call.Request.TheVariants.{AddUser, SetToken, SetQuota, Claim, AddOwner, RemoveOwner, Upload, Delete, Yank, Unyank, Relinquish, Prohibit, Allow}
+use Rattle.index_rules.specs.declared.records.FileRecord.{FileRecord}
+use Rattle.index_rules.specs.declared.records.NameRecord.{NameRecord}
+use Rattle.index_rules.specs.declared.records.NameRecord.TheVariants.{Held, Prohibited}
 use Rattle.index_rules.specs.declared.records.Project.{Project}
 use Rattle.index_rules.specs.Maps.{Bytes, same}
 use Rattle.index_rules.specs.Users.{read_user}
@@ -18,16 +22,19 @@ use Rattle.index_rules.specs.Texts.{read_token}
 use Rattle.index_rules.specs.Tables.{Tables}
 use Rattle.index_rules.specs.Requests.{read_file}
 use Rattle.index_rules.specs.Facts.{Facts, facts_in, of_both, owns_in, alone_owns_in}
-use Rattle.index_rules.specs.Verdict.{Accept, verdict_now, exceeds_quota, project_in, is_held, is_undeleted}
-use Rattle.index_rules.specs.Effect.{key, no_project, user_in, held_in, caller_in, first_quota, after}
+use Rattle.index_rules.specs.Verdict.{Accept, verdict_now, exceeds_quota, has_files, is_prohibited, project_in, is_held, is_undeleted}
+use Rattle.index_rules.specs.Effect.{key, no_file, no_project, file_of, user_in, held_in, caller_in, first_quota, after}
 use Rattle.index_rules.specs.Runs.{Answers, Runs, tables_after}
-use Rattle.index_rules.specs.Sound.{IsSound}
+use Rattle.index_rules.specs.Sound.{IsSound, undeleted_in}
 use Rattle.index_rules.proofs.OwnerLists.{same-is}
 use Rattle.index_rules.proofs.Accepted.{accepted, some_there, and_not}
 use Rattle.index_rules.proofs.SoundUsers.{IsSound-user, not_taken}
 use Rattle.index_rules.proofs.SoundNames.{IsSound-project, IsSound-claim}
 use Rattle.index_rules.proofs.SoundOwners.{IsSound-owner, IsSound-no_owner}
 use Rattle.index_rules.proofs.SoundUploads.{IsSound-upload}
+use Rattle.index_rules.proofs.SoundDeletes.{IsSound-delete}
+use Rattle.index_rules.proofs.SoundYanks.{IsSound-yank, IsSound-no_yank}
+use Rattle.index_rules.proofs.SoundEnds.{IsSound-relinquish, IsSound-prohibit, IsSound-allow}
 
 -- ---- what the parts of an accepted request are
 
@@ -44,6 +51,26 @@ free_at : (T : Tables) (name : Option Bytes) → is_none name ≡ false → is_h
 free_at T None unread free = absurd (true≢false unread)
 free_at T (Some name) unread free = free
 
+-- a prohibited name is not held
+prohibited_at : (T : Tables) (name : Option Bytes) → is_prohibited (option_and_then (get T.names) name) ≡ true → project_in (get T.names (key name)) ≡ None
+prohibited_at T None prohibited = absurd (false≢true prohibited)
+prohibited_at T (Some name) prohibited = by (get T.names name) prohibited
+  where
+    by : (found : Option NameRecord) → is_prohibited found ≡ true → project_in found ≡ None
+    by None prohibited = refl
+    by (Some Prohibited) prohibited = refl
+    by (Some (Held project)) prohibited = absurd (false≢true prohibited)
+
+-- a name without files that a record holds counts none
+no_files : (T : Tables) → IsSound T → (name : Option Bytes) → not (is_held (option_and_then (get T.names) name)) ≡ false → has_files (option_and_then (get T.names) name) ≡ false
+    → undeleted_in T (key name) ≡ 0
+no_files T sound None missing empty = absurd (true≢false missing)
+no_files T sound (Some name) missing empty =
+    let project : Project = unwrap_or (project_in (get T.names name)) no_project in
+    let held : project_in (get T.names name) ≡ Some project = project_there (project_in (get T.names name)) missing in
+    let most : project.undeleted ≤ 0 = ltb-false 0 project.undeleted (sym (ap (λ o. option_map_or (λ p. nat_lt 0 p.undeleted) o false) held) ∙ empty) in
+    omega (arith, sound.undeleted name project held, most)
+
 no_owner : (T : Tables) → IsSound T → (name user : Option Bytes) → of_both (owns_in T) name user ≡ true → of_both (alone_owns_in T) name user ≡ false
     → IsSound (record T { owners = remove T.owners (key name, key user) })
 no_owner T sound None user owns sole = absurd (false≢true owns)
@@ -57,6 +84,10 @@ file_read file unread = by (read_file_name file) unread
     by : (spelled : Option Spelled) → is_none (option_map (λ _. file) spelled) ≡ false → (is_some spelled ≡ true) × (option_map (λ _. file) spelled ≡ Some file)
     by None unread = absurd (true≢false unread)
     by (Some spelled) unread = (refl, refl)
+
+pub undeleted_there : (found : Option FileRecord) → is_undeleted found ≡ true → (found ≡ Some (unwrap_or found no_file)) × ((unwrap_or found no_file).is_undeleted ≡ true)
+undeleted_there None undeleted = absurd (false≢true undeleted)
+undeleted_there (Some known) undeleted = (refl, undeleted)
 
 digest_is : (declared : Option Bytes) (body : Bytes) → is_none declared ≡ false → option_map_or (λ digest. not (same digest (sha256 body))) declared false ≡ false → sha256 body ≡ key declared
 digest_is None body unread mismatched = absurd (true≢false unread)
@@ -102,6 +133,16 @@ module _ (T : Tables) (sound : IsSound T) (at : ℕ) (token : Bytes) where
       (record { size = refl; digest = digest_is (digest_in digest) body all.0.1.1.1.1.0 all.0.1.1.1.1.1.1.0 })
       fits
 
+  deleted_one : (file : Bytes) → verdict_now T (of (Delete file)) ≡ Accept → IsSound (after T (of (Delete file)))
+  deleted_one file accepts =
+      let all = accepted (of (Delete file)) (facts (Delete file)) accepts in
+      let f : Facts = facts (Delete file) in
+      let read = file_read file all.0.1.1.0 in
+      let name_is : f.name ≡ get T.names (project_of file) = ap (λ o. option_and_then (get T.names) (option_map project_of o)) read.1 in
+      let file_is : f.file ≡ get T.files file = ap (option_and_then (get T.files)) read.1 in
+      let known = undeleted_there f.file (not-false _ all.1) in
+      IsSound-delete T sound file (file_of f) (held_in f) known.1 (sym file_is ∙ known.0) (sym (ap project_in name_is) ∙ project_there _ all.0.1.1.1.0)
+
   each_request : (request : Request) → verdict_now T (of request) ≡ Accept → IsSound (after T (of request))
   each_request (AddUser user office digest) accepts =
       let all = accepted (of (AddUser user office digest)) (facts (AddUser user office digest)) accepts in
@@ -120,6 +161,18 @@ module _ (T : Tables) (sound : IsSound T) (at : ℕ) (token : Bytes) where
       let all = accepted (of (RemoveOwner name user)) (facts (RemoveOwner name user)) accepts in
       no_owner T sound (read_name name) (read_user user) (not-false _ all.1) all.0.1.1.1.1.1.1.1.0
   each_request (Upload file digest body requires) accepts = uploaded file digest body requires accepts
+  each_request (Delete file) accepts = deleted_one file accepts
+  each_request (Yank name release reason) accepts =
+      let all = accepted (of (Yank name release reason)) (facts (Yank name release reason)) accepts in
+      IsSound-yank T sound (key (read_name name)) (key (read_release release)) reason (ap is_some (project_at T (read_name name) all.0.1.1.1.1.1.0))
+  each_request (Unyank name release) accepts = IsSound-no_yank T sound (key (read_name name)) (key (read_release release))
+  each_request (Relinquish name) accepts =
+      let all = accepted (of (Relinquish name)) (facts (Relinquish name)) accepts in
+      IsSound-relinquish T sound (key (read_name name)) (no_files T sound (read_name name) all.0.1.1.1.0 all.0.1.1.1.1.1.0)
+  each_request (Prohibit name) accepts = IsSound-prohibit T sound (key (read_name name))
+  each_request (Allow name) accepts =
+      let all = accepted (of (Allow name)) (facts (Allow name)) accepts in
+      IsSound-allow T sound (key (read_name name)) (prohibited_at T (read_name name) (not-false _ all.1))
 
 -- ---- the theorems
 

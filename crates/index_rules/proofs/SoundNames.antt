@@ -7,11 +7,12 @@ use Rattle.index_rules.specs.declared.records.Project.{Project}
 use Rattle.index_rules.specs.declared.records.FileRecord.{FileRecord}
 use Rattle.index_rules.specs.Maps.{Bytes, same}
 use Rattle.index_rules.specs.Tables.{Tables}
-use Rattle.index_rules.specs.Facts.{owns_in}
+use Rattle.index_rules.specs.Facts.{owns_in, yank_in}
 use Rattle.index_rules.specs.Verdict.{project_in, is_held}
+use Rattle.index_rules.specs.Effect.{without_name}
 use Rattle.index_rules.specs.Sound.{IsSound, is_undeleted_of, charged_size, charge_in, undeleted_in}
 use Rattle.index_rules.proofs.OwnerLists.{same-is}
-use Rattle.index_rules.proofs.KeyLemmas.{same-refl, has-put, has-cleared}
+use Rattle.index_rules.proofs.KeyLemmas.{same-refl, has-put, has-cleared, get-without_name_other}
 use Rattle.index_rules.proofs.Totals.{total-zero}
 use Rattle.index_rules.proofs.PutLemmas.{each_put, other-sym}
 
@@ -30,6 +31,7 @@ IsSound-project T sound name before project at charge undeleted quota = record {
   owned = each_put T.names name (Held project) (λ n found. is_held found ≡ true → (user : Bytes) × (owns_in T n user ≡ true))
       (λ _. sound.owned name (ap is_some at))
       (λ n _. sound.owned n);
+  yanks = λ n release yanked. still_held T name project n (sound.yanks n release yanked);
   spelled = sound.spelled;
   undeleted_held = λ file known there is. still_held T name project known.project (sound.undeleted_held file known there is);
   charge = each_put T.names name (Held project) (λ n found. (p : Project) → project_in found ≡ Some p → p.charge ≡ charge_in T n)
@@ -67,7 +69,8 @@ module _ (T : Tables) (sound : IsSound T) (name : Bytes) (free : is_held (get T.
     abbrev claimed : Tables
     claimed = record T {
       names = insert T.names name (Held project);
-      owners = insert (retain_keys T.owners (λ pair. not (same name pair.0))) (name, owner) tt;
+      owners = insert (without_name name T.owners) (name, owner) tt;
+      yanks = without_name name T.yanks;
     }
 
     owns_in-claimed : (n user : Bytes) → owns_in claimed n user ≡ cond (same n name && same user owner) true (cond (not (same name n)) (owns_in T n user) false)
@@ -91,6 +94,9 @@ module _ (T : Tables) (sound : IsSound T) (name : Bytes) (free : is_held (get T.
       owned = each_put T.names name (Held project) (λ n found. is_held found ≡ true → (user : Bytes) × (owns_in claimed n user ≡ true))
           (λ _. (owner, owner_claimed))
           (λ n other held. let one = sound.owned n held in (one.0, owns_in-other n one.0 other ∙ one.1));
+      yanks = each_put T.names name (Held project) (λ n found. (release : Bytes) → is_some (yank_in claimed n release) ≡ true → is_held found ≡ true)
+          (λ _ _. refl)
+          (λ n other release yanked. sound.yanks n release (sym (ap is_some (get-without_name_other T.yanks name n release (other-sym n name other))) ∙ yanked));
       spelled = sound.spelled;
       undeleted_held = λ file known there is. still_held T name project known.project (sound.undeleted_held file known there is);
       charge = each_put T.names name (Held project) (λ n found. (p : Project) → project_in found ≡ Some p → p.charge ≡ charge_in T n)

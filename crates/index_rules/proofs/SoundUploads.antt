@@ -1,7 +1,6 @@
 -- Sound tables stay sound where a file that is not undeleted is uploaded within its project's quota.
-use Rattle.std.proofs.Common.{◌≡◌, ℕ, ◌+◌, ◌≤◌, true, false, cond, ◌&&◌, inl, inr, refl, sym, ap, ◌∙◌, subst, Option, Some, None, is_some, length, arith}
-use Rattle.std.specs.Option.{option_map_or}
-use Rattle.std.specs.FinMap.{get, insert, entries}
+use Rattle.std.proofs.Common.{◌≡◌, ◌+◌, ◌≤◌, true, false, cond, inl, inr, sym, ap, ◌∙◌, subst, Some, is_some, length, arith}
+use Rattle.std.specs.FinMap.{get, insert}
 use Rattle.index_rules.specs.declared.records.NameRecord.TheVariants.{Held}
 use Rattle.index_rules.specs.declared.records.Project.{Project}
 use Rattle.index_rules.specs.declared.records.FileRecord.{FileRecord}
@@ -11,30 +10,11 @@ use Rattle.index_rules.specs.Tables.{Tables}
 use Rattle.index_rules.specs.Facts.{owns_in}
 use Rattle.index_rules.specs.Verdict.{project_in, is_held, is_undeleted}
 use Rattle.index_rules.specs.Effect.{with_file}
-use Rattle.index_rules.specs.Sound.{IsSound, IsRecordOf, IsBodyOf, is_undeleted_of, charge_in, undeleted_in}
+use Rattle.index_rules.specs.Sound.{IsSound, IsRecordOf, IsBodyOf, charge_in, undeleted_in}
 use Rattle.index_rules.proofs.KeyLemmas.{same-refl, cases_same}
-use Rattle.index_rules.proofs.Totals.{total_of, total-insert}
+use Rattle.index_rules.proofs.FileTotals.{total-upload}
 use Rattle.index_rules.proofs.PutLemmas.{each_put, get-put_here, get-put_other}
 use Rattle.index_rules.proofs.SoundNames.{still_held}
-
--- ---- a sum over a name's undeleted files
-
-module _ (size : FileRecord → ℕ) where
-  abbrev weight : Bytes → FileRecord → ℕ
-  weight name known = cond (is_undeleted_of name known) (size known) 0
-
-  weight-deleted : (name : Bytes) (found : Option FileRecord) → is_undeleted found ≡ false → option_map_or (weight name) found 0 ≡ 0
-  weight-deleted name None deleted = refl
-  weight-deleted name (Some known) deleted = λ i. cond (deleted i && same name known.project) (size known) 0
-
-  -- grows for the uploaded file's project, and for no other name
-  total-upload : (T : Tables) (file : Bytes) (known : FileRecord) → known.is_undeleted ≡ true → is_undeleted (get T.files file) ≡ false → (name : Bytes)
-      → total_of (weight name) (entries (insert T.files file known)) ≡ total_of (weight name) (entries T.files) + cond (same name known.project) (size known) 0
-  total-upload T file known undeleted deleted name =
-      let new : weight name known ≡ cond (same name known.project) (size known) 0 = λ i. cond (undeleted i && same name known.project) (size known) 0 in
-      omega (arith, total-insert (weight name) T.files file known, weight-deleted name (get T.files file) deleted, new)
-
--- ---- the tables after an upload
 
 module _ (T : Tables) (sound : IsSound T) (file : Bytes) (known : FileRecord) (body : Bytes) (project : Project)
     (undeleted : known.is_undeleted ≡ true) (deleted : is_undeleted (get T.files file) ≡ false) (at : project_in (get T.names known.project) ≡ Some project) where
@@ -92,6 +72,7 @@ module _ (T : Tables) (sound : IsSound T) (file : Bytes) (known : FileRecord) (b
     owned = each_put T.names known.project (Held (with_file known.size project)) (λ name found. is_held found ≡ true → (user : Bytes) × (owns_in T name user ≡ true))
         (λ _. sound.owned known.project held)
         (λ name _. sound.owned name);
+    yanks = λ name release yanked. still_held T known.project (with_file known.size project) name (sound.yanks name release yanked);
     spelled = each_put T.files file known (λ q found. (k : FileRecord) → found ≡ Some k → IsRecordOf q k)
         (λ k e. let is : known ≡ k = cc in subst (IsRecordOf file) is spelled)
         (λ q _. sound.spelled q);

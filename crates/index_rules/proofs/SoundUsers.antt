@@ -35,6 +35,7 @@ IsSound-user T sound user account free = record {
   one_bearer = HasOneBearer-put T sound.one_bearer user account free;
   owners = sound.owners;
   owned = sound.owned;
+  yanks = sound.yanks;
   spelled = sound.spelled;
   undeleted_held = sound.undeleted_held;
   charge = sound.charge;

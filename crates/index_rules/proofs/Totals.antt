@@ -1,16 +1,17 @@
--- A sum over the entries of a map, where one entry is put, and where each entry weighs nothing.
-use Rattle.std.proofs.Common.{◌≡◌, ℕ, ◌+◌, Bool, true, false, cond, not, ◌&&◌, refl, sym, ap, ◌∙◌, List, [], ◌∷◌, Some, None, T, arith, sum_by, find, eqb}
+-- A sum over the entries of a map, where one entry is put, where each value is changed, and where each entry weighs nothing.
+use Rattle.std.proofs.Common.{◌≡◌, ℕ, ◌+◌, ◌≤◌, Bool, true, false, cond, not, ◌&&◌, refl, sym, ap, ◌∙◌, List, [], ◌∷◌, Some, None, T, arith, sum_by, find, eqb}
 use Rattle.std.specs.Option.{option_map_or}
 use Rattle.std.specs.declared.cmp.Ordering.{Ordering}
 use Rattle.std.specs.declared.cmp.Ordering.TheVariants.{Less, Equal, Greater}
-use Rattle.std.specs.Ordering.{is_eq, is_lt}
+use Rattle.std.specs.Ordering.{eq_by_cmp, is_eq, is_lt}
 use Rattle.std.specs.FinMap.{get, insert, entries, entries_sorted, entries-insert, get-entries, put, is_sorted}
 use Rattle.std.specs.FinMap as fin
 use Rattle.std.specs.FinMap.Entries.{below_all, by_order}
 use Rattle.std.proofs.lemmas.Bool.{false≢true, eqb-true, eq-eqb}
 use Rattle.std.proofs.lemmas.Cmp.{nat_list_cmp_total}
 use Rattle.std.proofs.lemmas.List.Sums.{sum_by-cons}
-use Rattle.index_rules.specs.Maps.{Bytes, Map, bytes_cmp}
+use Rattle.index_rules.specs.Maps.{Bytes, Map, bytes_cmp, change_values}
+use Rattle.index_rules.proofs.KeyLemmas.{changed, entries-change_values}
 use Rattle.index_rules.proofs.EntryLemmas.{get-found, find-passes}
 
 both : (a b : Bool) → T (a && b) → T a × T b
@@ -54,6 +55,26 @@ module _ {X : Type 0} (weight : X → ℕ) where
       ap (λ es. total_of es + option_map_or weight (get m k) 0) (entries-insert nat_list_cmp_total m k v)
       ∙ ap (λ o. total_of (put bytes_cmp k v (entries m)) + option_map_or weight o 0) (get-entries m k)
       ∙ total_of-put k v (entries m) (entries_sorted m)
+
+  total_of-at : (k : Bytes) (v : X) (es : List (Bytes × X)) → fin.find bytes_cmp k es ≡ Some v → weight v ≤ total_of es
+  total_of-at k v [] found = cc
+  total_of-at k v (e ∷ es) found = elim (eq_by_cmp bytes_cmp k e.0) as (λ b. cond b (Some e.1) (fin.find bytes_cmp k es) ≡ Some v → weight v ≤ total_of (e ∷ es)) [
+    | true ↦ λ found. let is : e.1 ≡ v = cc in omega (arith, total_of-cons e es, ap weight is)
+    | false ↦ λ found. omega (arith, total_of-cons e es, total_of-at k v es found)
+  ] found
+
+  -- an entry weighs no more than all
+  pub total-at : (m : Map X) (k : Bytes) (v : X) → get m k ≡ Some v → weight v ≤ total_of (entries m)
+  total-at m k v at = total_of-at k v (entries m) (sym (get-entries m k) ∙ at)
+
+  total_of-changed : (change : X → X) (es : List (Bytes × X)) → ((v : X) → weight (change v) ≡ weight v) → total_of (changed change es) ≡ total_of es
+  total_of-changed change [] same_weight = refl
+  total_of-changed change (e ∷ es) same_weight =
+      omega (arith, total_of-cons (e.0, change e.1) (changed change es), total_of-cons e es, same_weight e.1, total_of-changed change es same_weight)
+
+  -- where each value weighs what it did, so do all
+  pub total-changed : (change : X → X) (m : Map X) → ((v : X) → weight (change v) ≡ weight v) → total_of (entries (change_values change m)) ≡ total_of (entries m)
+  total-changed change m same_weight = ap total_of (entries-change_values change m) ∙ total_of-changed change (entries m) same_weight
 
   weighs : Bytes × X → Bool
   weighs e = not (eqb (weight e.1) 0)

@@ -1,18 +1,20 @@
 -- What an accepted call writes, and what a change means for the tables.
-use Rattle.std.specs.Prelude.{ℕ, ◌+◌, true, false, not, [], Option, unwrap_or, option_map, length}
-use Rattle.std.specs.FinMap.{insert, remove, retain_keys}
+use Rattle.std.specs.Prelude.{ℕ, ◌+◌, ◌-◌, Bool, true, false, not, if◌then◌else◌, [], Option, unwrap_or, option_map, length}
+use Rattle.std.specs.Option.{option_map_or}
+use Rattle.std.specs.FinMap.{get, insert, remove, retain_keys}
 use Rattle.index_names.specs.FileName.{project_of, release_of}
 use Rattle.index_rules.specs.declared.call.Call.{Call}
 use Rattle.index_rules.specs.declared.call.Request.{Request}
-use Rattle.index_rules.specs.declared.call.Request.TheVariants.{AddUser, SetToken, SetQuota, Claim, AddOwner, RemoveOwner, Upload}
+use Rattle.index_rules.specs.declared.call.Request.TheVariants.{AddUser, SetToken, SetQuota, Claim, AddOwner, RemoveOwner, Upload, Delete, Yank, Unyank, Relinquish, Prohibit, Allow}
 use Rattle.index_rules.specs.declared.change.Change.{Change}
 use Rattle.index_rules.specs.declared.change.Change.TheVariants as change
-use Rattle.index_rules.specs.declared.records.NameRecord.TheVariants.{Held}
+use Rattle.index_rules.specs.declared.records.NameRecord.TheVariants.{Held, Prohibited}
+use Rattle.index_rules.specs.declared.records.FileRecord.{FileRecord}
 use Rattle.index_rules.specs.declared.records.Project.{Project}
 use Rattle.index_rules.specs.declared.records.UserRecord.{UserRecord}
-use Rattle.index_rules.specs.Maps.{Bytes, same}
+use Rattle.index_rules.specs.Maps.{Bytes, Map, PairMap, same, change_values}
 use Rattle.index_rules.specs.Tables.{Tables}
-use Rattle.index_rules.specs.Requests.{user_key, name_key, declared_digest}
+use Rattle.index_rules.specs.Requests.{user_key, name_key, release_key, declared_digest}
 use Rattle.index_rules.specs.Facts.{Facts, facts_in}
 use Rattle.index_rules.specs.Verdict.{project_in}
 
@@ -36,6 +38,12 @@ no_user = record { office = false; token = [] }
 abbrev pub user_in : Facts → UserRecord
 user_in f = unwrap_or f.user no_user
 
+abbrev pub no_file : FileRecord
+no_file = record { project = []; release = []; digest = []; size = 0; requires_python = []; is_undeleted = false }
+
+abbrev pub file_of : Facts → FileRecord
+file_of f = unwrap_or f.file no_file
+
 -- ---- what is written
 
 -- the quota that a claim brings: one gibibyte
@@ -45,6 +53,25 @@ first_quota = 1073741824
 -- one more undeleted file of this size
 abbrev pub with_file : ℕ → Project → Project
 with_file size project = record project { charge = project.charge + size; undeleted = project.undeleted + 1 }
+
+-- one less of this size; nothing falls below 0
+abbrev pub without_file : ℕ → Project → Project
+without_file size project = record project { charge = project.charge - size; undeleted = project.undeleted - 1 }
+
+abbrev pub deleted : FileRecord → FileRecord
+deleted known = record known { is_undeleted = false }
+
+-- a name's file, deleted; any other as it is
+abbrev pub deleted_of : Bytes → FileRecord → FileRecord
+deleted_of name known = if same name known.project then deleted known else known
+
+-- whether a file has a record of this name
+abbrev pub is_file_of : Map FileRecord → Bytes → Bytes → Bool
+is_file_of files name file = option_map_or (λ known. same name known.project) (get files file) false
+
+-- the map without what stands at this name
+abbrev pub without_name : {X : Type 0} → Bytes → PairMap X → PairMap X
+without_name name m = retain_keys m (λ pair. not (same name pair.0))
 
 -- what an accepted request writes
 abbrev pub effect : Request → Facts → Change
@@ -68,6 +95,12 @@ effect (Upload file sha256 body requires) f =
       is_undeleted = true;
     })
     body
+effect (Delete file) f = change.Delete (project_of file) (without_file (file_of f).size (held_in f)) file (deleted (file_of f))
+effect (Yank name release reason) f = change.Yank (key (name_key (Yank name release reason))) (key (release_key (Yank name release reason))) reason
+effect (Unyank name release) f = change.Unyank (key (name_key (Unyank name release))) (key (release_key (Unyank name release)))
+effect (Relinquish name) f = change.Relinquish (key (name_key (Relinquish name)))
+effect (Prohibit name) f = change.Prohibit (key (name_key (Prohibit name)))
+effect (Allow name) f = change.Allow (key (name_key (Allow name)))
 
 -- what a change means for the tables
 abbrev pub means : Change → Tables → Tables
@@ -76,7 +109,8 @@ means (change.SetToken user account) T = record T { users = insert T.users user 
 means (change.SetQuota name project) T = record T { names = insert T.names name (Held project) }
 means (change.Claim name project owner) T = record T {
   names = insert T.names name (Held project);
-  owners = insert (retain_keys T.owners (λ pair. not (same name pair.0))) (name, owner) tt;
+  owners = insert (without_name name T.owners) (name, owner) tt;
+  yanks = without_name name T.yanks;
 }
 means (change.AddOwner name user) T = record T { owners = insert T.owners (name, user) tt }
 means (change.RemoveOwner name user) T = record T { owners = remove T.owners (name, user) }
@@ -85,6 +119,26 @@ means (change.Upload name project file known body) T = record T {
   files = insert T.files file known;
   bodies = insert T.bodies file body;
 }
+means (change.Delete name project file known) T = record T {
+  names = insert T.names name (Held project);
+  files = insert T.files file known;
+  bodies = remove T.bodies file;
+}
+means (change.Yank name release reason) T = record T { yanks = insert T.yanks (name, release) reason }
+means (change.Unyank name release) T = record T { yanks = remove T.yanks (name, release) }
+means (change.Relinquish name) T = record T {
+  names = remove T.names name;
+  owners = without_name name T.owners;
+  yanks = without_name name T.yanks;
+}
+means (change.Prohibit name) T = record T {
+  names = insert T.names name Prohibited;
+  owners = without_name name T.owners;
+  files = change_values (deleted_of name) T.files;
+  bodies = retain_keys T.bodies (λ file. not (is_file_of T.files name file));
+  yanks = without_name name T.yanks;
+}
+means (change.Allow name) T = record T { names = remove T.names name }
 
 -- the tables after an accepted call
 abbrev pub after : Tables → Call → Tables

@@ -13,7 +13,7 @@ use Rattle.index_rules.specs.declared.view.Caller.{Caller}
 use Rattle.index_rules.specs.declared.view.View.{View}
 use Rattle.index_rules.specs.Maps.{Bytes, same}
 use Rattle.index_rules.specs.Tables.{Tables}
-use Rattle.index_rules.specs.Requests.{user_key, token_key, name_key, file_key}
+use Rattle.index_rules.specs.Requests.{user_key, token_key, name_key, file_key, release_key}
 
 pub record Facts : Type 0 where
   -- who bears the caller's token
@@ -30,6 +30,9 @@ pub record Facts : Type 0 where
   pub sole : Bool
   -- the record of the file
   pub file : Option FileRecord
+  -- the reason for which the release is yanked, and whether the release has an undeleted file
+  pub yank : Option Bytes
+  pub has_release : Bool
 
 -- ---- read off the tables
 
@@ -40,11 +43,11 @@ bearer_in T token = find (λ user. same token user.1.token) (entries T.users)
 abbrev pub caller_by : Bytes × UserRecord → Caller
 caller_by user = record { user = user.0; office = user.1.office }
 
--- a question on a name and a user, where both are there
+-- a question on a name and a user or a release, where both are there
 abbrev pub of_both : (Bytes → Bytes → Bool) → Option Bytes → Option Bytes → Bool
-of_both question None user = false
+of_both question None other = false
 of_both question (Some name) None = false
-of_both question (Some name) (Some user) = question name user
+of_both question (Some name) (Some other) = question name other
 
 abbrev pub owns_in : Tables → Bytes → Bytes → Bool
 owns_in T name user = contains_key T.owners (name, user)
@@ -52,6 +55,22 @@ owns_in T name user = contains_key T.owners (name, user)
 -- the user owns the name, and nobody else does
 abbrev pub alone_owns_in : Tables → Bytes → Bytes → Bool
 alone_owns_in T name user = owns_in T name user && list_all (λ pair. not (same name pair.0) || same user pair.1) (keys T.owners)
+
+-- a file of this name and release that is undeleted
+abbrev pub is_undeleted_in : Bytes → Bytes → FileRecord → Bool
+is_undeleted_in name release known = known.is_undeleted && same name known.project && same release known.release
+
+abbrev pub has_release_in : Tables → Bytes → Bytes → Bool
+has_release_in T name release = list_any (λ file. is_undeleted_in name release file.1) (entries T.files)
+
+-- what is there of a name and a release, where both are there
+abbrev pub at_both : {A : Type 0} → (Bytes → Bytes → Option A) → Option Bytes → Option Bytes → Option A
+at_both found None release = None
+at_both found (Some name) None = None
+at_both found (Some name) (Some release) = found name release
+
+abbrev pub yank_in : Tables → Bytes → Bytes → Option Bytes
+yank_in T name release = get T.yanks (name, release)
 
 -- what the tables say of a call
 abbrev pub facts_in : Tables → Call → Facts
@@ -64,6 +83,8 @@ facts_in T c = record {
   named_owns = of_both (owns_in T) (name_key c.request) (user_key c.request);
   sole = of_both (alone_owns_in T) (name_key c.request) (user_key c.request);
   file = option_and_then (get T.files) (file_key c.request);
+  yank = at_both (yank_in T) (name_key c.request) (release_key c.request);
+  has_release = of_both (has_release_in T) (name_key c.request) (release_key c.request);
 }
 
 -- no two users bear one digest
@@ -95,6 +116,8 @@ pub record Sees (T : Tables) (k : Keys) (v : View) : Type 0 where
   pub name : v.name ≡ option_and_then (get T.names) k.name
   pub owners : AreOwners T k.name v.owners
   pub file : v.file ≡ option_and_then (get T.files) k.file
+  pub yank : v.yank ≡ at_both (yank_in T) k.name k.release
+  pub has_release : v.has_release ≡ of_both (has_release_in T) k.name k.release
 
 -- whether a user is there, and is one of these
 abbrev pub is_one_of : List Bytes → Option Bytes → Bool
@@ -114,4 +137,6 @@ facts_seen v r = record {
   named_owns = is_one_of v.owners (user_key r);
   sole = is_only_one_of v.owners (user_key r);
   file = v.file;
+  yank = v.yank;
+  has_release = v.has_release;
 }

@@ -13,3 +13,10 @@ pub mod Failures
 pub mod Runs
 pub mod Sound
 pub mod Printed
+pub mod History
+pub mod PastUsers
+pub mod PastNames
+pub mod PastFiles
+pub mod StandsFor
+pub mod Legal
+pub mod Laws

@@ -19,6 +19,7 @@ opened user token = record {
   owners = empty;
   files = empty;
   bodies = empty;
+  yanks = empty;
 }
 
 -- the bytes are no user id, or the digest is that of the empty text, which is no token

@@ -1,7 +1,7 @@
 -- The numbers of the refusals.
 use Rattle.std.specs.Prelude.{ℕ}
 use Rattle.index_rules.specs.declared.answer.Refusal.{Refusal}
-use Rattle.index_rules.specs.declared.answer.Refusal.TheVariants.{BadMoment, BadToken, NotOffice, BadUser, BadName, BadFileName, BadText, BadDigest, TooLarge, DigestMismatch, QuotaTooLarge, NoUser, UserExists, TokenTaken, NameProhibited, NoProject, NotOwner, NameHeld, LastOwner, FileNameTaken, OverQuota, QuotaBelowCharge}
+use Rattle.index_rules.specs.declared.answer.Refusal.TheVariants.{BadMoment, BadToken, NotOffice, BadUser, BadName, BadFileName, BadRelease, BadText, BadDigest, TooLarge, DigestMismatch, QuotaTooLarge, NoUser, UserExists, TokenTaken, NameProhibited, NoProject, NotOwner, NameHeld, LastOwner, FilesRemain, NoFile, NoRelease, FileNameTaken, OverQuota, QuotaBelowCharge}
 
 abbrev pub number_of : Refusal → ℕ
 number_of BadMoment = 1
@@ -10,6 +10,7 @@ number_of NotOffice = 3
 number_of BadUser = 4
 number_of BadName = 5
 number_of BadFileName = 6
+number_of BadRelease = 7
 number_of BadText = 8
 number_of BadDigest = 9
 number_of TooLarge = 10
@@ -23,6 +24,9 @@ number_of NoProject = 17
 number_of NotOwner = 18
 number_of NameHeld = 19
 number_of LastOwner = 20
+number_of FilesRemain = 21
+number_of NoFile = 22
+number_of NoRelease = 23
 number_of FileNameTaken = 24
 number_of OverQuota = 26
 number_of QuotaBelowCharge = 27

@@ -2,10 +2,11 @@
 use Rattle.std.specs.Prelude.{Option, Some, None, option_map}
 use Rattle.index_names.specs.Project.{read_name}
 use Rattle.index_names.specs.FileName.{read_file_name, project_of}
+use Rattle.index_names.specs.Release.{read_release}
 use Rattle.index_digest.specs.Digest.{digest_in}
 use Rattle.index_rules.specs.declared.call.Call.{Call}
 use Rattle.index_rules.specs.declared.call.Request.{Request}
-use Rattle.index_rules.specs.declared.call.Request.TheVariants.{AddUser, SetToken, SetQuota, Claim, AddOwner, RemoveOwner, Upload}
+use Rattle.index_rules.specs.declared.call.Request.TheVariants.{AddUser, SetToken, SetQuota, Claim, AddOwner, RemoveOwner, Upload, Delete, Yank, Unyank, Relinquish, Prohibit, Allow}
 use Rattle.index_rules.specs.declared.keys.Keys.{Keys}
 use Rattle.index_rules.specs.Maps.{Bytes}
 use Rattle.index_rules.specs.Users.{read_user}
@@ -38,11 +39,24 @@ name_key (Claim name) = read_name name
 name_key (AddOwner name user) = read_name name
 name_key (RemoveOwner name user) = read_name name
 name_key (Upload file sha256 body requires) = option_map project_of (read_file file)
+name_key (Delete file) = option_map project_of (read_file file)
+name_key (Yank name release reason) = read_name name
+name_key (Unyank name release) = read_name name
+name_key (Relinquish name) = read_name name
+name_key (Prohibit name) = read_name name
+name_key (Allow name) = read_name name
 
 -- the file
 abbrev pub file_key : Request → Option Bytes
 file_key (Upload file sha256 body requires) = read_file file
+file_key (Delete file) = read_file file
 file_key r = None
+
+-- the release
+abbrev pub release_key : Request → Option Bytes
+release_key (Yank name release reason) = read_release release
+release_key (Unyank name release) = read_release release
+release_key r = None
 
 -- the digest that it declares, of a token or of a body
 abbrev pub declared_digest : Request → Option Bytes
@@ -56,4 +70,5 @@ keys_of c = record {
   token = token_key c.request;
   name = name_key c.request;
   file = file_key c.request;
+  release = release_key c.request;
 }

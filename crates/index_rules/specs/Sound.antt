@@ -7,7 +7,7 @@ use Rattle.index_rules.specs.declared.records.Project.{Project}
 use Rattle.index_rules.specs.declared.records.FileRecord.{FileRecord}
 use Rattle.index_rules.specs.Maps.{Bytes, same}
 use Rattle.index_rules.specs.Tables.{Tables}
-use Rattle.index_rules.specs.Facts.{HasOneBearer, owns_in}
+use Rattle.index_rules.specs.Facts.{HasOneBearer, owns_in, yank_in}
 use Rattle.index_rules.specs.Verdict.{project_in, is_held, is_undeleted}
 
 -- an undeleted file of this name
@@ -45,6 +45,8 @@ pub record IsSound (T : Tables) : Type 0 where
   pub owners : (name user : Bytes) → owns_in T name user ≡ true → is_held (get T.names name) ≡ true
   -- a held name has an owner
   pub owned : (name : Bytes) → is_held (get T.names name) ≡ true → (user : Bytes) × (owns_in T name user ≡ true)
+  -- a name that has a yanked release is held
+  pub yanks : (name release : Bytes) → is_some (yank_in T name release) ≡ true → is_held (get T.names name) ≡ true
   -- each file has the project and the release that its name spells
   pub spelled : (file : Bytes) (known : FileRecord) → get T.files file ≡ Some known → IsRecordOf file known
   -- an undeleted file's project is held

@@ -4,9 +4,9 @@ use Rattle.std.specs.Option.{option_map_or}
 use Rattle.index_digest.specs.Digest.{sha256}
 use Rattle.index_rules.specs.declared.call.Call.{Call}
 use Rattle.index_rules.specs.declared.call.Request.{Request}
-use Rattle.index_rules.specs.declared.call.Request.TheVariants.{AddUser, SetToken, SetQuota, Claim, AddOwner, RemoveOwner, Upload}
+use Rattle.index_rules.specs.declared.call.Request.TheVariants.{AddUser, SetToken, SetQuota, Claim, AddOwner, RemoveOwner, Upload, Delete, Yank, Unyank, Relinquish, Prohibit, Allow}
 use Rattle.index_rules.specs.declared.answer.Refusal.{Refusal}
-use Rattle.index_rules.specs.declared.answer.Refusal.TheVariants.{BadMoment, BadToken, NotOffice, BadUser, BadName, BadFileName, BadText, BadDigest, TooLarge, DigestMismatch, QuotaTooLarge, NoUser, UserExists, TokenTaken, NameProhibited, NoProject, NotOwner, NameHeld, LastOwner, FileNameTaken, OverQuota, QuotaBelowCharge}
+use Rattle.index_rules.specs.declared.answer.Refusal.TheVariants.{BadMoment, BadToken, NotOffice, BadUser, BadName, BadFileName, BadRelease, BadText, BadDigest, TooLarge, DigestMismatch, QuotaTooLarge, NoUser, UserExists, TokenTaken, NameProhibited, NoProject, NotOwner, NameHeld, LastOwner, FilesRemain, NoFile, NoRelease, FileNameTaken, OverQuota, QuotaBelowCharge}
 use Rattle.index_rules.specs.declared.records.UserRecord.{UserRecord}
 use Rattle.index_rules.specs.declared.records.NameRecord.{NameRecord}
 use Rattle.index_rules.specs.declared.records.NameRecord.TheVariants.{Held, Prohibited}
@@ -15,7 +15,7 @@ use Rattle.index_rules.specs.declared.records.FileRecord.{FileRecord}
 use Rattle.index_rules.specs.Maps.{Bytes, same}
 use Rattle.index_rules.specs.Texts.{is_text}
 use Rattle.index_rules.specs.Tables.{Tables}
-use Rattle.index_rules.specs.Requests.{user_key, name_key, file_key, declared_digest}
+use Rattle.index_rules.specs.Requests.{user_key, name_key, file_key, release_key, declared_digest}
 use Rattle.index_rules.specs.Facts.{Facts, facts_in}
 
 pub data Verdict : Type 0 where
@@ -76,6 +76,10 @@ is_taken (Some bearer) (Some user) = not (same user bearer)
 abbrev pub is_undeleted : Option FileRecord → Bool
 is_undeleted file = option_map_or (λ known. known.is_undeleted) file false
 
+-- the name has an undeleted file
+abbrev pub has_files : Option NameRecord → Bool
+has_files name = option_map_or (λ project. nat_lt 0 project.undeleted) (project_in name) false
+
 -- the file is known with another digest or size
 abbrev pub is_other_file : Option Bytes → ℕ → Option FileRecord → Bool
 is_other_file declared size None = false
@@ -90,6 +94,7 @@ exceeds_quota size name = option_map_or (λ project. nat_lt project.quota (proje
 
 abbrev pub brings_text : Request → Bool
 brings_text (Upload file sha256 body requires) = is_text requires
+brings_text (Yank name release reason) = is_text reason
 brings_text r = true
 
 abbrev pub is_too_large : Request → Bool
@@ -128,6 +133,12 @@ is_already (Claim name) f = f.owns
 is_already (AddOwner name user) f = f.named_owns
 is_already (RemoveOwner name user) f = not f.named_owns
 is_already (Upload file sha256 body requires) f = is_undeleted f.file
+is_already (Delete file) f = not (is_undeleted f.file)
+is_already (Yank name release reason) f = option_map_or (same reason) f.yank false
+is_already (Unyank name release) f = is_none f.yank
+is_already (Relinquish name) f = false
+is_already (Prohibit name) f = is_prohibited f.name
+is_already (Allow name) f = not (is_prohibited f.name)
 
 -- where each refusal applies, to a request at a moment
 abbrev pub applies : ℕ → Request → Facts → Refusal → Bool
@@ -137,6 +148,7 @@ applies at r f NotOffice = not (is_of_office f)
 applies at r f BadUser = is_none (user_key r)
 applies at r f BadName = is_none (name_key r)
 applies at r f BadFileName = is_none (file_key r)
+applies at r f BadRelease = is_none (release_key r)
 applies at r f BadText = not (brings_text r)
 applies at r f BadDigest = is_none (declared_digest r)
 applies at r f TooLarge = is_too_large r
@@ -150,6 +162,9 @@ applies at r f NoProject = not (is_held f.name)
 applies at r f NotOwner = not f.owns
 applies at r f NameHeld = is_held f.name && not f.owns
 applies at r f LastOwner = f.sole
+applies at r f FilesRemain = has_files f.name
+applies at r f NoFile = is_none f.file
+applies at r f NoRelease = not f.has_release
 applies at r f FileNameTaken = uploads_other_file r f
 applies at r f OverQuota = uploads_over_quota r f
 applies at r f QuotaBelowCharge = is_quota_below_charge r f
@@ -167,6 +182,12 @@ refusals_of (Claim name) = BadName ∷ NameProhibited ∷ NameHeld ∷ []
 refusals_of (AddOwner name user) = BadUser ∷ BadName ∷ NoUser ∷ NoProject ∷ NotOwner ∷ []
 refusals_of (RemoveOwner name user) = BadUser ∷ BadName ∷ NoUser ∷ NoProject ∷ NotOwner ∷ LastOwner ∷ []
 refusals_of (Upload file sha256 body requires) = BadFileName ∷ BadText ∷ BadDigest ∷ TooLarge ∷ DigestMismatch ∷ file_refusals
+refusals_of (Delete file) = BadFileName ∷ NoProject ∷ NotOwner ∷ NoFile ∷ []
+refusals_of (Yank name release reason) = BadName ∷ BadRelease ∷ BadText ∷ NoProject ∷ NotOwner ∷ NoRelease ∷ []
+refusals_of (Unyank name release) = BadName ∷ BadRelease ∷ NoProject ∷ NotOwner ∷ NoRelease ∷ []
+refusals_of (Relinquish name) = BadName ∷ NoProject ∷ NotOwner ∷ FilesRemain ∷ []
+refusals_of (Prohibit name) = NotOffice ∷ BadName ∷ []
+refusals_of (Allow name) = NotOffice ∷ BadName ∷ []
 
 abbrev pub decided : Option Refusal → Bool → Verdict
 decided (Some r) already = Refuse r

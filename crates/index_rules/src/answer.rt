@@ -20,6 +20,8 @@ pub enum Refusal {
     BadName,
     /// The bytes are no file name of a wheel or a source archive.
     BadFileName,
+    /// The bytes are no version text.
+    BadRelease,
     /// The bytes are no text that the index keeps.
     BadText,
     /// The bytes are no digest's text; for a token, also the digest of the empty text.
@@ -46,6 +48,12 @@ pub enum Refusal {
     NameHeld,
     /// The user is the name's one owner.
     LastOwner,
+    /// The name has an undeleted file.
+    FilesRemain,
+    /// The file was never accepted.
+    NoFile,
+    /// The release has no undeleted file.
+    NoRelease,
     /// The file name is bound to another digest or size.
     FileNameTaken,
     /// The file is not undeleted, and its size would bring the charge above the quota.
@@ -84,6 +92,7 @@ impl Refusal {
             Refusal::BadUser => 4,
             Refusal::BadName => 5,
             Refusal::BadFileName => 6,
+            Refusal::BadRelease => 7,
             Refusal::BadText => 8,
             Refusal::BadDigest => 9,
             Refusal::TooLarge => 10,
@@ -97,6 +106,9 @@ impl Refusal {
             Refusal::NotOwner => 18,
             Refusal::NameHeld => 19,
             Refusal::LastOwner => 20,
+            Refusal::FilesRemain => 21,
+            Refusal::NoFile => 22,
+            Refusal::NoRelease => 23,
             Refusal::FileNameTaken => 24,
             Refusal::OverQuota => 26,
             Refusal::QuotaBelowCharge => 27,

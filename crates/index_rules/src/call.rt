@@ -42,6 +42,33 @@ pub enum Request {
         body: Bytes,
         requires_python: Bytes,
     },
+    /// An owner deletes a file. Its name stays bound to its digest and size.
+    Delete {
+        file: Bytes,
+    },
+    /// An owner yanks a release, for a reason (PEP 592).
+    Yank {
+        name: Bytes,
+        release: Bytes,
+        reason: Bytes,
+    },
+    /// An owner takes a yank back.
+    Unyank {
+        name: Bytes,
+        release: Bytes,
+    },
+    /// An owner gives up a name without undeleted files: it is free.
+    Relinquish {
+        name: Bytes,
+    },
+    /// The office prohibits a name, whose files are deleted.
+    Prohibit {
+        name: Bytes,
+    },
+    /// The office allows a prohibited name: it is free.
+    Allow {
+        name: Bytes,
+    },
 }
 
 /// A request at a moment, in Unix seconds, by the user whose token has this SHA-256 digest.

@@ -2,7 +2,7 @@
 use crate::records::{FileRecord, Project, UserRecord};
 use crate::user::UserId;
 use index_digest::Sealed;
-use index_names::{FileName, NormalName};
+use index_names::{FileName, NormalName, Release, Text};
 
 /// What an accepted call writes, with the new records whole.
 #[derive(Debug, Drop)]
@@ -21,7 +21,7 @@ pub enum Change {
         name: NormalName,
         project: Project,
     },
-    /// The name is held, and the user alone owns it.
+    /// The name is held, the user alone owns it, and no release of it is yanked.
     Claim {
         name: NormalName,
         project: Project,
@@ -42,5 +42,34 @@ pub enum Change {
         file: FileName,
         record: FileRecord,
         body: Sealed,
+    },
+    /// The name and the file have these records, and the bytes go.
+    Delete {
+        name: NormalName,
+        project: Project,
+        file: FileName,
+        record: FileRecord,
+    },
+    /// The release is yanked, for this reason.
+    Yank {
+        name: NormalName,
+        release: Release,
+        reason: Text,
+    },
+    Unyank {
+        name: NormalName,
+        release: Release,
+    },
+    /// The name is free, and its owners and yanks go.
+    Relinquish {
+        name: NormalName,
+    },
+    /// The name is prohibited, its files are deleted, and its owners and yanks go.
+    Prohibit {
+        name: NormalName,
+    },
+    /// The name is free.
+    Allow {
+        name: NormalName,
     },
 }

@@ -11,9 +11,10 @@ use crate::answer::Refusal;
 use crate::call::{Call, Request};
 use crate::change::Change;
 use crate::view::View;
-use files::upload;
-use names::{claim, set_quota};
+use files::{delete, upload};
+use names::{allow, claim, prohibit, relinquish, set_quota};
 use owners::{add_owner, remove_owner};
+use releases::{unyank, yank};
 use std::alloc::{AllocError, Global};
 use users::{add_user, set_token};
 
@@ -21,6 +22,7 @@ mod facts;
 mod files;
 mod names;
 mod owners;
+mod releases;
 mod users;
 
 /// The last moment of a call, in Unix seconds: the end of the year 9999.
@@ -93,5 +95,15 @@ fn judge(alloc: Global, call: Call, view: &View) -> Result<Decision, Stop>
             body,
             requires_python,
         } => upload(alloc, file, sha256, body, requires_python, caller, view),
+        Request::Delete { file } => delete(alloc, file, caller, view),
+        Request::Yank {
+            name,
+            release,
+            reason,
+        } => yank(alloc, name, release, reason, caller, view),
+        Request::Unyank { name, release } => unyank(alloc, name, release, caller, view),
+        Request::Relinquish { name } => relinquish(alloc, name, caller, view),
+        Request::Prohibit { name } => prohibit(alloc, name, caller, view),
+        Request::Allow { name } => allow(alloc, name, caller, view),
     }
 }

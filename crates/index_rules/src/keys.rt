@@ -6,10 +6,10 @@ ghost use Rattle.index_rules.specs.Requests.{keys_of, read_file};
 use crate::answer::Fault;
 use crate::bytes::Bytes;
 use crate::call::{Call, Request};
-use crate::reading::{read_token, readable_file, readable_name, readable_user};
+use crate::reading::{read_token, readable_file, readable_name, readable_release, readable_user};
 use crate::user::UserId;
 use index_digest::Digest256;
-use index_names::{FileName, NormalName};
+use index_names::{FileName, NormalName, Release};
 use std::alloc::{AllocError, Global};
 
 /// What is looked up for a call.
@@ -22,21 +22,33 @@ pub struct Keys {
     pub token: Option<Digest256>,
     pub name: Option<NormalName>,
     pub file: Option<FileName>,
+    /// The release that the call names with the name.
+    pub release: Option<Release>,
 }
 
 impl Keys {
     /// This name alone.
     pub fn of_name(name: &NormalName) -> Result<Keys, Fault>
-        ensures keys { IfOk result (λ keys. keys ≡ record { caller = None; user = None; token = None; name = Some name.now; file = None }) }
+        ensures keys { IfOk result (λ keys. keys ≡ record { caller = None; user = None; token = None; name = Some name.now; file = None; release = None }) }
         ensures memory { IfErr result (λ fault. fault ≡ Fault.OutOfMemory) }
     {
         Ok(Keys {
-            caller: None,
+            name: Some(name.clone()?),
+            ..Keys::of_caller(None)
+        })
+    }
+
+    fn of_caller(caller: Option<Digest256>) -> Keys
+        ensures { result ≡ record { caller = caller; user = None; token = None; name = None; file = None; release = None } }
+    {
+        Keys {
+            caller,
             user: None,
             token: None,
-            name: Some(name.clone()?),
+            name: None,
             file: None,
-        })
+            release: None,
+        }
     }
 }
 
@@ -46,49 +58,41 @@ impl Call {
         ensures keys { IfOk result (λ keys. keys ≡ keys_of self.now) }
         ensures memory { IfErr result (λ fault. fault ≡ Fault.OutOfMemory) }
     {
-        let caller = Some(self.token);
-        match &self.request {
-            Request::AddUser {
-                user,
-                office: _,
-                token,
-            }
-            | Request::SetToken { user, token } => Ok(Keys {
-                caller,
+        let keys = Keys::of_caller(Some(self.token));
+        Ok(match &self.request {
+            Request::AddUser { user, token, .. } | Request::SetToken { user, token } => Keys {
                 user: readable_user(alloc, user)?,
                 token: read_token(token.as_slice()),
-                name: None,
-                file: None,
-            }),
-            Request::SetQuota { name, quota: _ } | Request::Claim { name } => Ok(Keys {
-                caller,
-                user: None,
-                token: None,
+                ..keys
+            },
+            Request::SetQuota { name, .. }
+            | Request::Claim { name }
+            | Request::Relinquish { name }
+            | Request::Prohibit { name }
+            | Request::Allow { name } => Keys {
                 name: readable_name(alloc, name)?,
-                file: None,
-            }),
-            Request::AddOwner { name, user } | Request::RemoveOwner { name, user } => Ok(Keys {
-                caller,
+                ..keys
+            },
+            Request::AddOwner { name, user } | Request::RemoveOwner { name, user } => Keys {
                 user: readable_user(alloc, user)?,
-                token: None,
                 name: readable_name(alloc, name)?,
-                file: None,
-            }),
-            Request::Upload {
-                file,
-                sha256: _,
-                body: _,
-                requires_python: _,
-            } => Ok(file_keys(alloc, caller, file)?),
-        }
+                ..keys
+            },
+            Request::Yank { name, release, .. } | Request::Unyank { name, release } => Keys {
+                name: readable_name(alloc, name)?,
+                release: readable_release(alloc, release)?,
+                ..keys
+            },
+            Request::Upload { file, .. } | Request::Delete { file } => file_keys(
+                alloc, keys, file,
+            )?,
+        })
     }
 }
 
-fn file_keys(alloc: Global, caller: Option<Digest256>, file: &Bytes) -> Result<Keys, AllocError>
-    ensures { IfOk result (λ keys. keys ≡ record {
-      caller = caller;
-      user = None;
-      token = None;
+/// The file and the project that its name decides, with the other keys.
+fn file_keys(alloc: Global, keys: Keys, file: &Bytes) -> Result<Keys, AllocError>
+    ensures { IfOk result (λ found. found ≡ record keys {
       name = option_map project_of (read_file file.now);
       file = read_file file.now;
     }) }
@@ -98,11 +102,5 @@ fn file_keys(alloc: Global, caller: Option<Digest256>, file: &Bytes) -> Result<K
         Some(file) => Some(file.project().clone()?),
         None => None,
     };
-    Ok(Keys {
-        caller,
-        user: None,
-        token: None,
-        name,
-        file,
-    })
+    Ok(Keys { name, file, ..keys })
 }

@@ -8,6 +8,7 @@ mod call;
 mod change;
 mod decision;
 mod keys;
+pub mod laws;
 mod open;
 mod reading;
 mod records;

@@ -4,6 +4,7 @@ ghost use Rattle.std.specs.Char.{is_control};
 ghost use Rattle.std.specs.List.{list_all};
 ghost use Rattle.std.specs.Str.{chars};
 ghost use Rattle.index_names.specs.Project.{read_name};
+ghost use Rattle.index_names.specs.Release.{read_release};
 ghost use Rattle.index_rules.specs.Requests.{read_file};
 ghost use Rattle.index_rules.specs.Users.{read_user};
 ghost use Rattle.index_rules.specs.Texts.{is_text as is_text_lem, read_token};
@@ -11,7 +12,7 @@ ghost use Rattle.index_rules.specs.Texts.{is_text as is_text_lem, read_token};
 use crate::bytes::Bytes;
 use crate::user::{UserFault, UserId};
 use index_digest::Digest256;
-use index_names::{FileName, NameFault, NormalName, Text, normal};
+use index_names::{FileName, NameFault, NormalName, Release, Text, normal, release_key};
 use std::alloc::{AllocError, Global};
 
 /// The most bytes of a text.
@@ -36,6 +37,17 @@ pub fn readable_user(alloc: Global, user: &Bytes) -> Result<Option<UserId>, Allo
         Ok(key) => Ok(Some(key)),
         Err(UserFault::OutOfMemory) => Err(AllocError),
         Err(UserFault::BadUser) => Ok(None),
+    }
+}
+
+/// The release that a version text gives, where it is one.
+pub fn readable_release(alloc: Global, release: &Bytes) -> Result<Option<Release>, AllocError>
+    ensures { IfOk result (λ key. key ≡ read_release release.now) }
+{
+    match release_key(alloc, release.as_slice()) {
+        Ok(key) => Ok(Some(key)),
+        Err(NameFault::OutOfMemory) => Err(AllocError),
+        Err(_) => Ok(None),
     }
 }
 

@@ -3,6 +3,7 @@ ghost use Rattle.std.specs.Prelude.{◌≡◌, List, ℕ};
 
 use crate::records::{FileRecord, NameRecord, UserRecord};
 use crate::user::UserId;
+use index_names::Text;
 use std::marker::Model;
 
 /// Owners of a name. Contracts see the list of their ids.
@@ -53,4 +54,8 @@ pub struct View {
     /// The owners of the name, in any order.
     pub owners: Owners,
     pub file: Option<FileRecord>,
+    /// Why the release is yanked, where it is.
+    pub yank: Option<Text>,
+    /// Whether the release has an undeleted file.
+    pub has_release: bool,
 }

@@ -64,68 +64,60 @@ fn refuses_what_is_no_line(rt: HostRuntime) -> Result<(), Fail> {
     Ok(())
 }
 
-/// Each row with its own keys is a call; with a key too few, one too many, or a value of another kind it is none.
+/// Rows with their own keys.
+const ROWS: &str = r#""do":"add_user","user":"u","office":true,"token_sha256":"t"
+"do":"set_token","user":"u","token_sha256":"t"
+"do":"set_quota","name":"a","quota":18446744073709551615
+"do":"prohibit","name":"a"
+"do":"allow","name":"a"
+"do":"claim","name":"a"
+"do":"relinquish","name":"a"
+"do":"add_owner","name":"a","user":"u"
+"do":"remove_owner","name":"a","user":"u"
+"do":"upload","file":"f","sha256":"","hex":"","requires_python":""
+"do":"delete","file":"f"
+"do":"yank","name":"a","release":"1","reason":""
+"do":"unyank","name":"a","release":"1""#;
+
+/// Rows with a key too few, one too many, or a value of another kind.
+const NO_ROWS: &str = r#""do":"add_user","user":"u","token_sha256":"t"
+"do":"add_user","user":"u","office":"true","token_sha256":"t"
+"do":"add_user","user":"u","office":true,"token_sha256":"t","x":1
+"do":"set_token","user":"u"
+"do":"set_token","user":"u","office":true,"token_sha256":"t"
+"do":"set_quota","name":"a","quota":18446744073709551616
+"do":"set_quota","name":"a","quota":6.0
+"do":"set_quota","name":"a","quota":"6"
+"do":"set_quota","name":"a","quota":6,"x":1
+"do":"prohibit"
+"do":"prohibit","name":true
+"do":"allow","name":"a","x":1
+"do":"relinquish","name":"a","user":"u"
+"do":"add_owner","name":"a"
+"do":"add_owner","name":"a","user":"u","x":1
+"do":"remove_owner","name":"a","user":null
+"do":"remove_owner","name":"a","user":"u","x":1
+"do":"upload","file":"f","sha256":"","hex":""
+"do":"upload","file":"f","sha256":"","hex":"616","requires_python":""
+"do":"upload","file":"f","sha256":"","hex":"6x","requires_python":""
+"do":"upload","file":"f","sha256":"","hex":"","requires_python":"","x":1
+"do":"delete","name":"a"
+"do":"delete","file":1
+"do":"delete","file":"f","x":1
+"do":"yank","name":"a","release":"1"
+"do":"yank","name":"a","release":1,"reason":""
+"do":"yank","name":"a","release":"1","reason":"","x":1
+"do":"unyank","name":"a"
+"do":"unyank","name":"a","release":"1","reason":"""#;
+
 #[test]
 fn reads_the_keys_of_each_row(rt: HostRuntime) -> Result<(), Fail> {
-    let rows = [
-        (
-            r#""do":"add_user","user":"u","office":true,"token_sha256":"t""#,
-            true,
-        ),
-        (r#""do":"add_user","user":"u","token_sha256":"t""#, false),
-        (
-            r#""do":"add_user","user":"u","office":"true","token_sha256":"t""#,
-            false,
-        ),
-        (
-            r#""do":"add_user","user":"u","office":true,"token_sha256":"t","x":1"#,
-            false,
-        ),
-        (r#""do":"set_token","user":"u","token_sha256":"t""#, true),
-        (r#""do":"set_token","user":"u""#, false),
-        (
-            r#""do":"set_token","user":"u","office":true,"token_sha256":"t""#,
-            false,
-        ),
-        (
-            r#""do":"set_quota","name":"a","quota":18446744073709551615"#,
-            true,
-        ),
-        (
-            r#""do":"set_quota","name":"a","quota":18446744073709551616"#,
-            false,
-        ),
-        (r#""do":"set_quota","name":"a","quota":6.0"#, false),
-        (r#""do":"set_quota","name":"a","quota":"6""#, false),
-        (r#""do":"set_quota","name":"a","quota":6,"x":1"#, false),
-        (r#""do":"add_owner","name":"a","user":"u""#, true),
-        (r#""do":"add_owner","name":"a""#, false),
-        (r#""do":"add_owner","name":"a","user":"u","x":1"#, false),
-        (r#""do":"remove_owner","name":"a","user":"u""#, true),
-        (r#""do":"remove_owner","name":"a","user":null"#, false),
-        (r#""do":"remove_owner","name":"a","user":"u","x":1"#, false),
-        (
-            r#""do":"upload","file":"f","sha256":"","hex":"","requires_python":"""#,
-            true,
-        ),
-        (r#""do":"upload","file":"f","sha256":"","hex":"""#, false),
-        (
-            r#""do":"upload","file":"f","sha256":"","hex":"616","requires_python":"""#,
-            false,
-        ),
-        (
-            r#""do":"upload","file":"f","sha256":"","hex":"6x","requires_python":"""#,
-            false,
-        ),
-        (
-            r#""do":"upload","file":"f","sha256":"","hex":"","requires_python":"","x":1"#,
-            false,
-        ),
-    ];
-    for (members, is_call) in rows {
-        let line = format!(in rt.alloc(); "{{\"at\":1,\"token\":\"t\",{members}}}")?;
-        let found = read_line(rt.alloc(), line.as_bytes())?;
-        assert_eq!(rt; found.is_some(), is_call, "{line}");
+    for (rows, are_calls) in [(ROWS, true), (NO_ROWS, false)] {
+        for members in rows.lines() {
+            let line = format!(in rt.alloc(); "{{\"at\":1,\"token\":\"t\",{members}}}")?;
+            let found = read_line(rt.alloc(), line.as_bytes())?;
+            assert_eq!(rt; found.is_some(), are_calls, "{line}");
+        }
     }
     Ok(())
 }

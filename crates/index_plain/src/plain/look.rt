@@ -1,13 +1,13 @@
 //! What the tables have at the keys of a call.
 ghost use Rattle.std.specs.Prelude.{◌≡◌, IfOk, option_map};
-ghost use Rattle.index_rules.specs.Facts.{AreOwners, IsBearer, IsBearerAs, Sees, caller_by};
+ghost use Rattle.index_rules.specs.Facts.{AreOwners, IsBearer, IsBearerAs, Sees, at_both, caller_by, has_release_in, of_both, yank_in};
 ghost use Rattle.index_rules.specs.Tables.{owners_in};
 ghost use Rattle.index_plain.specs.Plain.{tables_of};
 
 use crate::plain::PlainBooks;
-use crate::{entries, owners, sets};
+use crate::{entries, files, owners, sets};
 use index_digest::Digest256;
-use index_names::NormalName;
+use index_names::{NormalName, Release, Text};
 use index_rules::{Caller, Keys, Owners, UserId, UserRecord, View};
 use std::alloc::{AllocError, Global};
 
@@ -23,6 +23,8 @@ impl PlainBooks {
             name: entries::copy_at_key(self.names.as_slice(), &keys.name)?,
             owners: self.owners_by_key(alloc, &keys.name)?,
             file: entries::copy_at_key(self.files.as_slice(), &keys.file)?,
+            yank: self.yank(&keys.name, &keys.release)?,
+            has_release: self.has_release(&keys.name, &keys.release),
         })
     }
 
@@ -45,6 +47,35 @@ impl PlainBooks {
         match name {
             Some(name) => self.owners_by_name(alloc, name),
             None => Ok(Owners::new(Vec::new(alloc))),
+        }
+    }
+
+    /// Why a release is yanked, where it is.
+    fn yank(
+        &self,
+        name: &Option<NormalName>,
+        release: &Option<Release>,
+    ) -> Result<Option<Text>, AllocError>
+        ensures { IfOk result (λ reason. reason ≡ at_both (yank_in (tables_of self.now)) name.now release.now) }
+    {
+        match (name, release) {
+            (Some(name), Some(release)) => {
+                let key = (name.clone()?, release.clone()?);
+                entries::copy_at(self.yanks.as_slice(), &key)
+            }
+            _ => Ok(None),
+        }
+    }
+
+    /// Whether a release has an undeleted file.
+    fn has_release(&self, name: &Option<NormalName>, release: &Option<Release>) -> bool
+        ensures { result ≡ of_both (has_release_in (tables_of self.now)) name.now release.now }
+    {
+        match (name, release) {
+            (Some(name), Some(release)) => {
+                files::has_undeleted(self.files.as_slice(), name, release)
+            }
+            _ => false,
         }
     }
 

@@ -1,8 +1,17 @@
+//! What no clause says: that changes and looks succeed, and what a look finds after them.
 use super::*;
-use index_names::{Text, normal};
+use index_names::{normal, release_key};
 use index_rules::Project;
 use std::process::Abort;
 use std::test::Fail;
+
+mod files;
+mod names;
+mod releases;
+mod users;
+
+/// One gibibyte.
+const QUOTA: u64 = 1_073_741_824;
 
 fn name(alloc: Global, text: &str) -> Result<NormalName, Fail> {
     Ok(normal(alloc, text.as_bytes())?)
@@ -12,13 +21,25 @@ fn user(alloc: Global, text: &str) -> Result<UserId, Fail> {
     Ok(UserId::read(alloc, text.as_bytes())?)
 }
 
+fn release(alloc: Global, text: &str) -> Result<Release, Fail> {
+    Ok(release_key(alloc, text.as_bytes())?)
+}
+
+fn file_name(alloc: Global, text: &str) -> Result<FileName, Fail> {
+    Ok(FileName::read(alloc, text.as_bytes())?)
+}
+
+fn text(alloc: Global, text: &str) -> Result<Text, Fail> {
+    Ok(Text::new(String::from_str(alloc, text)?))
+}
+
 fn token(text: &str) -> Digest256 {
     Digest256::of(text.as_bytes())
 }
 
 fn project(alloc: Global, shown: &str, quota: u64) -> Result<Project, Fail> {
     Ok(Project {
-        shown: Text::new(String::from_str(alloc, shown)?),
+        shown: text(alloc, shown)?,
         quota,
         charge: 0,
         undeleted: 0,
@@ -30,49 +51,94 @@ fn opened(alloc: Global) -> Result<PlainBooks, Fail> {
     Ok(PlainBooks::new(alloc, b"office", token("office"))?)
 }
 
-/// Who bears a token, as the caller and as the bearer: none where `want` is empty.
-fn assert_bearer(
-    rt: &impl Abort,
-    alloc: Global,
-    books: &mut PlainBooks,
-    text: &str,
-    want: &str,
-) -> Result<(), Fail> {
-    let keys = Keys {
-        caller: Some(token(text)),
-        user: None,
-        token: Some(token(text)),
-        name: None,
-        file: None,
-    };
-    let view = books.view(alloc, &keys)?;
-    let caller = view.caller.as_ref().map_or("", |caller| caller.user.text());
-    assert_eq!(rt; caller, want);
-    let bearer = view.bearer.as_ref().map_or("", |bearer| bearer.text());
-    assert_eq!(rt; bearer, want);
-    Ok(())
+/// Books in which alice owns flask and bob django, each with a file of its release 1.0, which is yanked.
+fn books_with_yanks(alloc: Global) -> Result<PlainBooks, Fail> {
+    let mut books = opened(alloc)?;
+    for (shown, owner, file) in [
+        ("Flask", "alice", "flask-1.0.tar.gz"),
+        ("Django", "bob", "django-1.0.tar.gz"),
+    ] {
+        books.write(alloc, claim(alloc, shown, owner)?)?;
+        books.write(alloc, upload(alloc, shown, file)?)?;
+        books.write(alloc, yank(alloc, shown, "1.0", "broken")?)?;
+    }
+    Ok(books)
 }
 
-/// What is shown of a name, empty where it is free, its quota, and its owners with spaces between them.
-fn assert_name(
-    rt: &impl Abort,
+fn claim(alloc: Global, shown: &str, owner: &str) -> Result<Change, Fail> {
+    Ok(Change::Claim {
+        name: name(alloc, shown)?,
+        project: project(alloc, shown, QUOTA)?,
+        owner: user(alloc, owner)?,
+    })
+}
+
+/// A record of three bytes.
+fn record(alloc: Global, file: &FileName, is_undeleted: bool) -> Result<FileRecord, Fail> {
+    Ok(FileRecord {
+        project: file.project().clone()?,
+        release: file.release().clone()?,
+        digest: token("abc"),
+        size: 3,
+        requires_python: text(alloc, ">=3.9")?,
+        is_undeleted,
+    })
+}
+
+/// An upload of these bytes.
+fn upload(alloc: Global, shown: &str, file: &str) -> Result<Change, Fail> {
+    let file = file_name(alloc, file)?;
+    let body = Vec::from_slice(alloc, b"abc")?;
+    Ok(Change::Upload {
+        name: file.project().clone()?,
+        project: project(alloc, shown, QUOTA)?,
+        record: record(alloc, &file, true)?,
+        file,
+        body: Sealed::new(body, token("abc")).map_err(|_| "another digest")?,
+    })
+}
+
+fn yank(alloc: Global, project: &str, version: &str, reason: &str) -> Result<Change, Fail> {
+    Ok(Change::Yank {
+        name: name(alloc, project)?,
+        release: release(alloc, version)?,
+        reason: text(alloc, reason)?,
+    })
+}
+
+fn no_keys() -> Keys {
+    Keys {
+        caller: None,
+        user: None,
+        token: None,
+        name: None,
+        file: None,
+        release: None,
+    }
+}
+
+/// The record of a name.
+fn name_record(
     alloc: Global,
     books: &mut PlainBooks,
     text: &str,
-    shown: &str,
-    quota: u64,
-    owners: &str,
-) -> Result<(), Fail> {
-    let name = name(alloc, text)?;
-    let view = books.view(alloc, &Keys::of_name(&name)?)?;
-    match &view.name {
-        Some(NameRecord::Held(project)) => {
-            assert_eq!(rt; project.shown.as_str(), shown);
-            assert_eq!(rt; project.quota, quota);
-        }
-        _ => assert_eq!(rt; shown, ""),
-    }
-    let users = books.owners_of(alloc, &name)?;
+) -> Result<Option<NameRecord>, Fail> {
+    let keys = Keys::of_name(&name(alloc, text)?)?;
+    let View { name: found, .. } = books.view(alloc, &keys)?;
+    Ok(found)
+}
+
+/// The project of a held name.
+fn held(alloc: Global, books: &mut PlainBooks, text: &str) -> Result<Option<Project>, Fail> {
+    Ok(match name_record(alloc, books, text)? {
+        Some(NameRecord::Held(project)) => Some(project),
+        _ => None,
+    })
+}
+
+/// The owners of a name, with spaces between them.
+fn owners(alloc: Global, books: &mut PlainBooks, text: &str) -> Result<String, Fail> {
+    let users = books.owners_of(alloc, &name(alloc, text)?)?;
     let mut found = String::new(alloc);
     for user in users.as_slice() {
         if !found.is_empty() {
@@ -80,190 +146,107 @@ fn assert_name(
         }
         found.push_str(user.text())?;
     }
-    assert_eq!(rt; found.as_str(), owners);
-    assert_eq!(rt; view.owners.as_slice().len(), users.as_slice().len());
+    Ok(found)
+}
+
+/// What is shown of a name, empty where it is not held, its quota, and its owners with spaces between them.
+fn assert_name(
+    rt: &impl Abort,
+    alloc: Global,
+    books: &mut PlainBooks,
+    text: &str,
+    shown: &str,
+    quota: u64,
+    users: &str,
+) -> Result<(), Fail> {
+    let project = held(alloc, books, text)?;
+    let found = project
+        .as_ref()
+        .map_or("", |project| project.shown.as_str());
+    assert_eq!(rt; found, shown);
+    assert_eq!(rt; project.as_ref().map_or(0, |project| project.quota), quota);
+    assert_owners(rt, alloc, books, text, users)
+}
+
+fn assert_owners(
+    rt: &impl Abort,
+    alloc: Global,
+    books: &mut PlainBooks,
+    text: &str,
+    users: &str,
+) -> Result<(), Fail> {
+    let found = owners(alloc, books, text)?;
+    assert_eq!(rt; found.as_str(), users);
     Ok(())
 }
 
-#[test]
-fn a_bad_first_user_is_refused(rt: HostRuntime) {
-    let cases = [
-        ("Office", "office"),
-        ("office", ""),
-        ("", "office"),
-        ("abcdefghijklmnopqrstuvwxyz0123456", "office"),
-    ];
-    for (user, text) in cases {
-        let found = PlainBooks::new(rt.alloc(), user.as_bytes(), token(text));
-        assert!(rt;
-            matches!(found, Err(OpenFault::BadFirstUser)),
-            "{user} {text}"
-        );
-    }
-}
-
-#[test]
-fn the_first_user_is_of_the_office(rt: HostRuntime) -> Result<(), Fail> {
-    let alloc = rt.alloc();
-    let mut books = opened(alloc)?;
+/// The record of a file.
+fn file(alloc: Global, books: &mut PlainBooks, text: &str) -> Result<FileRecord, Fail> {
     let keys = Keys {
-        caller: Some(token("office")),
-        user: Some(user(alloc, "office")?),
-        token: None,
-        name: None,
-        file: None,
+        file: Some(file_name(alloc, text)?),
+        ..no_keys()
     };
-    let view = books.view(alloc, &keys)?;
-    let caller = view.caller.ok_or("no caller")?;
-    assert_eq!(rt; caller.user.text(), "office");
-    assert!(rt; caller.office);
-    let record = view.user.ok_or("no record")?;
-    assert!(rt; record.office && record.token == token("office"));
-    assert_name(&rt, alloc, &mut books, "flask", "", 0, "")
+    let View { file, .. } = books.view(alloc, &keys)?;
+    Ok(file.ok_or("no record")?)
 }
 
-#[test]
-fn a_new_token_replaces_the_old_one(rt: HostRuntime) -> Result<(), Fail> {
-    let alloc = rt.alloc();
-    let mut books = opened(alloc)?;
-    let record = |text: &str| UserRecord {
-        office: false,
-        token: token(text),
-    };
-    let user = user(alloc, "alice")?;
-    books.write(
-        alloc,
-        Change::AddUser {
-            user: user.clone()?,
-            record: record("first"),
-        },
-    )?;
-    assert_bearer(&rt, alloc, &mut books, "first", "alice")?;
-    books.write(
-        alloc,
-        Change::SetToken {
-            user,
-            record: record("second"),
-        },
-    )?;
-    for (text, want) in [("first", ""), ("second", "alice"), ("office", "office")] {
-        assert_bearer(&rt, alloc, &mut books, text, want)?;
-    }
-    Ok(())
-}
-
-#[test]
-fn names_are_claimed_and_their_quotas_set(rt: HostRuntime) -> Result<(), Fail> {
-    let alloc = rt.alloc();
-    let mut books = opened(alloc)?;
-    for (shown, owner) in [("Flask", "alice"), ("Django", "bob"), ("FLASK", "carol")] {
-        let claim = Change::Claim {
-            name: name(alloc, shown)?,
-            project: project(alloc, shown, 1_073_741_824)?,
-            owner: user(alloc, owner)?,
-        };
-        books.write(alloc, claim)?;
-    }
-    let quota = Change::SetQuota {
-        name: name(alloc, "django")?,
-        project: project(alloc, "Django", 5)?,
-    };
-    books.write(alloc, quota)?;
-    for (text, shown, quota, owners) in [
-        ("flask", "FLASK", 1_073_741_824, "carol"),
-        ("django", "Django", 5, "bob"),
-        ("numpy", "", 0, ""),
-    ] {
-        assert_name(&rt, alloc, &mut books, text, shown, quota, owners)?;
-    }
-    Ok(())
-}
-
-#[test]
-fn owners_are_in_byte_order(rt: HostRuntime) -> Result<(), Fail> {
-    let alloc = rt.alloc();
-    let mut books = opened(alloc)?;
-    for (text, owner) in [
-        ("flask", "bob"),
-        ("flask", "alice"),
-        ("django", "alice"),
-        ("flask", "al"),
-        ("flask", "bob"),
-        ("flask", "7up"),
-    ] {
-        let change = Change::AddOwner {
-            name: name(alloc, text)?,
-            user: user(alloc, owner)?,
-        };
-        books.write(alloc, change)?;
-    }
-    assert_name(&rt, alloc, &mut books, "flask", "", 0, "7up al alice bob")?;
-    let change = Change::RemoveOwner {
-        name: name(alloc, "flask")?,
-        user: user(alloc, "alice")?,
-    };
-    books.write(alloc, change)?;
-    assert_name(&rt, alloc, &mut books, "flask", "", 0, "7up al bob")?;
-    assert_name(&rt, alloc, &mut books, "django", "", 0, "alice")
-}
-
-/// An upload of three bytes.
-fn upload(alloc: Global, file: &FileName) -> Result<Change, Fail> {
-    let digest = token("abc");
-    let body = Vec::from_slice(alloc, b"abc")?;
-    Ok(Change::Upload {
-        name: file.project().clone()?,
-        project: project(alloc, "Flask", 1_073_741_824)?,
-        file: file.clone()?,
-        record: FileRecord {
-            project: file.project().clone()?,
-            release: file.release().clone()?,
-            digest,
-            size: 3,
-            requires_python: Text::new(String::from_str(alloc, ">=3.9")?),
-            is_undeleted: true,
-        },
-        body: Sealed::new(body, digest).map_err(|_| "another digest")?,
-    })
-}
-
-fn file_keys(file: FileName) -> Keys {
-    Keys {
-        caller: None,
-        user: None,
-        token: None,
-        name: None,
-        file: Some(file),
-    }
-}
-
-#[test]
-fn an_upload_keeps_the_record(rt: HostRuntime) -> Result<(), Fail> {
-    let alloc = rt.alloc();
-    let mut books = opened(alloc)?;
-    let file = FileName::read(alloc, b"Flask-1.0.tar.gz")?;
-    books.write(alloc, upload(alloc, &file)?)?;
-    let view = books.view(alloc, &file_keys(file))?;
-    let record = view.file.ok_or("no record")?;
-    assert_eq!(rt; record.project.text(), "flask");
-    assert_eq!(rt; record.release.text(), "1.0");
-    assert!(rt; record.digest == token("abc"));
+/// A file of three bytes, which are there exactly where it is undeleted.
+fn assert_file(
+    rt: &impl Abort,
+    alloc: Global,
+    books: &mut PlainBooks,
+    text: &str,
+    is_undeleted: bool,
+) -> Result<(), Fail> {
+    let record = file(alloc, books, text)?;
+    assert!(rt; record.digest == token("abc"), "{text}");
     assert_eq!(rt; record.size, 3);
-    assert_eq!(rt; record.requires_python.as_str(), ">=3.9");
-    assert!(rt; record.is_undeleted);
-    assert_name(&rt, alloc, &mut books, "flask", "Flask", 1_073_741_824, "")
+    assert_eq!(rt; record.is_undeleted, is_undeleted);
+    assert_body(rt, alloc, books, text, is_undeleted)
 }
 
-#[test]
-fn an_upload_keeps_the_bytes(rt: HostRuntime) -> Result<(), Fail> {
-    let alloc = rt.alloc();
-    let mut books = opened(alloc)?;
-    let file = FileName::read(alloc, b"Flask-1.0.tar.gz")?;
-    assert!(rt; books.bytes_of(alloc, &file)?.is_none());
-    books.write(alloc, upload(alloc, &file)?)?;
-    let kept = books.bytes_of(alloc, &file)?.ok_or("no bytes")?;
-    assert_eq!(rt; kept.bytes(), b"abc".as_slice());
-    let other = FileName::read(alloc, b"flask-1.0.tar.gz")?;
-    assert!(rt; books.bytes_of(alloc, &other)?.is_none());
+/// The bytes of a file are `abc`, or not there.
+fn assert_body(
+    rt: &impl Abort,
+    alloc: Global,
+    books: &mut PlainBooks,
+    text: &str,
+    is_there: bool,
+) -> Result<(), Fail> {
+    let body = books.bytes_of(alloc, &file_name(alloc, text)?)?;
+    let found = body.as_ref().map_or(b"".as_slice(), |body| body.bytes());
+    let want = if is_there {
+        b"abc".as_slice()
+    } else {
+        b"".as_slice()
+    };
+    assert_eq!(rt; found, want);
+    Ok(())
+}
+
+/// Whether a release has an undeleted file, and why it is yanked: empty where it is not.
+fn assert_release(
+    rt: &impl Abort,
+    alloc: Global,
+    books: &mut PlainBooks,
+    project: &str,
+    version: &str,
+    has_files: bool,
+    reason: &str,
+) -> Result<(), Fail> {
+    let name = name(alloc, project)?;
+    let keys = Keys {
+        name: Some(name),
+        release: Some(release(alloc, version)?),
+        ..no_keys()
+    };
+    let View {
+        yank,
+        has_release,
+        ..
+    } = books.view(alloc, &keys)?;
+    assert_eq!(rt; has_release, has_files);
+    let found = yank.as_ref().map_or("", |reason| reason.as_str());
+    assert_eq!(rt; found, reason);
     Ok(())
 }

@@ -5,7 +5,7 @@ ghost use Rattle.index_plain.specs.Plain.{tables_of, failures_of};
 
 use crate::plain::PlainBooks;
 use crate::{entries, owners};
-use index_rules::{Change, NameRecord};
+use index_rules::Change;
 use std::alloc::AllocError;
 
 impl PlainBooks {
@@ -20,19 +20,12 @@ impl PlainBooks {
             Change::AddUser { user, record } | Change::SetToken { user, record } => {
                 entries::put(&mut self.users, user, record);
             }
-            Change::SetQuota { name, project } => {
-                entries::put(&mut self.names, name, NameRecord::Held(project));
-            }
+            Change::SetQuota { name, project } => self.hold(name, project),
             Change::Claim {
                 name,
                 project,
                 owner,
-            } => {
-                let key = name.clone()?;
-                owners::clear(&mut self.owners, &name);
-                owners::add(&mut self.owners, key, owner);
-                entries::put(&mut self.names, name, NameRecord::Held(project));
-            }
+            } => self.claim(name, project, owner)?,
             Change::AddOwner { name, user } => owners::add(&mut self.owners, name, user),
             Change::RemoveOwner { name, user } => owners::remove(&mut self.owners, &name, &user),
             Change::Upload {
@@ -41,12 +34,22 @@ impl PlainBooks {
                 file,
                 record,
                 body,
-            } => {
-                let key = file.clone()?;
-                entries::put(&mut self.names, name, NameRecord::Held(project));
-                entries::put(&mut self.files, file, record);
-                entries::put(&mut self.bodies, key, body);
-            }
+            } => self.upload(name, project, file, record, body)?,
+            Change::Delete {
+                name,
+                project,
+                file,
+                record,
+            } => self.delete(name, project, file, record),
+            Change::Yank {
+                name,
+                release,
+                reason,
+            } => entries::put(&mut self.yanks, (name, release), reason),
+            Change::Unyank { name, release } => entries::remove(&mut self.yanks, &(name, release)),
+            Change::Relinquish { name } => self.relinquish(&name),
+            Change::Prohibit { name } => self.prohibit(name),
+            Change::Allow { name } => entries::remove(&mut self.names, &name),
         }
         Ok(())
     }
@@ -60,12 +63,14 @@ impl PlainBooks {
         ensures owners { OnOk result (vec_len self.new.owners < vec_capacity self.new.owners) }
         ensures files { OnOk result (vec_len self.new.files < vec_capacity self.new.files) }
         ensures bodies { OnOk result (vec_len self.new.bodies < vec_capacity self.new.bodies) }
+        ensures yanks { OnOk result (vec_len self.new.yanks < vec_capacity self.new.yanks) }
     {
         self.users.reserve(1)?;
         self.names.reserve(1)?;
         self.owners.reserve(1)?;
         self.files.reserve(1)?;
         self.bodies.reserve(1)?;
+        self.yanks.reserve(1)?;
         Ok(())
     }
 }

@@ -1,11 +1,11 @@
 //! Owners' requests on files.
-ghost use Rattle.std.specs.Prelude.{◌≡◌, ◌+◌, Some, None, MatchOption, true, false, find, length};
-ghost use Rattle.index_rules.specs.declared.call.Request.TheVariants.{Upload};
+ghost use Rattle.std.specs.Prelude.{◌≡◌, ◌+◌, Some, None, IfOk, MatchOption, true, false, find, length};
+ghost use Rattle.index_rules.specs.declared.call.Request.TheVariants.{Delete, Upload};
 ghost use Rattle.index_rules.specs.Facts.{facts_seen};
 ghost use Rattle.index_digest.specs.Digest.{digest_in};
 ghost use Rattle.index_rules.specs.Maps.{Bytes};
 ghost use Rattle.index_rules.specs.Verdict.{verdict_in_order, applies, decided, file_refusals, is_already, exceeds_quota, is_other_file};
-ghost use Rattle.index_rules.specs.Effect.{effect};
+ghost use Rattle.index_rules.specs.Effect.{effect, deleted as deleted_lem, without_file as without_file_lem};
 ghost use Rattle.index_rules.specs.Decided.{Decides};
 ghost use Rattle.index_rules.specs.declared.records.NameRecord.TheVariants.{Held};
 
@@ -19,7 +19,7 @@ use crate::records::{FileRecord, Project};
 use crate::view::{Caller, View};
 use index_digest::{Digest256, Sealed};
 use index_names::{FileName, Text};
-use std::alloc::Global;
+use std::alloc::{AllocError, Global};
 
 /// The most bytes of a body.
 const LARGEST_BODY: usize = 16_777_216;
@@ -117,6 +117,59 @@ fn is_other(record: &FileRecord, digest: &Digest256, size: u64) -> bool
     ensures { result ≡ is_other_file (Some digest.now) size (Some record.now) }
 {
     !(*digest == record.digest && size == record.size)
+}
+
+pub fn delete(alloc: Global, file: Bytes, caller: &Caller, view: &View) -> Result<Decision, Stop>
+    requires { view.now.caller ≡ Some caller.now }
+    ensures { let r = Delete file in let facts = facts_seen view.now r in Decides result (verdict_in_order r facts) (effect r facts) }
+{
+    let Some(file) = readable_file(alloc, &file)? else {
+        return Err(Stop::Refused(Refusal::BadFileName));
+    };
+    let Some(project) = project_of(&view.name) else {
+        return Err(Stop::Refused(Refusal::NoProject));
+    };
+    if !is_one(view.owners.as_slice(), &caller.user) {
+        return Err(Stop::Refused(Refusal::NotOwner));
+    }
+    let Some(record) = &view.file else {
+        return Err(Stop::Refused(Refusal::NoFile));
+    };
+    if !record.is_undeleted {
+        return Ok(Decision::Already);
+    }
+    Ok(Decision::Change(Change::Delete {
+        name: file.project().clone()?,
+        project: without_file(project, record.size)?,
+        record: deleted(record)?,
+        file,
+    }))
+}
+
+/// The project with one undeleted file less, of this size in bytes.
+fn without_file(project: &Project, size: u64) -> Result<Project, AllocError>
+    ensures { IfOk result (λ less. less ≡ without_file_lem size project.now) }
+{
+    Ok(Project {
+        shown: project.shown.clone()?,
+        quota: project.quota,
+        charge: project.charge.saturating_sub(size),
+        undeleted: project.undeleted.saturating_sub(1),
+    })
+}
+
+/// The record of the file once it is deleted.
+fn deleted(record: &FileRecord) -> Result<FileRecord, AllocError>
+    ensures { IfOk result (λ gone. gone ≡ deleted_lem record.now) }
+{
+    Ok(FileRecord {
+        project: record.project.clone()?,
+        release: record.release.clone()?,
+        digest: record.digest,
+        size: record.size,
+        requires_python: record.requires_python.clone()?,
+        is_undeleted: false,
+    })
 }
 
 /// The charge with one more file, where the quota allows it.

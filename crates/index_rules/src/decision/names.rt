@@ -1,6 +1,6 @@
 //! Requests on a name and its quota.
 ghost use Rattle.std.specs.Prelude.{◌≡◌, Some};
-ghost use Rattle.index_rules.specs.declared.call.Request.TheVariants.{Claim, SetQuota};
+ghost use Rattle.index_rules.specs.declared.call.Request.TheVariants.{Allow, Claim, Prohibit, Relinquish, SetQuota};
 ghost use Rattle.index_rules.specs.Facts.{facts_seen};
 ghost use Rattle.index_rules.specs.Verdict.{verdict_in_order};
 ghost use Rattle.index_rules.specs.Effect.{effect};
@@ -93,4 +93,60 @@ pub fn set_quota(
             undeleted: project.undeleted,
         },
     }))
+}
+
+pub fn relinquish(
+    alloc: Global,
+    name: Bytes,
+    caller: &Caller,
+    view: &View,
+) -> Result<Decision, Stop>
+    requires { view.now.caller ≡ Some caller.now }
+    ensures { let r = Relinquish name in let facts = facts_seen view.now r in Decides result (verdict_in_order r facts) (effect r facts) }
+{
+    let Some(name) = readable_name(alloc, &name)? else {
+        return Err(Stop::Refused(Refusal::BadName));
+    };
+    let Some(project) = project_of(&view.name) else {
+        return Err(Stop::Refused(Refusal::NoProject));
+    };
+    if !is_one(view.owners.as_slice(), &caller.user) {
+        return Err(Stop::Refused(Refusal::NotOwner));
+    }
+    if project.undeleted > 0 {
+        return Err(Stop::Refused(Refusal::FilesRemain));
+    }
+    Ok(Decision::Change(Change::Relinquish { name }))
+}
+
+pub fn prohibit(alloc: Global, name: Bytes, caller: &Caller, view: &View) -> Result<Decision, Stop>
+    requires { view.now.caller ≡ Some caller.now }
+    ensures { let r = Prohibit name in let facts = facts_seen view.now r in Decides result (verdict_in_order r facts) (effect r facts) }
+{
+    if !caller.office {
+        return Err(Stop::Refused(Refusal::NotOffice));
+    }
+    let Some(name) = readable_name(alloc, &name)? else {
+        return Err(Stop::Refused(Refusal::BadName));
+    };
+    match &view.name {
+        Some(NameRecord::Prohibited) => Ok(Decision::Already),
+        _ => Ok(Decision::Change(Change::Prohibit { name })),
+    }
+}
+
+pub fn allow(alloc: Global, name: Bytes, caller: &Caller, view: &View) -> Result<Decision, Stop>
+    requires { view.now.caller ≡ Some caller.now }
+    ensures { let r = Allow name in let facts = facts_seen view.now r in Decides result (verdict_in_order r facts) (effect r facts) }
+{
+    if !caller.office {
+        return Err(Stop::Refused(Refusal::NotOffice));
+    }
+    let Some(name) = readable_name(alloc, &name)? else {
+        return Err(Stop::Refused(Refusal::BadName));
+    };
+    match &view.name {
+        Some(NameRecord::Prohibited) => Ok(Decision::Change(Change::Allow { name })),
+        _ => Ok(Decision::Already),
+    }
 }

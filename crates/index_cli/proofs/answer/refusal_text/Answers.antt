@@ -28,6 +28,10 @@ pub returns-in-BadFileName : goal.returns-in-BadFileName
 unfolding answer_text_of digits serde_json_on_literals
 returns-in-BadFileName c = rw c.in-BadFileName.is refl
 
+pub returns-in-BadRelease : goal.returns-in-BadRelease
+unfolding answer_text_of digits serde_json_on_literals
+returns-in-BadRelease c = rw c.in-BadRelease.is refl
+
 pub returns-in-BadText : goal.returns-in-BadText
 unfolding answer_text_of digits serde_json_on_literals
 returns-in-BadText c = rw c.in-BadText.is refl
@@ -79,6 +83,18 @@ returns-in-NameHeld c = rw c.in-NameHeld.is refl
 pub returns-in-LastOwner : goal.returns-in-LastOwner
 unfolding answer_text_of digits serde_json_on_literals
 returns-in-LastOwner c = rw c.in-LastOwner.is refl
+
+pub returns-in-FilesRemain : goal.returns-in-FilesRemain
+unfolding answer_text_of digits serde_json_on_literals
+returns-in-FilesRemain c = rw c.in-FilesRemain.is refl
+
+pub returns-in-NoFile : goal.returns-in-NoFile
+unfolding answer_text_of digits serde_json_on_literals
+returns-in-NoFile c = rw c.in-NoFile.is refl
+
+pub returns-in-NoRelease : goal.returns-in-NoRelease
+unfolding answer_text_of digits serde_json_on_literals
+returns-in-NoRelease c = rw c.in-NoRelease.is refl
 
 pub returns-in-FileNameTaken : goal.returns-in-FileNameTaken
 unfolding answer_text_of digits serde_json_on_literals

@@ -1,45 +1,25 @@
-use Rattle.std.proofs.Common.{◌≢◌, ℕ, Result, Ok, Err, IfErr}
-use Rattle.index_cli.specs.declared.end.LineEnd.{LineEnd}
-use Rattle.index_cli.specs.declared.end.LineEnd.TheVariants.{WriteFault}
-use Rattle.index_cli.proofs.Runs.{Progress-before, Progress-during, Progress-push, Progress-whole}
+use Rattle.std.proofs.lemmas.Result.{IfOk-weaker, IfErr-weaker}
+use Rattle.index_rules.proofs.StandsOn.{IsSound-legal}
+use Rattle.index_cli.proofs.Histories.{TellsHistory-Told}
 use Rattle.index_cli.proofs.apply.apply_lines.Goals as goal
 
-whatever_the_end : (r : Result ℕ LineEnd) (P : Type 0) → P → IfErr r (λ end. end ≢ WriteFault → P)
-whatever_the_end (Ok count) P p = tt
-whatever_the_end (Err end) P p = λ _. p
+pub returns-clause-ok_after : goal.returns-clause-ok_after
+returns-clause-ok_after g c = λ honest h legal stands.
+    let T = g.B.Books.tables c.args.desk.now in
+    IfOk-weaker c.answer_lines.result _ _
+    (λ count (input, text, is_input, told, sent, counted). (input, text, is_input, TellsHistory-Told h legal T stands _ text _ told, sent, counted))
+    (c.answer_lines.ensures.ok honest (IsSound-legal h legal T stands).one_bearer)
 
-pub returns-in_err-size-clause-before : goal.returns-in_err-size-clause-before
-returns-in_err-size-clause-before g c = λ honest one.
-    whatever_the_end c.from_residual.result _ (Progress-before _ _ _ _ _ _ _ (c.loop-count.invariant.progress honest one))
+pub returns-clause-before_after : goal.returns-clause-before_after
+returns-clause-before_after g c = λ honest h legal stands.
+    let T = g.B.Books.tables c.args.desk.now in
+    IfErr-weaker c.answer_lines.result _ _
+    (λ end tells other. let (input, done, left, text, is_input, lines, told, sent) = tells other in (input, done, left, text, is_input, lines, TellsHistory-Told h legal T stands done text _ told, sent))
+    (c.answer_lines.ensures.before honest (IsSound-legal h legal T stands).one_bearer)
 
-pub returns-in_default-clause-ok : goal.returns-in_default-clause-ok
-returns-in_default-clause-ok g c = λ honest one.
-    let end = rw c.in_default.is at c.in_ok-size.ensures.line in
-    Progress-whole _ _ _ _ _ _ _ _ (c.loop-count.invariant.progress honest one) end.0 end.1
-
-pub returns-in_err-reply-clause-before : goal.returns-in_err-reply-clause-before
-returns-in_err-reply-clause-before g c = λ honest one.
-    whatever_the_end c.from_residual-in_err-reply.result _
-    (rw (c.in_err-reply.ensures.unchanged honest) (Progress-before _ _ _ _ _ _ _ (c.loop-count.invariant.progress (c.reply_to.ensures.honest honest) one)))
-
-pub returns-in_default-write_line-clause-during : goal.returns-in_default-write_line-clause-during
-returns-in_default-write_line-clause-during g c = λ honest one _.
-    let one_now = c.loop-count.invariant.one (c.reply_to.ensures.honest honest) one in
-    let front = rw c.as_bytes.ensures at c.in_default-write_line.ensures.front in
-    Progress-during _ _ _ _ _ _ _ _ _ _ c.in-Some.size _ _ _ (c.loop-count.invariant.progress (c.reply_to.ensures.honest honest) one)
-    (rw c.in-Some.is at c.in_ok-size.ensures.line) (rw c.as_slice.ensures.value at (c.in_ok-reply.ensures.reply honest one_now)) front.0 front.1
-
-pub loop-count-preserved : goal.loop-count-preserved
-loop-count-preserved g c = record {
-  progress = λ honest one.
-      let one_now = c.loop-count.invariant.one (c.reply_to.ensures.honest honest) one in
-      Progress-push _ _ _ _ _ _ _ _ _ _ c.in-Some.size _ _ (c.loop-count.invariant.progress (c.reply_to.ensures.honest honest) one)
-      (rw c.in-Some.is at c.in_ok-size.ensures.line) (rw c.as_slice.ensures.value at (c.in_ok-reply.ensures.reply honest one_now))
-      (rw c.as_bytes.ensures at c.in-Ok.ensures.whole);
-  one = λ honest one. c.reply_to.ensures.one_bearer honest (c.loop-count.invariant.one (c.reply_to.ensures.honest honest) one);
-  sound = λ honest sound. c.reply_to.ensures.sound honest (c.loop-count.invariant.sound (c.reply_to.ensures.honest honest) sound);
-  honest = λ honest. c.loop-count.invariant.honest (c.reply_to.ensures.honest honest);
-}
-
-pub returns-clause-before : goal.returns-clause-before
-returns-clause-before g c = λ honest one _. Progress-before _ _ _ _ _ _ _ (c.loop-count.invariant.progress honest one)
+pub returns-clause-during_after : goal.returns-clause-during_after
+returns-clause-during_after g c = λ honest h legal stands.
+    let T = g.B.Books.tables c.args.desk.now in
+    IfErr-weaker c.answer_lines.result _ _
+    (λ end tells at_end. let (input, done, line, left, text, count, is_input, lines, told, less, sent) = tells at_end in (input, done, line, left, text, count, is_input, lines, TellsHistory-Told h legal T stands _ text _ told, less, sent))
+    (c.answer_lines.ensures.during honest (IsSound-legal h legal T stands).one_bearer)

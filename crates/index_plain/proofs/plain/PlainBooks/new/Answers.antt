@@ -1,9 +1,16 @@
 use Rattle.std.proofs.Common.{subst, sym}
 use Rattle.std.proofs.lemmas.Result.{IfOk-weaker}
 use Rattle.index_rules.specs.Sound.{IsSound}
+use Rattle.index_rules.specs.History.{begins}
+use Rattle.index_rules.specs.StandsFor.{StandsFor}
 use Rattle.index_rules.proofs.SoundOpened.{IsSound-opened}
+use Rattle.index_rules.proofs.StandsOn.{StandsFor-opened}
 use Rattle.index_plain.proofs.plain.PlainBooks.new.Goals as goal
 
 pub returns-clause-sound : goal.returns-clause-sound
 returns-clause-sound c =
     IfOk-weaker c.opened.result _ _ (λ books is. subst IsSound (sym is) (IsSound-opened c.args.user.now c.args.token)) c.opened.ensures.tables
+
+pub returns-clause-history : goal.returns-clause-history
+returns-clause-history c =
+    IfOk-weaker c.opened.result _ _ (λ books is. subst (λ T. StandsFor T (begins c.args.user.now c.args.token)) (sym is) (StandsFor-opened c.args.user.now c.args.token)) c.opened.ensures.tables

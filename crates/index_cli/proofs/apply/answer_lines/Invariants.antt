@@ -1,7 +1,7 @@
 use Rattle.index_rules.specs.Facts.{HasOneBearer}
 use Rattle.index_rules.specs.Sound.{IsSound}
 use Rattle.index_cli.proofs.Runs.{Progress}
-use Rattle.index_cli.proofs.apply.apply_lines.Given as goal
+use Rattle.index_cli.proofs.apply.answer_lines.Given as goal
 
 abbrev pub invariant-loop-count : goal.invariant-loop-count
 invariant-loop-count g l = record {

@@ -1,0 +1,55 @@
+//! What is written where a file is uploaded or deleted.
+ghost use Rattle.std.specs.Prelude.{◌≡◌, ◌<◌, OnOk, OnErr, vec_len, vec_capacity};
+ghost use Rattle.index_rules.specs.declared.change.Change.TheVariants.{Delete, Upload};
+ghost use Rattle.index_rules.specs.Effect.{means};
+ghost use Rattle.index_plain.specs.Plain.{tables_of, failures_of};
+
+use crate::entries;
+use crate::plain::PlainBooks;
+use index_digest::Sealed;
+use index_names::{FileName, NormalName};
+use index_rules::{FileRecord, Project};
+use std::alloc::AllocError;
+
+impl PlainBooks {
+    /// The name and the file have these records, and the bytes are kept.
+    pub(super) fn upload(
+        &mut self,
+        name: NormalName,
+        project: Project,
+        file: FileName,
+        known: FileRecord,
+        body: Sealed,
+    ) -> Result<(), AllocError>
+        requires names { vec_len self.old.names < vec_capacity self.old.names }
+        requires files { vec_len self.old.files < vec_capacity self.old.files }
+        requires bodies { vec_len self.old.bodies < vec_capacity self.old.bodies }
+        ensures written { OnOk result (tables_of self.new ≡ means (Upload name project file known body) (tables_of self.old)) }
+        ensures unchanged { OnErr result (tables_of self.new ≡ tables_of self.old) }
+        ensures failures { failures_of self.new ≡ failures_of self.old }
+    {
+        let key = file.clone()?;
+        entries::put(&mut self.files, key, known);
+        entries::put(&mut self.bodies, file, body);
+        self.hold(name, project);
+        Ok(())
+    }
+
+    /// The name and the file have these records, and the bytes go.
+    pub(super) fn delete(
+        &mut self,
+        name: NormalName,
+        project: Project,
+        file: FileName,
+        known: FileRecord,
+    )
+        requires names { vec_len self.old.names < vec_capacity self.old.names }
+        requires files { vec_len self.old.files < vec_capacity self.old.files }
+        ensures tables { tables_of self.new ≡ means (Delete name project file known) (tables_of self.old) }
+        ensures failures { failures_of self.new ≡ failures_of self.old }
+    {
+        entries::remove(&mut self.bodies, &file);
+        entries::put(&mut self.files, file, known);
+        self.hold(name, project);
+    }
+}

@@ -1,0 +1,79 @@
+//! What is written where a name is claimed, given up or prohibited.
+ghost use Rattle.std.specs.Prelude.{◌≡◌, ◌<◌, ◌≤◌, OnOk, OnErr, vec_len, vec_capacity};
+ghost use Rattle.index_rules.specs.declared.change.Change.TheVariants.{Claim, Prohibit, Relinquish, SetQuota};
+ghost use Rattle.index_rules.specs.Effect.{means, without_name};
+ghost use Rattle.index_plain.specs.Plain.{tables_of, failures_of};
+
+use crate::plain::PlainBooks;
+use crate::{entries, files, owners, yanks};
+use index_names::NormalName;
+use index_rules::{NameRecord, Project, UserId};
+use std::alloc::AllocError;
+
+impl PlainBooks {
+    /// The name is held, with this record.
+    pub(super) fn hold(&mut self, name: NormalName, project: Project)
+        requires { vec_len self.old.names < vec_capacity self.old.names }
+        ensures tables { tables_of self.new ≡ means (SetQuota name project) (tables_of self.old) }
+        ensures failures { failures_of self.new ≡ failures_of self.old }
+    {
+        entries::put(&mut self.names, name, NameRecord::Held(project));
+    }
+
+    /// The name is held, the user alone owns it, and no release of it is yanked.
+    pub(super) fn claim(
+        &mut self,
+        name: NormalName,
+        project: Project,
+        owner: UserId,
+    ) -> Result<(), AllocError>
+        requires names { vec_len self.old.names < vec_capacity self.old.names }
+        requires owners { vec_len self.old.owners < vec_capacity self.old.owners }
+        ensures written { OnOk result (tables_of self.new ≡ means (Claim name project owner) (tables_of self.old)) }
+        ensures unchanged { OnErr result (tables_of self.new ≡ tables_of self.old) }
+        ensures failures { failures_of self.new ≡ failures_of self.old }
+    {
+        let key = name.clone()?;
+        self.clear(&key);
+        owners::add(&mut self.owners, key, owner);
+        self.hold(name, project);
+        Ok(())
+    }
+
+    /// The name is free, and its owners and yanks go.
+    pub(super) fn relinquish(&mut self, name: &NormalName)
+        ensures tables { tables_of self.new ≡ means (Relinquish name.now) (tables_of self.old) }
+        ensures failures { failures_of self.new ≡ failures_of self.old }
+    {
+        self.clear(name);
+        entries::remove(&mut self.names, name);
+    }
+
+    /// The name is prohibited, its files are deleted, and its owners and yanks go.
+    pub(super) fn prohibit(&mut self, name: NormalName)
+        requires { vec_len self.old.names < vec_capacity self.old.names }
+        ensures tables { tables_of self.new ≡ means (Prohibit name) (tables_of self.old) }
+        ensures failures { failures_of self.new ≡ failures_of self.old }
+    {
+        self.clear(&name);
+        files::drop_bodies(&mut self.bodies, self.files.as_slice(), &name);
+        files::mark_deleted(self.files.as_mut_slice(), &name);
+        entries::put(&mut self.names, name, NameRecord::Prohibited);
+    }
+
+    /// Takes away the owners and the yanks of a name.
+    fn clear(&mut self, name: &NormalName)
+        ensures tables { let T = tables_of self.old in
+            tables_of self.new ≡ record T {
+              owners = without_name name.now T.owners;
+              yanks = without_name name.now T.yanks;
+            } }
+        ensures failures { failures_of self.new ≡ failures_of self.old }
+        ensures names { self.new.names ≡ self.old.names }
+        ensures len { vec_len self.new.owners ≤ vec_len self.old.owners }
+        ensures capacity { vec_capacity self.new.owners ≡ vec_capacity self.old.owners }
+    {
+        owners::clear(&mut self.owners, name);
+        yanks::clear(&mut self.yanks, name);
+    }
+}

@@ -1,0 +1,33 @@
+-- What a word of a history is where an entry's request is read as a key, and where it is not.
+use Rattle.std.proofs.Common.{◌≡◌, false, cond, ap, ◌∙◌, Option, Some, None, is_none, option_map}
+use Rattle.std.proofs.lemmas.Bool.{true≢false}
+use Rattle.index_names.specs.FileName.{Spelled, read_file_name}
+use Rattle.index_rules.specs.Maps.{Bytes, same}
+use Rattle.index_rules.specs.Requests.{read_file}
+use Rattle.index_rules.specs.Effect.{key}
+use Rattle.index_rules.specs.History.{is_read_as}
+use Rattle.index_rules.proofs.KeyLemmas.{same-refl}
+
+-- what is not unread is read as its key
+pub read_key : (read : Option Bytes) → is_none read ≡ false → read ≡ Some (key read)
+read_key None unread = absurd (true≢false unread)
+read_key (Some x) unread = λ _. Some x
+
+-- a file name is read as itself
+pub read_itself : (file : Bytes) → is_none (read_file file) ≡ false → read_file file ≡ Some file
+unfolding read_file
+read_itself file unread = by (read_file_name file) unread
+  where
+    by : (spelled : Option Spelled) → is_none (option_map (λ _. file) spelled) ≡ false → option_map (λ _. file) spelled ≡ Some file
+    by None unread = absurd (true≢false unread)
+    by (Some spelled) unread = λ _. Some file
+
+module _ {A : Type 0} (read : Option Bytes) (k : Bytes) (reads : read ≡ Some k) (new old : A) where
+  pub by_key : (q : Bytes) → cond (is_read_as read q) new old ≡ cond (same q k) new old
+  by_key q = ap (λ r. cond (is_read_as r q) new old) reads
+
+  pub at_key : cond (is_read_as read k) new old ≡ new
+  at_key = by_key k ∙ ap (λ b. cond b new old) (same-refl k)
+
+  pub at_other : (q : Bytes) → same q k ≡ false → cond (is_read_as read q) new old ≡ old
+  at_other q other = by_key q ∙ ap (λ b. cond b new old) other

@@ -1,0 +1,80 @@
+-- What tables add up and find of a name's files is what a history does, where they have the history's files.
+use Rattle.std.proofs.Common.{◌≡◌, ℕ, Bool, true, false, cond, ◌&&◌, refl, sym, ap, ◌∙◌, Option, Some, None, is_some, option_map, sum_by}
+use Rattle.std.specs.Option.{option_map_or}
+use Rattle.std.specs.List.{list_any}
+use Rattle.std.specs.FinMap.{get}
+use Rattle.std.proofs.lemmas.Bool.{false≢true}
+use Rattle.index_names.specs.FileName.{project_of, release_of}
+use Rattle.index_rules.specs.declared.records.FileRecord.{FileRecord}
+use Rattle.index_rules.specs.Maps.{Bytes, same}
+use Rattle.index_rules.specs.Tables.{Tables}
+use Rattle.index_rules.specs.Facts.{is_undeleted_in, has_release_in}
+use Rattle.index_rules.specs.Sound.{is_undeleted_of, charged_size, charge_in, undeleted_in}
+use Rattle.index_rules.specs.History.{History}
+use Rattle.index_rules.specs.PastFiles.{known, undeleted, requires_of, uploaded, charge, undeleted_count, is_there, size_of, has_file_of}
+use Rattle.index_rules.specs.StandsFor.{file_by, file_at}
+use Rattle.index_rules.proofs.PastWords.{Apart-uploaded, known_is_uploaded, undeleted_known}
+use Rattle.index_rules.proofs.ListTotals.{HasKeys, total-listed, any-listed}
+
+is_some-map : {A B : Type 0} (part : A → B) (o : Option A) → is_some (option_map part o) ≡ is_some o
+is_some-map part None = refl
+is_some-map part (Some x) = refl
+
+-- ---- what one file counts for
+
+-- an undeleted file of the name is one
+abbrev counted : Bytes → FileRecord → ℕ
+counted n known = cond (is_undeleted_of n known) 1 0
+
+module _ (h : History) (n f : Bytes) where
+  charged_at : option_map_or (charged_size n) (file_at h f) 0 ≡ cond (is_there h n f) (size_of h f) 0
+  charged_at = by (known h f) (undeleted h f) (undeleted_known h f)
+    where
+      by : (o : Option (Bytes × ℕ)) (b : Bool) → (b ≡ true → is_some o ≡ true)
+          → option_map_or (charged_size n) (option_map (file_by f (requires_of h f) b) o) 0 ≡ cond (b && same n (project_of f)) (option_map_or (λ first. first.1) o 0) 0
+      by None true there = absurd (false≢true (there refl))
+      by None false there = refl
+      by (Some first) b there = refl
+
+  counted_at : option_map_or (counted n) (file_at h f) 0 ≡ cond (is_there h n f) 1 0
+  counted_at = by (known h f) (undeleted h f) (undeleted_known h f)
+    where
+      by : (o : Option (Bytes × ℕ)) (b : Bool) → (b ≡ true → is_some o ≡ true)
+          → option_map_or (counted n) (option_map (file_by f (requires_of h f) b) o) 0 ≡ cond (b && same n (project_of f)) 1 0
+      by None true there = absurd (false≢true (there refl))
+      by None false there = refl
+      by (Some first) b there = refl
+
+  released_at : (r : Bytes) → option_map_or (is_undeleted_in n r) (file_at h f) false ≡ (is_there h n f && same r (release_of f))
+  released_at r = by (known h f) (undeleted h f) (undeleted_known h f)
+    where
+      by : (o : Option (Bytes × ℕ)) (b : Bool) → (b ≡ true → is_some o ≡ true)
+          → option_map_or (is_undeleted_in n r) (option_map (file_by f (requires_of h f) b) o) false ≡ ((b && same n (project_of f)) && same r (release_of f))
+      by None true there = absurd (false≢true (there refl))
+      by None false there = refl
+      by (Some first) true there = refl
+      by (Some first) false there = refl
+
+-- ---- over all files
+
+module _ (T : Tables) (h : History) (files : (f : Bytes) → get T.files f ≡ file_at h f) where
+  has_keys : HasKeys T.files (uploaded h)
+  has_keys f there = sym (known_is_uploaded h f) ∙ sym (is_some-map _ (known h f)) ∙ ap is_some (sym (files f)) ∙ there
+
+  -- the charge of a name
+  pub charge_agrees : (n : Bytes) → charge_in T n ≡ charge h n
+  charge_agrees n =
+      sym (total-listed (charged_size n) T.files (uploaded h) (Apart-uploaded h) has_keys)
+      ∙ (λ i. sum_by (λ f. (ap (λ o. option_map_or (charged_size n) o 0) (files f) ∙ charged_at h n f) i) (uploaded h))
+
+  -- how many undeleted files it has
+  pub count_agrees : (n : Bytes) → undeleted_in T n ≡ undeleted_count h n
+  count_agrees n =
+      sym (total-listed (counted n) T.files (uploaded h) (Apart-uploaded h) has_keys)
+      ∙ (λ i. sum_by (λ f. (ap (λ o. option_map_or (counted n) o 0) (files f) ∙ counted_at h n f) i) (uploaded h))
+
+  -- whether a release of it has one
+  pub has_release_agrees : (n r : Bytes) → has_release_in T n r ≡ has_file_of h n r
+  has_release_agrees n r =
+      any-listed (is_undeleted_in n r) T.files (uploaded h) has_keys
+      ∙ (λ i. list_any (λ f. (ap (λ o. option_map_or (is_undeleted_in n r) o false) (files f) ∙ released_at h n f r) i) (uploaded h))

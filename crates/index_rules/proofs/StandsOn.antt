@@ -1,0 +1,168 @@
+-- Tables that stand for a legal history are sound, and stand for the history with each call that is accepted.
+use Rattle.std.proofs.Common.{◌≡◌, false, cond, refl, sym, ap, ◌∙◌, subst, List, [], ◌∷◌, Option, Some, None, is_some, is_none, option_map}
+use Rattle.std.specs.FinMap.{get, empty, get-empty, same_map}
+use Rattle.std.proofs.lemmas.Cmp.{nat_list_cmp_total}
+use Rattle.std.proofs.lemmas.Map.Lookups.{exact_bytes}
+use Rattle.std.proofs.lemmas.Bool.{true≢false, false≢true}
+use Rattle.index_rules.specs.declared.call.Call.{Call}
+use Rattle.index_rules.specs.declared.records.NameRecord.TheVariants as name_record
+use Rattle.index_rules.specs.declared.records.UserRecord.{UserRecord}
+use Rattle.index_rules.specs.declared.view.Caller.{Caller}
+use Rattle.index_rules.specs.declared.answer.Answer.{Answer}
+use Rattle.index_rules.specs.declared.answer.Answer.TheVariants.{Accepted, Already, Refused, Fault}
+use Rattle.index_rules.specs.Maps.{Bytes, same, bytes_cmp, pair_cmp}
+use Rattle.index_rules.specs.Tables.{Tables}
+use Rattle.index_rules.specs.Facts.{HasOneBearer, bearer_in, caller_by, facts_in}
+use Rattle.index_rules.specs.Verdict.{Accept, project_in, verdict_now}
+use Rattle.index_rules.specs.Effect.{key, after}
+use Rattle.index_rules.specs.Opened.{first_record, opened}
+use Rattle.index_rules.specs.Runs.{Answers, Runs, tables_after}
+use Rattle.index_rules.specs.Sound.{IsSound}
+use Rattle.index_rules.specs.History.{History, begins, more}
+use Rattle.index_rules.specs.PastUsers.{bearer}
+use Rattle.index_rules.specs.PastNames.{State, Free, Held, Prohibited, state_of, shown_of, quota_of}
+use Rattle.index_rules.specs.PastFiles.{charge, undeleted_count}
+use Rattle.index_rules.specs.StandsFor.{StandsFor, name_by, project_at, name_at, file_at}
+use Rattle.index_rules.specs.Legal.{verdict_after, with_call, IsLegal, history_after, CarriesOn, CarriesOnBy}
+use Rattle.index_rules.proofs.OwnerLists.{pair_total, exact_pair}
+use Rattle.index_rules.proofs.KeyLemmas.{get-put}
+use Rattle.index_rules.proofs.Accepted.{accepted}
+use Rattle.index_rules.proofs.SoundOpened.{IsSound-opened}
+use Rattle.index_rules.proofs.SoundLemmas.{IsSound-after}
+use Rattle.index_rules.proofs.PastWords.{received}
+use Rattle.index_rules.proofs.PastTotals.{charge_agrees, count_agrees, has_release_agrees}
+use Rattle.index_rules.proofs.Agree as agree
+use Rattle.index_rules.proofs.StepUsers.{users_after}
+use Rattle.index_rules.proofs.StepNames.{IsShaped, IsNamed, names_after}
+use Rattle.index_rules.proofs.StepOwners.{owners_after, yanks_after}
+use Rattle.index_rules.proofs.StepFiles.{files_after, bodies_after}
+
+-- ---- the numbers of a name
+
+-- in sound tables whose files are those of a history, a name with this shape has the numbers of the history
+name_numbered : (T : Tables) → IsSound T → (h : History) → ((file : Bytes) → get T.files file ≡ file_at h file) → (n : Bytes) → IsNamed h n (get T.names n) → get T.names n ≡ name_at h n
+name_numbered T sound h files n shaped = by (state_of h n) shaped
+  where
+    by : (s : State) → IsShaped (get T.names n) s (shown_of h n) (quota_of h n) → get T.names n ≡ name_by s (project_at h n)
+    by Free found = found
+    by Prohibited found = found
+    by Held held =
+        let at : project_in (get T.names n) ≡ Some held.0 = ap project_in held.1 in
+        let charged : held.0.charge ≡ charge h n = sound.charge n held.0 at ∙ charge_agrees T h files n in
+        let counted : held.0.undeleted ≡ undeleted_count h n = sound.undeleted n held.0 at ∙ count_agrees T h files n in
+        held.1 ∙ (λ i. Some (name_record.Held (record { shown = held.2 i; quota = held.3 i; charge = charged i; undeleted = counted i })))
+
+-- ---- one call
+
+module _ (T : Tables) (h : History) (sound : IsSound T) (stands : StandsFor T h) where
+  pub verdict_agrees : (c : Call) → verdict_now T c ≡ verdict_after h c
+  verdict_agrees = agree.verdict_agrees T h sound.one_bearer stands (has_release_agrees T h stands.files) (received h)
+
+  acts : (token : Bytes) → key (option_map (λ (caller : Caller). caller.user) (option_map caller_by (bearer_in T token))) ≡ key (bearer h token)
+  acts token = ap key (by (bearer_in T token) ∙ agree.who_agrees T h sound.one_bearer stands (has_release_agrees T h stands.files) (received h) token)
+    where
+      by : (found : Option (Bytes × UserRecord)) → option_map (λ (caller : Caller). caller.user) (option_map caller_by found) ≡ option_map (λ user. user.0) found
+      by None = refl
+      by (Some user) = refl
+
+  -- after an accepted call the tables stand for the history with it
+  pub StandsFor-after : (c : Call) → verdict_now T c ≡ Accept → StandsFor (after T c) (with_call h c)
+  StandsFor-after c accepts =
+      let actor : Bytes = key (bearer h c.token) in
+      let files : (file : Bytes) → get (after T c).files file ≡ file_at (with_call h c) file = files_after T h stands.files c.at c.token actor c.request accepts in
+      record {
+        users = users_after T h stands.users c.at c.token actor c.request accepts;
+        names = λ n. name_numbered (after T c) (IsSound-after T sound c accepts) (with_call h c) files n (names_after T h stands.names c.at c.token actor c.request accepts n);
+        owners = owners_after T h stands.names c.at c.token actor stands.owners (acts c.token) c.request accepts;
+        files = files;
+        bodies = bodies_after T h stands.files c.at c.token actor stands.bodies c.request accepts;
+        yanks = yanks_after T h stands.names c.at c.token actor stands.yanks c.request accepts;
+      }
+
+  -- who made an accepted call bears its token
+  caller_there : (c : Call) → verdict_now T c ≡ Accept → bearer h c.token ≡ Some (key (bearer h c.token))
+  caller_there c accepts =
+      by (bearer_in T c.token) (accepted c (facts_in T c) accepts).0.1.0 (agree.who_agrees T h sound.one_bearer stands (has_release_agrees T h stands.files) (received h) c.token)
+    where
+      by : (found : Option (Bytes × UserRecord)) → is_none (option_map caller_by found) ≡ false → option_map (λ user. user.0) found ≡ bearer h c.token → bearer h c.token ≡ Some (key (bearer h c.token))
+      by None missing is = absurd (true≢false missing)
+      by (Some user) missing is = sym is ∙ ap (λ o. Some (key o)) is
+
+-- ---- the opening
+
+pub StandsFor-opened : (user token : Bytes) → StandsFor (opened user token) (begins user token)
+StandsFor-opened user token = record {
+  users = λ q. get-put empty user (first_record token) q ∙ ap (cond (same q user) (Some (first_record token))) (get-empty bytes_cmp q);
+  names = λ q. get-empty bytes_cmp q;
+  owners = λ n u. ap is_some (get-empty pair_cmp (n, u));
+  files = λ q. get-empty bytes_cmp q;
+  bodies = λ q. get-empty bytes_cmp q;
+  yanks = λ n r. get-empty pair_cmp (n, r);
+}
+
+-- ---- legal histories
+
+-- the tables that a history makes
+abbrev pub tables_of : History → Tables
+tables_of (begins user token) = opened user token
+tables_of (more h e) = after (tables_of h) e.call
+
+pub record IsMade (h : History) : Type 0 where
+  pub sound : IsSound (tables_of h)
+  pub stands : StandsFor (tables_of h) h
+
+pub legal_made : (h : History) → IsLegal h → IsMade h
+legal_made (begins user token) legal = record { sound = IsSound-opened user token; stands = StandsFor-opened user token }
+legal_made (more h e) legal =
+    let made = legal_made h legal.0 in
+    let accepts : verdict_now (tables_of h) e.call ≡ Accept = verdict_agrees (tables_of h) h made.sound made.stands e.call ∙ legal.1 in
+    record {
+      sound = IsSound-after (tables_of h) made.sound e.call accepts;
+      stands = subst (λ actor. StandsFor (after (tables_of h) e.call) (more h (record { actor = actor; call = e.call }))) (ap key legal.2) (StandsFor-after (tables_of h) h made.sound made.stands e.call accepts);
+    }
+
+-- two tables that stand for one history are equal
+same_tables : (h : History) (T T' : Tables) → StandsFor T h → StandsFor T' h → T ≡ T'
+same_tables h T T' one other = λ i. record {
+  users = same_map nat_list_cmp_total exact_bytes T.users T'.users (λ q. one.users q ∙ sym (other.users q)) i;
+  names = same_map nat_list_cmp_total exact_bytes T.names T'.names (λ q. one.names q ∙ sym (other.names q)) i;
+  owners = same_map pair_total exact_pair T.owners T'.owners (λ q. by (get T.owners q) (get T'.owners q) (one.owners q.0 q.1 ∙ sym (other.owners q.0 q.1))) i;
+  files = same_map nat_list_cmp_total exact_bytes T.files T'.files (λ q. one.files q ∙ sym (other.files q)) i;
+  bodies = same_map nat_list_cmp_total exact_bytes T.bodies T'.bodies (λ q. one.bodies q ∙ sym (other.bodies q)) i;
+  yanks = same_map pair_total exact_pair T.yanks T'.yanks (λ q. one.yanks q.0 q.1 ∙ sym (other.yanks q.0 q.1)) i;
+}
+  where
+    by : (x y : Option (Unit {0})) → is_some x ≡ is_some y → x ≡ y
+    by None None is = refl
+    by None (Some u) is = absurd (false≢true is)
+    by (Some u) None is = absurd (true≢false is)
+    by (Some u) (Some v) is = refl
+
+-- tables that stand for a legal history are sound
+pub IsSound-legal : (h : History) → IsLegal h → (T : Tables) → StandsFor T h → IsSound T
+IsSound-legal h legal T stands = let made = legal_made h legal in subst IsSound (same_tables h (tables_of h) T made.stands stands) made.sound
+
+-- ---- the theorems
+
+pub CarriesOn-answer : (h : History) → IsLegal h → (T : Tables) → StandsFor T h → (c : Call) (answer : Answer) (T' : Tables)
+    → (HasOneBearer T → Answers (verdict_now T c) answer) → (HasOneBearer T → T' ≡ tables_after T c answer) → CarriesOn h c answer T'
+CarriesOn-answer h legal T stands c answer T' answers after_is =
+    let sound : IsSound T = IsSound-legal h legal T stands in
+    by answer (answers sound.one_bearer) (subst (λ v. Answers v answer) (verdict_agrees T h sound stands c) (answers sound.one_bearer)) (after_is sound.one_bearer)
+  where
+    by : (answer : Answer) → Answers (verdict_now T c) answer → Answers (verdict_after h c) answer → T' ≡ tables_after T c answer → CarriesOn h c answer T'
+    by Accepted now verdict is =
+        let sound : IsSound T = IsSound-legal h legal T stands in
+        record { verdict = verdict; legal = (legal, verdict, caller_there T h sound stands c now); stands = subst (λ x. StandsFor x (with_call h c)) (sym is) (StandsFor-after T h sound stands c now) }
+    by Already now verdict is = record { verdict = verdict; legal = legal; stands = subst (λ x. StandsFor x h) (sym is) stands }
+    by (Refused refusal) now verdict is = record { verdict = verdict; legal = legal; stands = subst (λ x. StandsFor x h) (sym is) stands }
+    by (Fault fault) now verdict is = record { verdict = verdict; legal = legal; stands = subst (λ x. StandsFor x h) (sym is) stands }
+
+pub CarriesOnBy-Runs : (h : History) → IsLegal h → (T : Tables) → StandsFor T h → (calls : List Call) (answers : List Answer) (T' : Tables) → Runs T calls answers T' → CarriesOnBy h calls answers T'
+CarriesOnBy-Runs h legal T stands [] [] T' run = record { after = h; extends = refl; legal = legal; stands = subst (λ x. StandsFor x h) (sym run) stands }
+CarriesOnBy-Runs h legal T stands [] (answer ∷ answers) T' run = absurd run
+CarriesOnBy-Runs h legal T stands (call ∷ calls) [] T' run = absurd run
+CarriesOnBy-Runs h legal T stands (call ∷ calls) (answer ∷ answers) T' run =
+    let one : CarriesOn h call answer (tables_after T call answer) = CarriesOn-answer h legal T stands call answer (tables_after T call answer) (λ _. run.0) (λ _. refl) in
+    let rest = CarriesOnBy-Runs (history_after h call answer) one.legal (tables_after T call answer) one.stands calls answers T' run.1 in
+    record { after = rest.after; extends = (one.verdict, rest.extends); legal = rest.legal; stands = rest.stands }

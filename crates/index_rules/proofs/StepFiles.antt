@@ -1,0 +1,184 @@
+-- The files and the bodies after an accepted call are those of the history with it.
+use Rattle.std.proofs.Common.{◌≡◌, ℕ, Bool, true, false, cond, not, refl, sym, ap, ◌∙◌, Option, Some, None, is_some, is_none, option_map, option_and_then, unwrap_or, length}
+use Rattle.std.specs.Option.{option_or, option_map_or}
+use Rattle.std.specs.FinMap.{get}
+use Rattle.std.proofs.lemmas.Bool.{true≢false, false≢true, not-false, and_parts, eqb-true}
+use Rattle.index_names.specs.Project.{read_name}
+use Rattle.index_names.specs.FileName.{project_of, release_of}
+use Rattle.index_digest.specs.Digest.{digest_in}
+use Rattle.index_rules.specs.declared.call.Call.{Call}
+use Rattle.index_rules.specs.declared.call.Request.{Request}
+use Rattle.index_rules.specs.declared.call.Request.TheVariants.{AddUser, SetToken, SetQuota, Claim, AddOwner, RemoveOwner, Upload, Delete, Yank, Unyank, Relinquish, Prohibit, Allow}
+use Rattle.index_rules.specs.declared.records.FileRecord.{FileRecord}
+use Rattle.index_rules.specs.Maps.{Bytes, same}
+use Rattle.index_rules.specs.Tables.{Tables}
+use Rattle.index_rules.specs.Requests.{read_file}
+use Rattle.index_rules.specs.Facts.{facts_in}
+use Rattle.index_rules.specs.Verdict.{Accept, verdict_now, is_other_file}
+use Rattle.index_rules.specs.Effect.{key, no_file, deleted, deleted_of, is_file_of, after}
+use Rattle.index_rules.specs.History.{History, more, is_read_as}
+use Rattle.index_rules.specs.PastFiles.{known, undeleted, requires_of, body_of}
+use Rattle.index_rules.specs.StandsFor.{file_by, file_at, body_at}
+use Rattle.index_rules.proofs.OwnerLists.{same-is}
+use Rattle.index_rules.proofs.KeyLemmas.{get-without, get-kept, get-change_values}
+use Rattle.index_rules.proofs.PutLemmas.{each_put}
+use Rattle.index_rules.proofs.Accepted.{accepted}
+use Rattle.index_rules.proofs.PastReading.{read_key, read_itself, at_key, at_other, by_key}
+use Rattle.index_rules.proofs.PastWords.{undeleted_known}
+use Rattle.index_rules.proofs.StepOwners.{flip}
+
+-- what was known before, else what is new
+or_old : {A : Type 0} (o : Option A) → option_or o None ≡ o
+or_old None = refl
+or_old (Some x) = refl
+
+module _ (T : Tables) (h : History) (files : (file : Bytes) → get T.files file ≡ file_at h file) (at : ℕ) (token actor : Bytes) where
+  abbrev of : Request → Call
+  of request = record { at = at; token = token; request = request }
+
+  abbrev then : Request → History
+  then request = more h (record { actor = actor; call = of request })
+
+  -- ---- an upload
+
+  module _ (file sha256 body requires : Bytes) (reads : read_file file ≡ Some file) where
+    abbrev upload : Request
+    upload = Upload file sha256 body requires
+
+    abbrev first : Bytes × ℕ
+    first = (key (digest_in sha256), length body)
+
+    known-other : (q : Bytes) → same q file ≡ false → known (then upload) q ≡ known h q
+    known-other q other = ap (option_or (known h q)) (at_other (read_file file) file reads (Some first) None q other) ∙ or_old (known h q)
+
+    -- where the file is known, it is so by this digest and size
+    pub known-here : is_none (digest_in sha256) ≡ false → is_other_file (digest_in sha256) (length body) (option_and_then (get T.files) (read_file file)) ≡ false → known (then upload) file ≡ Some first
+    known-here unread other =
+        ap (option_or (known h file)) (at_key (read_file file) file reads (Some first) None)
+        ∙ by (digest_in sha256) (known h file) unread (sym (ap (is_other_file (digest_in sha256) (length body)) (ap (option_and_then (get T.files)) reads ∙ files file)) ∙ other)
+      where
+        by : (declared : Option Bytes) (k : Option (Bytes × ℕ)) → is_none declared ≡ false
+            → is_other_file declared (length body) (option_map (file_by file (requires_of h file) (undeleted h file)) k) ≡ false → option_or k (Some (key declared, length body)) ≡ Some (key declared, length body)
+        by None k unread other = absurd (true≢false unread)
+        by (Some digest) None unread other = refl
+        by (Some digest) (Some k) unread other =
+            let parts = and_parts _ _ (not-false _ other) in
+            λ i. Some (sym (same-is digest k.0 parts.0) i, sym (eqb-true (length body) k.1 parts.1) i)
+
+    file_uploaded : known (then upload) file ≡ Some first → (q : Bytes) → get (after T (of upload)).files q ≡ file_at (then upload) q
+    file_uploaded is =
+        each_put T.files file (record { project = project_of file; release = release_of file; digest = key (digest_in sha256); size = length body; requires_python = requires; is_undeleted = true }) (λ q found. found ≡ file_at (then upload) q)
+        (λ i. option_map (file_by file (sym (at_key (read_file file) file reads requires (requires_of h file)) i) (sym (at_key (read_file file) file reads true (undeleted h file)) i)) (sym is i))
+        (λ q other. files q ∙ (λ i. option_map (file_by q (sym (at_other (read_file file) file reads requires (requires_of h q) q other) i) (sym (at_other (read_file file) file reads true (undeleted h q) q other) i)) (sym (known-other q other) i)))
+
+    body_uploaded : ((q : Bytes) → get T.bodies q ≡ body_at h q) → (q : Bytes) → get (after T (of upload)).bodies q ≡ body_at (then upload) q
+    body_uploaded bodies =
+        each_put T.bodies file body (λ q found. found ≡ body_at (then upload) q)
+        (λ i. cond (sym (at_key (read_file file) file reads true (undeleted h file)) i) (Some (sym (at_key (read_file file) file reads body (body_of h file)) i)) None)
+        (λ q other. bodies q ∙ (λ i. cond (sym (at_other (read_file file) file reads true (undeleted h q) q other) i) (Some (sym (at_other (read_file file) file reads body (body_of h q) q other) i)) None))
+
+  -- ---- a delete
+
+  module _ (file : Bytes) (reads : read_file file ≡ Some file) where
+    file_deleted : is_none (option_and_then (get T.files) (read_file file)) ≡ false → (q : Bytes) → get (after T (of (Delete file))).files q ≡ file_at (then (Delete file)) q
+    file_deleted missing =
+        let found : option_and_then (get T.files) (read_file file) ≡ file_at h file = ap (option_and_then (get T.files)) reads ∙ files file in
+        each_put T.files file (deleted (unwrap_or (option_and_then (get T.files) (read_file file)) no_file)) (λ q found. found ≡ file_at (then (Delete file)) q)
+        (ap (λ o. Some (deleted (unwrap_or o no_file))) found ∙ by (known h file) (sym (ap is_none found) ∙ missing)
+        ∙ (λ i. option_map (file_by file (requires_of h file) (sym (at_key (read_file file) file reads false (undeleted h file)) i)) (known h file)))
+        (λ q other. files q ∙ (λ i. option_map (file_by q (requires_of h q) (sym (at_other (read_file file) file reads false (undeleted h q) q other) i)) (known h q)))
+      where
+        by : (k : Option (Bytes × ℕ)) → is_none (option_map (file_by file (requires_of h file) (undeleted h file)) k) ≡ false
+            → Some (deleted (unwrap_or (option_map (file_by file (requires_of h file) (undeleted h file)) k) no_file)) ≡ option_map (file_by file (requires_of h file) false) k
+        by None missing = absurd (true≢false missing)
+        by (Some k) missing = refl
+
+    body_deleted : ((q : Bytes) → get T.bodies q ≡ body_at h q) → (q : Bytes) → get (after T (of (Delete file))).bodies q ≡ body_at (then (Delete file)) q
+    body_deleted bodies q =
+        get-without T.bodies file q ∙ ap (cond (same q file) None) (bodies q) ∙ by (same q file) (undeleted h q)
+        ∙ (λ i. cond (sym (by_key (read_file file) file reads false (undeleted h q) q) i) (Some (body_of h q)) None)
+      where
+        by : (b u : Bool) → cond b None (cond u (Some (body_of h q)) None) ≡ cond (cond b false u) (Some (body_of h q)) None
+        by true u = refl
+        by false u = refl
+
+  -- ---- a prohibition
+
+  module _ (name : Bytes) (unread : is_none (read_name name) ≡ false) where
+    abbrev n : Bytes
+    n = key (read_name name)
+
+    -- whether a file is one of the name
+    of_name : (q : Bytes) → same n (project_of q) ≡ is_read_as (read_name name) (project_of q)
+    of_name q = flip n (project_of q) ∙ sym (ap (λ r. is_read_as r (project_of q)) (read_key (read_name name) unread))
+
+    files_prohibited : (q : Bytes) → get (after T (of (Prohibit name))).files q ≡ file_at (then (Prohibit name)) q
+    files_prohibited q =
+        get-change_values (deleted_of n) T.files q ∙ ap (option_map (deleted_of n)) (files q) ∙ by (known h q)
+        ∙ (λ i. option_map (file_by q (requires_of h q) (cond (of_name q i) false (undeleted h q))) (known h q))
+      where
+        either : (b : Bool) (k : Bytes × ℕ) → cond b (file_by q (requires_of h q) false k) (file_by q (requires_of h q) (undeleted h q) k) ≡ file_by q (requires_of h q) (cond b false (undeleted h q)) k
+        either true k = refl
+        either false k = refl
+
+        by : (k : Option (Bytes × ℕ)) → option_map (deleted_of n) (option_map (file_by q (requires_of h q) (undeleted h q)) k) ≡ option_map (file_by q (requires_of h q) (cond (same n (project_of q)) false (undeleted h q))) k
+        by None = refl
+        by (Some k) = ap Some (either (same n (project_of q)) k)
+
+    bodies_prohibited : ((q : Bytes) → get T.bodies q ≡ body_at h q) → (q : Bytes) → get (after T (of (Prohibit name))).bodies q ≡ body_at (then (Prohibit name)) q
+    bodies_prohibited bodies q =
+        get-kept T.bodies (λ file. not (is_file_of T.files n file)) q
+        ∙ (λ i. cond (not (option_map_or (λ (known : FileRecord). same n known.project) (files q i) false)) (bodies q i) None)
+        ∙ by (known h q) (undeleted h q) (undeleted_known h q)
+        ∙ (λ i. cond (cond (of_name q i) false (undeleted h q)) (Some (body_of h q)) None)
+      where
+        left : (b u : Bool) (x : Option Bytes) → cond (not b) (cond u x None) None ≡ cond (cond b false u) x None
+        left true u x = refl
+        left false u x = refl
+
+        absent : (b u : Bool) (x : Option Bytes) → (u ≡ true → false ≡ true) → cond u x None ≡ cond (cond b false u) x None
+        absent b true x unknown = absurd (false≢true (unknown refl))
+        absent true false x unknown = refl
+        absent false false x unknown = refl
+
+        by : (k : Option (Bytes × ℕ)) (u : Bool) → (u ≡ true → is_some k ≡ true)
+            → cond (not (option_map_or (λ (known : FileRecord). same n known.project) (option_map (file_by q (requires_of h q) (undeleted h q)) k) false)) (cond u (Some (body_of h q)) None) None
+            ≡ cond (cond (same n (project_of q)) false u) (Some (body_of h q)) None
+        by None u is_known = absent (same n (project_of q)) u (Some (body_of h q)) is_known
+        by (Some k) u is_known = left (same n (project_of q)) u (Some (body_of h q))
+
+  pub files_after : (request : Request) → verdict_now T (of request) ≡ Accept → (q : Bytes) → get (after T (of request)).files q ≡ file_at (then request) q
+  files_after (AddUser user office digest) accepts = files
+  files_after (SetToken user digest) accepts = files
+  files_after (SetQuota name quota) accepts = files
+  files_after (Claim name) accepts = files
+  files_after (AddOwner name user) accepts = files
+  files_after (RemoveOwner name user) accepts = files
+  files_after (Upload file digest body requires) accepts =
+      let all = accepted (of (Upload file digest body requires)) (facts_in T (of (Upload file digest body requires))) accepts in
+      let reads : read_file file ≡ Some file = read_itself file all.0.1.1.0 in
+      file_uploaded file digest body requires reads (known-here file digest body requires reads all.0.1.1.1.1.0 all.0.1.1.1.1.1.1.1.1.1.0)
+  files_after (Delete file) accepts =
+      let all = accepted (of (Delete file)) (facts_in T (of (Delete file))) accepts in
+      file_deleted file (read_itself file all.0.1.1.0) all.0.1.1.1.1.1.0
+  files_after (Yank name release reason) accepts = files
+  files_after (Unyank name release) accepts = files
+  files_after (Relinquish name) accepts = files
+  files_after (Prohibit name) accepts = files_prohibited name (accepted (of (Prohibit name)) (facts_in T (of (Prohibit name))) accepts).0.1.1.1.0
+  files_after (Allow name) accepts = files
+
+  pub bodies_after : ((q : Bytes) → get T.bodies q ≡ body_at h q) → (request : Request) → verdict_now T (of request) ≡ Accept → (q : Bytes) → get (after T (of request)).bodies q ≡ body_at (then request) q
+  bodies_after bodies (AddUser user office digest) accepts = bodies
+  bodies_after bodies (SetToken user digest) accepts = bodies
+  bodies_after bodies (SetQuota name quota) accepts = bodies
+  bodies_after bodies (Claim name) accepts = bodies
+  bodies_after bodies (AddOwner name user) accepts = bodies
+  bodies_after bodies (RemoveOwner name user) accepts = bodies
+  bodies_after bodies (Upload file digest body requires) accepts =
+      body_uploaded file digest body requires (read_itself file (accepted (of (Upload file digest body requires)) (facts_in T (of (Upload file digest body requires))) accepts).0.1.1.0) bodies
+  bodies_after bodies (Delete file) accepts = body_deleted file (read_itself file (accepted (of (Delete file)) (facts_in T (of (Delete file))) accepts).0.1.1.0) bodies
+  bodies_after bodies (Yank name release reason) accepts = bodies
+  bodies_after bodies (Unyank name release) accepts = bodies
+  bodies_after bodies (Relinquish name) accepts = bodies
+  bodies_after bodies (Prohibit name) accepts = bodies_prohibited name (accepted (of (Prohibit name)) (facts_in T (of (Prohibit name))) accepts).0.1.1.1.0 bodies
+  bodies_after bodies (Allow name) accepts = bodies

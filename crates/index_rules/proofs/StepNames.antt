@@ -1,0 +1,149 @@
+-- The names after an accepted call are those of the history with it, once their numbers are.
+use Rattle.std.proofs.Common.{◌≡◌, ℕ, true, false, cond, not, refl, sym, ap, ◌∙◌, subst, Option, Some, None, is_none, option_map, option_and_then, unwrap_or, length}
+use Rattle.std.specs.FinMap.{get, insert, remove}
+use Rattle.std.proofs.lemmas.Bool.{false≢true, not-false}
+use Rattle.index_names.specs.Project.{read_name}
+use Rattle.index_names.specs.FileName.{project_of}
+use Rattle.index_rules.specs.declared.call.Call.{Call}
+use Rattle.index_rules.specs.declared.call.Request.{Request}
+use Rattle.index_rules.specs.declared.call.Request.TheVariants.{AddUser, SetToken, SetQuota, Claim, AddOwner, RemoveOwner, Upload, Delete, Yank, Unyank, Relinquish, Prohibit, Allow}
+use Rattle.index_rules.specs.declared.records.NameRecord.{NameRecord}
+use Rattle.index_rules.specs.declared.records.NameRecord.TheVariants as name_record
+use Rattle.index_rules.specs.declared.records.Project.{Project}
+use Rattle.index_rules.specs.Maps.{Bytes}
+use Rattle.index_rules.specs.Tables.{Tables}
+use Rattle.index_rules.specs.Requests.{read_file}
+use Rattle.index_rules.specs.Facts.{facts_in}
+use Rattle.index_rules.specs.Verdict.{Accept, verdict_now, project_in, is_held, is_prohibited}
+use Rattle.index_rules.specs.Effect.{key, no_project, file_of, first_quota, with_file, without_file, after}
+use Rattle.index_rules.specs.History.{History, more, is_read_as}
+use Rattle.index_rules.specs.PastNames.{State, Free, Held, Prohibited, state_of, shown_of, quota_of}
+use Rattle.index_rules.specs.StandsFor.{name_by, project_at, name_at}
+use Rattle.index_rules.proofs.PutLemmas.{each_put, each_without}
+use Rattle.index_rules.proofs.Accepted.{accepted}
+use Rattle.index_rules.proofs.PastReading.{read_key, read_itself, at_key, at_other}
+
+-- the record has this state, and a held name is shown so and has this quota
+abbrev pub IsShaped : Option NameRecord → State → Bytes → ℕ → Type 0
+IsShaped found Free shown quota = found ≡ None
+IsShaped found Held shown quota = (project : Project) × (found ≡ Some (name_record.Held project)) × (project.shown ≡ shown) × (project.quota ≡ quota)
+IsShaped found Prohibited shown quota = found ≡ Some name_record.Prohibited
+
+abbrev pub IsNamed : History → Bytes → Option NameRecord → Type 0
+IsNamed h n found = IsShaped found (state_of h n) (shown_of h n) (quota_of h n)
+
+IsShaped-by : (s : State) (project : Project) (found : Option NameRecord) → found ≡ name_by s project → IsShaped found s project.shown project.quota
+IsShaped-by Free project found is = is
+IsShaped-by Held project found is = (project, is, refl, refl)
+IsShaped-by Prohibited project found is = is
+
+IsShaped-same : (found : Option NameRecord) (s s' : State) (shown shown' : Bytes) (quota quota' : ℕ) → s ≡ s' → shown ≡ shown' → quota ≡ quota' → IsShaped found s shown quota → IsShaped found s' shown' quota'
+IsShaped-same found s s' shown shown' quota quota' e f g is = subst (λ (x : State × Bytes × ℕ). IsShaped found x.0 x.1 x.2) (λ i. (e i, f i, g i)) is
+
+IsShaped-held : (s : State) (shown : Bytes) (quota : ℕ) (project : Project) → s ≡ Held → project.shown ≡ shown → project.quota ≡ quota → IsShaped (Some (name_record.Held project)) s shown quota
+IsShaped-held s shown quota project e f g = subst (λ s. IsShaped (Some (name_record.Held project)) s shown quota) (sym e) (project, refl, f, g)
+
+-- of a name that is held the history says so, and has its numbers
+pub record IsHeldAt (T : Tables) (h : History) (n : Bytes) : Type 0 where
+  pub state : state_of h n ≡ Held
+  pub project : project_in (get T.names n) ≡ Some (project_at h n)
+
+pub held_at : (T : Tables) (h : History) (n : Bytes) → get T.names n ≡ name_at h n → is_held (get T.names n) ≡ true → IsHeldAt T h n
+held_at T h n stands held = by (state_of h n) refl (sym (ap is_held stands) ∙ held)
+  where
+    by : (s : State) → state_of h n ≡ s → is_held (name_by (state_of h n) (project_at h n)) ≡ true → IsHeldAt T h n
+    by Free is held = absurd (false≢true (ap (λ s. is_held (name_by s (project_at h n))) (sym is) ∙ held))
+    by Held is held = record { state = is; project = ap project_in stands ∙ ap (λ s. project_in (name_by s (project_at h n))) is }
+    by Prohibited is held = absurd (false≢true (ap (λ s. is_held (name_by s (project_at h n))) (sym is) ∙ held))
+
+pub prohibited_at : (T : Tables) (h : History) (n : Bytes) → get T.names n ≡ name_at h n → is_prohibited (get T.names n) ≡ true → state_of h n ≡ Prohibited
+prohibited_at T h n stands prohibited = by (state_of h n) refl (sym (ap is_prohibited stands) ∙ prohibited)
+  where
+    by : (s : State) → state_of h n ≡ s → is_prohibited (name_by (state_of h n) (project_at h n)) ≡ true → state_of h n ≡ Prohibited
+    by Free is p = absurd (false≢true (ap (λ s. is_prohibited (name_by s (project_at h n))) (sym is) ∙ p))
+    by Held is p = absurd (false≢true (ap (λ s. is_prohibited (name_by s (project_at h n))) (sym is) ∙ p))
+    by Prohibited is p = is
+
+module _ (T : Tables) (h : History) (stands : (name : Bytes) → get T.names name ≡ name_at h name) (at : ℕ) (token actor : Bytes) where
+  abbrev of : Request → Call
+  of request = record { at = at; token = token; request = request }
+
+  abbrev then : Request → History
+  then request = more h (record { actor = actor; call = of request })
+
+  before : (n : Bytes) → IsNamed h n (get T.names n)
+  before n = IsShaped-by (state_of h n) (project_at h n) (get T.names n) (stands n)
+
+  -- what the facts have of the name of a request
+  pub held_by : (read : Option Bytes) (n : Bytes) → read ≡ Some n → not (is_held (option_and_then (get T.names) read)) ≡ false
+      → IsHeldAt T h n × (unwrap_or (project_in (option_and_then (get T.names) read)) no_project ≡ project_at h n)
+  held_by read n reads missing =
+      let found : option_and_then (get T.names) read ≡ get T.names n = ap (option_and_then (get T.names)) reads in
+      let there = held_at T h n (stands n) (sym (ap is_held found) ∙ not-false _ missing) in
+      (there, ap (λ o. unwrap_or (project_in o) no_project) found ∙ ap (λ o. unwrap_or o no_project) there.project)
+
+  quota_set : (name : Bytes) (quota : ℕ) → verdict_now T (of (SetQuota name quota)) ≡ Accept → (q : Bytes) → IsNamed (then (SetQuota name quota)) q (get (after T (of (SetQuota name quota))).names q)
+  quota_set name quota accepts =
+      let all = accepted (of (SetQuota name quota)) (facts_in T (of (SetQuota name quota))) accepts in
+      let n : Bytes = key (read_name name) in
+      let reads : read_name name ≡ Some n = read_key (read_name name) all.0.1.1.1.0 in
+      let held = held_by (read_name name) n reads all.0.1.1.1.1.1.0 in
+      let project : Project = unwrap_or (project_in (option_and_then (get T.names) (read_name name))) no_project in
+      each_put T.names n (name_record.Held (record project { quota = quota })) (IsNamed (then (SetQuota name quota)))
+      (IsShaped-held (state_of h n) (shown_of h n) (quota_of (then (SetQuota name quota)) n) (record project { quota = quota }) held.0.state (λ i. (held.1 i).shown) (sym (at_key (read_name name) n reads quota (quota_of h n))))
+      (λ q other. IsShaped-same (get T.names q) _ _ _ _ _ _ refl refl (sym (at_other (read_name name) n reads quota (quota_of h q) q other)) (before q))
+
+  claimed : (name : Bytes) → is_none (read_name name) ≡ false → (q : Bytes) → IsNamed (then (Claim name)) q (get (after T (of (Claim name))).names q)
+  claimed name unread =
+      let n : Bytes = key (read_name name) in
+      let reads : read_name name ≡ Some n = read_key (read_name name) unread in
+      let project : Project = record { shown = name; quota = first_quota; charge = 0; undeleted = 0 } in
+      each_put T.names n (name_record.Held project) (IsNamed (then (Claim name)))
+      (IsShaped-held _ _ _ project (at_key (read_name name) n reads Held (state_of h n)) (sym (at_key (read_name name) n reads name (shown_of h n))) (sym (at_key (read_name name) n reads first_quota (quota_of h n))))
+      (λ q other. IsShaped-same (get T.names q) _ _ _ _ _ _
+      (sym (at_other (read_name name) n reads Held (state_of h q) q other)) (sym (at_other (read_name name) n reads name (shown_of h q) q other)) (sym (at_other (read_name name) n reads first_quota (quota_of h q) q other)) (before q))
+
+  -- a held name with other numbers
+  numbered : (n : Bytes) (project : Project) → state_of h n ≡ Held → project.shown ≡ shown_of h n → project.quota ≡ quota_of h n
+      → (q : Bytes) → IsNamed h q (get (insert T.names n (name_record.Held project)) q)
+  numbered n project held shown quota =
+      each_put T.names n (name_record.Held project) (IsNamed h) (IsShaped-held (state_of h n) (shown_of h n) (quota_of h n) project held shown quota) (λ q other. before q)
+
+  -- a name that goes, or is prohibited
+  freed : (read : Option Bytes) → is_none read ≡ false → (q : Bytes)
+      → IsShaped (get (remove T.names (key read)) q) (cond (is_read_as read q) Free (state_of h q)) (shown_of h q) (quota_of h q)
+  freed read unread =
+      let reads : read ≡ Some (key read) = read_key read unread in
+      each_without T.names (key read) (λ q found. IsShaped found (cond (is_read_as read q) Free (state_of h q)) (shown_of h q) (quota_of h q))
+      (IsShaped-same None _ _ _ _ _ _ (sym (at_key read (key read) reads Free (state_of h (key read)))) refl refl refl)
+      (λ q other. IsShaped-same (get T.names q) _ _ _ _ _ _ (sym (at_other read (key read) reads Free (state_of h q) q other)) refl refl (before q))
+
+  prohibited : (name : Bytes) → is_none (read_name name) ≡ false → (q : Bytes) → IsNamed (then (Prohibit name)) q (get (after T (of (Prohibit name))).names q)
+  prohibited name unread =
+      let n : Bytes = key (read_name name) in
+      let reads : read_name name ≡ Some n = read_key (read_name name) unread in
+      each_put T.names n name_record.Prohibited (IsNamed (then (Prohibit name)))
+      (IsShaped-same (Some name_record.Prohibited) _ _ _ _ _ _ (sym (at_key (read_name name) n reads Prohibited (state_of h n))) refl refl refl)
+      (λ q other. IsShaped-same (get T.names q) _ _ _ _ _ _ (sym (at_other (read_name name) n reads Prohibited (state_of h q) q other)) refl refl (before q))
+
+  pub names_after : (request : Request) → verdict_now T (of request) ≡ Accept → (q : Bytes) → IsNamed (then request) q (get (after T (of request)).names q)
+  names_after (AddUser user office digest) accepts = before
+  names_after (SetToken user digest) accepts = before
+  names_after (SetQuota name quota) accepts = quota_set name quota accepts
+  names_after (Claim name) accepts = claimed name (accepted (of (Claim name)) (facts_in T (of (Claim name))) accepts).0.1.1.0
+  names_after (AddOwner name user) accepts = before
+  names_after (RemoveOwner name user) accepts = before
+  names_after (Upload file digest body requires) accepts =
+      let all = accepted (of (Upload file digest body requires)) (facts_in T (of (Upload file digest body requires))) accepts in
+      let held = held_by (option_map project_of (read_file file)) (project_of file) (ap (option_map project_of) (read_itself file all.0.1.1.0)) all.0.1.1.1.1.1.1.1.0 in
+      numbered (project_of file) _ held.0.state (λ i. (with_file (length body) (held.1 i)).shown) (λ i. (with_file (length body) (held.1 i)).quota)
+  names_after (Delete file) accepts =
+      let all = accepted (of (Delete file)) (facts_in T (of (Delete file))) accepts in
+      let held = held_by (option_map project_of (read_file file)) (project_of file) (ap (option_map project_of) (read_itself file all.0.1.1.0)) all.0.1.1.1.0 in
+      let size : ℕ = (file_of (facts_in T (of (Delete file)))).size in
+      numbered (project_of file) _ held.0.state (λ i. (without_file size (held.1 i)).shown) (λ i. (without_file size (held.1 i)).quota)
+  names_after (Yank name release reason) accepts = before
+  names_after (Unyank name release) accepts = before
+  names_after (Relinquish name) accepts = freed (read_name name) (accepted (of (Relinquish name)) (facts_in T (of (Relinquish name))) accepts).0.1.1.0
+  names_after (Prohibit name) accepts = prohibited name (accepted (of (Prohibit name)) (facts_in T (of (Prohibit name))) accepts).0.1.1.1.0
+  names_after (Allow name) accepts = freed (read_name name) (accepted (of (Allow name)) (facts_in T (of (Allow name))) accepts).0.1.1.1.0

@@ -1,0 +1,222 @@
+-- The owners and the yanks after an accepted call are those of the history with it.
+use Rattle.std.proofs.Common.{◌≡◌, ℕ, Bool, true, false, cond, not, ◌&&◌, refl, sym, ap, ◌∙◌, Option, Some, None, is_none, option_map, option_and_then}
+use Rattle.std.specs.FinMap.{get}
+use Rattle.std.proofs.lemmas.Bool.{not-false}
+use Rattle.index_names.specs.Project.{read_name}
+use Rattle.index_names.specs.Release.{read_release}
+use Rattle.index_rules.specs.declared.call.Call.{Call}
+use Rattle.index_rules.specs.declared.call.Request.{Request}
+use Rattle.index_rules.specs.declared.call.Request.TheVariants.{AddUser, SetToken, SetQuota, Claim, AddOwner, RemoveOwner, Upload, Delete, Yank, Unyank, Relinquish, Prohibit, Allow}
+use Rattle.index_rules.specs.Maps.{Bytes, same}
+use Rattle.index_rules.specs.Users.{read_user}
+use Rattle.index_rules.specs.Tables.{Tables}
+use Rattle.index_rules.specs.Facts.{bearer_in, caller_by, facts_in, owns_in, yank_in}
+use Rattle.index_rules.specs.Verdict.{Accept, verdict_now, is_held, is_prohibited}
+use Rattle.index_rules.specs.Effect.{key, without_name, after}
+use Rattle.index_rules.specs.History.{History, more, is_read_as}
+use Rattle.index_rules.specs.PastNames.{State, Free, Held, Prohibited, state_of, is_held_now, is_given, owns, yanked_for, yank_of}
+use Rattle.index_rules.specs.StandsFor.{name_at}
+use Rattle.index_rules.proofs.OwnerLists.{same-is}
+use Rattle.index_rules.proofs.KeyLemmas.{same-sym, same_truth, has-put, has-without, has-cleared, get-put_pair, get-without_pair, get-without_name}
+use Rattle.index_rules.proofs.Accepted.{accepted}
+use Rattle.index_rules.proofs.PastReading.{read_key}
+use Rattle.index_rules.proofs.StepNames.{held_at, prohibited_at}
+
+pub flip : (a b : Bytes) → same a b ≡ same b a
+flip a b = same_truth _ _ (same-sym a b) (same-sym b a)
+
+-- ---- owners
+
+own-claimed : (b c o g : Bool) (s : State) → o ≡ (is_held_now s && g) → cond (b && c) true (cond (not b) o false) ≡ (is_held_now (cond b Held s) && cond b c g)
+own-claimed true true o g s is = refl
+own-claimed true false o g s is = refl
+own-claimed false c o g s is = is
+
+own-added : (b x g : Bool) → (b ≡ true → x ≡ true) → cond b true (x && g) ≡ (x && cond b true g)
+own-added true x g held = sym (ap (λ y. y && true) (held refl))
+own-added false x g held = refl
+
+own-removed : (b x g : Bool) → cond b false (x && g) ≡ (x && cond b false g)
+own-removed true true g = refl
+own-removed true false g = refl
+own-removed false x g = refl
+
+own-ended : (end : State) → is_held_now end ≡ false → (b g : Bool) (s : State) → cond (not b) (is_held_now s && g) false ≡ (is_held_now (cond b end s) && g)
+own-ended end is true g s = sym (ap (λ y. y && g) is)
+own-ended end is false g s = refl
+
+own-allowed : (b g : Bool) (s : State) → (b ≡ true → s ≡ Prohibited) → (is_held_now s && g) ≡ (is_held_now (cond b Free s) && g)
+own-allowed true g s was = ap (λ s. is_held_now s && g) (was refl)
+own-allowed false g s was = refl
+
+-- ---- yanks
+
+yank-claimed : (b : Bool) (y g : Option Bytes) (s : State) → y ≡ cond (is_held_now s) g None → cond (not b) y None ≡ cond (is_held_now (cond b Held s)) (cond b None g) None
+yank-claimed true y g s is = refl
+yank-claimed false y g s is = is
+
+yank-put : (b x : Bool) (reason : Bytes) (g : Option Bytes) → (b ≡ true → x ≡ true) → cond b (Some reason) (cond x g None) ≡ cond x (cond b (Some reason) g) None
+yank-put true x reason g held = sym (ap (λ y. cond y (Some reason) None) (held refl))
+yank-put false x reason g held = refl
+
+yank-taken : (b x : Bool) (g : Option Bytes) → cond b None (cond x g None) ≡ cond x (cond b None g) None
+yank-taken true true g = refl
+yank-taken true false g = refl
+yank-taken false x g = refl
+
+yank-ended : (end : State) → is_held_now end ≡ false → (b : Bool) (g : Option Bytes) (s : State) → cond (not b) (cond (is_held_now s) g None) None ≡ cond (is_held_now (cond b end s)) g None
+yank-ended end is true g s = sym (ap (λ y. cond y g None) is)
+yank-ended end is false g s = refl
+
+yank-allowed : (b : Bool) (g : Option Bytes) (s : State) → (b ≡ true → s ≡ Prohibited) → cond (is_held_now s) g None ≡ cond (is_held_now (cond b Free s)) g None
+yank-allowed true g s was = ap (λ s. cond (is_held_now s) g None) (was refl)
+yank-allowed false g s was = refl
+
+first_true : (a b : Bool) → (a && b) ≡ true → a ≡ true
+first_true true b is = refl
+first_true false b is = is
+
+-- ---- the names of requests
+
+module _ (T : Tables) (h : History) (names : (name : Bytes) → get T.names name ≡ name_at h name) (at : ℕ) (token actor : Bytes) where
+  abbrev of : Request → Call
+  of request = record { at = at; token = token; request = request }
+
+  abbrev then : Request → History
+  then request = more h (record { actor = actor; call = of request })
+
+  held_as : (read : Option Bytes) (n m : Bytes) → read ≡ Some n → not (is_held (option_and_then (get T.names) read)) ≡ false → same m n ≡ true → is_held_now (state_of h m) ≡ true
+  held_as read n m reads missing is =
+      let held : is_held (get T.names n) ≡ true = sym (ap (λ r. is_held (option_and_then (get T.names) r)) reads) ∙ not-false _ missing in
+      ap (λ x. is_held_now (state_of h x)) (same-is m n is) ∙ ap is_held_now (held_at T h n (names n) held).state
+
+  prohibited_as : (read : Option Bytes) (n m : Bytes) → read ≡ Some n → not (is_prohibited (option_and_then (get T.names) read)) ≡ false → same m n ≡ true → state_of h m ≡ Prohibited
+  prohibited_as read n m reads other is =
+      ap (state_of h) (same-is m n is) ∙ prohibited_at T h n (names n) (sym (ap (λ r. is_prohibited (option_and_then (get T.names) r)) reads) ∙ not-false _ other)
+
+  module _ (stands : (name user : Bytes) → owns_in T name user ≡ owns h name user) (acts : key (option_map (λ caller. caller.user) (option_map caller_by (bearer_in T token))) ≡ actor) where
+    owners_claimed : (name : Bytes) → is_none (read_name name) ≡ false → (m u : Bytes) → owns_in (after T (of (Claim name))) m u ≡ owns (then (Claim name)) m u
+    owners_claimed name unread m u =
+        let n : Bytes = key (read_name name) in
+        let reads : read_name name ≡ Some n = read_key (read_name name) unread in
+        let owner : Bytes = key (option_map (λ caller. caller.user) (option_map caller_by (bearer_in T token))) in
+        has-put (without_name n T.owners) n owner m u ∙ ap (cond (same m n && same u owner) true) (has-cleared T.owners n m u)
+        ∙ (λ i. cond (same m n && same u (acts i)) true (cond (not (flip n m i)) (owns_in T m u) false))
+        ∙ own-claimed (same m n) (same u actor) (owns_in T m u) (is_given h m u) (state_of h m) (stands m u)
+        ∙ (λ i. is_held_now (cond (is_read_as (sym reads i) m) Held (state_of h m)) && cond (is_read_as (sym reads i) m) (same u actor) (is_given h m u))
+
+    owner_added : (name user : Bytes) → is_none (read_name name) ≡ false → is_none (read_user user) ≡ false → not (is_held (option_and_then (get T.names) (read_name name))) ≡ false
+        → (m v : Bytes) → owns_in (after T (of (AddOwner name user))) m v ≡ owns (then (AddOwner name user)) m v
+    owner_added name user unread unread_user missing m v =
+        let n : Bytes = key (read_name name) in
+        let u : Bytes = key (read_user user) in
+        let reads : read_name name ≡ Some n = read_key (read_name name) unread in
+        let reads_user : read_user user ≡ Some u = read_key (read_user user) unread_user in
+        has-put T.owners n u m v ∙ ap (cond (same m n && same v u) true) (stands m v)
+        ∙ own-added (same m n && same v u) (is_held_now (state_of h m)) (is_given h m v) (λ is. held_as (read_name name) n m reads missing (first_true _ _ is))
+        ∙ (λ i. is_held_now (state_of h m) && cond (is_read_as (sym reads i) m && is_read_as (sym reads_user i) v) true (is_given h m v))
+
+    owner_removed : (name user : Bytes) → is_none (read_name name) ≡ false → is_none (read_user user) ≡ false
+        → (m v : Bytes) → owns_in (after T (of (RemoveOwner name user))) m v ≡ owns (then (RemoveOwner name user)) m v
+    owner_removed name user unread unread_user m v =
+        let n : Bytes = key (read_name name) in
+        let u : Bytes = key (read_user user) in
+        let reads : read_name name ≡ Some n = read_key (read_name name) unread in
+        let reads_user : read_user user ≡ Some u = read_key (read_user user) unread_user in
+        has-without T.owners n u m v ∙ ap (cond (same m n && same v u) false) (stands m v)
+        ∙ own-removed (same m n && same v u) (is_held_now (state_of h m)) (is_given h m v)
+        ∙ (λ i. is_held_now (state_of h m) && cond (is_read_as (sym reads i) m && is_read_as (sym reads_user i) v) false (is_given h m v))
+
+    owners_ended : (end : State) → is_held_now end ≡ false → (read : Option Bytes) → is_none read ≡ false
+        → (m u : Bytes) → cond (not (same (key read) m)) (owns_in T m u) false ≡ (is_held_now (cond (is_read_as read m) end (state_of h m)) && is_given h m u)
+    owners_ended end is read unread m u =
+        (λ i. cond (not (flip (key read) m i)) (stands m u i) false) ∙ own-ended end is (same m (key read)) (is_given h m u) (state_of h m)
+        ∙ (λ i. is_held_now (cond (is_read_as (sym (read_key read unread) i) m) end (state_of h m)) && is_given h m u)
+
+    pub owners_after : (request : Request) → verdict_now T (of request) ≡ Accept → (name user : Bytes) → owns_in (after T (of request)) name user ≡ owns (then request) name user
+    owners_after (AddUser user office digest) accepts = stands
+    owners_after (SetToken user digest) accepts = stands
+    owners_after (SetQuota name quota) accepts = stands
+    owners_after (Claim name) accepts = owners_claimed name (accepted (of (Claim name)) (facts_in T (of (Claim name))) accepts).0.1.1.0
+    owners_after (AddOwner name user) accepts =
+        let all = accepted (of (AddOwner name user)) (facts_in T (of (AddOwner name user))) accepts in
+        owner_added name user all.0.1.1.1.0 all.0.1.1.0 all.0.1.1.1.1.1.0
+    owners_after (RemoveOwner name user) accepts =
+        let all = accepted (of (RemoveOwner name user)) (facts_in T (of (RemoveOwner name user))) accepts in
+        owner_removed name user all.0.1.1.1.0 all.0.1.1.0
+    owners_after (Upload file digest body requires) accepts = stands
+    owners_after (Delete file) accepts = stands
+    owners_after (Yank name release reason) accepts = stands
+    owners_after (Unyank name release) accepts = stands
+    owners_after (Relinquish name) accepts = λ m u.
+        has-cleared T.owners (key (read_name name)) m u ∙ owners_ended Free refl (read_name name) (accepted (of (Relinquish name)) (facts_in T (of (Relinquish name))) accepts).0.1.1.0 m u
+    owners_after (Prohibit name) accepts = λ m u.
+        has-cleared T.owners (key (read_name name)) m u ∙ owners_ended Prohibited refl (read_name name) (accepted (of (Prohibit name)) (facts_in T (of (Prohibit name))) accepts).0.1.1.1.0 m u
+    owners_after (Allow name) accepts = λ m u.
+        let all = accepted (of (Allow name)) (facts_in T (of (Allow name))) accepts in
+        let n : Bytes = key (read_name name) in
+        let reads : read_name name ≡ Some n = read_key (read_name name) all.0.1.1.1.0 in
+        stands m u ∙ own-allowed (same m n) (is_given h m u) (state_of h m) (prohibited_as (read_name name) n m reads all.1)
+        ∙ (λ i. is_held_now (cond (is_read_as (sym reads i) m) Free (state_of h m)) && is_given h m u)
+
+  module _ (stands : (name release : Bytes) → yank_in T name release ≡ yank_of h name release) where
+    yanks_claimed : (name : Bytes) → is_none (read_name name) ≡ false → (m r : Bytes) → yank_in (after T (of (Claim name))) m r ≡ yank_of (then (Claim name)) m r
+    yanks_claimed name unread m r =
+        let n : Bytes = key (read_name name) in
+        let reads : read_name name ≡ Some n = read_key (read_name name) unread in
+        get-without_name n T.yanks m r ∙ (λ i. cond (not (flip n m i)) (yank_in T m r) None)
+        ∙ yank-claimed (same m n) (yank_in T m r) (yanked_for h m r) (state_of h m) (stands m r)
+        ∙ (λ i. cond (is_held_now (cond (is_read_as (sym reads i) m) Held (state_of h m))) (cond (is_read_as (sym reads i) m) None (yanked_for h m r)) None)
+
+    yanked : (name release reason : Bytes) → is_none (read_name name) ≡ false → is_none (read_release release) ≡ false → not (is_held (option_and_then (get T.names) (read_name name))) ≡ false
+        → (m q : Bytes) → yank_in (after T (of (Yank name release reason))) m q ≡ yank_of (then (Yank name release reason)) m q
+    yanked name release reason unread unread_release missing m q =
+        let n : Bytes = key (read_name name) in
+        let r : Bytes = key (read_release release) in
+        let reads : read_name name ≡ Some n = read_key (read_name name) unread in
+        let reads_release : read_release release ≡ Some r = read_key (read_release release) unread_release in
+        get-put_pair T.yanks n r reason m q ∙ ap (cond (same m n && same q r) (Some reason)) (stands m q)
+        ∙ yank-put (same m n && same q r) (is_held_now (state_of h m)) reason (yanked_for h m q) (λ is. held_as (read_name name) n m reads missing (first_true _ _ is))
+        ∙ (λ i. cond (is_held_now (state_of h m)) (cond (is_read_as (sym reads i) m && is_read_as (sym reads_release i) q) (Some reason) (yanked_for h m q)) None)
+
+    unyanked : (name release : Bytes) → is_none (read_name name) ≡ false → is_none (read_release release) ≡ false
+        → (m q : Bytes) → yank_in (after T (of (Unyank name release))) m q ≡ yank_of (then (Unyank name release)) m q
+    unyanked name release unread unread_release m q =
+        let n : Bytes = key (read_name name) in
+        let r : Bytes = key (read_release release) in
+        let reads : read_name name ≡ Some n = read_key (read_name name) unread in
+        let reads_release : read_release release ≡ Some r = read_key (read_release release) unread_release in
+        get-without_pair T.yanks n r m q ∙ ap (cond (same m n && same q r) None) (stands m q)
+        ∙ yank-taken (same m n && same q r) (is_held_now (state_of h m)) (yanked_for h m q)
+        ∙ (λ i. cond (is_held_now (state_of h m)) (cond (is_read_as (sym reads i) m && is_read_as (sym reads_release i) q) None (yanked_for h m q)) None)
+
+    yanks_ended : (end : State) → is_held_now end ≡ false → (read : Option Bytes) → is_none read ≡ false
+        → (m r : Bytes) → get (without_name (key read) T.yanks) (m, r) ≡ cond (is_held_now (cond (is_read_as read m) end (state_of h m))) (yanked_for h m r) None
+    yanks_ended end is read unread m r =
+        get-without_name (key read) T.yanks m r ∙ (λ i. cond (not (flip (key read) m i)) (stands m r i) None)
+        ∙ yank-ended end is (same m (key read)) (yanked_for h m r) (state_of h m)
+        ∙ (λ i. cond (is_held_now (cond (is_read_as (sym (read_key read unread) i) m) end (state_of h m))) (yanked_for h m r) None)
+
+    pub yanks_after : (request : Request) → verdict_now T (of request) ≡ Accept → (name release : Bytes) → yank_in (after T (of request)) name release ≡ yank_of (then request) name release
+    yanks_after (AddUser user office digest) accepts = stands
+    yanks_after (SetToken user digest) accepts = stands
+    yanks_after (SetQuota name quota) accepts = stands
+    yanks_after (Claim name) accepts = yanks_claimed name (accepted (of (Claim name)) (facts_in T (of (Claim name))) accepts).0.1.1.0
+    yanks_after (AddOwner name user) accepts = stands
+    yanks_after (RemoveOwner name user) accepts = stands
+    yanks_after (Upload file digest body requires) accepts = stands
+    yanks_after (Delete file) accepts = stands
+    yanks_after (Yank name release reason) accepts =
+        let all = accepted (of (Yank name release reason)) (facts_in T (of (Yank name release reason))) accepts in
+        yanked name release reason all.0.1.1.0 all.0.1.1.1.0 all.0.1.1.1.1.1.0
+    yanks_after (Unyank name release) accepts =
+        let all = accepted (of (Unyank name release)) (facts_in T (of (Unyank name release))) accepts in
+        unyanked name release all.0.1.1.0 all.0.1.1.1.0
+    yanks_after (Relinquish name) accepts = yanks_ended Free refl (read_name name) (accepted (of (Relinquish name)) (facts_in T (of (Relinquish name))) accepts).0.1.1.0
+    yanks_after (Prohibit name) accepts = yanks_ended Prohibited refl (read_name name) (accepted (of (Prohibit name)) (facts_in T (of (Prohibit name))) accepts).0.1.1.1.0
+    yanks_after (Allow name) accepts = λ m r.
+        let all = accepted (of (Allow name)) (facts_in T (of (Allow name))) accepts in
+        let n : Bytes = key (read_name name) in
+        let reads : read_name name ≡ Some n = read_key (read_name name) all.0.1.1.1.0 in
+        stands m r ∙ yank-allowed (same m n) (yanked_for h m r) (state_of h m) (prohibited_as (read_name name) n m reads all.1)
+        ∙ (λ i. cond (is_held_now (cond (is_read_as (sym reads i) m) Free (state_of h m))) (yanked_for h m r) None)

@@ -1,0 +1,69 @@
+-- The users after an accepted call are those of the history with it.
+use Rattle.std.proofs.Common.{◌≡◌, ℕ, Bool, false, cond, refl, sym, ap, ◌∙◌, Option, Some, None, is_none, option_map, option_and_then, unwrap_or}
+use Rattle.std.specs.FinMap.{get}
+use Rattle.std.proofs.lemmas.Bool.{true≢false}
+use Rattle.index_rules.specs.declared.call.Call.{Call}
+use Rattle.index_rules.specs.declared.call.Request.{Request}
+use Rattle.index_rules.specs.declared.call.Request.TheVariants.{AddUser, SetToken, SetQuota, Claim, AddOwner, RemoveOwner, Upload, Delete, Yank, Unyank, Relinquish, Prohibit, Allow}
+use Rattle.index_rules.specs.declared.records.UserRecord.{UserRecord}
+use Rattle.index_rules.specs.Maps.{Bytes, same}
+use Rattle.index_rules.specs.Users.{read_user}
+use Rattle.index_rules.specs.Texts.{read_token}
+use Rattle.index_rules.specs.Tables.{Tables}
+use Rattle.index_rules.specs.Facts.{facts_in}
+use Rattle.index_rules.specs.Verdict.{Accept, verdict_now}
+use Rattle.index_rules.specs.Effect.{key, no_user, after}
+use Rattle.index_rules.specs.History.{History, more}
+use Rattle.index_rules.specs.PastUsers.{user_of, with_token}
+use Rattle.index_rules.proofs.KeyLemmas.{get-put}
+use Rattle.index_rules.proofs.PutLemmas.{each_put}
+use Rattle.index_rules.proofs.Accepted.{accepted}
+use Rattle.index_rules.proofs.PastReading.{read_key, by_key, at_key, at_other}
+
+module _ (T : Tables) (h : History) (stands : (user : Bytes) → get T.users user ≡ user_of h user) (at : ℕ) (token actor : Bytes) where
+  abbrev of : Request → Call
+  of request = record { at = at; token = token; request = request }
+
+  abbrev then : Request → History
+  then request = more h (record { actor = actor; call = of request })
+
+  user_added : (raw digest : Bytes) (office : Bool) → is_none (read_user raw) ≡ false → (q : Bytes) → get (after T (of (AddUser raw office digest))).users q ≡ user_of (then (AddUser raw office digest)) q
+  user_added raw digest office unread q =
+      let account : UserRecord = record { office = office; token = key (read_token digest) } in
+      let user : Bytes = key (read_user raw) in
+      get-put T.users user account q ∙ ap (cond (same q user) (Some account)) (stands q)
+      ∙ sym (by_key (read_user raw) user (read_key (read_user raw) unread) (Some account) (user_of h q) q)
+
+  token_set : (raw digest : Bytes) → is_none (read_user raw) ≡ false → is_none (option_and_then (get T.users) (read_user raw)) ≡ false
+      → (q : Bytes) → get (after T (of (SetToken raw digest))).users q ≡ user_of (then (SetToken raw digest)) q
+  token_set raw digest unread missing =
+      let user : Bytes = key (read_user raw) in
+      let reads : read_user raw ≡ Some user = read_key (read_user raw) unread in
+      let new : Bytes = key (read_token digest) in
+      let was : option_and_then (get T.users) (read_user raw) ≡ user_of h user = ap (option_and_then (get T.users)) reads ∙ stands user in
+      each_put T.users user (record { office = (unwrap_or (option_and_then (get T.users) (read_user raw)) no_user).office; token = new }) (λ q found. found ≡ user_of (then (SetToken raw digest)) q)
+      (with_new (option_and_then (get T.users) (read_user raw)) new missing ∙ ap (option_map (with_token new)) was
+      ∙ sym (at_key (read_user raw) user reads (option_map (with_token new) (user_of h user)) (user_of h user)))
+      (λ q other. stands q ∙ sym (at_other (read_user raw) user reads (option_map (with_token new) (user_of h q)) (user_of h q) q other))
+    where
+      with_new : (found : Option UserRecord) (new : Bytes) → is_none found ≡ false → Some (record { office = (unwrap_or found no_user).office; token = new }) ≡ option_map (with_token new) found
+      with_new None new missing = absurd (true≢false missing)
+      with_new (Some user) new missing = refl
+
+  pub users_after : (request : Request) → verdict_now T (of request) ≡ Accept → (q : Bytes) → get (after T (of request)).users q ≡ user_of (then request) q
+  users_after (AddUser user office digest) accepts =
+      user_added user digest office (accepted (of (AddUser user office digest)) (facts_in T (of (AddUser user office digest))) accepts).0.1.1.1.0
+  users_after (SetToken user digest) accepts =
+      let all = accepted (of (SetToken user digest)) (facts_in T (of (SetToken user digest))) accepts in
+      token_set user digest all.0.1.1.1.0 all.0.1.1.1.1.1.0
+  users_after (SetQuota name quota) accepts = stands
+  users_after (Claim name) accepts = stands
+  users_after (AddOwner name user) accepts = stands
+  users_after (RemoveOwner name user) accepts = stands
+  users_after (Upload file digest body requires) accepts = stands
+  users_after (Delete file) accepts = stands
+  users_after (Yank name release reason) accepts = stands
+  users_after (Unyank name release) accepts = stands
+  users_after (Relinquish name) accepts = stands
+  users_after (Prohibit name) accepts = stands
+  users_after (Allow name) accepts = stands

@@ -1,0 +1,80 @@
+-- Verdicts on a history, legal histories, and calls in a row.
+use Rattle.std.specs.Prelude.{◌≡◌, false, List, [], ◌∷◌, Some, option_map, option_and_then}
+use Rattle.std.specs.Option.{option_map_or}
+use Rattle.index_rules.specs.declared.call.Call.{Call}
+use Rattle.index_rules.specs.declared.answer.Answer.{Answer}
+use Rattle.index_rules.specs.declared.answer.Answer.TheVariants as answer
+use Rattle.index_rules.specs.declared.view.Caller.{Caller}
+use Rattle.index_rules.specs.Maps.{Bytes}
+use Rattle.index_rules.specs.Tables.{Tables}
+use Rattle.index_rules.specs.Requests.{user_key, token_key, name_key, file_key, release_key}
+use Rattle.index_rules.specs.Facts.{Facts, of_both, at_both}
+use Rattle.index_rules.specs.Verdict.{Verdict, Accept, verdict_on}
+use Rattle.index_rules.specs.Effect.{key}
+use Rattle.index_rules.specs.Runs.{Answers}
+use Rattle.index_rules.specs.History.{History, begins, more}
+use Rattle.index_rules.specs.PastUsers.{user_of, bearer}
+use Rattle.index_rules.specs.PastNames.{owns, alone_owns, yank_of}
+use Rattle.index_rules.specs.PastFiles.{has_file_of}
+use Rattle.index_rules.specs.StandsFor.{StandsFor, name_at, file_at}
+
+-- the user as the caller of a call
+abbrev pub caller_at : History → Bytes → Caller
+caller_at h user = record { user = user; office = option_map_or (λ account. account.office) (user_of h user) false }
+
+-- what a history says of a call
+abbrev pub facts_after : History → Call → Facts
+facts_after h c = record {
+  caller = option_map (caller_at h) (bearer h c.token);
+  user = option_and_then (user_of h) (user_key c.request);
+  bearer = option_and_then (bearer h) (token_key c.request);
+  name = option_and_then (name_at h) (name_key c.request);
+  owns = of_both (owns h) (name_key c.request) (bearer h c.token);
+  named_owns = of_both (owns h) (name_key c.request) (user_key c.request);
+  sole = of_both (alone_owns h) (name_key c.request) (user_key c.request);
+  file = option_and_then (file_at h) (file_key c.request);
+  yank = at_both (yank_of h) (name_key c.request) (release_key c.request);
+  has_release = of_both (has_file_of h) (name_key c.request) (release_key c.request);
+}
+
+-- the verdict on a call after a history
+abbrev pub verdict_after : History → Call → Verdict
+verdict_after h c = verdict_on c (facts_after h c)
+
+-- the history with a call as its newest entry, made by the bearer of its token
+abbrev pub with_call : History → Call → History
+with_call h c = more h (record { actor = key (bearer h c.token); call = c })
+
+-- each entry after the opening is accepted in the part before it, and its actor bears its token there
+abbrev pub IsLegal : History → Type 0
+IsLegal (begins user token) = Unit {0}
+IsLegal (more h e) = IsLegal h × (verdict_after h e.call ≡ Accept) × (bearer h e.call.token ≡ Some e.actor)
+
+-- ---- calls in a row
+
+-- the history after a call that was answered so
+abbrev pub history_after : History → Call → Answer → History
+history_after h c answer.Accepted = with_call h c
+history_after h c answer.Already = h
+history_after h c (answer.Refused refusal) = h
+history_after h c (answer.Fault fault) = h
+
+-- each answer is the verdict in the history so far or a fault, and exactly the accepted calls are appended, in order
+abbrev pub Extends : History → List Call → List Answer → History → Type 0
+Extends h [] [] h' = h' ≡ h
+Extends h [] (answer ∷ answers) h' = ⊥
+Extends h (call ∷ calls) [] h' = ⊥
+Extends h (call ∷ calls) (answer ∷ answers) h' = Answers (verdict_after h call) answer × Extends (history_after h call answer) calls answers h'
+
+-- after a call that was answered so the tables stand for the history with it, where it was accepted
+pub record CarriesOn (h : History) (call : Call) (answer : Answer) (T' : Tables) : Type 0 where
+  pub verdict : Answers (verdict_after h call) answer
+  pub legal : IsLegal (history_after h call answer)
+  pub stands : StandsFor T' (history_after h call answer)
+
+-- after calls in a row the tables stand for a history with the accepted ones
+pub record CarriesOnBy (h : History) (calls : List Call) (answers : List Answer) (T' : Tables) : Type 0 where
+  pub after : History
+  pub extends : Extends h calls answers after
+  pub legal : IsLegal after
+  pub stands : StandsFor T' after

@@ -1,0 +1,105 @@
+-- What a history makes of a name: whether it is free, held or prohibited, how it is shown, its quota, its owners, its yanks.
+use Rattle.std.specs.Prelude.{ℕ, Bool, true, false, not, ◌&&◌, ◌||◌, if◌then◌else◌, List, [], ◌∷◌, Option, Some, None}
+use Rattle.std.specs.List.{list_all}
+use Rattle.index_names.specs.Project.{read_name}
+use Rattle.index_names.specs.Release.{read_release}
+use Rattle.index_rules.specs.declared.call.Request.{Request}
+use Rattle.index_rules.specs.declared.call.Request.TheVariants.{SetQuota, Claim, AddOwner, RemoveOwner, Yank, Unyank, Relinquish, Prohibit, Allow}
+use Rattle.index_rules.specs.Maps.{Bytes, same}
+use Rattle.index_rules.specs.Users.{read_user}
+use Rattle.index_rules.specs.Effect.{first_quota}
+use Rattle.index_rules.specs.History.{History, begins, more, is_read_as}
+use Rattle.index_rules.specs.PastUsers.{with_read}
+
+pub data State : Type 0 where
+  Free : State
+  Held : State
+  Prohibited : State
+
+-- ---- the state
+
+abbrev pub state_by : Request → Bytes → State → State
+state_by (Claim name) n before = if is_read_as (read_name name) n then Held else before
+state_by (Relinquish name) n before = if is_read_as (read_name name) n then Free else before
+state_by (Prohibit name) n before = if is_read_as (read_name name) n then Prohibited else before
+state_by (Allow name) n before = if is_read_as (read_name name) n then Free else before
+state_by request n before = before
+
+-- as the last claim, relinquishment, prohibition or allowance of the name left it; free at first
+abbrev pub state_of : History → Bytes → State
+state_of (begins user token) n = Free
+state_of (more h e) n = state_by e.call.request n (state_of h n)
+
+abbrev pub is_held_now : State → Bool
+is_held_now Free = false
+is_held_now Held = true
+is_held_now Prohibited = false
+
+-- ---- the shown name and the quota
+
+abbrev pub shown_by : Request → Bytes → Bytes → Bytes
+shown_by (Claim name) n before = if is_read_as (read_name name) n then name else before
+shown_by request n before = before
+
+-- the spelling of the last claim
+abbrev pub shown_of : History → Bytes → Bytes
+shown_of (begins user token) n = []
+shown_of (more h e) n = shown_by e.call.request n (shown_of h n)
+
+abbrev pub quota_by : Request → Bytes → ℕ → ℕ
+quota_by (Claim name) n before = if is_read_as (read_name name) n then first_quota else before
+quota_by (SetQuota name quota) n before = if is_read_as (read_name name) n then quota else before
+quota_by request n before = before
+
+-- the quota that was last set after the last claim, else the one that a claim brings
+abbrev pub quota_of : History → Bytes → ℕ
+quota_of (begins user token) n = first_quota
+quota_of (more h e) n = quota_by e.call.request n (quota_of h n)
+
+-- ---- the owners
+
+abbrev pub given_by : Request → Bytes → Bytes → Bytes → Bool → Bool
+given_by (Claim name) actor n u before = if is_read_as (read_name name) n then same u actor else before
+given_by (AddOwner name user) actor n u before = if is_read_as (read_name name) n && is_read_as (read_user user) u then true else before
+given_by (RemoveOwner name user) actor n u before = if is_read_as (read_name name) n && is_read_as (read_user user) u then false else before
+given_by request actor n u before = before
+
+-- whether from the name's last claim on, which gives it to its actor alone, the last entry that gives it to the user or takes it away gives it
+abbrev pub is_given : History → Bytes → Bytes → Bool
+is_given (begins user token) n u = false
+is_given (more h e) n u = given_by e.call.request e.actor n u (is_given h n u)
+
+-- an owner is one to whom a held name is given
+abbrev pub owns : History → Bytes → Bytes → Bool
+owns h n u = is_held_now (state_of h n) && is_given h n u
+
+abbrev pub given_to : Request → Bytes → List Bytes → List Bytes
+given_to (Claim name) actor users = actor ∷ users
+given_to (AddOwner name user) actor users = with_read (read_user user) users
+given_to request actor users = users
+
+-- all to whom any name was ever given
+abbrev pub receivers : History → List Bytes
+receivers (begins user token) = []
+receivers (more h e) = given_to e.call.request e.actor (receivers h)
+
+-- the user owns the name, and nobody else does
+abbrev pub alone_owns : History → Bytes → Bytes → Bool
+alone_owns h n u = owns h n u && list_all (λ v. not (owns h n v) || same u v) (receivers h)
+
+-- ---- the yanks (PEP 592)
+
+abbrev pub yanked_by : Request → Bytes → Bytes → Option Bytes → Option Bytes
+yanked_by (Claim name) n r before = if is_read_as (read_name name) n then None else before
+yanked_by (Yank name release reason) n r before = if is_read_as (read_name name) n && is_read_as (read_release release) r then Some reason else before
+yanked_by (Unyank name release) n r before = if is_read_as (read_name name) n && is_read_as (read_release release) r then None else before
+yanked_by request n r before = before
+
+-- the reason of the last yank of the name and the release after the name's last claim, if no unyank stands after it
+abbrev pub yanked_for : History → Bytes → Bytes → Option Bytes
+yanked_for (begins user token) n r = None
+yanked_for (more h e) n r = yanked_by e.call.request n r (yanked_for h n r)
+
+-- a release of a held name is yanked so
+abbrev pub yank_of : History → Bytes → Bytes → Option Bytes
+yank_of h n r = if is_held_now (state_of h n) then yanked_for h n r else None

@@ -1,0 +1,43 @@
+-- Who is a user after a history, of the office or not, and who bears a token's digest.
+use Rattle.std.specs.Prelude.{if◌then◌else◌, List, [], ◌∷◌, Option, Some, None, find, option_map}
+use Rattle.index_rules.specs.declared.call.Request.{Request}
+use Rattle.index_rules.specs.declared.call.Request.TheVariants.{AddUser, SetToken}
+use Rattle.index_rules.specs.declared.records.UserRecord.{UserRecord}
+use Rattle.index_rules.specs.Maps.{Bytes, same}
+use Rattle.index_rules.specs.Users.{read_user}
+use Rattle.index_rules.specs.Texts.{read_token}
+use Rattle.index_rules.specs.Verdict.{bears}
+use Rattle.index_rules.specs.Effect.{key}
+use Rattle.index_rules.specs.Opened.{first_record}
+use Rattle.index_rules.specs.History.{History, begins, more, is_read_as}
+
+-- the user's record with another digest of a token
+abbrev pub with_token : Bytes → UserRecord → UserRecord
+with_token token user = record { office = user.office; token = token }
+
+abbrev pub user_by : Request → Bytes → Option UserRecord → Option UserRecord
+user_by (AddUser user office token) u before = if is_read_as (read_user user) u then Some (record { office = office; token = key (read_token token) }) else before
+user_by (SetToken user token) u before = if is_read_as (read_user user) u then option_map (with_token (key (read_token token))) before else before
+user_by request u before = before
+
+-- a user is one who was added; the flag is that of the addition, the digest that of the last addition or replacement
+abbrev pub user_of : History → Bytes → Option UserRecord
+user_of (begins user token) u = if same u user then Some (first_record token) else None
+user_of (more h e) u = user_by e.call.request u (user_of h u)
+
+abbrev pub with_read : Option Bytes → List Bytes → List Bytes
+with_read None users = users
+with_read (Some user) users = user ∷ users
+
+abbrev pub added_by : Request → List Bytes → List Bytes
+added_by (AddUser user office token) users = with_read (read_user user) users
+added_by request users = users
+
+-- the users that were added
+abbrev pub added : History → List Bytes
+added (begins user token) = user ∷ []
+added (more h e) = added_by e.call.request (added h)
+
+-- the user who bears the digest of a token
+abbrev pub bearer : History → Bytes → Option Bytes
+bearer h token = find (λ user. bears (Some token) (user_of h user)) (added h)

@@ -1,0 +1,53 @@
+-- Tables that stand for a history: they hold exactly the records that it makes.
+use Rattle.std.specs.Prelude.{◌≡◌, ℕ, if◌then◌else◌, Bool, Option, Some, None, option_map}
+use Rattle.std.specs.FinMap.{get}
+use Rattle.index_names.specs.FileName.{project_of, release_of}
+use Rattle.index_rules.specs.declared.records.NameRecord.{NameRecord}
+use Rattle.index_rules.specs.declared.records.NameRecord.TheVariants as name_record
+use Rattle.index_rules.specs.declared.records.Project.{Project}
+use Rattle.index_rules.specs.declared.records.FileRecord.{FileRecord}
+use Rattle.index_rules.specs.Maps.{Bytes}
+use Rattle.index_rules.specs.Tables.{Tables}
+use Rattle.index_rules.specs.Facts.{owns_in, yank_in}
+use Rattle.index_rules.specs.History.{History}
+use Rattle.index_rules.specs.PastUsers.{user_of}
+use Rattle.index_rules.specs.PastNames.{State, Free, Held, Prohibited, state_of, shown_of, quota_of, owns, yank_of}
+use Rattle.index_rules.specs.PastFiles.{known, undeleted, requires_of, body_of, charge, undeleted_count}
+
+-- a held name with its numbers, and a prohibited one without any; nothing is kept of a free name
+abbrev pub name_by : State → Project → Option NameRecord
+name_by Free project = None
+name_by Held project = Some (name_record.Held project)
+name_by Prohibited project = Some name_record.Prohibited
+
+abbrev pub project_at : History → Bytes → Project
+project_at h n = record { shown = shown_of h n; quota = quota_of h n; charge = charge h n; undeleted = undeleted_count h n }
+
+abbrev pub name_at : History → Bytes → Option NameRecord
+name_at h n = name_by (state_of h n) (project_at h n)
+
+-- the record of a known file
+abbrev pub file_by : Bytes → Bytes → Bool → Bytes × ℕ → FileRecord
+file_by f requires is_undeleted first = record {
+  project = project_of f;
+  release = release_of f;
+  digest = first.0;
+  size = first.1;
+  requires_python = requires;
+  is_undeleted = is_undeleted;
+}
+
+abbrev pub file_at : History → Bytes → Option FileRecord
+file_at h f = option_map (file_by f (requires_of h f) (undeleted h f)) (known h f)
+
+abbrev pub body_at : History → Bytes → Option Bytes
+body_at h f = if undeleted h f then Some (body_of h f) else None
+
+-- each list of the tables has exactly the records of the history, each key once since the lists are maps
+pub record StandsFor (T : Tables) (h : History) : Type 0 where
+  pub users : (user : Bytes) → get T.users user ≡ user_of h user
+  pub names : (name : Bytes) → get T.names name ≡ name_at h name
+  pub owners : (name user : Bytes) → owns_in T name user ≡ owns h name user
+  pub files : (file : Bytes) → get T.files file ≡ file_at h file
+  pub bodies : (file : Bytes) → get T.bodies file ≡ body_at h file
+  pub yanks : (name release : Bytes) → yank_in T name release ≡ yank_of h name release
