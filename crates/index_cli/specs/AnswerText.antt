@@ -7,7 +7,7 @@ use Rattle.index_rules.specs.declared.answer.Answer.TheVariants as answer
 use Rattle.index_rules.specs.declared.answer.Fault.{Fault}
 use Rattle.index_rules.specs.declared.answer.Fault.TheVariants.{OutOfMemory, Store}
 use Rattle.index_rules.specs.declared.answer.Refusal.{Refusal}
-use Rattle.index_rules.specs.declared.answer.Refusal.TheVariants.{BadMoment, BadToken, NotOffice, BadUser, BadName, BadFileName, BadRelease, BadText, BadDigest, TooLarge, DigestMismatch, QuotaTooLarge, NoUser, UserExists, TokenTaken, NameProhibited, NoProject, NotOwner, NameHeld, LastOwner, FilesRemain, NoFile, NoRelease, FileNameTaken, OverQuota, QuotaBelowCharge}
+use Rattle.index_rules.specs.declared.answer.Refusal.TheVariants.{BadMoment, BadToken, NotOffice, BadUser, BadName, BadFileName, BadRelease, BadText, BadDigest, TooLarge, DigestMismatch, QuotaTooLarge, NoUser, UserExists, TokenTaken, NameProhibited, NoProject, NotOwner, NameHeld, LastOwner, FilesRemain, NoFile, NoRelease, FileNameTaken, OverQuota, QuotaBelowCharge, CaseOpen, OwnerCandidate, NoCase, AttemptsFull, TooFewAttempts, TooEarly, RecentRelease, HomePageActive}
 use Rattle.index_rules.specs.Refusals.{number_of}
 
 abbrev pub refusal_name : Refusal → List ℕ
@@ -37,6 +37,14 @@ refusal_name NoRelease = codes "NoRelease"
 refusal_name FileNameTaken = codes "FileNameTaken"
 refusal_name OverQuota = codes "OverQuota"
 refusal_name QuotaBelowCharge = codes "QuotaBelowCharge"
+refusal_name CaseOpen = codes "CaseOpen"
+refusal_name OwnerCandidate = codes "OwnerCandidate"
+refusal_name NoCase = codes "NoCase"
+refusal_name AttemptsFull = codes "AttemptsFull"
+refusal_name TooFewAttempts = codes "TooFewAttempts"
+refusal_name TooEarly = codes "TooEarly"
+refusal_name RecentRelease = codes "RecentRelease"
+refusal_name HomePageActive = codes "HomePageActive"
 
 abbrev pub fault_name : Fault → List ℕ
 fault_name OutOfMemory = codes "OutOfMemory"

@@ -1,8 +1,12 @@
 -- The rows of requests: a key `do` with the row's name, the row's own keys, and no key beside these and `others` more.
 use Rattle.std.specs.Prelude.{ℕ, ◌+◌, ◌==◌, List, if◌then◌else◌, Option, Some, None, bytes_eq, codes}
 use Rattle.serde_json.specs.Data.{Data}
+use Rattle.index_retention.specs.declared.attempts.CaseKind.{CaseKind}
+use Rattle.index_retention.specs.declared.attempts.CaseKind.TheVariants.{Continue, Reuse}
+use Rattle.index_retention.specs.declared.attempts.Means.{Means}
+use Rattle.index_retention.specs.declared.attempts.Means.TheVariants.{Profile, Author, Pages}
 use Rattle.index_rules.specs.declared.call.Request.{Request}
-use Rattle.index_rules.specs.declared.call.Request.TheVariants.{AddUser, SetToken, SetQuota, Claim, AddOwner, RemoveOwner, Upload, Delete, Yank, Unyank, Relinquish, Prohibit, Allow}
+use Rattle.index_rules.specs.declared.call.Request.TheVariants.{AddUser, SetToken, SetQuota, Claim, AddOwner, RemoveOwner, Upload, Delete, Yank, Unyank, Relinquish, Prohibit, Allow, OpenCase, RecordAttempt, Transfer, CloseCase, AnswerCase}
 use Rattle.index_cli.specs.Json.{◌>>=◌, key_count, text_at, number_at, flag_at, hex_bytes}
 
 -- the request, of an object with so many keys
@@ -70,6 +74,60 @@ unyank_of others value = do
   release ← text_at (codes "release") value
   sized (others + 3) value (Unyank name release)
 
+-- ---- rows on retention cases
+
+abbrev pub kind_named : List ℕ → Option CaseKind
+kind_named word =
+    if bytes_eq word (codes "continue") then Some Continue
+    else if bytes_eq word (codes "reuse") then Some Reuse
+    else None
+
+abbrev pub means_named : List ℕ → Option Means
+means_named word =
+    if bytes_eq word (codes "profile") then Some Profile
+    else if bytes_eq word (codes "author") then Some Author
+    else if bytes_eq word (codes "pages") then Some Pages
+    else None
+
+-- the kind of a case, as its text says
+abbrev pub kind_at : Data → Option CaseKind
+kind_at value = text_at (codes "kind") value >>= kind_named
+
+-- the means of an attempt, as its text says
+abbrev pub means_at : Data → Option Means
+means_at value = text_at (codes "means") value >>= means_named
+
+abbrev pub open_case_of : ℕ → Data → Option Request
+open_case_of others value = do
+  name ← text_at (codes "name") value
+  kind ← kind_at value
+  contact ← text_at (codes "contact") value
+  work ← text_at (codes "work") value
+  why ← text_at (codes "why") value
+  sized (others + 6) value (OpenCase name kind contact work why)
+
+abbrev pub record_attempt_of : ℕ → Data → Option Request
+record_attempt_of others value = do
+  name ← text_at (codes "name") value
+  means ← means_at value
+  sent ← flag_at (codes "sent") value
+  sized (others + 4) value (RecordAttempt name means sent)
+
+abbrev pub transfer_of : ℕ → Data → Option Request
+transfer_of others value = do
+  name ← text_at (codes "name") value
+  quiet ← flag_at (codes "quiet") value
+  sized (others + 3) value (Transfer name quiet)
+
+abbrev pub case_request_by : List ℕ → ℕ → Data → Option Request
+case_request_by word others value =
+    if bytes_eq word (codes "open_case") then open_case_of others value
+    else if bytes_eq word (codes "record_attempt") then record_attempt_of others value
+    else if bytes_eq word (codes "transfer") then transfer_of others value
+    else if bytes_eq word (codes "close_case") then name_row CloseCase others value
+    else if bytes_eq word (codes "answer_case") then name_row AnswerCase others value
+    else None
+
 -- ---- the row that an object names
 
 abbrev pub request_by : List ℕ → ℕ → Data → Option Request
@@ -87,7 +145,7 @@ request_by word others value =
     else if bytes_eq word (codes "delete") then delete_of others value
     else if bytes_eq word (codes "yank") then yank_of others value
     else if bytes_eq word (codes "unyank") then unyank_of others value
-    else None
+    else case_request_by word others value
 
 abbrev pub request_within : ℕ → Data → Option Request
 request_within others value = do

@@ -51,6 +51,17 @@ fn refusal_text(refusal: Refusal) -> &'static str
         Refusal::OverQuota => "{\"answer\":\"refused\",\"code\":26,\"name\":\"OverQuota\"}",
         Refusal::QuotaBelowCharge =>
             "{\"answer\":\"refused\",\"code\":27,\"name\":\"QuotaBelowCharge\"}",
+        Refusal::CaseOpen => "{\"answer\":\"refused\",\"code\":28,\"name\":\"CaseOpen\"}",
+        Refusal::OwnerCandidate =>
+            "{\"answer\":\"refused\",\"code\":29,\"name\":\"OwnerCandidate\"}",
+        Refusal::NoCase => "{\"answer\":\"refused\",\"code\":30,\"name\":\"NoCase\"}",
+        Refusal::AttemptsFull => "{\"answer\":\"refused\",\"code\":31,\"name\":\"AttemptsFull\"}",
+        Refusal::TooFewAttempts =>
+            "{\"answer\":\"refused\",\"code\":32,\"name\":\"TooFewAttempts\"}",
+        Refusal::TooEarly => "{\"answer\":\"refused\",\"code\":33,\"name\":\"TooEarly\"}",
+        Refusal::RecentRelease => "{\"answer\":\"refused\",\"code\":34,\"name\":\"RecentRelease\"}",
+        Refusal::HomePageActive =>
+            "{\"answer\":\"refused\",\"code\":35,\"name\":\"HomePageActive\"}",
     }
 }
 

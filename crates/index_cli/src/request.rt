@@ -4,6 +4,8 @@ ghost use Rattle.serde_json.specs.View.{view};
 ghost use Rattle.index_cli.specs.Json.{hex_bytes};
 ghost use Rattle.index_cli.specs.Requests.{add_user_of, delete_of, name_row, owner_row, request_within, set_quota_of, set_token_of, unyank_of, upload_of, yank_of};
 
+mod cases;
+
 use crate::members;
 use hex::FromHexError;
 use index_rules::{Bytes, Fault, Request};
@@ -37,7 +39,8 @@ pub fn request_in(alloc: Global, value: &Value, others: usize) -> Result<Option<
         Some("delete") => delete(alloc, value, others),
         Some("yank") => yank(alloc, value, others),
         Some("unyank") => unyank(alloc, value, others),
-        _ => Ok(None),
+        Some(word) => cases::request_named(alloc, word, value, others),
+        None => Ok(None),
     }
 }
 

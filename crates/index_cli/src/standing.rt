@@ -1,10 +1,11 @@
 //! The text of a standing.
 ghost use Rattle.std.specs.Prelude.{◌≡◌, IfOk, IfErr, string_bytes};
 ghost use Rattle.serde_json.specs.View.{view};
-ghost use Rattle.index_cli.specs.StandingText.{held_value as held_value_lem, standing_text_of, standing_value as standing_value_lem, texts};
+ghost use Rattle.index_cli.specs.StandingText.{case_value as case_value_lem, held_value as held_value_lem, kind_text as kind_text_lem, open_case_value as open_case_value_lem, standing_text_of, standing_value as standing_value_lem, texts};
 
 use index_desk::{HeldName, Standing};
-use index_rules::{Fault, UserId};
+use index_retention::CaseKind;
+use index_rules::{CaseRecord, Fault, UserId};
 use serde_json::{Value, json};
 use std::alloc::{AllocError, Global};
 
@@ -35,11 +36,12 @@ fn standing_value(alloc: Global, standing: &Standing) -> Result<Value, AllocErro
 fn held_value(alloc: Global, held: &HeldName) -> Result<Value, AllocError>
     ensures { IfOk result (λ value. view value ≡ held_value_lem held.now) }
 {
+    let case = case_value(alloc, &held.case)?;
     let owners = owners_value(alloc, held.owners.as_slice())?;
     let name = held.name.text();
     let shown = held.project.shown.as_str();
     json!(in alloc; {
-        "case": null,
+        "case": case,
         "charge": held.project.charge,
         "name": name,
         "owners": owners,
@@ -57,4 +59,46 @@ fn owners_value(alloc: Global, owners: &[UserId]) -> Result<Value, AllocError>
         texts.push(Value::try_from_str(alloc, owner.text())?)?;
     }
     Ok(Value::Array(texts))
+}
+
+fn case_value(alloc: Global, case: &Option<CaseRecord>) -> Result<Value, AllocError>
+    ensures { IfOk result (λ value. view value ≡ case_value_lem case.now) }
+{
+    match case {
+        Some(case) => open_case_value(alloc, case),
+        None => Ok(Value::Null),
+    }
+}
+
+fn open_case_value(alloc: Global, case: &CaseRecord) -> Result<Value, AllocError>
+    ensures { IfOk result (λ value. view value ≡ open_case_value_lem case.now) }
+{
+    let candidate = case.candidate.text();
+    let contact = case.contact.as_str();
+    let kind = kind_text(case.kind);
+    let why = case.why.as_str();
+    let work = case.work.as_str();
+    json!(in alloc; {
+        "attempts": case.state.attempts(),
+        "author": case.state.author(),
+        "candidate": candidate,
+        "contact": contact,
+        "first": case.state.first(),
+        "kind": kind,
+        "opened": case.opened,
+        "pages": case.state.pages(),
+        "profile": case.state.profile(),
+        "sent": case.state.sent(),
+        "why": why,
+        "work": work
+    })
+}
+
+fn kind_text(kind: CaseKind) -> &'static str
+    ensures { result.now ≡ kind_text_lem kind }
+{
+    match kind {
+        CaseKind::Continue => "continue",
+        CaseKind::Reuse => "reuse",
+    }
 }

@@ -10,6 +10,7 @@ use std::test::Fail;
 mod answers;
 mod bodies;
 mod calls;
+mod cases;
 mod deletes;
 mod ends;
 mod lines;
@@ -62,6 +63,18 @@ fn desk_with_file(rt: &(impl Abort + AllocGlobal)) -> Result<Desk<PlainBooks>, F
     Ok(desk)
 }
 
+/// A desk where ann has uploaded `frob-1.0.tar.gz`, the bytes `abc`, and bob has opened a case later.
+fn desk_with_case(rt: &(impl Abort + AllocGlobal)) -> Result<Desk<PlainBooks>, Fail> {
+    let lines =
+        r#"{"at":12092801,"token":"abc","do":"upload","file":"frob-1.0.tar.gz","sha256":"ba7816bf8f01cfea414140de5dae2223b00361a396177a9cb410ff61f20015ad","hex":"616263","requires_python":""}
+{"at":39999999,"token":"hello","do":"open_case","name":"frob","kind":"continue","contact":"mail","work":"fork","why":"used"}
+"#;
+    let mut desk = desk_with_frob(rt)?;
+    let answers = repeated(rt, "{\"answer\":\"accepted\"}\n", 2)?;
+    assert_answers(rt, &mut desk, lines, answers.as_str())?;
+    Ok(desk)
+}
+
 /// What is written for these lines.
 fn answers_to(
     rt: &impl AllocGlobal,
@@ -106,7 +119,16 @@ fn assert_answer(
     Ok(())
 }
 
-/// The standing of `frob`, with these owners in JSON.
+/// A text so many times.
+fn repeated(rt: &impl AllocGlobal, text: &str, times: u64) -> Result<String, Fail> {
+    let mut whole = String::new(rt.alloc());
+    for _ in 0..times {
+        whole.push_str(text)?;
+    }
+    Ok(whole)
+}
+
+/// The standing of `frob`, which has no case, with these owners in JSON.
 fn assert_frob(
     rt: &(impl Abort + AllocGlobal),
     desk: &mut Desk<PlainBooks>,

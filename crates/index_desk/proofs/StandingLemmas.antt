@@ -14,4 +14,4 @@ IsStandingAfter-standing_in h T stands name = subst (λ found. IsStandingAfter h
     by : (s : State) → state_of h name ≡ s → IsStandingAfter h name (standing_by T name (name_by s (project_at h name)))
     by Free is = (refl, is)
     by Prohibited is = (refl, is)
-    by Held is = (refl, is, refl, (IsStrictlySortedBy-owners_in T name, λ user. list_any-owners_in T name user ∙ stands.owners name user))
+    by Held is = (refl, is, refl, (IsStrictlySortedBy-owners_in T name, λ user. list_any-owners_in T name user ∙ stands.owners name user), stands.cases name)

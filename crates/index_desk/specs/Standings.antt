@@ -10,7 +10,7 @@ use Rattle.index_rules.specs.Tables.{Tables, owners_in}
 use Rattle.index_rules.specs.History.{History}
 use Rattle.index_rules.specs.PastNames.{state_of, owns}
 use Rattle.index_rules.specs.PastNames as past
-use Rattle.index_rules.specs.StandsFor.{project_at}
+use Rattle.index_rules.specs.StandsFor.{case_at, project_at}
 use Rattle.index_desk.specs.declared.standing.Standing.{Standing}
 use Rattle.index_desk.specs.declared.standing.Standing.TheVariants as standing
 
@@ -18,7 +18,7 @@ use Rattle.index_desk.specs.declared.standing.Standing.TheVariants as standing
 abbrev pub standing_by : Tables → Bytes → Option NameRecord → Standing
 standing_by T name None = standing.Free name
 standing_by T name (Some Prohibited) = standing.Prohibited name
-standing_by T name (Some (Held project)) = standing.Held (record { name = name; project = project; owners = owners_in T name })
+standing_by T name (Some (Held project)) = standing.Held (record { name = name; project = project; owners = owners_in T name; case = get T.cases name })
 
 abbrev pub standing_in : Tables → Bytes → Standing
 standing_in T name = standing_by T name (get T.names name)
@@ -33,4 +33,4 @@ AreOwnersAfter h name users = IsStrictlySortedBy bytes_cmp users × ((user : Byt
 abbrev pub IsStandingAfter : History → Bytes → Standing → Type 0
 IsStandingAfter h name (standing.Free of) = (of ≡ name) × (state_of h name ≡ past.Free)
 IsStandingAfter h name (standing.Prohibited of) = (of ≡ name) × (state_of h name ≡ past.Prohibited)
-IsStandingAfter h name (standing.Held held) = (held.name ≡ name) × (state_of h name ≡ past.Held) × (held.project ≡ project_at h name) × AreOwnersAfter h name held.owners
+IsStandingAfter h name (standing.Held held) = (held.name ≡ name) × (state_of h name ≡ past.Held) × (held.project ≡ project_at h name) × AreOwnersAfter h name held.owners × (held.case ≡ case_at h name)

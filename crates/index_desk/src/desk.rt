@@ -17,7 +17,7 @@ use crate::standing::{HeldName, Standing};
 use index_digest::Sealed;
 use index_names::{FileName, NormalName};
 use index_rules::{
-    Answer, Books, Call, Change, Decision, Fault, Keys, NameRecord, Stop, View, decide,
+    Answer, Books, Call, CaseRecord, Change, Decision, Fault, Keys, NameRecord, Stop, View, decide,
 };
 use std::alloc::Global;
 use std::marker::Model;
@@ -141,7 +141,7 @@ fn consider<B: Books>(
     call: Call,
 ) -> Result<Result<Decision, Stop>, Fault>
     ensures decision { B.IsHonest books.new → HasOneBearer (B.tables books.old) → IfOk result (λ decision.
-        Decides decision (verdict_now (B.tables books.old) call) (effect call.request (facts_in (B.tables books.old) call))) }
+        Decides decision (verdict_now (B.tables books.old) call) (effect call.at call.request (facts_in (B.tables books.old) call))) }
     ensures unchanged { B.IsHonest books.new → B.tables books.new ≡ B.tables books.old }
     ensures kept { OnOk result (B.failures books.new ≡ B.failures books.old) }
     ensures store { IfErr result (λ fault. fault ≡ Fault.Store → HasFailed (B.failures books.old) (B.failures books.new)) }
@@ -196,9 +196,9 @@ fn standing_of<B: Books>(books: &mut B, alloc: Global, name: &NormalName) -> Res
     ensures failures { FailsAtMostOnce (B.failures books.old) (B.failures books.new) }
     ensures honest { B.IsHonest books.new → B.IsHonest books.old }
 {
-    let found = record_of(books, alloc, name)?;
+    let Found { record, case } = record_of(books, alloc, name)?;
     let name = name.clone()?;
-    match found {
+    match record {
         None => Ok(Standing::Free { name }),
         Some(NameRecord::Prohibited) => Ok(Standing::Prohibited { name }),
         Some(NameRecord::Held(project)) => {
@@ -207,18 +207,24 @@ fn standing_of<B: Books>(books: &mut B, alloc: Global, name: &NormalName) -> Res
                 name,
                 project,
                 owners,
+                case,
             }))
         }
     }
 }
 
-/// The record of a name, `None` where the name is free. It changes nothing.
-fn record_of<B: Books>(
-    books: &mut B,
-    alloc: Global,
-    name: &NormalName,
-) -> Result<Option<NameRecord>, Fault>
-    ensures found { B.IsHonest books.new → IfOk result (λ found. found ≡ get (B.tables books.old).names name.now) }
+/// What the tables have of a name.
+#[derive(Drop)]
+struct Found {
+    /// `None` where the name is free.
+    record: Option<NameRecord>,
+    case: Option<CaseRecord>,
+}
+
+/// The record of a name and its open case. It changes nothing.
+fn record_of<B: Books>(books: &mut B, alloc: Global, name: &NormalName) -> Result<Found, Fault>
+    ensures record { B.IsHonest books.new → IfOk result (λ found. found.record ≡ get (B.tables books.old).names name.now) }
+    ensures case { B.IsHonest books.new → IfOk result (λ found. found.case ≡ get (B.tables books.old).cases name.now) }
     ensures unchanged { B.IsHonest books.new → B.tables books.new ≡ B.tables books.old }
     ensures kept { OnOk result (B.failures books.new ≡ B.failures books.old) }
     ensures store { IfErr result (λ fault. fault ≡ Fault.Store → HasFailed (B.failures books.old) (B.failures books.new)) }
@@ -226,8 +232,12 @@ fn record_of<B: Books>(
     ensures honest { B.IsHonest books.new → B.IsHonest books.old }
 {
     let keys = Keys::of_name(name)?;
-    let View { name: found, .. } = books.view(alloc, &keys)?;
-    Ok(found)
+    let View {
+        name: record,
+        case,
+        ..
+    } = books.view(alloc, &keys)?;
+    Ok(Found { record, case })
 }
 
 fn body_of<B: Books>(books: &mut B, alloc: Global, file: &FileName) -> Result<Option<Sealed>, Fault>

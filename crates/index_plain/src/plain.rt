@@ -6,14 +6,17 @@ use crate::entries;
 use index_digest::{Digest256, Sealed};
 use index_names::{FileName, NormalName, Release, Text};
 use index_rules::{
-    Books, Change, Fault, FileRecord, Keys, NameRecord, OpenFault, Owners, UserId, UserRecord,
-    View, first_user,
+    Books, CaseRecord, Change, Fault, FileRecord, Keys, NameRecord, OpenFault, Owners, UserId,
+    UserRecord, View, first_user,
 };
 use std::alloc::Global;
 
+mod cases;
 mod files;
 mod look;
 mod names;
+mod owners;
+mod releases;
 #[cfg(test)]
 mod tests;
 mod write;
@@ -27,6 +30,7 @@ pub struct PlainBooks {
     files: Vec<(FileName, FileRecord)>,
     bodies: Vec<(FileName, Sealed)>,
     yanks: Vec<((NormalName, Release), Text)>,
+    cases: Vec<(NormalName, CaseRecord)>,
     failures: u64,
 }
 
@@ -69,6 +73,7 @@ impl PlainBooks {
             files: Vec::new(alloc),
             bodies: Vec::new(alloc),
             yanks: Vec::new(alloc),
+            cases: Vec::new(alloc),
             failures: 0,
         })
     }

@@ -21,7 +21,7 @@ use Rattle.index_rules.specs.History.{History, begins, more, is_read_as}
 use Rattle.index_rules.specs.PastUsers.{user_of, user_by, with_read, with_token, added, added_by, bearer}
 use Rattle.index_rules.specs.PastNames.{owns, is_given, alone_owns, receivers, yank_of}
 use Rattle.index_rules.specs.PastFiles.{has_file_of}
-use Rattle.index_rules.specs.StandsFor.{StandsFor, name_at, file_at}
+use Rattle.index_rules.specs.StandsFor.{StandsFor, name_at, file_at, case_at}
 use Rattle.index_rules.specs.Legal.{caller_at, facts_after, verdict_after}
 use Rattle.index_rules.proofs.OwnerLists.{same-is}
 use Rattle.index_rules.proofs.KeyLemmas.{same_truth}
@@ -76,7 +76,7 @@ bears-some : (token : Bytes) (user : Option UserRecord) → bears (Some token) u
 bears-some token None bears = absurd (false≢true bears)
 bears-some token (Some x) bears = (x, refl, bears)
 
-agree_at : {X : Type 0} (a b : Bytes → Option X) → ((q : Bytes) → a q ≡ b q) → (at : Option Bytes) → option_and_then a at ≡ option_and_then b at
+pub agree_at : {X : Type 0} (a b : Bytes → Option X) → ((q : Bytes) → a q ≡ b q) → (at : Option Bytes) → option_and_then a at ≡ option_and_then b at
 agree_at a b each None = refl
 agree_at a b each (Some q) = each q
 
@@ -154,6 +154,7 @@ module _ (T : Tables) (h : History) (one : HasOneBearer T) (stands : StandsFor T
     file = agree_at (get T.files) (file_at h) stands.files (file_key c.request) i;
     yank = at_both_agree (yank_in T) (yank_of h) stands.yanks (name_key c.request) (release_key c.request) i;
     has_release = both_agree (has_release_in T) (has_file_of h) released (name_key c.request) (release_key c.request) i;
+    case = agree_at (get T.cases) (case_at h) stands.cases (name_key c.request) i;
   }
 
   -- so the verdict on the tables is that of the history

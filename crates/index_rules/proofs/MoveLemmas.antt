@@ -9,7 +9,7 @@ use Rattle.index_names.specs.FileName.{project_of, release_of}
 use Rattle.index_digest.specs.Digest.{digest_in}
 use Rattle.index_rules.specs.declared.call.Call.{Call}
 use Rattle.index_rules.specs.declared.call.Request.{Request}
-use Rattle.index_rules.specs.declared.call.Request.TheVariants.{Claim, AddOwner, RemoveOwner, Upload, Delete, Relinquish, Prohibit, Allow}
+use Rattle.index_rules.specs.declared.call.Request.TheVariants.{Claim, AddOwner, RemoveOwner, Upload, Delete, Relinquish, Prohibit, Allow, Transfer}
 use Rattle.index_rules.specs.declared.records.FileRecord.{FileRecord}
 use Rattle.index_rules.specs.Maps.{Bytes, same, change_values}
 use Rattle.index_rules.specs.Users.{read_user}
@@ -21,6 +21,7 @@ use Rattle.index_rules.specs.Effect.{key, no_file, deleted, deleted_of, after}
 use Rattle.index_rules.specs.Sound.{IsSound, charged_size, charge_in}
 use Rattle.index_rules.specs.History.{History, Entry, begins, more, is_read_as}
 use Rattle.index_rules.specs.PastNames.{State, Free, Held, Prohibited, state_by, state_of, is_held_now, given_by, is_given}
+use Rattle.index_rules.specs.PastCases.{candidate_of}
 use Rattle.index_rules.specs.PastFiles.{known, undeleted, requires_of, size_of}
 use Rattle.index_rules.specs.StandsFor.{StandsFor, file_by, file_at}
 use Rattle.index_rules.specs.Legal.{IsLegal}
@@ -116,21 +117,23 @@ state_kept (Prohibit name) n before other = ap (λ b. cond b Prohibited before) 
 state_kept (Allow name) n before other = ap (λ b. cond b Free before) other
 state_kept r n before other = refl
 
-given_kept : (r : Request) (actor n u : Bytes) (before : Bool) → may_move_owners r n ≡ false → given_by r actor n u before ≡ before
-given_kept (Claim name) actor n u before other = ap (λ b. cond b (same u actor) before) other
-given_kept (AddOwner name user) actor n u before other = ap (λ b. cond (b && is_read_as (read_user user) u) true before) other
-given_kept (RemoveOwner name user) actor n u before other = ap (λ b. cond (b && is_read_as (read_user user) u) false before) other
-given_kept r actor n u before other = refl
+given_kept : (r : Request) (actor : Bytes) (candidate : Option Bytes) (n u : Bytes) (before : Bool) → may_move_owners r n ≡ false → given_by r actor candidate n u before ≡ before
+given_kept (Claim name) actor candidate n u before other = ap (λ b. cond b (same u actor) before) other
+given_kept (AddOwner name user) actor candidate n u before other = ap (λ b. cond (b && is_read_as (read_user user) u) true before) other
+given_kept (RemoveOwner name user) actor candidate n u before other = ap (λ b. cond (b && is_read_as (read_user user) u) false before) other
+given_kept (Transfer name quiet) actor candidate n u before other = ap (λ b. cond b (is_read_as candidate u) before) other
+given_kept r actor candidate n u before other = refl
 
 -- what doesn't change the owners doesn't change the state
 state_with_owners : (r : Request) (n : Bytes) → may_move_owners r n ≡ false → may_move_state r n ≡ false
 state_with_owners (AddOwner name user) n other = refl
 state_with_owners (RemoveOwner name user) n other = refl
+state_with_owners (Transfer name quiet) n other = refl
 state_with_owners r n other = other
 
-owners_kept : (r : Request) (actor n u : Bytes) (state : State) (given : Bool) → may_move_owners r n ≡ false
-    → (is_held_now (state_by r n state) && given_by r actor n u given) ≡ (is_held_now state && given)
-owners_kept r actor n u state given other = λ i. is_held_now (state_kept r n state (state_with_owners r n other) i) && given_kept r actor n u given other i
+owners_kept : (r : Request) (actor : Bytes) (candidate : Option Bytes) (n u : Bytes) (state : State) (given : Bool) → may_move_owners r n ≡ false
+    → (is_held_now (state_by r n state) && given_by r actor candidate n u given) ≡ (is_held_now state && given)
+owners_kept r actor candidate n u state given other = λ i. is_held_now (state_kept r n state (state_with_owners r n other) i) && given_kept r actor candidate n u given other i
 
 -- ---- each entry
 
@@ -146,7 +149,7 @@ moves h e legal =
           (charge-moves T h made.sound made.stands e.call.at e.call.token e.call.request accepts n);
       anew = uploads_anew T h made.sound made.stands e.call.at e.call.token e.call.request accepts;
       state = λ n other. state_kept e.call.request n (state_of h n) other;
-      owners = λ n u other. owners_kept e.call.request e.actor n u (state_of h n) (is_given h n u) other;
+      owners = λ n u other. owners_kept e.call.request e.actor (candidate_of h n) n u (state_of h n) (is_given h n u) other;
     }
 
 pub moves_as_recorded : (h : History) → IsLegal h → MovesAsRecorded h

@@ -4,7 +4,7 @@ use Rattle.index_rules.specs.declared.answer.Answer.{Answer}
 use Rattle.index_rules.specs.declared.answer.Answer.TheVariants.{Accepted, Already, Refused, Fault}
 use Rattle.index_rules.specs.declared.call.Call.{Call}
 use Rattle.index_rules.specs.declared.call.Request.{Request}
-use Rattle.index_rules.specs.declared.call.Request.TheVariants.{AddUser, SetToken, SetQuota, Claim, AddOwner, RemoveOwner, Upload, Delete, Yank, Unyank, Relinquish, Prohibit, Allow}
+use Rattle.index_rules.specs.declared.call.Request.TheVariants.{AddUser, SetToken, SetQuota, Claim, AddOwner, RemoveOwner, Upload, Delete, Yank, Unyank, Relinquish, Prohibit, Allow, OpenCase, RecordAttempt, Transfer, CloseCase, AnswerCase}
 use Rattle.index_rules.specs.Maps.{Bytes}
 use Rattle.index_rules.specs.Users.{read_user}
 use Rattle.index_rules.specs.Texts.{read_token}
@@ -41,6 +41,11 @@ module _ (T : Tables) (one : HasOneBearer T) (at : ℕ) (token : Bytes) where
   each_request (Relinquish name) accepts = one
   each_request (Prohibit name) accepts = one
   each_request (Allow name) accepts = one
+  each_request (OpenCase name kind contact work why) accepts = one
+  each_request (RecordAttempt name means sent) accepts = one
+  each_request (Transfer name quiet) accepts = one
+  each_request (CloseCase name) accepts = one
+  each_request (AnswerCase name) accepts = one
 
 pub HasOneBearer-tables_after : (T : Tables) → HasOneBearer T → (c : Call) (answer : Answer) → Answers (verdict_now T c) answer → HasOneBearer (tables_after T c answer)
 HasOneBearer-tables_after T one c Accepted answers = each_request T one c.at c.token c.request answers

@@ -16,18 +16,18 @@ use Rattle.index_rules.specs.StandsFor.{file_by, file_at}
 use Rattle.index_rules.proofs.PastWords.{Apart-uploaded, known_is_uploaded, undeleted_known}
 use Rattle.index_rules.proofs.ListTotals.{HasKeys, total-listed, any-listed}
 
-is_some-map : {A B : Type 0} (part : A → B) (o : Option A) → is_some (option_map part o) ≡ is_some o
+pub is_some-map : {A B : Type 0} (part : A → B) (o : Option A) → is_some (option_map part o) ≡ is_some o
 is_some-map part None = refl
 is_some-map part (Some x) = refl
 
 -- ---- what one file counts for
 
 -- an undeleted file of the name is one
-abbrev counted : Bytes → FileRecord → ℕ
+abbrev pub counted : Bytes → FileRecord → ℕ
 counted n known = cond (is_undeleted_of n known) 1 0
 
 module _ (h : History) (n f : Bytes) where
-  charged_at : option_map_or (charged_size n) (file_at h f) 0 ≡ cond (is_there h n f) (size_of h f) 0
+  pub charged_at : option_map_or (charged_size n) (file_at h f) 0 ≡ cond (is_there h n f) (size_of h f) 0
   charged_at = by (known h f) (undeleted h f) (undeleted_known h f)
     where
       by : (o : Option (Bytes × ℕ)) (b : Bool) → (b ≡ true → is_some o ≡ true)
@@ -36,7 +36,7 @@ module _ (h : History) (n f : Bytes) where
       by None false there = refl
       by (Some first) b there = refl
 
-  counted_at : option_map_or (counted n) (file_at h f) 0 ≡ cond (is_there h n f) 1 0
+  pub counted_at : option_map_or (counted n) (file_at h f) 0 ≡ cond (is_there h n f) 1 0
   counted_at = by (known h f) (undeleted h f) (undeleted_known h f)
     where
       by : (o : Option (Bytes × ℕ)) (b : Bool) → (b ≡ true → is_some o ≡ true)
@@ -45,7 +45,7 @@ module _ (h : History) (n f : Bytes) where
       by None false there = refl
       by (Some first) b there = refl
 
-  released_at : (r : Bytes) → option_map_or (is_undeleted_in n r) (file_at h f) false ≡ (is_there h n f && same r (release_of f))
+  pub released_at : (r : Bytes) → option_map_or (is_undeleted_in n r) (file_at h f) false ≡ (is_there h n f && same r (release_of f))
   released_at r = by (known h f) (undeleted h f) (undeleted_known h f)
     where
       by : (o : Option (Bytes × ℕ)) (b : Bool) → (b ≡ true → is_some o ≡ true)

@@ -1,5 +1,5 @@
 -- What holds of every history: its uploaded files stand once each and are the known ones, and an undeleted file is known.
-use Rattle.std.proofs.Common.{◌≡◌, ℕ, Bool, true, false, cond, ◌&&◌, ◌||◌, inl, inr, refl, sym, ap, ◌∙◌, List, [], ◌∷◌, Option, Some, None, is_some, option_map, length}
+use Rattle.std.proofs.Common.{◌≡◌, ℕ, Bool, true, false, cond, ◌&&◌, ◌||◌, inl, inr, refl, sym, ap, ◌∙◌, List, [], ◌∷◌, Option, Some, None, is_some, option_map, option_and_then, length}
 use Rattle.std.specs.List.{list_any}
 use Rattle.std.specs.Option.{option_or}
 use Rattle.std.proofs.lemmas.Bool.{false≢true, or_left, or_right, cases_Bool}
@@ -7,7 +7,7 @@ use Rattle.index_names.specs.Project.{read_name}
 use Rattle.index_names.specs.FileName.{project_of}
 use Rattle.index_digest.specs.Digest.{digest_in}
 use Rattle.index_rules.specs.declared.call.Request.{Request}
-use Rattle.index_rules.specs.declared.call.Request.TheVariants.{Claim, AddOwner, RemoveOwner, Upload, Delete, Prohibit}
+use Rattle.index_rules.specs.declared.call.Request.TheVariants.{Claim, AddOwner, RemoveOwner, Upload, Delete, Prohibit, Transfer}
 use Rattle.index_rules.specs.Maps.{Bytes, same}
 use Rattle.index_rules.specs.Users.{read_user}
 use Rattle.index_rules.specs.Requests.{read_file}
@@ -16,6 +16,7 @@ use Rattle.index_rules.specs.Verdict.{is_undeleted}
 use Rattle.index_rules.specs.History.{History, begins, more, is_read_as}
 use Rattle.index_rules.specs.PastUsers.{with_read}
 use Rattle.index_rules.specs.PastNames.{given_by, given_to, is_given, receivers}
+use Rattle.index_rules.specs.PastCases.{candidate_of}
 use Rattle.index_rules.specs.PastFiles.{known, known_by, undeleted, undeleted_by, requires_of, uploaded, uploaded_by, once_more}
 use Rattle.index_rules.specs.StandsFor.{file_by, file_at}
 use Rattle.index_rules.proofs.KeyLemmas.{same-refl, cases_same}
@@ -114,13 +115,14 @@ still_has : (read : Option Bytes) (users : List Bytes) (v : Bytes) → has users
 still_has None users v there = there
 still_has (Some user) users v there = or_right _ _ there
 
-received_by : (r : Request) (actor n v : Bytes) (b : Bool) (users : List Bytes) → (b ≡ true → has users v ≡ true) → given_by r actor n v b ≡ true → has (given_to r actor users) v ≡ true
-received_by (Claim name) actor n v b users there is = by (is_read_as (read_name name) n) is
+received_by : (r : Request) (actor : Bytes) (candidate : Bytes → Option Bytes) (n v : Bytes) (b : Bool) (users : List Bytes) → (b ≡ true → has users v ≡ true)
+    → given_by r actor (candidate n) n v b ≡ true → has (given_to r actor candidate users) v ≡ true
+received_by (Claim name) actor candidate n v b users there is = by (is_read_as (read_name name) n) is
   where
     by : (t : Bool) → cond t (same v actor) b ≡ true → has (actor ∷ users) v ≡ true
     by true is = or_left _ _ is
     by false is = or_right _ _ (there is)
-received_by (AddOwner name user) actor n v b users there is = elim (cases_Bool (is_read_as (read_user user) v)) [
+received_by (AddOwner name user) actor candidate n v b users there is = elim (cases_Bool (is_read_as (read_user user) v)) [
   | inl here ↦ has-with_read (read_user user) users v here
   | inr other ↦ still_has (read_user user) users v (there (by (is_read_as (read_name name) n) (is_read_as (read_user user) v) other is))
 ]
@@ -129,10 +131,18 @@ received_by (AddOwner name user) actor n v b users there is = elim (cases_Bool (
     by true true other is = absurd (false≢true (sym other))
     by true false other is = is
     by false s other is = is
-received_by (RemoveOwner name user) actor n v b users there is = there (still (is_read_as (read_name name) n && is_read_as (read_user user) v) b is)
-received_by r actor n v b users there is = there is
+received_by (RemoveOwner name user) actor candidate n v b users there is = there (still (is_read_as (read_name name) n && is_read_as (read_user user) v) b is)
+received_by (Transfer name quiet) actor candidate n v b users there is = by (read_name name) is
+  where
+    by : (read : Option Bytes) → cond (is_read_as read n) (is_read_as (candidate n) v) b ≡ true → has (with_read (option_and_then candidate read) users) v ≡ true
+    by None is = there is
+    by (Some m) is = elim (cases_same n m) [
+      | inl e ↦ has-with_read (candidate m) users v (ap (λ x. is_read_as (candidate x) v) (sym e) ∙ sym (ap (λ t. cond t (is_read_as (candidate n) v) b) (ap (same n) (sym e) ∙ same-refl n)) ∙ is)
+      | inr other ↦ still_has (candidate m) users v (there (sym (ap (λ t. cond t (is_read_as (candidate n) v) b) other) ∙ is))
+    ]
+received_by r actor candidate n v b users there is = there is
 
 -- a user to whom a name is given is one of those to whom any was
 pub received : (h : History) (n v : Bytes) → is_given h n v ≡ true → has (receivers h) v ≡ true
 received (begins user token) n v is = is
-received (more h e) n v is = received_by e.call.request e.actor n v (is_given h n v) (receivers h) (received h n v) is
+received (more h e) n v is = received_by e.call.request e.actor (candidate_of h) n v (is_given h n v) (receivers h) (received h n v) is

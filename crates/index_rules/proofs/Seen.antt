@@ -73,11 +73,12 @@ module _ (T : Tables) (one : HasOneBearer T) where
         file = s.file i;
         yank = s.yank i;
         has_release = s.has_release i;
+        case = s.case i;
       }
 
   -- what was judged on it is judged on the tables
   pub verdict_now-seen : (c : Call) (k : Keys) (v : View) → k ≡ keys_of c → Sees T k v → verdict_now T c ≡ verdict_on c (facts_seen v c.request)
   verdict_now-seen c k v keys sees = ap (verdict_on c) (sym (facts-seen c k v keys sees))
 
-  pub after-seen : (c : Call) (k : Keys) (v : View) → k ≡ keys_of c → Sees T k v → means (effect c.request (facts_seen v c.request)) T ≡ after T c
-  after-seen c k v keys sees = ap (λ f. means (effect c.request f) T) (facts-seen c k v keys sees)
+  pub after-seen : (c : Call) (k : Keys) (v : View) → k ≡ keys_of c → Sees T k v → means (effect c.at c.request (facts_seen v c.request)) T ≡ after T c
+  after-seen c k v keys sees = ap (λ f. means (effect c.at c.request f) T) (facts-seen c k v keys sees)

@@ -74,6 +74,7 @@ module _ (T : Tables) (sound : IsSound T) (file : Bytes) (known : FileRecord) (p
         (λ _. sound.owned (project_of file) (ap is_some at))
         (λ name _. sound.owned name);
     yanks = λ name release yanked. still_held T (project_of file) left name (sound.yanks name release yanked);
+    cases = λ name is_open. still_held T (project_of file) left name (sound.cases name is_open);
     spelled = each_put T.files file (deleted known) (λ q found. (k : FileRecord) → found ≡ Some k → IsRecordOf q k)
         (λ k e.
         let is : deleted known ≡ k = cc in

@@ -30,6 +30,7 @@ IsSound-allow T sound name none =
       owners = λ n user owns. ap is_some (as_before n) ∙ sound.owners n user owns;
       owned = λ n held. sound.owned n (sym (ap is_some (as_before n)) ∙ held);
       yanks = λ n release yanked. ap is_some (as_before n) ∙ sound.yanks n release yanked;
+      cases = λ n is_open. ap is_some (as_before n) ∙ sound.cases n is_open;
       spelled = sound.spelled;
       undeleted_held = λ file known there is. ap is_some (as_before known.project) ∙ sound.undeleted_held file known there is;
       charge = λ n p at. sound.charge n p (sym (as_before n) ∙ at);
@@ -55,7 +56,7 @@ left_without {X = X} name m n u left =
     by true found left = absurd (false≢true left)
     by false found left = (refl, left)
 
-module _ (T : Tables) (sound : IsSound T) (name : Bytes) where
+module _ (T : Tables) (sound : IsSound T) (name : Bytes) (closed : get T.cases name ≡ None) where
   abbrev left_files : Map FileRecord
   left_files = change_values (deleted_of name) T.files
 
@@ -137,6 +138,10 @@ module _ (T : Tables) (sound : IsSound T) (name : Bytes) where
           let one = sound.owned n (sym (ap is_held (others n other)) ∙ held) in
           (one.0, ap is_some (get-without_name_other T.owners name n one.0 (other-sym n name other)) ∙ one.1);
       yanks = λ n release yanked. let was = left_without name T.yanks n release yanked in ap is_held (others n was.0) ∙ sound.yanks n release was.1;
+      cases = λ n is_open. elim (cases_same n name) [
+        | inl e ↦ absurd (false≢true (sym (ap is_some (ap (get T.cases) e ∙ closed)) ∙ is_open))
+        | inr other ↦ ap is_held (others n other) ∙ sound.cases n is_open
+      ];
       spelled = spelled-ended;
       undeleted_held = λ file known there is. let was = undeleted-ended file known there is in ap is_held (others known.project was.0) ∙ was.1;
       charge = λ n p at. let was = before n p at in sound.charge n p was.1 ∙ sym (total-delete_all (λ known. known.size) T name n was.0);

@@ -11,7 +11,7 @@ use Rattle.index_rules.specs.declared.answer.Answer.{Answer}
 use Rattle.index_rules.specs.declared.answer.Answer.TheVariants.{Accepted, Already, Refused, Fault}
 use Rattle.index_rules.specs.declared.call.Call.{Call}
 use Rattle.index_rules.specs.declared.call.Request.{Request}
-use Rattle.index_rules.specs.declared.call.Request.TheVariants.{AddUser, SetToken, SetQuota, Claim, AddOwner, RemoveOwner, Upload, Delete, Yank, Unyank, Relinquish, Prohibit, Allow}
+use Rattle.index_rules.specs.declared.call.Request.TheVariants.{AddUser, SetToken, SetQuota, Claim, AddOwner, RemoveOwner, Upload, Delete, Yank, Unyank, Relinquish, Prohibit, Allow, OpenCase, RecordAttempt, Transfer, CloseCase, AnswerCase}
 use Rattle.index_rules.specs.declared.records.FileRecord.{FileRecord}
 use Rattle.index_rules.specs.declared.records.NameRecord.{NameRecord}
 use Rattle.index_rules.specs.declared.records.NameRecord.TheVariants.{Held, Prohibited}
@@ -34,6 +34,8 @@ use Rattle.index_rules.proofs.SoundOwners.{IsSound-owner, IsSound-no_owner}
 use Rattle.index_rules.proofs.SoundUploads.{IsSound-upload}
 use Rattle.index_rules.proofs.SoundDeletes.{IsSound-delete}
 use Rattle.index_rules.proofs.SoundYanks.{IsSound-yank, IsSound-no_yank}
+use Rattle.index_rules.proofs.SoundCases.{closed, IsSound-closed, IsSound-case, IsSound-transfer}
+use Rattle.index_rules.proofs.PutLemmas.{get-without_here}
 use Rattle.index_rules.proofs.SoundEnds.{IsSound-relinquish, IsSound-prohibit, IsSound-allow}
 
 -- ---- what the parts of an accepted request are
@@ -114,7 +116,8 @@ module _ (T : Tables) (sound : IsSound T) (at : ℕ) (token : Bytes) where
   claimed name accepts =
       let all = accepted (of (Claim name)) (facts (Claim name)) accepts in
       let free : is_held (get T.names (key (read_name name))) ≡ false = free_at T (read_name name) all.0.1.1.0 (and_not _ _ all.0.1.1.1.1.0 all.1) in
-      IsSound-claim T sound (key (read_name name)) free (record { shown = name; quota = first_quota; charge = 0; undeleted = 0 }) (caller_in (facts (Claim name))) refl refl
+      let n : Bytes = key (read_name name) in
+      IsSound-claim (closed n T) (IsSound-closed T sound n) n free (record { shown = name; quota = first_quota; charge = 0; undeleted = 0; last_upload = None }) (caller_in (facts (Claim name))) refl refl
 
   uploaded : (file digest body requires : Bytes) → verdict_now T (of (Upload file digest body requires)) ≡ Accept → IsSound (after T (of (Upload file digest body requires)))
   uploaded file digest body requires accepts =
@@ -126,7 +129,7 @@ module _ (T : Tables) (sound : IsSound T) (at : ℕ) (token : Bytes) where
       let held : project_in f.name ≡ Some (held_in f) = project_there _ all.0.1.1.1.1.1.1.1.0 in
       let within : exceeds_quota (length body) f.name ≡ false = sym (λ i. not (all.1 i) && exceeds_quota (length body) f.name) ∙ all.0.1.1.1.1.1.1.1.1.1.1.0 in
       let fits : (held_in f).charge + length body ≤ (held_in f).quota = ltb-false _ _ (sym (ap (λ o. option_map_or (λ project. nat_lt project.quota (project.charge + length body)) o false) held) ∙ within) in
-      IsSound-upload T sound file
+      IsSound-upload at (closed (project_of file) T) (IsSound-closed T sound (project_of file)) file
       (record { project = project_of file; release = release_of file; digest = key (digest_in digest); size = length body; requires_python = requires; is_undeleted = true })
       body (held_in f) refl (sym (ap is_undeleted file_is) ∙ all.1) (sym (ap project_in name_is) ∙ held)
       (record { is_file_name = read.0; project = refl; release = refl })
@@ -141,7 +144,7 @@ module _ (T : Tables) (sound : IsSound T) (at : ℕ) (token : Bytes) where
       let name_is : f.name ≡ get T.names (project_of file) = ap (λ o. option_and_then (get T.names) (option_map project_of o)) read.1 in
       let file_is : f.file ≡ get T.files file = ap (option_and_then (get T.files)) read.1 in
       let known = undeleted_there f.file (not-false _ all.1) in
-      IsSound-delete T sound file (file_of f) (held_in f) known.1 (sym file_is ∙ known.0) (sym (ap project_in name_is) ∙ project_there _ all.0.1.1.1.0)
+      IsSound-delete (closed (project_of file) T) (IsSound-closed T sound (project_of file)) file (file_of f) (held_in f) known.1 (sym file_is ∙ known.0) (sym (ap project_in name_is) ∙ project_there _ all.0.1.1.1.0)
 
   each_request : (request : Request) → verdict_now T (of request) ≡ Accept → IsSound (after T (of request))
   each_request (AddUser user office digest) accepts =
@@ -156,23 +159,37 @@ module _ (T : Tables) (sound : IsSound T) (at : ℕ) (token : Bytes) where
   each_request (Claim name) accepts = claimed name accepts
   each_request (AddOwner name user) accepts =
       let all = accepted (of (AddOwner name user)) (facts (AddOwner name user)) accepts in
-      IsSound-owner T sound (key (read_name name)) (key (read_user user)) (ap is_some (project_at T (read_name name) all.0.1.1.1.1.1.0))
+      IsSound-owner (closed (key (read_name name)) T) (IsSound-closed T sound (key (read_name name))) (key (read_name name)) (key (read_user user)) (ap is_some (project_at T (read_name name) all.0.1.1.1.1.1.0))
   each_request (RemoveOwner name user) accepts =
       let all = accepted (of (RemoveOwner name user)) (facts (RemoveOwner name user)) accepts in
-      no_owner T sound (read_name name) (read_user user) (not-false _ all.1) all.0.1.1.1.1.1.1.1.0
+      no_owner (closed (key (read_name name)) T) (IsSound-closed T sound (key (read_name name))) (read_name name) (read_user user) (not-false _ all.1) all.0.1.1.1.1.1.1.1.0
   each_request (Upload file digest body requires) accepts = uploaded file digest body requires accepts
   each_request (Delete file) accepts = deleted_one file accepts
   each_request (Yank name release reason) accepts =
       let all = accepted (of (Yank name release reason)) (facts (Yank name release reason)) accepts in
-      IsSound-yank T sound (key (read_name name)) (key (read_release release)) reason (ap is_some (project_at T (read_name name) all.0.1.1.1.1.1.0))
-  each_request (Unyank name release) accepts = IsSound-no_yank T sound (key (read_name name)) (key (read_release release))
+      IsSound-yank (closed (key (read_name name)) T) (IsSound-closed T sound (key (read_name name))) (key (read_name name)) (key (read_release release)) reason (ap is_some (project_at T (read_name name) all.0.1.1.1.1.1.0))
+  each_request (Unyank name release) accepts = IsSound-no_yank (closed (key (read_name name)) T) (IsSound-closed T sound (key (read_name name))) (key (read_name name)) (key (read_release release))
   each_request (Relinquish name) accepts =
       let all = accepted (of (Relinquish name)) (facts (Relinquish name)) accepts in
-      IsSound-relinquish T sound (key (read_name name)) (no_files T sound (read_name name) all.0.1.1.1.0 all.0.1.1.1.1.1.0)
-  each_request (Prohibit name) accepts = IsSound-prohibit T sound (key (read_name name))
+      let n : Bytes = key (read_name name) in
+      IsSound-relinquish (closed n T) (IsSound-closed T sound n) n (get-without_here T.cases n) (no_files T sound (read_name name) all.0.1.1.1.0 all.0.1.1.1.1.1.0)
+  each_request (Prohibit name) accepts =
+      let n : Bytes = key (read_name name) in
+      IsSound-prohibit (closed n T) (IsSound-closed T sound n) n (get-without_here T.cases n)
   each_request (Allow name) accepts =
       let all = accepted (of (Allow name)) (facts (Allow name)) accepts in
       IsSound-allow T sound (key (read_name name)) (prohibited_at T (read_name name) (not-false _ all.1))
+  each_request (OpenCase name kind contact work why) accepts =
+      let all = accepted (of (OpenCase name kind contact work why)) (facts (OpenCase name kind contact work why)) accepts in
+      IsSound-case T sound (key (read_name name)) _ (ap is_some (project_at T (read_name name) all.0.1.1.1.1.0))
+  each_request (RecordAttempt name means sent) accepts =
+      let all = accepted (of (RecordAttempt name means sent)) (facts (RecordAttempt name means sent)) accepts in
+      IsSound-case T sound (key (read_name name)) _ (ap is_some (project_at T (read_name name) all.0.1.1.1.1.0))
+  each_request (Transfer name quiet) accepts =
+      let all = accepted (of (Transfer name quiet)) (facts (Transfer name quiet)) accepts in
+      IsSound-transfer (closed (key (read_name name)) T) (IsSound-closed T sound (key (read_name name))) (key (read_name name)) _ (ap is_some (project_at T (read_name name) all.0.1.1.1.1.0))
+  each_request (CloseCase name) accepts = IsSound-closed T sound (key (read_name name))
+  each_request (AnswerCase name) accepts = IsSound-closed T sound (key (read_name name))
 
 -- ---- the theorems
 

@@ -1,11 +1,11 @@
 -- Sound tables stay sound where a held name's quota changes and where a free name is claimed.
 use Rattle.std.proofs.Common.{◌≡◌, ◌≤◌, true, false, cond, not, ◌&&◌, inl, inr, refl, sym, ap, ◌∙◌, subst, Some, is_some, arith}
-use Rattle.std.specs.FinMap.{get, insert, retain_keys}
+use Rattle.std.specs.FinMap.{get, insert, contains_key}
 use Rattle.std.proofs.lemmas.Bool.{false≢true, cases_Bool, and_parts}
 use Rattle.index_rules.specs.declared.records.NameRecord.TheVariants.{Held}
 use Rattle.index_rules.specs.declared.records.Project.{Project}
 use Rattle.index_rules.specs.declared.records.FileRecord.{FileRecord}
-use Rattle.index_rules.specs.Maps.{Bytes, same}
+use Rattle.index_rules.specs.Maps.{Bytes, Pairs, same}
 use Rattle.index_rules.specs.Tables.{Tables}
 use Rattle.index_rules.specs.Facts.{owns_in, yank_in}
 use Rattle.index_rules.specs.Verdict.{project_in, is_held}
@@ -32,6 +32,7 @@ IsSound-project T sound name before project at charge undeleted quota = record {
       (λ _. sound.owned name (ap is_some at))
       (λ n _. sound.owned n);
   yanks = λ n release yanked. still_held T name project n (sound.yanks n release yanked);
+  cases = λ n is_open. still_held T name project n (sound.cases n is_open);
   spelled = sound.spelled;
   undeleted_held = λ file known there is. still_held T name project known.project (sound.undeleted_held file known there is);
   charge = each_put T.names name (Held project) (λ n found. (p : Project) → project_in found ≡ Some p → p.charge ≡ charge_in T n)
@@ -46,6 +47,23 @@ IsSound-project T sound name before project at charge undeleted quota = record {
   bodies = sound.bodies;
   bytes = sound.bytes;
 }
+
+-- ---- a name that is given to one user alone
+
+module _ (T : Tables) (name owner : Bytes) where
+  abbrev pub given : Pairs
+  given = insert (without_name name T.owners) (name, owner) tt
+
+  has-given : (n user : Bytes) → contains_key given (n, user) ≡ cond (same n name && same user owner) true (cond (not (same name n)) (owns_in T n user) false)
+  has-given n user =
+      has-put (without_name name T.owners) name owner n user
+      ∙ ap (λ b. cond (same n name && same user owner) true b) (has-cleared T.owners name n user)
+
+  pub given_owner : contains_key given (name, owner) ≡ true
+  given_owner = has-given name owner ∙ (λ i. cond (same-refl name i && same-refl owner i) true (cond (not (same name name)) (owns_in T name owner) false))
+
+  pub given_other : (n user : Bytes) → same n name ≡ false → contains_key given (n, user) ≡ owns_in T n user
+  given_other n user other = has-given n user ∙ (λ i. cond (other i && same user owner) true (cond (not (other-sym n name other i)) (owns_in T n user) false))
 
 -- ---- a free name
 
@@ -69,34 +87,23 @@ module _ (T : Tables) (sound : IsSound T) (name : Bytes) (free : is_held (get T.
     abbrev claimed : Tables
     claimed = record T {
       names = insert T.names name (Held project);
-      owners = insert (without_name name T.owners) (name, owner) tt;
+      owners = given T name owner;
       yanks = without_name name T.yanks;
     }
-
-    owns_in-claimed : (n user : Bytes) → owns_in claimed n user ≡ cond (same n name && same user owner) true (cond (not (same name n)) (owns_in T n user) false)
-    owns_in-claimed n user =
-        has-put (retain_keys T.owners (λ pair. not (same name pair.0))) name owner n user
-        ∙ ap (λ b. cond (same n name && same user owner) true b) (has-cleared T.owners name n user)
-
-    owner_claimed : owns_in claimed name owner ≡ true
-    owner_claimed = owns_in-claimed name owner ∙ (λ i. cond (same-refl name i && same-refl owner i) true (cond (not (same name name)) (owns_in T name owner) false))
-
-    owns_in-other : (n user : Bytes) → same n name ≡ false → owns_in claimed n user ≡ owns_in T n user
-    owns_in-other n user other =
-        owns_in-claimed n user ∙ (λ i. cond (other i && same user owner) true (cond (not (other-sym n name other i)) (owns_in T n user) false))
 
     pub IsSound-claim : project.charge ≡ 0 → project.undeleted ≡ 0 → IsSound claimed
     IsSound-claim charge undeleted = record {
       one_bearer = sound.one_bearer;
       owners = each_put T.names name (Held project) (λ n found. (user : Bytes) → owns_in claimed n user ≡ true → is_held found ≡ true)
           (λ _ _. refl)
-          (λ n other user owns. sound.owners n user (sym (owns_in-other n user other) ∙ owns));
+          (λ n other user owns. sound.owners n user (sym (given_other T name owner n user other) ∙ owns));
       owned = each_put T.names name (Held project) (λ n found. is_held found ≡ true → (user : Bytes) × (owns_in claimed n user ≡ true))
-          (λ _. (owner, owner_claimed))
-          (λ n other held. let one = sound.owned n held in (one.0, owns_in-other n one.0 other ∙ one.1));
+          (λ _. (owner, given_owner T name owner))
+          (λ n other held. let one = sound.owned n held in (one.0, given_other T name owner n one.0 other ∙ one.1));
       yanks = each_put T.names name (Held project) (λ n found. (release : Bytes) → is_some (yank_in claimed n release) ≡ true → is_held found ≡ true)
           (λ _ _. refl)
           (λ n other release yanked. sound.yanks n release (sym (ap is_some (get-without_name_other T.yanks name n release (other-sym n name other))) ∙ yanked));
+      cases = λ n is_open. still_held T name project n (sound.cases n is_open);
       spelled = sound.spelled;
       undeleted_held = λ file known there is. still_held T name project known.project (sound.undeleted_held file known there is);
       charge = each_put T.names name (Held project) (λ n found. (p : Project) → project_in found ≡ Some p → p.charge ≡ charge_in T n)

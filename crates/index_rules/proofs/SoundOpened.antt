@@ -27,6 +27,7 @@ IsSound-opened user token = record {
   owners = λ name u owns. absurd (false≢true (sym (ap is_some (get-empty pair_cmp (name, u))) ∙ owns));
   owned = λ name held. absurd (false≢true (sym (ap is_held (get-empty bytes_cmp name)) ∙ held));
   yanks = λ name release yanked. absurd (false≢true (sym (ap is_some (get-empty pair_cmp (name, release))) ∙ yanked));
+  cases = λ name is_open. absurd (false≢true (sym (ap is_some (get-empty bytes_cmp name)) ∙ is_open));
   spelled = λ file known at. absurd (none_there (get-empty bytes_cmp file) at);
   undeleted_held = λ file known at live. absurd (none_there (get-empty bytes_cmp file) at);
   charge = λ name project at. absurd (none_there (ap project_in (get-empty bytes_cmp name)) at);

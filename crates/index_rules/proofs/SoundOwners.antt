@@ -22,6 +22,7 @@ IsSound-owner T sound name owner held = record {
   ];
   owned = λ n held. let one = sound.owned n held in (one.0, has-put T.owners name owner n one.0 ∙ either (same n name && same one.0 owner) (owns_in T n one.0) one.1);
   yanks = sound.yanks;
+  cases = sound.cases;
   spelled = sound.spelled;
   undeleted_held = sound.undeleted_held;
   charge = sound.charge;
@@ -78,6 +79,7 @@ IsSound-no_owner T sound name owner owns sole = record {
         (one.0, has-without T.owners name owner n one.0 ∙ kept (same n name) (same one.0 owner) (owns_in T n one.0) (inl e) one.1)
   ];
   yanks = sound.yanks;
+  cases = sound.cases;
   spelled = sound.spelled;
   undeleted_held = sound.undeleted_held;
   charge = sound.charge;

@@ -1,5 +1,5 @@
 -- Sound tables stay sound where a file that is not undeleted is uploaded within its project's quota.
-use Rattle.std.proofs.Common.{◌≡◌, ◌+◌, ◌≤◌, true, false, cond, inl, inr, sym, ap, ◌∙◌, subst, Some, is_some, length, arith}
+use Rattle.std.proofs.Common.{◌≡◌, ℕ, ◌+◌, ◌≤◌, true, false, cond, inl, inr, sym, ap, ◌∙◌, subst, Some, is_some, length, arith}
 use Rattle.std.specs.FinMap.{get, insert}
 use Rattle.index_rules.specs.declared.records.NameRecord.TheVariants.{Held}
 use Rattle.index_rules.specs.declared.records.Project.{Project}
@@ -16,11 +16,11 @@ use Rattle.index_rules.proofs.FileTotals.{total-upload}
 use Rattle.index_rules.proofs.PutLemmas.{each_put, get-put_here, get-put_other}
 use Rattle.index_rules.proofs.SoundNames.{still_held}
 
-module _ (T : Tables) (sound : IsSound T) (file : Bytes) (known : FileRecord) (body : Bytes) (project : Project)
-    (undeleted : known.is_undeleted ≡ true) (deleted : is_undeleted (get T.files file) ≡ false) (at : project_in (get T.names known.project) ≡ Some project) where
+module _ (at : ℕ) (T : Tables) (sound : IsSound T) (file : Bytes) (known : FileRecord) (body : Bytes) (project : Project)
+    (undeleted : known.is_undeleted ≡ true) (deleted : is_undeleted (get T.files file) ≡ false) (there : project_in (get T.names known.project) ≡ Some project) where
   abbrev uploaded : Tables
   uploaded = record T {
-    names = insert T.names known.project (Held (with_file known.size project));
+    names = insert T.names known.project (Held (with_file at known.size project));
     files = insert T.files file known;
     bodies = insert T.bodies file body;
   }
@@ -32,25 +32,25 @@ module _ (T : Tables) (sound : IsSound T) (file : Bytes) (known : FileRecord) (b
   undeleted_in-upload = total-upload (λ _. 1) T file known undeleted deleted
 
   held : is_held (get T.names known.project) ≡ true
-  held = ap is_some at
+  held = ap is_some there
 
   charge-upload : (name : Bytes) (p : Project) → project_in (get uploaded.names name) ≡ Some p → p.charge ≡ charge_in uploaded name
-  charge-upload = each_put T.names known.project (Held (with_file known.size project)) (λ name found. (p : Project) → project_in found ≡ Some p → p.charge ≡ charge_in uploaded name)
+  charge-upload = each_put T.names known.project (Held (with_file at known.size project)) (λ name found. (p : Project) → project_in found ≡ Some p → p.charge ≡ charge_in uploaded name)
       (λ p e.
-      let is : with_file known.size project ≡ p = cc in
+      let is : with_file at known.size project ≡ p = cc in
       let more : charge_in uploaded known.project ≡ charge_in T known.project + known.size = charge_in-upload known.project ∙ ap (λ b. charge_in T known.project + cond b known.size 0) (same-refl known.project) in
-      ap (λ (r : Project). r.charge) (sym is) ∙ ap (λ c. c + known.size) (sound.charge known.project project at) ∙ sym more)
+      ap (λ (r : Project). r.charge) (sym is) ∙ ap (λ c. c + known.size) (sound.charge known.project project there) ∙ sym more)
       (λ name other p e.
       let more : charge_in uploaded name ≡ charge_in T name + 0 = charge_in-upload name ∙ ap (λ b. charge_in T name + cond b known.size 0) other in
       let before : p.charge ≡ charge_in T name = sound.charge name p e in
       omega (arith, more, before))
 
   undeleted-upload : (name : Bytes) (p : Project) → project_in (get uploaded.names name) ≡ Some p → p.undeleted ≡ undeleted_in uploaded name
-  undeleted-upload = each_put T.names known.project (Held (with_file known.size project)) (λ name found. (p : Project) → project_in found ≡ Some p → p.undeleted ≡ undeleted_in uploaded name)
+  undeleted-upload = each_put T.names known.project (Held (with_file at known.size project)) (λ name found. (p : Project) → project_in found ≡ Some p → p.undeleted ≡ undeleted_in uploaded name)
       (λ p e.
-      let is : with_file known.size project ≡ p = cc in
+      let is : with_file at known.size project ≡ p = cc in
       let more : undeleted_in uploaded known.project ≡ undeleted_in T known.project + 1 = undeleted_in-upload known.project ∙ ap (λ b. undeleted_in T known.project + cond b 1 0) (same-refl known.project) in
-      ap (λ (r : Project). r.undeleted) (sym is) ∙ ap (λ c. c + 1) (sound.undeleted known.project project at) ∙ sym more)
+      ap (λ (r : Project). r.undeleted) (sym is) ∙ ap (λ c. c + 1) (sound.undeleted known.project project there) ∙ sym more)
       (λ name other p e.
       let more : undeleted_in uploaded name ≡ undeleted_in T name + 0 = undeleted_in-upload name ∙ ap (λ b. undeleted_in T name + cond b 1 0) other in
       let before : p.undeleted ≡ undeleted_in T name = sound.undeleted name p e in
@@ -68,21 +68,22 @@ module _ (T : Tables) (sound : IsSound T) (file : Bytes) (known : FileRecord) (b
   pub IsSound-upload : IsRecordOf file known → IsBodyOf known body → project.charge + known.size ≤ project.quota → IsSound uploaded
   IsSound-upload spelled is_body fits = record {
     one_bearer = sound.one_bearer;
-    owners = λ name user owns. still_held T known.project (with_file known.size project) name (sound.owners name user owns);
-    owned = each_put T.names known.project (Held (with_file known.size project)) (λ name found. is_held found ≡ true → (user : Bytes) × (owns_in T name user ≡ true))
+    owners = λ name user owns. still_held T known.project (with_file at known.size project) name (sound.owners name user owns);
+    owned = each_put T.names known.project (Held (with_file at known.size project)) (λ name found. is_held found ≡ true → (user : Bytes) × (owns_in T name user ≡ true))
         (λ _. sound.owned known.project held)
         (λ name _. sound.owned name);
-    yanks = λ name release yanked. still_held T known.project (with_file known.size project) name (sound.yanks name release yanked);
+    yanks = λ name release yanked. still_held T known.project (with_file at known.size project) name (sound.yanks name release yanked);
+    cases = λ name is_open. still_held T known.project (with_file at known.size project) name (sound.cases name is_open);
     spelled = each_put T.files file known (λ q found. (k : FileRecord) → found ≡ Some k → IsRecordOf q k)
         (λ k e. let is : known ≡ k = cc in subst (IsRecordOf file) is spelled)
         (λ q _. sound.spelled q);
     undeleted_held = each_put T.files file known (λ q found. (k : FileRecord) → found ≡ Some k → k.is_undeleted ≡ true → is_held (get uploaded.names k.project) ≡ true)
-        (λ k e _. let is : known ≡ k = cc in subst (λ (r : FileRecord). is_held (get uploaded.names r.project) ≡ true) is (still_held T known.project (with_file known.size project) known.project held))
-        (λ q _ k e there. still_held T known.project (with_file known.size project) k.project (sound.undeleted_held q k e there));
+        (λ k e _. let is : known ≡ k = cc in subst (λ (r : FileRecord). is_held (get uploaded.names r.project) ≡ true) is (still_held T known.project (with_file at known.size project) known.project held))
+        (λ q _ k e there. still_held T known.project (with_file at known.size project) k.project (sound.undeleted_held q k e there));
     charge = charge-upload;
     undeleted = undeleted-upload;
-    quota = each_put T.names known.project (Held (with_file known.size project)) (λ name found. (p : Project) → project_in found ≡ Some p → p.charge ≤ p.quota)
-        (λ p e. let is : with_file known.size project ≡ p = cc in subst (λ (r : Project). r.charge ≤ r.quota) is fits)
+    quota = each_put T.names known.project (Held (with_file at known.size project)) (λ name found. (p : Project) → project_in found ≡ Some p → p.charge ≤ p.quota)
+        (λ p e. let is : with_file at known.size project ≡ p = cc in subst (λ (r : Project). r.charge ≤ r.quota) is fits)
         (λ name _. sound.quota name);
     bodies = λ q. elim (cases_same q file) [
       | inl e ↦ ap (λ x. is_some (get uploaded.bodies x)) e ∙ ap is_some (get-put_here T.bodies file body) ∙ sym (ap (λ x. is_undeleted (get uploaded.files x)) e ∙ ap is_undeleted (get-put_here T.files file known) ∙ undeleted)

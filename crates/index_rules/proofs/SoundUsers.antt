@@ -36,6 +36,7 @@ IsSound-user T sound user account free = record {
   owners = sound.owners;
   owned = sound.owned;
   yanks = sound.yanks;
+  cases = sound.cases;
   spelled = sound.spelled;
   undeleted_held = sound.undeleted_held;
   charge = sound.charge;

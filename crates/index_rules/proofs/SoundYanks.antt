@@ -18,6 +18,7 @@ IsSound-yanks T sound yanks held = record {
   owners = sound.owners;
   owned = sound.owned;
   yanks = held;
+  cases = sound.cases;
   spelled = sound.spelled;
   undeleted_held = sound.undeleted_held;
   charge = sound.charge;

@@ -20,7 +20,7 @@ use Rattle.index_rules.specs.Runs.{Answers, Runs, tables_after}
 use Rattle.index_rules.specs.Sound.{IsSound}
 use Rattle.index_rules.specs.History.{History, begins, more}
 use Rattle.index_rules.specs.PastUsers.{bearer}
-use Rattle.index_rules.specs.PastNames.{State, Free, Held, Prohibited, state_of, shown_of, quota_of}
+use Rattle.index_rules.specs.PastNames.{State, Free, Held, Prohibited, state_of, shown_of, quota_of, last_upload_of}
 use Rattle.index_rules.specs.PastFiles.{charge, undeleted_count}
 use Rattle.index_rules.specs.StandsFor.{StandsFor, name_by, project_at, name_at, file_at}
 use Rattle.index_rules.specs.Legal.{verdict_after, with_call, IsLegal, history_after, CarriesOn, CarriesOnBy}
@@ -35,6 +35,7 @@ use Rattle.index_rules.proofs.Agree as agree
 use Rattle.index_rules.proofs.StepUsers.{users_after}
 use Rattle.index_rules.proofs.StepNames.{IsShaped, IsNamed, names_after}
 use Rattle.index_rules.proofs.StepOwners.{owners_after, yanks_after}
+use Rattle.index_rules.proofs.StepCases.{cases_after}
 use Rattle.index_rules.proofs.StepFiles.{files_after, bodies_after}
 
 -- ---- the numbers of a name
@@ -43,14 +44,14 @@ use Rattle.index_rules.proofs.StepFiles.{files_after, bodies_after}
 name_numbered : (T : Tables) → IsSound T → (h : History) → ((file : Bytes) → get T.files file ≡ file_at h file) → (n : Bytes) → IsNamed h n (get T.names n) → get T.names n ≡ name_at h n
 name_numbered T sound h files n shaped = by (state_of h n) shaped
   where
-    by : (s : State) → IsShaped (get T.names n) s (shown_of h n) (quota_of h n) → get T.names n ≡ name_by s (project_at h n)
+    by : (s : State) → IsShaped (get T.names n) s (shown_of h n) (quota_of h n) (last_upload_of h n) → get T.names n ≡ name_by s (project_at h n)
     by Free found = found
     by Prohibited found = found
     by Held held =
         let at : project_in (get T.names n) ≡ Some held.0 = ap project_in held.1 in
         let charged : held.0.charge ≡ charge h n = sound.charge n held.0 at ∙ charge_agrees T h files n in
         let counted : held.0.undeleted ≡ undeleted_count h n = sound.undeleted n held.0 at ∙ count_agrees T h files n in
-        held.1 ∙ (λ i. Some (name_record.Held (record { shown = held.2 i; quota = held.3 i; charge = charged i; undeleted = counted i })))
+        held.1 ∙ (λ i. Some (name_record.Held (record { shown = held.2 i; quota = held.3 i; charge = charged i; undeleted = counted i; last_upload = held.4 i })))
 
 -- ---- one call
 
@@ -73,10 +74,11 @@ module _ (T : Tables) (h : History) (sound : IsSound T) (stands : StandsFor T h)
       record {
         users = users_after T h stands.users c.at c.token actor c.request accepts;
         names = λ n. name_numbered (after T c) (IsSound-after T sound c accepts) (with_call h c) files n (names_after T h stands.names c.at c.token actor c.request accepts n);
-        owners = owners_after T h stands.names c.at c.token actor stands.owners (acts c.token) c.request accepts;
+        owners = owners_after T h stands.names stands.cases c.at c.token actor stands.owners (acts c.token) c.request accepts;
         files = files;
         bodies = bodies_after T h stands.files c.at c.token actor stands.bodies c.request accepts;
-        yanks = yanks_after T h stands.names c.at c.token actor stands.yanks c.request accepts;
+        yanks = yanks_after T h stands.names stands.cases c.at c.token actor stands.yanks c.request accepts;
+        cases = cases_after T h sound stands.names stands.cases c.at c.token actor (acts c.token) c.request accepts;
       }
 
   -- who made an accepted call bears its token
@@ -98,6 +100,7 @@ StandsFor-opened user token = record {
   files = λ q. get-empty bytes_cmp q;
   bodies = λ q. get-empty bytes_cmp q;
   yanks = λ n r. get-empty pair_cmp (n, r);
+  cases = λ q. get-empty bytes_cmp q;
 }
 
 -- ---- legal histories
@@ -130,6 +133,7 @@ same_tables h T T' one other = λ i. record {
   files = same_map nat_list_cmp_total exact_bytes T.files T'.files (λ q. one.files q ∙ sym (other.files q)) i;
   bodies = same_map nat_list_cmp_total exact_bytes T.bodies T'.bodies (λ q. one.bodies q ∙ sym (other.bodies q)) i;
   yanks = same_map pair_total exact_pair T.yanks T'.yanks (λ q. one.yanks q.0 q.1 ∙ sym (other.yanks q.0 q.1)) i;
+  cases = same_map nat_list_cmp_total exact_bytes T.cases T'.cases (λ q. one.cases q ∙ sym (other.cases q)) i;
 }
   where
     by : (x y : Option (Unit {0})) → is_some x ≡ is_some y → x ≡ y

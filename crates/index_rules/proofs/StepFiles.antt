@@ -8,7 +8,7 @@ use Rattle.index_names.specs.FileName.{project_of, release_of}
 use Rattle.index_digest.specs.Digest.{digest_in}
 use Rattle.index_rules.specs.declared.call.Call.{Call}
 use Rattle.index_rules.specs.declared.call.Request.{Request}
-use Rattle.index_rules.specs.declared.call.Request.TheVariants.{AddUser, SetToken, SetQuota, Claim, AddOwner, RemoveOwner, Upload, Delete, Yank, Unyank, Relinquish, Prohibit, Allow}
+use Rattle.index_rules.specs.declared.call.Request.TheVariants.{AddUser, SetToken, SetQuota, Claim, AddOwner, RemoveOwner, Upload, Delete, Yank, Unyank, Relinquish, Prohibit, Allow, OpenCase, RecordAttempt, Transfer, CloseCase, AnswerCase}
 use Rattle.index_rules.specs.declared.records.FileRecord.{FileRecord}
 use Rattle.index_rules.specs.Maps.{Bytes, same}
 use Rattle.index_rules.specs.Tables.{Tables}
@@ -166,6 +166,11 @@ module _ (T : Tables) (h : History) (files : (file : Bytes) → get T.files file
   files_after (Relinquish name) accepts = files
   files_after (Prohibit name) accepts = files_prohibited name (accepted (of (Prohibit name)) (facts_in T (of (Prohibit name))) accepts).0.1.1.1.0
   files_after (Allow name) accepts = files
+  files_after (OpenCase name kind contact work why) accepts = files
+  files_after (RecordAttempt name means sent) accepts = files
+  files_after (Transfer name quiet) accepts = files
+  files_after (CloseCase name) accepts = files
+  files_after (AnswerCase name) accepts = files
 
   pub bodies_after : ((q : Bytes) → get T.bodies q ≡ body_at h q) → (request : Request) → verdict_now T (of request) ≡ Accept → (q : Bytes) → get (after T (of request)).bodies q ≡ body_at (then request) q
   bodies_after bodies (AddUser user office digest) accepts = bodies
@@ -182,3 +187,8 @@ module _ (T : Tables) (h : History) (files : (file : Bytes) → get T.files file
   bodies_after bodies (Relinquish name) accepts = bodies
   bodies_after bodies (Prohibit name) accepts = bodies_prohibited name (accepted (of (Prohibit name)) (facts_in T (of (Prohibit name))) accepts).0.1.1.1.0 bodies
   bodies_after bodies (Allow name) accepts = bodies
+  bodies_after bodies (OpenCase name kind contact work why) accepts = bodies
+  bodies_after bodies (RecordAttempt name means sent) accepts = bodies
+  bodies_after bodies (Transfer name quiet) accepts = bodies
+  bodies_after bodies (CloseCase name) accepts = bodies
+  bodies_after bodies (AnswerCase name) accepts = bodies

@@ -1,12 +1,13 @@
 -- The names after an accepted call are those of the history with it, once their numbers are.
-use Rattle.std.proofs.Common.{◌≡◌, ℕ, true, false, cond, not, refl, sym, ap, ◌∙◌, subst, Option, Some, None, is_none, option_map, option_and_then, unwrap_or, length}
+use Rattle.std.proofs.Common.{◌≡◌, ℕ, true, false, cond, not, refl, sym, ap, ◌∙◌, subst, Option, Some, None, is_none, option_map, option_and_then, unwrap_or, length, max, [], ◌∷◌}
+use Rattle.std.specs.Option.{option_map_or}
 use Rattle.std.specs.FinMap.{get, insert, remove}
 use Rattle.std.proofs.lemmas.Bool.{false≢true, not-false}
 use Rattle.index_names.specs.Project.{read_name}
 use Rattle.index_names.specs.FileName.{project_of}
 use Rattle.index_rules.specs.declared.call.Call.{Call}
 use Rattle.index_rules.specs.declared.call.Request.{Request}
-use Rattle.index_rules.specs.declared.call.Request.TheVariants.{AddUser, SetToken, SetQuota, Claim, AddOwner, RemoveOwner, Upload, Delete, Yank, Unyank, Relinquish, Prohibit, Allow}
+use Rattle.index_rules.specs.declared.call.Request.TheVariants.{AddUser, SetToken, SetQuota, Claim, AddOwner, RemoveOwner, Upload, Delete, Yank, Unyank, Relinquish, Prohibit, Allow, OpenCase, RecordAttempt, Transfer, CloseCase, AnswerCase}
 use Rattle.index_rules.specs.declared.records.NameRecord.{NameRecord}
 use Rattle.index_rules.specs.declared.records.NameRecord.TheVariants as name_record
 use Rattle.index_rules.specs.declared.records.Project.{Project}
@@ -15,33 +16,42 @@ use Rattle.index_rules.specs.Tables.{Tables}
 use Rattle.index_rules.specs.Requests.{read_file}
 use Rattle.index_rules.specs.Facts.{facts_in}
 use Rattle.index_rules.specs.Verdict.{Accept, verdict_now, project_in, is_held, is_prohibited}
-use Rattle.index_rules.specs.Effect.{key, no_project, file_of, first_quota, with_file, without_file, after}
+use Rattle.index_rules.specs.Effect.{key, no_project, file_of, first_quota, later, with_file, without_file, after}
 use Rattle.index_rules.specs.History.{History, more, is_read_as}
-use Rattle.index_rules.specs.PastNames.{State, Free, Held, Prohibited, state_of, shown_of, quota_of}
+use Rattle.index_rules.specs.PastNames.{State, Free, Held, Prohibited, state_of, shown_of, quota_of, uploads_of, greatest, last_upload_of}
 use Rattle.index_rules.specs.StandsFor.{name_by, project_at, name_at}
 use Rattle.index_rules.proofs.PutLemmas.{each_put, each_without}
 use Rattle.index_rules.proofs.Accepted.{accepted}
 use Rattle.index_rules.proofs.PastReading.{read_key, read_itself, at_key, at_other}
 
--- the record has this state, and a held name is shown so and has this quota
-abbrev pub IsShaped : Option NameRecord → State → Bytes → ℕ → Type 0
-IsShaped found Free shown quota = found ≡ None
-IsShaped found Held shown quota = (project : Project) × (found ≡ Some (name_record.Held project)) × (project.shown ≡ shown) × (project.quota ≡ quota)
-IsShaped found Prohibited shown quota = found ≡ Some name_record.Prohibited
+-- the record has this state, and a held name is shown so and has this quota and this latest upload
+abbrev pub IsShaped : Option NameRecord → State → Bytes → ℕ → Option ℕ → Type 0
+IsShaped found Free shown quota last = found ≡ None
+IsShaped found Held shown quota last =
+    (project : Project) × (found ≡ Some (name_record.Held project)) × (project.shown ≡ shown) × (project.quota ≡ quota) × (project.last_upload ≡ last)
+IsShaped found Prohibited shown quota last = found ≡ Some name_record.Prohibited
 
 abbrev pub IsNamed : History → Bytes → Option NameRecord → Type 0
-IsNamed h n found = IsShaped found (state_of h n) (shown_of h n) (quota_of h n)
+IsNamed h n found = IsShaped found (state_of h n) (shown_of h n) (quota_of h n) (last_upload_of h n)
 
-IsShaped-by : (s : State) (project : Project) (found : Option NameRecord) → found ≡ name_by s project → IsShaped found s project.shown project.quota
+IsShaped-by : (s : State) (project : Project) (found : Option NameRecord) → found ≡ name_by s project → IsShaped found s project.shown project.quota project.last_upload
 IsShaped-by Free project found is = is
-IsShaped-by Held project found is = (project, is, refl, refl)
+IsShaped-by Held project found is = (project, is, refl, refl, refl)
 IsShaped-by Prohibited project found is = is
 
-IsShaped-same : (found : Option NameRecord) (s s' : State) (shown shown' : Bytes) (quota quota' : ℕ) → s ≡ s' → shown ≡ shown' → quota ≡ quota' → IsShaped found s shown quota → IsShaped found s' shown' quota'
-IsShaped-same found s s' shown shown' quota quota' e f g is = subst (λ (x : State × Bytes × ℕ). IsShaped found x.0 x.1 x.2) (λ i. (e i, f i, g i)) is
+IsShaped-same : (found : Option NameRecord) (s s' : State) (shown shown' : Bytes) (quota quota' : ℕ) (last last' : Option ℕ)
+    → s ≡ s' → shown ≡ shown' → quota ≡ quota' → last ≡ last' → IsShaped found s shown quota last → IsShaped found s' shown' quota' last'
+IsShaped-same found s s' shown shown' quota quota' last last' e f g k is =
+    subst (λ (x : State × Bytes × ℕ × Option ℕ). IsShaped found x.0 x.1 x.2 x.3) (λ i. (e i, f i, g i, k i)) is
 
-IsShaped-held : (s : State) (shown : Bytes) (quota : ℕ) (project : Project) → s ≡ Held → project.shown ≡ shown → project.quota ≡ quota → IsShaped (Some (name_record.Held project)) s shown quota
-IsShaped-held s shown quota project e f g = subst (λ s. IsShaped (Some (name_record.Held project)) s shown quota) (sym e) (project, refl, f, g)
+IsShaped-held : (s : State) (shown : Bytes) (quota : ℕ) (last : Option ℕ) (project : Project)
+    → s ≡ Held → project.shown ≡ shown → project.quota ≡ quota → project.last_upload ≡ last → IsShaped (Some (name_record.Held project)) s shown quota last
+IsShaped-held s shown quota last project e f g k = subst (λ s. IsShaped (Some (name_record.Held project)) s shown quota last) (sym e) (project, refl, f, g, k)
+
+-- the later of the latest upload and a moment is the greatest with it
+later-greatest : (at : ℕ) (before : Option ℕ) → Some (later before at) ≡ Some (option_map_or (max at) before at)
+later-greatest at None = refl
+later-greatest at (Some moment) = refl
 
 -- of a name that is held the history says so, and has its numbers
 pub record IsHeldAt (T : Tables) (h : History) (n : Bytes) : Type 0 where
@@ -90,41 +100,57 @@ module _ (T : Tables) (h : History) (stands : (name : Bytes) → get T.names nam
       let held = held_by (read_name name) n reads all.0.1.1.1.1.1.0 in
       let project : Project = unwrap_or (project_in (option_and_then (get T.names) (read_name name))) no_project in
       each_put T.names n (name_record.Held (record project { quota = quota })) (IsNamed (then (SetQuota name quota)))
-      (IsShaped-held (state_of h n) (shown_of h n) (quota_of (then (SetQuota name quota)) n) (record project { quota = quota }) held.0.state (λ i. (held.1 i).shown) (sym (at_key (read_name name) n reads quota (quota_of h n))))
-      (λ q other. IsShaped-same (get T.names q) _ _ _ _ _ _ refl refl (sym (at_other (read_name name) n reads quota (quota_of h q) q other)) (before q))
+      (IsShaped-held (state_of h n) (shown_of h n) (quota_of (then (SetQuota name quota)) n) (last_upload_of h n) (record project { quota = quota }) held.0.state (λ i. (held.1 i).shown) (sym (at_key (read_name name) n reads quota (quota_of h n)))
+      (λ i. (held.1 i).last_upload))
+      (λ q other. IsShaped-same (get T.names q) _ _ _ _ _ _ _ _ refl refl (sym (at_other (read_name name) n reads quota (quota_of h q) q other)) refl (before q))
 
   claimed : (name : Bytes) → is_none (read_name name) ≡ false → (q : Bytes) → IsNamed (then (Claim name)) q (get (after T (of (Claim name))).names q)
   claimed name unread =
       let n : Bytes = key (read_name name) in
       let reads : read_name name ≡ Some n = read_key (read_name name) unread in
-      let project : Project = record { shown = name; quota = first_quota; charge = 0; undeleted = 0 } in
+      let project : Project = record { shown = name; quota = first_quota; charge = 0; undeleted = 0; last_upload = None } in
       each_put T.names n (name_record.Held project) (IsNamed (then (Claim name)))
-      (IsShaped-held _ _ _ project (at_key (read_name name) n reads Held (state_of h n)) (sym (at_key (read_name name) n reads name (shown_of h n))) (sym (at_key (read_name name) n reads first_quota (quota_of h n))))
-      (λ q other. IsShaped-same (get T.names q) _ _ _ _ _ _
-      (sym (at_other (read_name name) n reads Held (state_of h q) q other)) (sym (at_other (read_name name) n reads name (shown_of h q) q other)) (sym (at_other (read_name name) n reads first_quota (quota_of h q) q other)) (before q))
+      (IsShaped-held _ _ _ _ project (at_key (read_name name) n reads Held (state_of h n)) (sym (at_key (read_name name) n reads name (shown_of h n))) (sym (at_key (read_name name) n reads first_quota (quota_of h n)))
+      (sym (ap greatest (at_key (read_name name) n reads [] (uploads_of h n)))))
+      (λ q other. IsShaped-same (get T.names q) _ _ _ _ _ _ _ _
+      (sym (at_other (read_name name) n reads Held (state_of h q) q other)) (sym (at_other (read_name name) n reads name (shown_of h q) q other)) (sym (at_other (read_name name) n reads first_quota (quota_of h q) q other))
+      (sym (ap greatest (at_other (read_name name) n reads [] (uploads_of h q) q other))) (before q))
 
   -- a held name with other numbers
-  numbered : (n : Bytes) (project : Project) → state_of h n ≡ Held → project.shown ≡ shown_of h n → project.quota ≡ quota_of h n
+  numbered : (n : Bytes) (project : Project) → state_of h n ≡ Held → project.shown ≡ shown_of h n → project.quota ≡ quota_of h n → project.last_upload ≡ last_upload_of h n
       → (q : Bytes) → IsNamed h q (get (insert T.names n (name_record.Held project)) q)
-  numbered n project held shown quota =
-      each_put T.names n (name_record.Held project) (IsNamed h) (IsShaped-held (state_of h n) (shown_of h n) (quota_of h n) project held shown quota) (λ q other. before q)
+  numbered n project held shown quota last =
+      each_put T.names n (name_record.Held project) (IsNamed h) (IsShaped-held (state_of h n) (shown_of h n) (quota_of h n) (last_upload_of h n) project held shown quota last) (λ q other. before q)
 
   -- a name that goes, or is prohibited
   freed : (read : Option Bytes) → is_none read ≡ false → (q : Bytes)
-      → IsShaped (get (remove T.names (key read)) q) (cond (is_read_as read q) Free (state_of h q)) (shown_of h q) (quota_of h q)
+      → IsShaped (get (remove T.names (key read)) q) (cond (is_read_as read q) Free (state_of h q)) (shown_of h q) (quota_of h q) (last_upload_of h q)
   freed read unread =
       let reads : read ≡ Some (key read) = read_key read unread in
-      each_without T.names (key read) (λ q found. IsShaped found (cond (is_read_as read q) Free (state_of h q)) (shown_of h q) (quota_of h q))
-      (IsShaped-same None _ _ _ _ _ _ (sym (at_key read (key read) reads Free (state_of h (key read)))) refl refl refl)
-      (λ q other. IsShaped-same (get T.names q) _ _ _ _ _ _ (sym (at_other read (key read) reads Free (state_of h q) q other)) refl refl (before q))
+      each_without T.names (key read) (λ q found. IsShaped found (cond (is_read_as read q) Free (state_of h q)) (shown_of h q) (quota_of h q) (last_upload_of h q))
+      (IsShaped-same None _ _ _ _ _ _ _ _ (sym (at_key read (key read) reads Free (state_of h (key read)))) refl refl refl refl)
+      (λ q other. IsShaped-same (get T.names q) _ _ _ _ _ _ _ _ (sym (at_other read (key read) reads Free (state_of h q) q other)) refl refl refl (before q))
 
   prohibited : (name : Bytes) → is_none (read_name name) ≡ false → (q : Bytes) → IsNamed (then (Prohibit name)) q (get (after T (of (Prohibit name))).names q)
   prohibited name unread =
       let n : Bytes = key (read_name name) in
       let reads : read_name name ≡ Some n = read_key (read_name name) unread in
       each_put T.names n name_record.Prohibited (IsNamed (then (Prohibit name)))
-      (IsShaped-same (Some name_record.Prohibited) _ _ _ _ _ _ (sym (at_key (read_name name) n reads Prohibited (state_of h n))) refl refl refl)
-      (λ q other. IsShaped-same (get T.names q) _ _ _ _ _ _ (sym (at_other (read_name name) n reads Prohibited (state_of h q) q other)) refl refl (before q))
+      (IsShaped-same (Some name_record.Prohibited) _ _ _ _ _ _ _ _ (sym (at_key (read_name name) n reads Prohibited (state_of h n))) refl refl refl refl)
+      (λ q other. IsShaped-same (get T.names q) _ _ _ _ _ _ _ _ (sym (at_other (read_name name) n reads Prohibited (state_of h q) q other)) refl refl refl (before q))
+
+  uploaded : (file digest body requires : Bytes) → read_file file ≡ Some file → not (is_held (option_and_then (get T.names) (option_map project_of (read_file file)))) ≡ false
+      → (q : Bytes) → IsNamed (then (Upload file digest body requires)) q (get (after T (of (Upload file digest body requires))).names q)
+  uploaded file digest body requires is_file missing =
+      let n : Bytes = project_of file in
+      let read : Option Bytes = option_map project_of (read_file file) in
+      let reads : read ≡ Some n = ap (option_map project_of) is_file in
+      let held = held_by read n reads missing in
+      let project : Project = unwrap_or (project_in (option_and_then (get T.names) read)) no_project in
+      each_put T.names n (name_record.Held (with_file at (length body) project)) (IsNamed (then (Upload file digest body requires)))
+      (IsShaped-held (state_of h n) (shown_of h n) (quota_of h n) (last_upload_of (then (Upload file digest body requires)) n) (with_file at (length body) project) held.0.state (λ i. (held.1 i).shown) (λ i. (held.1 i).quota)
+      ((λ i. Some (later (held.1 i).last_upload at)) ∙ later-greatest at (last_upload_of h n) ∙ sym (ap greatest (at_key read n reads (at ∷ uploads_of h n) (uploads_of h n)))))
+      (λ q other. IsShaped-same (get T.names q) _ _ _ _ _ _ _ _ refl refl refl (sym (ap greatest (at_other read n reads (at ∷ uploads_of h q) (uploads_of h q) q other))) (before q))
 
   pub names_after : (request : Request) → verdict_now T (of request) ≡ Accept → (q : Bytes) → IsNamed (then request) q (get (after T (of request)).names q)
   names_after (AddUser user office digest) accepts = before
@@ -135,15 +161,19 @@ module _ (T : Tables) (h : History) (stands : (name : Bytes) → get T.names nam
   names_after (RemoveOwner name user) accepts = before
   names_after (Upload file digest body requires) accepts =
       let all = accepted (of (Upload file digest body requires)) (facts_in T (of (Upload file digest body requires))) accepts in
-      let held = held_by (option_map project_of (read_file file)) (project_of file) (ap (option_map project_of) (read_itself file all.0.1.1.0)) all.0.1.1.1.1.1.1.1.0 in
-      numbered (project_of file) _ held.0.state (λ i. (with_file (length body) (held.1 i)).shown) (λ i. (with_file (length body) (held.1 i)).quota)
+      uploaded file digest body requires (read_itself file all.0.1.1.0) all.0.1.1.1.1.1.1.1.0
   names_after (Delete file) accepts =
       let all = accepted (of (Delete file)) (facts_in T (of (Delete file))) accepts in
       let held = held_by (option_map project_of (read_file file)) (project_of file) (ap (option_map project_of) (read_itself file all.0.1.1.0)) all.0.1.1.1.0 in
       let size : ℕ = (file_of (facts_in T (of (Delete file)))).size in
-      numbered (project_of file) _ held.0.state (λ i. (without_file size (held.1 i)).shown) (λ i. (without_file size (held.1 i)).quota)
+      numbered (project_of file) _ held.0.state (λ i. (without_file size (held.1 i)).shown) (λ i. (without_file size (held.1 i)).quota) (λ i. (held.1 i).last_upload)
   names_after (Yank name release reason) accepts = before
   names_after (Unyank name release) accepts = before
   names_after (Relinquish name) accepts = freed (read_name name) (accepted (of (Relinquish name)) (facts_in T (of (Relinquish name))) accepts).0.1.1.0
   names_after (Prohibit name) accepts = prohibited name (accepted (of (Prohibit name)) (facts_in T (of (Prohibit name))) accepts).0.1.1.1.0
   names_after (Allow name) accepts = freed (read_name name) (accepted (of (Allow name)) (facts_in T (of (Allow name))) accepts).0.1.1.1.0
+  names_after (OpenCase name kind contact work why) accepts = before
+  names_after (RecordAttempt name means sent) accepts = before
+  names_after (Transfer name quiet) accepts = before
+  names_after (CloseCase name) accepts = before
+  names_after (AnswerCase name) accepts = before

@@ -1,23 +1,24 @@
 -- The owners and the yanks after an accepted call are those of the history with it.
-use Rattle.std.proofs.Common.{◌≡◌, ℕ, Bool, true, false, cond, not, ◌&&◌, refl, sym, ap, ◌∙◌, Option, Some, None, is_none, option_map, option_and_then}
+use Rattle.std.proofs.Common.{◌≡◌, ℕ, Bool, true, false, cond, not, ◌&&◌, ◌⊎◌, inl, inr, refl, sym, ap, ◌∙◌, Option, Some, None, is_none, option_map, option_and_then, unwrap_or}
 use Rattle.std.specs.FinMap.{get}
-use Rattle.std.proofs.lemmas.Bool.{not-false}
+use Rattle.std.proofs.lemmas.Bool.{true≢false, not-false}
 use Rattle.index_names.specs.Project.{read_name}
 use Rattle.index_names.specs.Release.{read_release}
 use Rattle.index_rules.specs.declared.call.Call.{Call}
 use Rattle.index_rules.specs.declared.call.Request.{Request}
-use Rattle.index_rules.specs.declared.call.Request.TheVariants.{AddUser, SetToken, SetQuota, Claim, AddOwner, RemoveOwner, Upload, Delete, Yank, Unyank, Relinquish, Prohibit, Allow}
+use Rattle.index_rules.specs.declared.call.Request.TheVariants.{AddUser, SetToken, SetQuota, Claim, AddOwner, RemoveOwner, Upload, Delete, Yank, Unyank, Relinquish, Prohibit, Allow, OpenCase, RecordAttempt, Transfer, CloseCase, AnswerCase}
 use Rattle.index_rules.specs.Maps.{Bytes, same}
 use Rattle.index_rules.specs.Users.{read_user}
 use Rattle.index_rules.specs.Tables.{Tables}
 use Rattle.index_rules.specs.Facts.{bearer_in, caller_by, facts_in, owns_in, yank_in}
 use Rattle.index_rules.specs.Verdict.{Accept, verdict_now, is_held, is_prohibited}
-use Rattle.index_rules.specs.Effect.{key, without_name, after}
+use Rattle.index_rules.specs.Effect.{key, no_case, without_name, after}
 use Rattle.index_rules.specs.History.{History, more, is_read_as}
 use Rattle.index_rules.specs.PastNames.{State, Free, Held, Prohibited, state_of, is_held_now, is_given, owns, yanked_for, yank_of}
-use Rattle.index_rules.specs.StandsFor.{name_at}
+use Rattle.index_rules.specs.PastCases.{Case, case_of, candidate_of}
+use Rattle.index_rules.specs.StandsFor.{name_at, case_at, case_by_attempts}
 use Rattle.index_rules.proofs.OwnerLists.{same-is}
-use Rattle.index_rules.proofs.KeyLemmas.{same-sym, same_truth, has-put, has-without, has-cleared, get-put_pair, get-without_pair, get-without_name}
+use Rattle.index_rules.proofs.KeyLemmas.{same-sym, same_truth, cases_same, has-put, has-without, has-cleared, get-put_pair, get-without_pair, get-without_name}
 use Rattle.index_rules.proofs.Accepted.{accepted}
 use Rattle.index_rules.proofs.PastReading.{read_key}
 use Rattle.index_rules.proofs.StepNames.{held_at, prohibited_at}
@@ -31,6 +32,11 @@ own-claimed : (b c o g : Bool) (s : State) → o ≡ (is_held_now s && g) → co
 own-claimed true true o g s is = refl
 own-claimed true false o g s is = refl
 own-claimed false c o g s is = is
+
+own-transferred : (b c o g : Bool) (s : State) → o ≡ (is_held_now s && g) → (b ≡ true → is_held_now s ≡ true) → cond (b && c) true (cond (not b) o false) ≡ (is_held_now s && cond b c g)
+own-transferred true true o g s is held = sym (ap (λ y. y && true) (held refl))
+own-transferred true false o g s is held = sym (ap (λ y. y && false) (held refl))
+own-transferred false c o g s is held = is
 
 own-added : (b x g : Bool) → (b ≡ true → x ≡ true) → cond b true (x && g) ≡ (x && cond b true g)
 own-added true x g held = sym (ap (λ y. y && true) (held refl))
@@ -78,7 +84,7 @@ first_true false b is = is
 
 -- ---- the names of requests
 
-module _ (T : Tables) (h : History) (names : (name : Bytes) → get T.names name ≡ name_at h name) (at : ℕ) (token actor : Bytes) where
+module _ (T : Tables) (h : History) (names : (name : Bytes) → get T.names name ≡ name_at h name) (cases : (name : Bytes) → get T.cases name ≡ case_at h name) (at : ℕ) (token actor : Bytes) where
   abbrev of : Request → Call
   of request = record { at = at; token = token; request = request }
 
@@ -104,6 +110,30 @@ module _ (T : Tables) (h : History) (names : (name : Bytes) → get T.names name
         ∙ (λ i. cond (same m n && same u (acts i)) true (cond (not (flip n m i)) (owns_in T m u) false))
         ∙ own-claimed (same m n) (same u actor) (owns_in T m u) (is_given h m u) (state_of h m) (stands m u)
         ∙ (λ i. is_held_now (cond (is_read_as (sym reads i) m) Held (state_of h m)) && cond (is_read_as (sym reads i) m) (same u actor) (is_given h m u))
+
+    owners_transferred : (name : Bytes) (quiet : Bool) → is_none (read_name name) ≡ false → not (is_held (option_and_then (get T.names) (read_name name))) ≡ false
+        → is_none (option_and_then (get T.cases) (read_name name)) ≡ false → (m u : Bytes) → owns_in (after T (of (Transfer name quiet))) m u ≡ owns (then (Transfer name quiet)) m u
+    owners_transferred name quiet unread missing no_case_there m u =
+        let n : Bytes = key (read_name name) in
+        let reads : read_name name ≡ Some n = read_key (read_name name) unread in
+        let candidate : Bytes = (unwrap_or (option_and_then (get T.cases) (read_name name)) no_case).candidate in
+        let found : option_and_then (get T.cases) (read_name name) ≡ case_at h n = ap (option_and_then (get T.cases)) reads ∙ cases n in
+        let is : candidate_of h n ≡ Some candidate = candidate_there (case_of h n) (sym (ap is_none found) ∙ no_case_there) ∙ (λ i. Some (unwrap_or (sym found i) no_case).candidate) in
+        has-put (without_name n T.owners) n candidate m u ∙ ap (cond (same m n && same u candidate) true) (has-cleared T.owners n m u)
+        ∙ (λ i. cond (same m n && same u candidate) true (cond (not (flip n m i)) (owns_in T m u) false))
+        ∙ own-transferred (same m n) (same u candidate) (owns_in T m u) (is_given h m u) (state_of h m) (stands m u) (held_as (read_name name) n m reads missing)
+        ∙ ap (λ b. is_held_now (state_of h m) && b) (to_candidate m n candidate (cases_same m n) is)
+        ∙ (λ i. is_held_now (state_of h m) && cond (is_read_as (sym reads i) m) (is_read_as (candidate_of h m) u) (is_given h m u))
+      where
+        candidate_there : (case : Option Case) → is_none (option_map case_by_attempts case) ≡ false → option_map (λ one. one.candidate) case ≡ Some (unwrap_or (option_map case_by_attempts case) no_case).candidate
+        candidate_there None missing = absurd (true≢false missing)
+        candidate_there (Some one) missing = refl
+
+        to_candidate : (m : Bytes) → (n candidate : Bytes) → (m ≡ n) ⊎ (same m n ≡ false) → candidate_of h n ≡ Some candidate
+            → cond (same m n) (same u candidate) (is_given h m u) ≡ cond (same m n) (is_read_as (candidate_of h m) u) (is_given h m u)
+        to_candidate m n candidate (inl e) is = ap (λ c. cond (same m n) (is_read_as c u) (is_given h m u)) (sym (ap (candidate_of h) e ∙ is))
+        to_candidate m n candidate (inr other) is =
+            ap (λ b. cond b (same u candidate) (is_given h m u)) other ∙ sym (ap (λ b. cond b (is_read_as (candidate_of h m) u) (is_given h m u)) other)
 
     owner_added : (name user : Bytes) → is_none (read_name name) ≡ false → is_none (read_user user) ≡ false → not (is_held (option_and_then (get T.names) (read_name name))) ≡ false
         → (m v : Bytes) → owns_in (after T (of (AddOwner name user))) m v ≡ owns (then (AddOwner name user)) m v
@@ -158,6 +188,13 @@ module _ (T : Tables) (h : History) (names : (name : Bytes) → get T.names name
         let reads : read_name name ≡ Some n = read_key (read_name name) all.0.1.1.1.0 in
         stands m u ∙ own-allowed (same m n) (is_given h m u) (state_of h m) (prohibited_as (read_name name) n m reads all.1)
         ∙ (λ i. is_held_now (cond (is_read_as (sym reads i) m) Free (state_of h m)) && is_given h m u)
+    owners_after (OpenCase name kind contact work why) accepts = stands
+    owners_after (RecordAttempt name means sent) accepts = stands
+    owners_after (Transfer name quiet) accepts =
+        let all = accepted (of (Transfer name quiet)) (facts_in T (of (Transfer name quiet))) accepts in
+        owners_transferred name quiet all.0.1.1.1.0 all.0.1.1.1.1.0 all.0.1.1.1.1.1.0
+    owners_after (CloseCase name) accepts = stands
+    owners_after (AnswerCase name) accepts = stands
 
   module _ (stands : (name release : Bytes) → yank_in T name release ≡ yank_of h name release) where
     yanks_claimed : (name : Bytes) → is_none (read_name name) ≡ false → (m r : Bytes) → yank_in (after T (of (Claim name))) m r ≡ yank_of (then (Claim name)) m r
@@ -220,3 +257,8 @@ module _ (T : Tables) (h : History) (names : (name : Bytes) → get T.names name
         let reads : read_name name ≡ Some n = read_key (read_name name) all.0.1.1.1.0 in
         stands m r ∙ yank-allowed (same m n) (yanked_for h m r) (state_of h m) (prohibited_as (read_name name) n m reads all.1)
         ∙ (λ i. cond (is_held_now (cond (is_read_as (sym reads i) m) Free (state_of h m))) (yanked_for h m r) None)
+    yanks_after (OpenCase name kind contact work why) accepts = stands
+    yanks_after (RecordAttempt name means sent) accepts = stands
+    yanks_after (Transfer name quiet) accepts = stands
+    yanks_after (CloseCase name) accepts = stands
+    yanks_after (AnswerCase name) accepts = stands

@@ -4,7 +4,7 @@ use Rattle.std.specs.FinMap.{get}
 use Rattle.std.proofs.lemmas.Bool.{true≢false}
 use Rattle.index_rules.specs.declared.call.Call.{Call}
 use Rattle.index_rules.specs.declared.call.Request.{Request}
-use Rattle.index_rules.specs.declared.call.Request.TheVariants.{AddUser, SetToken, SetQuota, Claim, AddOwner, RemoveOwner, Upload, Delete, Yank, Unyank, Relinquish, Prohibit, Allow}
+use Rattle.index_rules.specs.declared.call.Request.TheVariants.{AddUser, SetToken, SetQuota, Claim, AddOwner, RemoveOwner, Upload, Delete, Yank, Unyank, Relinquish, Prohibit, Allow, OpenCase, RecordAttempt, Transfer, CloseCase, AnswerCase}
 use Rattle.index_rules.specs.declared.records.UserRecord.{UserRecord}
 use Rattle.index_rules.specs.Maps.{Bytes, same}
 use Rattle.index_rules.specs.Users.{read_user}
@@ -67,3 +67,8 @@ module _ (T : Tables) (h : History) (stands : (user : Bytes) → get T.users use
   users_after (Relinquish name) accepts = stands
   users_after (Prohibit name) accepts = stands
   users_after (Allow name) accepts = stands
+  users_after (OpenCase name kind contact work why) accepts = stands
+  users_after (RecordAttempt name means sent) accepts = stands
+  users_after (Transfer name quiet) accepts = stands
+  users_after (CloseCase name) accepts = stands
+  users_after (AnswerCase name) accepts = stands

@@ -1,14 +1,17 @@
 -- What an accepted call writes, and what a change means for the tables.
-use Rattle.std.specs.Prelude.{ℕ, ◌+◌, ◌-◌, Bool, true, false, not, if◌then◌else◌, [], Option, unwrap_or, option_map, length}
+use Rattle.std.specs.Prelude.{ℕ, ◌+◌, ◌-◌, max, Bool, true, false, not, if◌then◌else◌, [], Option, Some, None, unwrap_or, option_map, length}
 use Rattle.std.specs.Option.{option_map_or}
 use Rattle.std.specs.FinMap.{get, insert, remove, retain_keys}
 use Rattle.index_names.specs.FileName.{project_of, release_of}
 use Rattle.index_rules.specs.declared.call.Call.{Call}
 use Rattle.index_rules.specs.declared.call.Request.{Request}
-use Rattle.index_rules.specs.declared.call.Request.TheVariants.{AddUser, SetToken, SetQuota, Claim, AddOwner, RemoveOwner, Upload, Delete, Yank, Unyank, Relinquish, Prohibit, Allow}
+use Rattle.index_rules.specs.declared.call.Request.TheVariants.{AddUser, SetToken, SetQuota, Claim, AddOwner, RemoveOwner, Upload, Delete, Yank, Unyank, Relinquish, Prohibit, Allow, OpenCase, RecordAttempt, Transfer, CloseCase, AnswerCase}
 use Rattle.index_rules.specs.declared.change.Change.{Change}
 use Rattle.index_rules.specs.declared.change.Change.TheVariants as change
 use Rattle.index_rules.specs.declared.records.NameRecord.TheVariants.{Held, Prohibited}
+use Rattle.index_retention.specs.declared.attempts.CaseKind.TheVariants.{Continue}
+use Rattle.index_retention.specs.Attempts.{Attempt, attempt_of, noted, tally_of}
+use Rattle.index_rules.specs.declared.records.CaseRecord.{CaseRecord}
 use Rattle.index_rules.specs.declared.records.FileRecord.{FileRecord}
 use Rattle.index_rules.specs.declared.records.Project.{Project}
 use Rattle.index_rules.specs.declared.records.UserRecord.{UserRecord}
@@ -27,7 +30,7 @@ abbrev pub caller_in : Facts → Bytes
 caller_in f = key (option_map (λ caller. caller.user) f.caller)
 
 abbrev pub no_project : Project
-no_project = record { shown = []; quota = 0; charge = 0; undeleted = 0 }
+no_project = record { shown = []; quota = 0; charge = 0; undeleted = 0; last_upload = None }
 
 abbrev pub held_in : Facts → Project
 held_in f = unwrap_or (project_in f.name) no_project
@@ -44,15 +47,26 @@ no_file = record { project = []; release = []; digest = []; size = 0; requires_p
 abbrev pub file_of : Facts → FileRecord
 file_of f = unwrap_or f.file no_file
 
+abbrev pub no_case : CaseRecord
+no_case = record { kind = Continue; candidate = []; contact = []; work = []; why = []; opened = 0; state = tally_of [] }
+
+abbrev pub case_in : Facts → CaseRecord
+case_in f = unwrap_or f.case no_case
+
 -- ---- what is written
 
 -- the quota that a claim brings: one gibibyte
 abbrev pub first_quota : ℕ
 first_quota = 1073741824
 
--- one more undeleted file of this size
-abbrev pub with_file : ℕ → Project → Project
-with_file size project = record project { charge = project.charge + size; undeleted = project.undeleted + 1 }
+-- the greater of two moments
+abbrev pub later : Option ℕ → ℕ → ℕ
+later None at = at
+later (Some before) at = max at before
+
+-- one more undeleted file of this size, uploaded at this moment
+abbrev pub with_file : ℕ → ℕ → Project → Project
+with_file at size project = record project { charge = project.charge + size; undeleted = project.undeleted + 1; last_upload = Some (later project.last_upload at) }
 
 -- one less of this size; nothing falls below 0
 abbrev pub without_file : ℕ → Project → Project
@@ -73,19 +87,23 @@ is_file_of files name file = option_map_or (λ known. same name known.project) (
 abbrev pub without_name : {X : Type 0} → Bytes → PairMap X → PairMap X
 without_name name m = retain_keys m (λ pair. not (same name pair.0))
 
--- what an accepted request writes
-abbrev pub effect : Request → Facts → Change
-effect (AddUser user office token) f =
+-- one attempt more
+abbrev pub with_attempt : Attempt → CaseRecord → CaseRecord
+with_attempt attempt case = record case { state = noted case.state attempt }
+
+-- what an accepted request at a moment writes
+abbrev pub effect : ℕ → Request → Facts → Change
+effect at (AddUser user office token) f =
     change.AddUser (key (user_key (AddUser user office token))) (record { office = office; token = key (declared_digest (AddUser user office token)) })
-effect (SetToken user token) f =
+effect at (SetToken user token) f =
     change.SetToken (key (user_key (SetToken user token))) (record { office = (user_in f).office; token = key (declared_digest (SetToken user token)) })
-effect (SetQuota name quota) f = change.SetQuota (key (name_key (SetQuota name quota))) (record (held_in f) { quota = quota })
-effect (Claim name) f =
-    change.Claim (key (name_key (Claim name))) (record { shown = name; quota = first_quota; charge = 0; undeleted = 0 }) (caller_in f)
-effect (AddOwner name user) f = change.AddOwner (key (name_key (AddOwner name user))) (key (user_key (AddOwner name user)))
-effect (RemoveOwner name user) f = change.RemoveOwner (key (name_key (RemoveOwner name user))) (key (user_key (RemoveOwner name user)))
-effect (Upload file sha256 body requires) f =
-    change.Upload (project_of file) (with_file (length body) (held_in f)) file
+effect at (SetQuota name quota) f = change.SetQuota (key (name_key (SetQuota name quota))) (record (held_in f) { quota = quota })
+effect at (Claim name) f =
+    change.Claim (key (name_key (Claim name))) (record { shown = name; quota = first_quota; charge = 0; undeleted = 0; last_upload = None }) (caller_in f)
+effect at (AddOwner name user) f = change.AddOwner (key (name_key (AddOwner name user))) (key (user_key (AddOwner name user)))
+effect at (RemoveOwner name user) f = change.RemoveOwner (key (name_key (RemoveOwner name user))) (key (user_key (RemoveOwner name user)))
+effect at (Upload file sha256 body requires) f =
+    change.Upload (project_of file) (with_file at (length body) (held_in f)) file
     (record {
       project = project_of file;
       release = release_of file;
@@ -95,12 +113,18 @@ effect (Upload file sha256 body requires) f =
       is_undeleted = true;
     })
     body
-effect (Delete file) f = change.Delete (project_of file) (without_file (file_of f).size (held_in f)) file (deleted (file_of f))
-effect (Yank name release reason) f = change.Yank (key (name_key (Yank name release reason))) (key (release_key (Yank name release reason))) reason
-effect (Unyank name release) f = change.Unyank (key (name_key (Unyank name release))) (key (release_key (Unyank name release)))
-effect (Relinquish name) f = change.Relinquish (key (name_key (Relinquish name)))
-effect (Prohibit name) f = change.Prohibit (key (name_key (Prohibit name)))
-effect (Allow name) f = change.Allow (key (name_key (Allow name)))
+effect at (Delete file) f = change.Delete (project_of file) (without_file (file_of f).size (held_in f)) file (deleted (file_of f))
+effect at (Yank name release reason) f = change.Yank (key (name_key (Yank name release reason))) (key (release_key (Yank name release reason))) reason
+effect at (Unyank name release) f = change.Unyank (key (name_key (Unyank name release))) (key (release_key (Unyank name release)))
+effect at (Relinquish name) f = change.Relinquish (key (name_key (Relinquish name)))
+effect at (Prohibit name) f = change.Prohibit (key (name_key (Prohibit name)))
+effect at (Allow name) f = change.Allow (key (name_key (Allow name)))
+effect at (OpenCase name kind contact work why) f = change.OpenCase (key (name_key (OpenCase name kind contact work why)))
+    (record { kind = kind; candidate = caller_in f; contact = contact; work = work; why = why; opened = at; state = tally_of [] })
+effect at (RecordAttempt name means sent) f = change.RecordAttempt (key (name_key (RecordAttempt name means sent))) (with_attempt (attempt_of means sent at) (case_in f))
+effect at (Transfer name quiet) f = change.Transfer (key (name_key (Transfer name quiet))) (case_in f).candidate
+effect at (CloseCase name) f = change.CloseCase (key (name_key (CloseCase name)))
+effect at (AnswerCase name) f = change.AnswerCase (key (name_key (AnswerCase name)))
 
 -- what a change means for the tables
 abbrev pub means : Change → Tables → Tables
@@ -111,25 +135,29 @@ means (change.Claim name project owner) T = record T {
   names = insert T.names name (Held project);
   owners = insert (without_name name T.owners) (name, owner) tt;
   yanks = without_name name T.yanks;
+  cases = remove T.cases name;
 }
-means (change.AddOwner name user) T = record T { owners = insert T.owners (name, user) tt }
-means (change.RemoveOwner name user) T = record T { owners = remove T.owners (name, user) }
+means (change.AddOwner name user) T = record T { owners = insert T.owners (name, user) tt; cases = remove T.cases name }
+means (change.RemoveOwner name user) T = record T { owners = remove T.owners (name, user); cases = remove T.cases name }
 means (change.Upload name project file known body) T = record T {
   names = insert T.names name (Held project);
   files = insert T.files file known;
   bodies = insert T.bodies file body;
+  cases = remove T.cases name;
 }
 means (change.Delete name project file known) T = record T {
   names = insert T.names name (Held project);
   files = insert T.files file known;
   bodies = remove T.bodies file;
+  cases = remove T.cases name;
 }
-means (change.Yank name release reason) T = record T { yanks = insert T.yanks (name, release) reason }
-means (change.Unyank name release) T = record T { yanks = remove T.yanks (name, release) }
+means (change.Yank name release reason) T = record T { yanks = insert T.yanks (name, release) reason; cases = remove T.cases name }
+means (change.Unyank name release) T = record T { yanks = remove T.yanks (name, release); cases = remove T.cases name }
 means (change.Relinquish name) T = record T {
   names = remove T.names name;
   owners = without_name name T.owners;
   yanks = without_name name T.yanks;
+  cases = remove T.cases name;
 }
 means (change.Prohibit name) T = record T {
   names = insert T.names name Prohibited;
@@ -137,9 +165,18 @@ means (change.Prohibit name) T = record T {
   files = change_values (deleted_of name) T.files;
   bodies = retain_keys T.bodies (λ file. not (is_file_of T.files name file));
   yanks = without_name name T.yanks;
+  cases = remove T.cases name;
 }
 means (change.Allow name) T = record T { names = remove T.names name }
+means (change.OpenCase name case) T = record T { cases = insert T.cases name case }
+means (change.RecordAttempt name case) T = record T { cases = insert T.cases name case }
+means (change.Transfer name candidate) T = record T {
+  owners = insert (without_name name T.owners) (name, candidate) tt;
+  cases = remove T.cases name;
+}
+means (change.CloseCase name) T = record T { cases = remove T.cases name }
+means (change.AnswerCase name) T = record T { cases = remove T.cases name }
 
 -- the tables after an accepted call
 abbrev pub after : Tables → Call → Tables
-after T c = means (effect c.request (facts_in T c)) T
+after T c = means (effect c.at c.request (facts_in T c)) T

@@ -9,6 +9,7 @@ use Rattle.index_rules.specs.declared.keys.Keys.{Keys}
 use Rattle.index_rules.specs.declared.records.UserRecord.{UserRecord}
 use Rattle.index_rules.specs.declared.records.NameRecord.{NameRecord}
 use Rattle.index_rules.specs.declared.records.FileRecord.{FileRecord}
+use Rattle.index_rules.specs.declared.records.CaseRecord.{CaseRecord}
 use Rattle.index_rules.specs.declared.view.Caller.{Caller}
 use Rattle.index_rules.specs.declared.view.View.{View}
 use Rattle.index_rules.specs.Maps.{Bytes, same}
@@ -33,6 +34,8 @@ pub record Facts : Type 0 where
   -- the reason for which the release is yanked, and whether the release has an undeleted file
   pub yank : Option Bytes
   pub has_release : Bool
+  -- the open case of the name
+  pub case : Option CaseRecord
 
 -- ---- read off the tables
 
@@ -85,6 +88,7 @@ facts_in T c = record {
   file = option_and_then (get T.files) (file_key c.request);
   yank = at_both (yank_in T) (name_key c.request) (release_key c.request);
   has_release = of_both (has_release_in T) (name_key c.request) (release_key c.request);
+  case = option_and_then (get T.cases) (name_key c.request);
 }
 
 -- no two users bear one digest
@@ -118,6 +122,7 @@ pub record Sees (T : Tables) (k : Keys) (v : View) : Type 0 where
   pub file : v.file ≡ option_and_then (get T.files) k.file
   pub yank : v.yank ≡ at_both (yank_in T) k.name k.release
   pub has_release : v.has_release ≡ of_both (has_release_in T) k.name k.release
+  pub case : v.case ≡ option_and_then (get T.cases) k.name
 
 -- whether a user is there, and is one of these
 abbrev pub is_one_of : List Bytes → Option Bytes → Bool
@@ -139,4 +144,5 @@ facts_seen v r = record {
   file = v.file;
   yank = v.yank;
   has_release = v.has_release;
+  case = v.case;
 }

@@ -1,15 +1,20 @@
 -- What holds of every legal history.
-use Rattle.std.specs.Prelude.{◌≡◌, ◌⊎◌, ℕ, ◌+◌, Bool, false, if◌then◌else◌, length, Some, option_map}
+use Rattle.std.specs.Prelude.{◌≡◌, ◌⊎◌, ℕ, ◌+◌, Bool, true, false, if◌then◌else◌, length, Some, option_map}
 use Rattle.index_names.specs.Project.{read_name}
 use Rattle.index_names.specs.FileName.{project_of}
 use Rattle.index_digest.specs.Digest.{digest_in}
 use Rattle.index_rules.specs.declared.call.Request.{Request}
-use Rattle.index_rules.specs.declared.call.Request.TheVariants.{Claim, AddOwner, RemoveOwner, Upload, Delete, Relinquish, Prohibit, Allow}
-use Rattle.index_rules.specs.Maps.{Bytes}
-use Rattle.index_rules.specs.Requests.{read_file}
+use Rattle.index_rules.specs.declared.call.Request.TheVariants.{AddUser, SetToken, Claim, AddOwner, RemoveOwner, Upload, Delete, Relinquish, Prohibit, Allow, Transfer}
+use Rattle.index_rules.specs.Maps.{Bytes, same}
+use Rattle.index_retention.specs.Attempts.{tally_of}
+use Rattle.index_retention.specs.Transfer.{IsReady}
+use Rattle.index_rules.specs.declared.call.Call.{Call}
+use Rattle.index_rules.specs.Requests.{name_key, read_file}
 use Rattle.index_rules.specs.Effect.{key}
 use Rattle.index_rules.specs.History.{History, Entry, begins, more, is_read_as}
-use Rattle.index_rules.specs.PastNames.{state_of, owns}
+use Rattle.index_rules.specs.PastNames.{state_of, quota_of, last_upload_of, owns, yank_of}
+use Rattle.index_rules.specs.PastCases.{Case, case_of, is_unanswered}
+use Rattle.index_rules.specs.Legal.{IsLegal, verdict_after}
 use Rattle.index_rules.specs.PastFiles.{undeleted, size_of, charge}
 
 -- ---- a file name is bound for good
@@ -55,6 +60,7 @@ may_move_state request n = false
 abbrev pub may_move_owners : Request → Bytes → Bool
 may_move_owners (AddOwner name user) n = is_read_as (read_name name) n
 may_move_owners (RemoveOwner name user) n = is_read_as (read_name name) n
+may_move_owners (Transfer name quiet) n = is_read_as (read_name name) n
 may_move_owners request n = may_move_state request n
 
 -- what an entry moves
@@ -68,3 +74,44 @@ pub record Moves (h : History) (e : Entry) : Type 0 where
 abbrev pub MovesAsRecorded : History → Type 0
 MovesAsRecorded (begins user token) = Unit {0}
 MovesAsRecorded (more h e) = MovesAsRecorded h × Moves h e
+
+-- ---- every transfer was ready
+
+-- what held right before a transfer of the name to the candidate of its case, and what holds right after it
+pub record WasReady (h : History) (e : Entry) (name : Bytes) (quiet : Bool) : Type 0 where
+  pub case : Case
+  pub is_open : case_of h name ≡ Some case
+  -- three attempts were sent and each means was tried, six weeks and a year have passed, and the home page is quiet
+  pub ready : IsReady (tally_of case.attempts) (last_upload_of h name) quiet e.call.at
+  -- no owner acted since the case was opened
+  pub unanswered : is_unanswered h name ≡ true
+  -- the candidate alone owns the name, and its quota and yanks are as they were
+  pub owners : (u : Bytes) → owns (more h e) name u ≡ same u case.candidate
+  pub quota : quota_of (more h e) name ≡ quota_of h name
+  pub yanks : (r : Bytes) → yank_of (more h e) name r ≡ yank_of h name r
+
+abbrev pub TransferWasReady : Request → History → Entry → Type 0
+TransferWasReady (Transfer name quiet) h e = (n : Bytes) → read_name name ≡ Some n → WasReady h e n quiet
+TransferWasReady request h e = Unit {0}
+
+-- each transfer was
+abbrev pub TransfersWereReady : History → Type 0
+TransfersWereReady (begins user token) = Unit {0}
+TransfersWereReady (more h e) = TransfersWereReady h × TransferWasReady e.call.request h e
+
+-- ---- names don't touch one another
+
+-- whether a request is on users, or speaks of the name (of a file: of its project)
+abbrev pub is_kept : Request → Bytes → Bool
+is_kept (AddUser user office token) n = true
+is_kept (SetToken user token) n = true
+is_kept request n = is_read_as (name_key request) n
+
+-- the opening, the entries on users and those of one name, in order
+abbrev pub only : Bytes → History → History
+only n (begins user token) = begins user token
+only n (more h e) = if is_kept e.call.request n then more (only n h) e else only n h
+
+-- they are a legal history, and a call of the name has the same verdict in it
+abbrev pub StandsAlone : History → Type 0
+StandsAlone h = (n : Bytes) → IsLegal (only n h) × ((c : Call) → name_key c.request ≡ Some n → verdict_after (only n h) c ≡ verdict_after h c)

@@ -16,7 +16,7 @@ use Rattle.index_rules.specs.History.{History, begins, more}
 use Rattle.index_rules.specs.PastUsers.{user_of, bearer}
 use Rattle.index_rules.specs.PastNames.{owns, alone_owns, yank_of}
 use Rattle.index_rules.specs.PastFiles.{has_file_of}
-use Rattle.index_rules.specs.StandsFor.{StandsFor, name_at, file_at}
+use Rattle.index_rules.specs.StandsFor.{StandsFor, name_at, file_at, case_at}
 
 -- the user as the caller of a call
 abbrev pub caller_at : History → Bytes → Caller
@@ -35,6 +35,7 @@ facts_after h c = record {
   file = option_and_then (file_at h) (file_key c.request);
   yank = at_both (yank_of h) (name_key c.request) (release_key c.request);
   has_release = of_both (has_file_of h) (name_key c.request) (release_key c.request);
+  case = option_and_then (case_at h) (name_key c.request);
 }
 
 -- the verdict on a call after a history

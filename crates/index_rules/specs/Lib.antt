@@ -17,6 +17,7 @@ pub mod History
 pub mod PastUsers
 pub mod PastNames
 pub mod PastFiles
+pub mod PastCases
 pub mod StandsFor
 pub mod Legal
 pub mod Laws

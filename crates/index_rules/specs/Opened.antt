@@ -20,6 +20,7 @@ opened user token = record {
   files = empty;
   bodies = empty;
   yanks = empty;
+  cases = empty;
 }
 
 -- the bytes are no user id, or the digest is that of the empty text, which is no token

@@ -1,15 +1,19 @@
 -- What a history makes of a name: whether it is free, held or prohibited, how it is shown, its quota, its owners, its yanks.
-use Rattle.std.specs.Prelude.{ℕ, Bool, true, false, not, ◌&&◌, ◌||◌, if◌then◌else◌, List, [], ◌∷◌, Option, Some, None}
+use Rattle.std.specs.Prelude.{ℕ, max, Bool, true, false, not, ◌&&◌, ◌||◌, if◌then◌else◌, List, [], ◌∷◌, Option, Some, None, option_map, option_and_then}
+use Rattle.std.specs.Option.{option_map_or}
 use Rattle.std.specs.List.{list_all}
 use Rattle.index_names.specs.Project.{read_name}
+use Rattle.index_names.specs.FileName.{project_of}
 use Rattle.index_names.specs.Release.{read_release}
 use Rattle.index_rules.specs.declared.call.Request.{Request}
-use Rattle.index_rules.specs.declared.call.Request.TheVariants.{SetQuota, Claim, AddOwner, RemoveOwner, Yank, Unyank, Relinquish, Prohibit, Allow}
+use Rattle.index_rules.specs.declared.call.Request.TheVariants.{SetQuota, Claim, AddOwner, RemoveOwner, Upload, Yank, Unyank, Relinquish, Prohibit, Allow, Transfer}
 use Rattle.index_rules.specs.Maps.{Bytes, same}
 use Rattle.index_rules.specs.Users.{read_user}
+use Rattle.index_rules.specs.Requests.{read_file}
 use Rattle.index_rules.specs.Effect.{first_quota}
 use Rattle.index_rules.specs.History.{History, begins, more, is_read_as}
 use Rattle.index_rules.specs.PastUsers.{with_read}
+use Rattle.index_rules.specs.PastCases.{candidate_of}
 
 pub data State : Type 0 where
   Free : State
@@ -56,32 +60,55 @@ abbrev pub quota_of : History → Bytes → ℕ
 quota_of (begins user token) n = first_quota
 quota_of (more h e) n = quota_by e.call.request n (quota_of h n)
 
+-- ---- the latest upload
+
+abbrev pub uploads_by : Request → ℕ → Bytes → List ℕ → List ℕ
+uploads_by (Claim name) at n before = if is_read_as (read_name name) n then [] else before
+uploads_by (Upload file sha256 body requires) at n before = if is_read_as (option_map project_of (read_file file)) n then at ∷ before else before
+uploads_by request at n before = before
+
+-- the moments of the name's uploads since its last claim
+abbrev pub uploads_of : History → Bytes → List ℕ
+uploads_of (begins user token) n = []
+uploads_of (more h e) n = uploads_by e.call.request e.call.at n (uploads_of h n)
+
+abbrev pub greatest : List ℕ → Option ℕ
+greatest [] = None
+greatest (moment ∷ moments) = Some (option_map_or (max moment) (greatest moments) moment)
+
+-- the greatest of these
+abbrev pub last_upload_of : History → Bytes → Option ℕ
+last_upload_of h n = greatest (uploads_of h n)
+
 -- ---- the owners
 
-abbrev pub given_by : Request → Bytes → Bytes → Bytes → Bool → Bool
-given_by (Claim name) actor n u before = if is_read_as (read_name name) n then same u actor else before
-given_by (AddOwner name user) actor n u before = if is_read_as (read_name name) n && is_read_as (read_user user) u then true else before
-given_by (RemoveOwner name user) actor n u before = if is_read_as (read_name name) n && is_read_as (read_user user) u then false else before
-given_by request actor n u before = before
+abbrev pub given_by : Request → Bytes → Option Bytes → Bytes → Bytes → Bool → Bool
+given_by (Claim name) actor candidate n u before = if is_read_as (read_name name) n then same u actor else before
+given_by (AddOwner name user) actor candidate n u before = if is_read_as (read_name name) n && is_read_as (read_user user) u then true else before
+given_by (RemoveOwner name user) actor candidate n u before = if is_read_as (read_name name) n && is_read_as (read_user user) u then false else before
+given_by (Transfer name quiet) actor candidate n u before = if is_read_as (read_name name) n then is_read_as candidate u else before
+given_by request actor candidate n u before = before
 
--- whether from the name's last claim on, which gives it to its actor alone, the last entry that gives it to the user or takes it away gives it
+-- whether from the name's last claim or transfer on, which gives it to its actor or to its case's candidate alone, the last entry
+-- that gives it to the user or takes it away gives it
 abbrev pub is_given : History → Bytes → Bytes → Bool
 is_given (begins user token) n u = false
-is_given (more h e) n u = given_by e.call.request e.actor n u (is_given h n u)
+is_given (more h e) n u = given_by e.call.request e.actor (candidate_of h n) n u (is_given h n u)
 
 -- an owner is one to whom a held name is given
 abbrev pub owns : History → Bytes → Bytes → Bool
 owns h n u = is_held_now (state_of h n) && is_given h n u
 
-abbrev pub given_to : Request → Bytes → List Bytes → List Bytes
-given_to (Claim name) actor users = actor ∷ users
-given_to (AddOwner name user) actor users = with_read (read_user user) users
-given_to request actor users = users
+abbrev pub given_to : Request → Bytes → (Bytes → Option Bytes) → List Bytes → List Bytes
+given_to (Claim name) actor candidate users = actor ∷ users
+given_to (AddOwner name user) actor candidate users = with_read (read_user user) users
+given_to (Transfer name quiet) actor candidate users = with_read (option_and_then candidate (read_name name)) users
+given_to request actor candidate users = users
 
 -- all to whom any name was ever given
 abbrev pub receivers : History → List Bytes
 receivers (begins user token) = []
-receivers (more h e) = given_to e.call.request e.actor (receivers h)
+receivers (more h e) = given_to e.call.request e.actor (candidate_of h) (receivers h)
 
 -- the user owns the name, and nobody else does
 abbrev pub alone_owns : History → Bytes → Bytes → Bool

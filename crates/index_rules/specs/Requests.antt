@@ -6,7 +6,7 @@ use Rattle.index_names.specs.Release.{read_release}
 use Rattle.index_digest.specs.Digest.{digest_in}
 use Rattle.index_rules.specs.declared.call.Call.{Call}
 use Rattle.index_rules.specs.declared.call.Request.{Request}
-use Rattle.index_rules.specs.declared.call.Request.TheVariants.{AddUser, SetToken, SetQuota, Claim, AddOwner, RemoveOwner, Upload, Delete, Yank, Unyank, Relinquish, Prohibit, Allow}
+use Rattle.index_rules.specs.declared.call.Request.TheVariants.{AddUser, SetToken, SetQuota, Claim, AddOwner, RemoveOwner, Upload, Delete, Yank, Unyank, Relinquish, Prohibit, Allow, OpenCase, RecordAttempt, Transfer, CloseCase, AnswerCase}
 use Rattle.index_rules.specs.declared.keys.Keys.{Keys}
 use Rattle.index_rules.specs.Maps.{Bytes}
 use Rattle.index_rules.specs.Users.{read_user}
@@ -45,6 +45,11 @@ name_key (Unyank name release) = read_name name
 name_key (Relinquish name) = read_name name
 name_key (Prohibit name) = read_name name
 name_key (Allow name) = read_name name
+name_key (OpenCase name kind contact work why) = read_name name
+name_key (RecordAttempt name means sent) = read_name name
+name_key (Transfer name quiet) = read_name name
+name_key (CloseCase name) = read_name name
+name_key (AnswerCase name) = read_name name
 
 -- the file
 abbrev pub file_key : Request → Option Bytes

@@ -25,7 +25,7 @@ tables_by T change (Fault fault) = T
 
 -- the tables after a call that was answered so
 abbrev pub tables_after : Tables → Call → Answer → Tables
-tables_after T c answer = tables_by T (effect c.request (facts_in T c)) answer
+tables_after T c answer = tables_by T (effect c.at c.request (facts_in T c)) answer
 
 -- each answer is the verdict at its point or a fault, and the accepted calls were applied in order
 abbrev pub Runs : Tables → List Call → List Answer → Tables → Type 0

@@ -47,6 +47,8 @@ pub record IsSound (T : Tables) : Type 0 where
   pub owned : (name : Bytes) → is_held (get T.names name) ≡ true → (user : Bytes) × (owns_in T name user ≡ true)
   -- a name that has a yanked release is held
   pub yanks : (name release : Bytes) → is_some (yank_in T name release) ≡ true → is_held (get T.names name) ≡ true
+  -- a name that has an open case is held
+  pub cases : (name : Bytes) → is_some (get T.cases name) ≡ true → is_held (get T.names name) ≡ true
   -- each file has the project and the release that its name spells
   pub spelled : (file : Bytes) (known : FileRecord) → get T.files file ≡ Some known → IsRecordOf file known
   -- an undeleted file's project is held

@@ -5,13 +5,16 @@ use Rattle.index_names.specs.FileName.{project_of, release_of}
 use Rattle.index_rules.specs.declared.records.NameRecord.{NameRecord}
 use Rattle.index_rules.specs.declared.records.NameRecord.TheVariants as name_record
 use Rattle.index_rules.specs.declared.records.Project.{Project}
+use Rattle.index_retention.specs.Attempts.{tally_of}
+use Rattle.index_rules.specs.declared.records.CaseRecord.{CaseRecord}
 use Rattle.index_rules.specs.declared.records.FileRecord.{FileRecord}
 use Rattle.index_rules.specs.Maps.{Bytes}
 use Rattle.index_rules.specs.Tables.{Tables}
 use Rattle.index_rules.specs.Facts.{owns_in, yank_in}
 use Rattle.index_rules.specs.History.{History}
 use Rattle.index_rules.specs.PastUsers.{user_of}
-use Rattle.index_rules.specs.PastNames.{State, Free, Held, Prohibited, state_of, shown_of, quota_of, owns, yank_of}
+use Rattle.index_rules.specs.PastNames.{State, Free, Held, Prohibited, state_of, shown_of, quota_of, last_upload_of, owns, yank_of}
+use Rattle.index_rules.specs.PastCases.{Case, case_of}
 use Rattle.index_rules.specs.PastFiles.{known, undeleted, requires_of, body_of, charge, undeleted_count}
 
 -- a held name with its numbers, and a prohibited one without any; nothing is kept of a free name
@@ -21,7 +24,7 @@ name_by Held project = Some (name_record.Held project)
 name_by Prohibited project = Some name_record.Prohibited
 
 abbrev pub project_at : History → Bytes → Project
-project_at h n = record { shown = shown_of h n; quota = quota_of h n; charge = charge h n; undeleted = undeleted_count h n }
+project_at h n = record { shown = shown_of h n; quota = quota_of h n; charge = charge h n; undeleted = undeleted_count h n; last_upload = last_upload_of h n }
 
 abbrev pub name_at : History → Bytes → Option NameRecord
 name_at h n = name_by (state_of h n) (project_at h n)
@@ -43,6 +46,21 @@ file_at h f = option_map (file_by f (requires_of h f) (undeleted h f)) (known h 
 abbrev pub body_at : History → Bytes → Option Bytes
 body_at h f = if undeleted h f then Some (body_of h f) else None
 
+-- the record of an open case, with what its attempts give when they are counted
+abbrev pub case_by_attempts : Case → CaseRecord
+case_by_attempts case = record {
+  kind = case.kind;
+  candidate = case.candidate;
+  contact = case.contact;
+  work = case.work;
+  why = case.why;
+  opened = case.opened;
+  state = tally_of case.attempts;
+}
+
+abbrev pub case_at : History → Bytes → Option CaseRecord
+case_at h n = option_map case_by_attempts (case_of h n)
+
 -- each list of the tables has exactly the records of the history, each key once since the lists are maps
 pub record StandsFor (T : Tables) (h : History) : Type 0 where
   pub users : (user : Bytes) → get T.users user ≡ user_of h user
@@ -50,4 +68,5 @@ pub record StandsFor (T : Tables) (h : History) : Type 0 where
   pub owners : (name user : Bytes) → owns_in T name user ≡ owns h name user
   pub files : (file : Bytes) → get T.files file ≡ file_at h file
   pub bodies : (file : Bytes) → get T.bodies file ≡ body_at h file
+  pub cases : (name : Bytes) → get T.cases name ≡ case_at h name
   pub yanks : (name release : Bytes) → yank_in T name release ≡ yank_of h name release

@@ -4,6 +4,7 @@ use Rattle.std.specs.FinMap.{keys}
 use Rattle.index_rules.specs.declared.records.UserRecord.{UserRecord}
 use Rattle.index_rules.specs.declared.records.NameRecord.{NameRecord}
 use Rattle.index_rules.specs.declared.records.FileRecord.{FileRecord}
+use Rattle.index_rules.specs.declared.records.CaseRecord.{CaseRecord}
 use Rattle.index_rules.specs.Maps.{Bytes, Map, PairMap, Pairs, same}
 
 pub record Tables : Type 0 where
@@ -19,6 +20,8 @@ pub record Tables : Type 0 where
   pub bodies : Map Bytes
   -- each name with each of its yanked releases, and the reason
   pub yanks : PairMap Bytes
+  -- by name: the open cases
+  pub cases : Map CaseRecord
 
 -- the owners of a name, in byte order
 abbrev pub owners_in : Tables → Bytes → List Bytes

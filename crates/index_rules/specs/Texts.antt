@@ -10,6 +10,10 @@ use Rattle.index_rules.specs.Maps.{Bytes, same}
 unfoldable pub is_text : Bytes → Bool
 is_text x = nat_le (length x) 512 && is_utf8 x && list_all (λ c. not (is_control c)) (chars x)
 
+-- a text of one byte or more, as the three texts of a case are
+abbrev pub is_evidence : Bytes → Bool
+is_evidence x = nat_le 1 (length x) && is_text x
+
 -- the digest of a token that a text gives; the empty text is no token
 unfoldable pub read_token : Bytes → Option Bytes
 read_token text = option_and_then (λ digest. if same digest (sha256 []) then None else Some digest) (digest_in text)

@@ -4,16 +4,20 @@ use Rattle.std.specs.Option.{option_map_or}
 use Rattle.index_digest.specs.Digest.{sha256}
 use Rattle.index_rules.specs.declared.call.Call.{Call}
 use Rattle.index_rules.specs.declared.call.Request.{Request}
-use Rattle.index_rules.specs.declared.call.Request.TheVariants.{AddUser, SetToken, SetQuota, Claim, AddOwner, RemoveOwner, Upload, Delete, Yank, Unyank, Relinquish, Prohibit, Allow}
+use Rattle.index_rules.specs.declared.call.Request.TheVariants.{AddUser, SetToken, SetQuota, Claim, AddOwner, RemoveOwner, Upload, Delete, Yank, Unyank, Relinquish, Prohibit, Allow, OpenCase, RecordAttempt, Transfer, CloseCase, AnswerCase}
 use Rattle.index_rules.specs.declared.answer.Refusal.{Refusal}
-use Rattle.index_rules.specs.declared.answer.Refusal.TheVariants.{BadMoment, BadToken, NotOffice, BadUser, BadName, BadFileName, BadRelease, BadText, BadDigest, TooLarge, DigestMismatch, QuotaTooLarge, NoUser, UserExists, TokenTaken, NameProhibited, NoProject, NotOwner, NameHeld, LastOwner, FilesRemain, NoFile, NoRelease, FileNameTaken, OverQuota, QuotaBelowCharge}
+use Rattle.index_rules.specs.declared.answer.Refusal.TheVariants.{BadMoment, BadToken, NotOffice, BadUser, BadName, BadFileName, BadRelease, BadText, BadDigest, TooLarge, DigestMismatch, QuotaTooLarge, NoUser, UserExists, TokenTaken, NameProhibited, NoProject, NotOwner, NameHeld, LastOwner, FilesRemain, NoFile, NoRelease, FileNameTaken, OverQuota, QuotaBelowCharge, CaseOpen, OwnerCandidate, NoCase, AttemptsFull, TooFewAttempts, TooEarly, RecentRelease, HomePageActive}
 use Rattle.index_rules.specs.declared.records.UserRecord.{UserRecord}
 use Rattle.index_rules.specs.declared.records.NameRecord.{NameRecord}
 use Rattle.index_rules.specs.declared.records.NameRecord.TheVariants.{Held, Prohibited}
 use Rattle.index_rules.specs.declared.records.Project.{Project}
 use Rattle.index_rules.specs.declared.records.FileRecord.{FileRecord}
+use Rattle.index_retention.specs.declared.fault.CaseFault.{CaseFault}
+use Rattle.index_retention.specs.declared.fault.CaseFault.TheVariants as case_fault
+use Rattle.index_retention.specs.Attempts.{is_full}
+use Rattle.index_retention.specs.Transfer.{stands_against}
 use Rattle.index_rules.specs.Maps.{Bytes, same}
-use Rattle.index_rules.specs.Texts.{is_text}
+use Rattle.index_rules.specs.Texts.{is_evidence, is_text}
 use Rattle.index_rules.specs.Tables.{Tables}
 use Rattle.index_rules.specs.Requests.{user_key, name_key, file_key, release_key, declared_digest}
 use Rattle.index_rules.specs.Facts.{Facts, facts_in}
@@ -95,6 +99,7 @@ exceeds_quota size name = option_map_or (λ project. nat_lt project.quota (proje
 abbrev pub brings_text : Request → Bool
 brings_text (Upload file sha256 body requires) = is_text requires
 brings_text (Yank name release reason) = is_text reason
+brings_text (OpenCase name kind contact work why) = is_evidence contact && is_evidence work && is_evidence why
 brings_text r = true
 
 abbrev pub is_too_large : Request → Bool
@@ -122,6 +127,24 @@ abbrev pub uploads_over_quota : Request → Facts → Bool
 uploads_over_quota (Upload file sha256 body requires) f = not (is_undeleted f.file) && exceeds_quota (length body) f.name
 uploads_over_quota r f = false
 
+-- a candidate closes the case that he opened
+abbrev pub closes_own_case : Request → Facts → Bool
+closes_own_case (CloseCase name) f = option_map_or (λ case. option_map_or (λ caller. same case.candidate caller.user) f.caller false) f.case false
+closes_own_case r f = false
+
+-- what stands against a transfer, of the case, the latest upload, the statement and the moment
+abbrev pub hinders : ℕ → Request → Facts → CaseFault → Bool
+hinders at (Transfer name quiet) f fault = option_map_or (λ case. option_map_or (λ project. stands_against case.state project.last_upload quiet at fault) (project_in f.name) false) f.case false
+hinders at r f fault = false
+
+-- the refusal by what stands against a transfer, or a further attempt
+abbrev pub refusal_of : CaseFault → Refusal
+refusal_of case_fault.AttemptsFull = AttemptsFull
+refusal_of case_fault.TooFewAttempts = TooFewAttempts
+refusal_of case_fault.TooEarly = TooEarly
+refusal_of case_fault.RecentRelease = RecentRelease
+refusal_of case_fault.HomePageActive = HomePageActive
+
 -- ---- the verdict
 
 -- where a request that nothing refuses changes nothing
@@ -139,12 +162,17 @@ is_already (Unyank name release) f = is_none f.yank
 is_already (Relinquish name) f = false
 is_already (Prohibit name) f = is_prohibited f.name
 is_already (Allow name) f = not (is_prohibited f.name)
+is_already (OpenCase name kind contact work why) f = false
+is_already (RecordAttempt name means sent) f = false
+is_already (Transfer name quiet) f = false
+is_already (CloseCase name) f = false
+is_already (AnswerCase name) f = false
 
 -- where each refusal applies, to a request at a moment
 abbrev pub applies : ℕ → Request → Facts → Refusal → Bool
 applies at r f BadMoment = nat_lt last_moment at
 applies at r f BadToken = is_none f.caller
-applies at r f NotOffice = not (is_of_office f)
+applies at r f NotOffice = not (is_of_office f) && not (closes_own_case r f)
 applies at r f BadUser = is_none (user_key r)
 applies at r f BadName = is_none (name_key r)
 applies at r f BadFileName = is_none (file_key r)
@@ -168,6 +196,14 @@ applies at r f NoRelease = not f.has_release
 applies at r f FileNameTaken = uploads_other_file r f
 applies at r f OverQuota = uploads_over_quota r f
 applies at r f QuotaBelowCharge = is_quota_below_charge r f
+applies at r f CaseOpen = is_some f.case
+applies at r f OwnerCandidate = f.owns
+applies at r f NoCase = is_none f.case
+applies at r f AttemptsFull = option_map_or (λ case. is_full case.state) f.case false
+applies at r f TooFewAttempts = hinders at r f case_fault.TooFewAttempts
+applies at r f TooEarly = hinders at r f case_fault.TooEarly
+applies at r f RecentRelease = hinders at r f case_fault.RecentRelease
+applies at r f HomePageActive = hinders at r f case_fault.HomePageActive
 
 -- those of an upload whose parts are in order
 abbrev pub file_refusals : List Refusal
@@ -188,6 +224,11 @@ refusals_of (Unyank name release) = BadName ∷ BadRelease ∷ NoProject ∷ Not
 refusals_of (Relinquish name) = BadName ∷ NoProject ∷ NotOwner ∷ FilesRemain ∷ []
 refusals_of (Prohibit name) = NotOffice ∷ BadName ∷ []
 refusals_of (Allow name) = NotOffice ∷ BadName ∷ []
+refusals_of (OpenCase name kind contact work why) = BadName ∷ BadText ∷ NoProject ∷ CaseOpen ∷ OwnerCandidate ∷ []
+refusals_of (RecordAttempt name means sent) = NotOffice ∷ BadName ∷ NoProject ∷ NoCase ∷ AttemptsFull ∷ []
+refusals_of (Transfer name quiet) = NotOffice ∷ BadName ∷ NoProject ∷ NoCase ∷ TooFewAttempts ∷ TooEarly ∷ RecentRelease ∷ HomePageActive ∷ []
+refusals_of (CloseCase name) = NotOffice ∷ BadName ∷ NoProject ∷ NoCase ∷ []
+refusals_of (AnswerCase name) = BadName ∷ NoProject ∷ NotOwner ∷ NoCase ∷ []
 
 abbrev pub decided : Option Refusal → Bool → Verdict
 decided (Some r) already = Refuse r

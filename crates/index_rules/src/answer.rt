@@ -12,7 +12,7 @@ pub enum Refusal {
     BadMoment,
     /// No user bears the token's digest.
     BadToken,
-    /// The caller is not of the office.
+    /// The caller is not of the office; for `CloseCase`, nor the candidate of an open case of the name.
     NotOffice,
     /// The bytes are no user id.
     BadUser,
@@ -60,6 +60,22 @@ pub enum Refusal {
     OverQuota,
     /// The quota is less than the charge.
     QuotaBelowCharge,
+    /// The name has an open case.
+    CaseOpen,
+    /// The caller owns the name.
+    OwnerCandidate,
+    /// The name has no open case.
+    NoCase,
+    /// The case has 1,000 attempts.
+    AttemptsFull,
+    /// Fewer than three attempts were sent, or one of the three means has no attempt.
+    TooFewAttempts,
+    /// The moment is less than 3,628,800 seconds after the first attempt that was sent, in order of recording.
+    TooEarly,
+    /// An upload of the name since its last claim is less than 31,536,000 seconds old.
+    RecentRelease,
+    /// The home page is not stated to be quiet.
+    HomePageActive,
 }
 
 /// Why a call could not be answered. It changed nothing.
@@ -112,6 +128,14 @@ impl Refusal {
             Refusal::FileNameTaken => 24,
             Refusal::OverQuota => 26,
             Refusal::QuotaBelowCharge => 27,
+            Refusal::CaseOpen => 28,
+            Refusal::OwnerCandidate => 29,
+            Refusal::NoCase => 30,
+            Refusal::AttemptsFull => 31,
+            Refusal::TooFewAttempts => 32,
+            Refusal::TooEarly => 33,
+            Refusal::RecentRelease => 34,
+            Refusal::HomePageActive => 35,
         }
     }
 }

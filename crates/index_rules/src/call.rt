@@ -1,6 +1,7 @@
 //! Calls: what is asked, by whom and when.
 use crate::bytes::Bytes;
 use index_digest::Digest256;
+use index_retention::{CaseKind, Means};
 
 /// What is asked. Names, digests and texts are the bytes that came, which nothing has read yet.
 #[derive(Debug, Drop)]
@@ -67,6 +68,35 @@ pub enum Request {
     },
     /// The office allows a prohibited name: it is free.
     Allow {
+        name: Bytes,
+    },
+    /// A candidate opens a case on a held name (PEP 541): of which kind, how the owner was sought in vain, the work
+    /// that is there, and why another name will not do.
+    OpenCase {
+        name: Bytes,
+        kind: CaseKind,
+        contact: Bytes,
+        work: Bytes,
+        why: Bytes,
+    },
+    /// The office records an attempt to reach the owner; `sent` is false where the means has no address.
+    RecordAttempt {
+        name: Bytes,
+        means: Means,
+        sent: bool,
+    },
+    /// The office transfers the name to the candidate; `quiet` is its statement that the owner's home page shows no
+    /// activity, or that none is listed.
+    Transfer {
+        name: Bytes,
+        quiet: bool,
+    },
+    /// The office or the candidate closes the case.
+    CloseCase {
+        name: Bytes,
+    },
+    /// An owner answers the case, which ends.
+    AnswerCase {
         name: Bytes,
     },
 }

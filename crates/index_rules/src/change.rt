@@ -1,10 +1,11 @@
 //! What an accepted call writes.
-use crate::records::{FileRecord, Project, UserRecord};
+use crate::records::{CaseRecord, FileRecord, Project, UserRecord};
 use crate::user::UserId;
 use index_digest::Sealed;
 use index_names::{FileName, NormalName, Release, Text};
 
-/// What an accepted call writes, with the new records whole.
+/// What an accepted call writes, with the new records whole. A change that an owner or a prohibition makes also ends
+/// the name's open case.
 #[derive(Debug, Drop)]
 pub enum Change {
     /// The user has this record.
@@ -70,6 +71,27 @@ pub enum Change {
     },
     /// The name is free.
     Allow {
+        name: NormalName,
+    },
+    /// The name has this open case.
+    OpenCase {
+        name: NormalName,
+        case: CaseRecord,
+    },
+    RecordAttempt {
+        name: NormalName,
+        case: CaseRecord,
+    },
+    /// The candidate alone owns the name, and the case ends.
+    Transfer {
+        name: NormalName,
+        candidate: UserId,
+    },
+    /// The case ends.
+    CloseCase {
+        name: NormalName,
+    },
+    AnswerCase {
         name: NormalName,
     },
 }

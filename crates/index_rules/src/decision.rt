@@ -11,6 +11,7 @@ use crate::answer::Refusal;
 use crate::call::{Call, Request};
 use crate::change::Change;
 use crate::view::View;
+use cases::{answer_case, close_case, open_case, record_attempt, transfer};
 use files::{delete, upload};
 use names::{allow, claim, prohibit, relinquish, set_quota};
 use owners::{add_owner, remove_owner};
@@ -18,6 +19,7 @@ use releases::{unyank, yank};
 use std::alloc::{AllocError, Global};
 use users::{add_user, set_token};
 
+mod cases;
 mod facts;
 mod files;
 mod names;
@@ -56,16 +58,16 @@ impl From<AllocError> for Stop {
 /// where it is so already, else the change that the call makes.
 pub fn decide(alloc: Global, call: Call, view: &View) -> Result<Decision, Stop>
     // By what the view has it is the verdict, and the change is the effect.
-    ensures seen { let facts = facts_seen view.now call.request in Decides result (verdict_on call facts) (effect call.request facts) }
+    ensures seen { let facts = facts_seen view.now call.request in Decides result (verdict_on call facts) (effect call.at call.request facts) }
 
     // On every tables with that view it is the verdict on them, and the change is the effect there.
-    ensures tables { (T : Tables) → HasOneBearer T → Sees T (keys_of call) view.now → Decides result (verdict_now T call) (effect call.request (facts_in T call)) }
+    ensures tables { (T : Tables) → HasOneBearer T → Sees T (keys_of call) view.now → Decides result (verdict_now T call) (effect call.at call.request (facts_in T call)) }
 {
     judge(alloc, call, view)
 }
 
 fn judge(alloc: Global, call: Call, view: &View) -> Result<Decision, Stop>
-    ensures { let facts = facts_seen view.now call.request in Decides result (verdict_on call facts) (effect call.request facts) }
+    ensures { let facts = facts_seen view.now call.request in Decides result (verdict_on call facts) (effect call.at call.request facts) }
 {
     let Call {
         at,
@@ -94,7 +96,7 @@ fn judge(alloc: Global, call: Call, view: &View) -> Result<Decision, Stop>
             sha256,
             body,
             requires_python,
-        } => upload(alloc, file, sha256, body, requires_python, caller, view),
+        } => upload(alloc, at, file, sha256, body, requires_python, caller, view),
         Request::Delete { file } => delete(alloc, file, caller, view),
         Request::Yank {
             name,
@@ -105,5 +107,18 @@ fn judge(alloc: Global, call: Call, view: &View) -> Result<Decision, Stop>
         Request::Relinquish { name } => relinquish(alloc, name, caller, view),
         Request::Prohibit { name } => prohibit(alloc, name, caller, view),
         Request::Allow { name } => allow(alloc, name, caller, view),
+        Request::OpenCase {
+            name,
+            kind,
+            contact,
+            work,
+            why,
+        } => open_case(alloc, at, name, kind, contact, work, why, caller, view),
+        Request::RecordAttempt { name, means, sent } => record_attempt(
+            alloc, at, name, means, sent, caller, view,
+        ),
+        Request::Transfer { name, quiet } => transfer(alloc, at, name, quiet, caller, view),
+        Request::CloseCase { name } => close_case(alloc, name, caller, view),
+        Request::AnswerCase { name } => answer_case(alloc, name, caller, view),
     }
 }

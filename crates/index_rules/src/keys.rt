@@ -69,7 +69,12 @@ impl Call {
             | Request::Claim { name }
             | Request::Relinquish { name }
             | Request::Prohibit { name }
-            | Request::Allow { name } => Keys {
+            | Request::Allow { name }
+            | Request::OpenCase { name, .. }
+            | Request::RecordAttempt { name, .. }
+            | Request::Transfer { name, .. }
+            | Request::CloseCase { name }
+            | Request::AnswerCase { name } => Keys {
                 name: readable_name(alloc, name)?,
                 ..keys
             },

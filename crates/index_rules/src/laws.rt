@@ -1,7 +1,7 @@
 //! Laws of every legal history. Each function does nothing, and its contract is the law.
 ghost use Rattle.index_rules.specs.History.{History};
 ghost use Rattle.index_rules.specs.Legal.{IsLegal};
-ghost use Rattle.index_rules.specs.Laws.{BindsFiles, MovesAsRecorded};
+ghost use Rattle.index_rules.specs.Laws.{BindsFiles, MovesAsRecorded, StandsAlone, TransfersWereReady};
 
 /// A file name is bound for good: any two uploads of it have the same digest and size, whatever stands between
 /// them, be it a delete or a prohibition of the project.
@@ -12,9 +12,25 @@ pub fn file_names_are_bound()
 
 /// An entry moves what its request says, and only for its own name: an upload adds its size to the charge and is of a
 /// file that is not undeleted, a delete takes the file's size away, and a prohibition brings the charge to nothing; a
-/// claim, a relinquishment, a prohibition and an allowance alone change the state, and these with the requests on
-/// owners alone change who owns the name.
+/// claim, a relinquishment, a prohibition and an allowance alone change the state, and these with a transfer and the
+/// requests on owners alone change who owns the name.
 #[tactic(auto, using(crate::proofs::MoveLemmas::moves_as_recorded))]
 pub fn charges_states_and_owners_move_as_recorded()
     ensures { (h : History) → IsLegal h → MovesAsRecorded h }
+{}
+
+/// Every transfer was ready. A case was open on the name, and no owner had acted on the name since it was opened; at
+/// least three attempts were sent and each means was tried, six weeks had passed since the first that was sent and a
+/// year since the latest upload, and the office stated that the owner's home page is quiet. After it the candidate alone
+/// owns the name, whose quota and yanks are as they were.
+#[tactic(auto, using(crate::proofs::TransferLemmas::transfers_were_ready))]
+pub fn transfers_were_ready()
+    ensures { (h : History) → IsLegal h → TransfersWereReady h }
+{}
+
+/// Names don't touch one another. The opening, the entries on users and those that speak of one name, in their order, are
+/// a legal history themselves, and a call of that name has the same verdict in it as in the whole history.
+#[tactic(auto, using(crate::proofs::AloneLemmas::stands_alone))]
+pub fn names_stand_alone()
+    ensures { (h : History) → IsLegal h → StandsAlone h }
 {}

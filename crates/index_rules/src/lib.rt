@@ -24,7 +24,7 @@ pub use decision::{Decision, Stop, decide};
 pub use keys::Keys;
 pub use open::{OpenFault, first_user};
 pub use reading::read_token;
-pub use records::{FileRecord, NameRecord, Project, UserRecord};
+pub use records::{CaseRecord, FileRecord, NameRecord, Project, UserRecord};
 pub use user::{UserFault, UserId};
 pub use view::{Caller, Owners, View};
 

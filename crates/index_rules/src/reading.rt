@@ -7,7 +7,7 @@ ghost use Rattle.index_names.specs.Project.{read_name};
 ghost use Rattle.index_names.specs.Release.{read_release};
 ghost use Rattle.index_rules.specs.Requests.{read_file};
 ghost use Rattle.index_rules.specs.Users.{read_user};
-ghost use Rattle.index_rules.specs.Texts.{is_text as is_text_lem, read_token};
+ghost use Rattle.index_rules.specs.Texts.{is_evidence, is_text as is_text_lem, read_token};
 
 use crate::bytes::Bytes;
 use crate::user::{UserFault, UserId};
@@ -88,6 +88,17 @@ pub fn readable_text(text: Bytes) -> Option<Text>
     } else {
         None
     }
+}
+
+/// An evidence text of a case: a text that the index keeps, of one byte or more.
+pub fn readable_evidence(text: Bytes) -> Option<Text>
+    ensures text { IfSome result (λ kept. kept ≡ text) }
+    ensures readable { IsSome result ↔ IsTrue (is_evidence text) }
+{
+    if text.as_slice().is_empty() {
+        return None;
+    }
+    readable_text(text)
 }
 
 fn is_text(text: &str) -> bool

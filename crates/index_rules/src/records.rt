@@ -1,6 +1,8 @@
 //! The records of the tables, without their keys.
+use crate::user::UserId;
 use index_digest::Digest256;
 use index_names::{NormalName, Release, Text};
+use index_retention::{CaseKind, CaseState};
 
 /// What the index keeps of a user.
 #[derive(Clone, Copy, Debug)]
@@ -29,6 +31,26 @@ pub struct Project {
     pub charge: u64,
     /// How many undeleted files it has.
     pub undeleted: u64,
+    /// The greatest moment of its uploads since its last claim, in Unix seconds.
+    pub last_upload: Option<u64>,
+}
+
+/// An open case (PEP 541).
+#[derive(Clone, Debug, Drop)]
+pub struct CaseRecord {
+    pub kind: CaseKind,
+    /// Who opened it, and gets the name at a transfer.
+    pub candidate: UserId,
+    /// How the owner was sought in vain.
+    pub contact: Text,
+    /// Improvements in a fork, or the existing notable project.
+    pub work: Text,
+    /// Why another name will not do.
+    pub why: Text,
+    /// When it was opened, in Unix seconds.
+    pub opened: u64,
+    /// Its attempts to reach the owner.
+    pub state: CaseState,
 }
 
 /// What the index keeps for good of a file name that was once accepted.

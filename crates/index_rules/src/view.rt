@@ -1,7 +1,7 @@
 //! What a decision rests on.
 ghost use Rattle.std.specs.Prelude.{◌≡◌, List, ℕ};
 
-use crate::records::{FileRecord, NameRecord, UserRecord};
+use crate::records::{CaseRecord, FileRecord, NameRecord, UserRecord};
 use crate::user::UserId;
 use index_names::Text;
 use std::marker::Model;
@@ -58,4 +58,6 @@ pub struct View {
     pub yank: Option<Text>,
     /// Whether the release has an undeleted file.
     pub has_release: bool,
+    /// The open case of the name.
+    pub case: Option<CaseRecord>,
 }

@@ -54,6 +54,14 @@ fn writes_refusals(rt: HostRuntime) -> Result<(), Fail> {
         (Refusal::FileNameTaken, 24, "FileNameTaken"),
         (Refusal::OverQuota, 26, "OverQuota"),
         (Refusal::QuotaBelowCharge, 27, "QuotaBelowCharge"),
+        (Refusal::CaseOpen, 28, "CaseOpen"),
+        (Refusal::OwnerCandidate, 29, "OwnerCandidate"),
+        (Refusal::NoCase, 30, "NoCase"),
+        (Refusal::AttemptsFull, 31, "AttemptsFull"),
+        (Refusal::TooFewAttempts, 32, "TooFewAttempts"),
+        (Refusal::TooEarly, 33, "TooEarly"),
+        (Refusal::RecentRelease, 34, "RecentRelease"),
+        (Refusal::HomePageActive, 35, "HomePageActive"),
     ];
     for (refusal, number, name) in refusals {
         let text = format!(in rt.alloc();

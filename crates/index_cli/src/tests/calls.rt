@@ -1,5 +1,5 @@
 //! Calls succeed: each request once, and many in a row.
-use super::{assert_answers, assert_frob, desk_with_frob, desk_with_users};
+use super::{assert_answers, assert_frob, desk_with_frob, desk_with_users, repeated};
 use index_desk::Desk;
 use index_plain::PlainBooks;
 use std::alloc::AllocGlobal;
@@ -24,11 +24,20 @@ fn books_do_not_give_up(rt: HostRuntime) -> Result<(), Fail> {
 {"at":12,"token":"office","do":"prohibit","name":"frob"}
 {"at":13,"token":"office","do":"allow","name":"frob"}
 {"at":14,"token":"hello","do":"claim","name":"frob"}
+{"at":15,"token":"abc","do":"open_case","name":"frob","kind":"reuse","contact":"mail","work":"shop","why":"mark"}
+{"at":16,"token":"hello","do":"answer_case","name":"frob"}
+{"at":17,"token":"abc","do":"open_case","name":"frob","kind":"reuse","contact":"mail","work":"shop","why":"mark"}
+{"at":18,"token":"abc","do":"close_case","name":"frob"}
+{"at":19,"token":"abc","do":"open_case","name":"frob","kind":"reuse","contact":"mail","work":"shop","why":"mark"}
+{"at":20,"token":"office","do":"record_attempt","name":"frob","means":"profile","sent":true}
+{"at":20,"token":"office","do":"record_attempt","name":"frob","means":"author","sent":true}
+{"at":20,"token":"office","do":"record_attempt","name":"frob","means":"pages","sent":true}
+{"at":3628820,"token":"office","do":"transfer","name":"frob","quiet":true}
 "#;
     let mut desk = desk_with_users(&rt)?;
-    let answers = repeated(&rt, "{\"answer\":\"accepted\"}\n", 14)?;
+    let answers = repeated(&rt, "{\"answer\":\"accepted\"}\n", 23)?;
     assert_answers(&rt, &mut desk, lines, answers.as_str())?;
-    assert_frob(&rt, &mut desk, 0, r#"["bob"]"#, 1_073_741_824)
+    assert_frob(&rt, &mut desk, 0, r#"["ann"]"#, 1_073_741_824)
 }
 
 /// What is asked of a file, with the keys that follow it, asked of `frob-0.tar.gz` to `frob-299.tar.gz`.
@@ -41,15 +50,6 @@ fn of_each_file(rt: &impl AllocGlobal, word: &str, keys: &str) -> Result<String,
         )?;
     }
     Ok(lines)
-}
-
-/// A text so many times.
-fn repeated(rt: &impl AllocGlobal, text: &str, times: u64) -> Result<String, Fail> {
-    let mut whole = String::new(rt.alloc());
-    for _ in 0..times {
-        whole.push_str(text)?;
-    }
-    Ok(whole)
 }
 
 /// Uploads that are accepted, the same ones again, and deletes, of 300 files with three bytes each.

@@ -19,7 +19,7 @@ impl Books for Broken {
     ghost use Rattle.std.specs.FinMap.{empty};
     ghost use Rattle.index_rules.specs.Failures.{last_count};
 
-    ghost tables = { λ _. record { users = empty; names = empty; owners = empty; files = empty; bodies = empty; yanks = empty } };
+    ghost tables = { λ _. record { users = empty; names = empty; owners = empty; files = empty; bodies = empty; yanks = empty; cases = empty } };
 
     ghost IsHonest = { λ _. ⊥ };
 

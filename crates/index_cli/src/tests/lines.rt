@@ -77,7 +77,15 @@ const ROWS: &str = r#""do":"add_user","user":"u","office":true,"token_sha256":"t
 "do":"upload","file":"f","sha256":"","hex":"","requires_python":""
 "do":"delete","file":"f"
 "do":"yank","name":"a","release":"1","reason":""
-"do":"unyank","name":"a","release":"1""#;
+"do":"unyank","name":"a","release":"1"
+"do":"open_case","name":"a","kind":"continue","contact":"c","work":"w","why":"y"
+"do":"open_case","name":"a","kind":"reuse","contact":"","work":"","why":""
+"do":"record_attempt","name":"a","means":"profile","sent":true
+"do":"record_attempt","name":"a","means":"author","sent":false
+"do":"record_attempt","name":"a","means":"pages","sent":false
+"do":"transfer","name":"a","quiet":false
+"do":"close_case","name":"a"
+"do":"answer_case","name":"a""#;
 
 /// Rows with a key too few, one too many, or a value of another kind.
 const NO_ROWS: &str = r#""do":"add_user","user":"u","token_sha256":"t"
@@ -108,7 +116,22 @@ const NO_ROWS: &str = r#""do":"add_user","user":"u","token_sha256":"t"
 "do":"yank","name":"a","release":1,"reason":""
 "do":"yank","name":"a","release":"1","reason":"","x":1
 "do":"unyank","name":"a"
-"do":"unyank","name":"a","release":"1","reason":"""#;
+"do":"unyank","name":"a","release":"1","reason":""
+"do":"open_case","name":"a","kind":"reuse","contact":"c","work":"w"
+"do":"open_case","name":"a","kind":"Reuse","contact":"c","work":"w","why":"y"
+"do":"open_case","name":"a","kind":1,"contact":"c","work":"w","why":"y"
+"do":"open_case","name":"a","kind":"reuse","contact":"c","work":"w","why":"y","x":1
+"do":"record_attempt","name":"a","means":"profile"
+"do":"record_attempt","name":"a","means":"mail","sent":true
+"do":"record_attempt","name":"a","means":"pages","sent":1
+"do":"record_attempt","name":"a","means":"pages","sent":true,"x":1
+"do":"transfer","name":"a"
+"do":"transfer","name":"a","quiet":null
+"do":"transfer","name":"a","quiet":true,"x":1
+"do":"close_case"
+"do":"close_case","name":"a","x":1
+"do":"answer_case","name":1
+"do":"answer_case","name":"a","x":1"#;
 
 #[test]
 fn reads_the_keys_of_each_row(rt: HostRuntime) -> Result<(), Fail> {

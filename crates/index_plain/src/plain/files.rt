@@ -12,7 +12,7 @@ use index_rules::{FileRecord, Project};
 use std::alloc::AllocError;
 
 impl PlainBooks {
-    /// The name and the file have these records, and the bytes are kept.
+    /// The name and the file have these records, the bytes are kept, and the case ends.
     pub(super) fn upload(
         &mut self,
         name: NormalName,
@@ -29,13 +29,14 @@ impl PlainBooks {
         ensures failures { failures_of self.new ≡ failures_of self.old }
     {
         let key = file.clone()?;
+        self.end_case(&name);
         entries::put(&mut self.files, key, known);
         entries::put(&mut self.bodies, file, body);
         self.hold(name, project);
         Ok(())
     }
 
-    /// The name and the file have these records, and the bytes go.
+    /// The name and the file have these records, the bytes go, and the case ends.
     pub(super) fn delete(
         &mut self,
         name: NormalName,
@@ -48,6 +49,7 @@ impl PlainBooks {
         ensures tables { tables_of self.new ≡ means (Delete name project file known) (tables_of self.old) }
         ensures failures { failures_of self.new ≡ failures_of self.old }
     {
+        self.end_case(&name);
         entries::remove(&mut self.bodies, &file);
         entries::put(&mut self.files, file, known);
         self.hold(name, project);

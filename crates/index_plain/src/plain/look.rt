@@ -25,6 +25,7 @@ impl PlainBooks {
             file: entries::copy_at_key(self.files.as_slice(), &keys.file)?,
             yank: self.yank(&keys.name, &keys.release)?,
             has_release: self.has_release(&keys.name, &keys.release),
+            case: entries::copy_at_key(self.cases.as_slice(), &keys.name)?,
         })
     }
 

@@ -1,5 +1,6 @@
 //! What is written where a name is claimed, given up or prohibited.
 ghost use Rattle.std.specs.Prelude.{◌≡◌, ◌<◌, ◌≤◌, OnOk, OnErr, vec_len, vec_capacity};
+ghost use Rattle.std.specs.FinMap.{remove};
 ghost use Rattle.index_rules.specs.declared.change.Change.TheVariants.{Claim, Prohibit, Relinquish, SetQuota};
 ghost use Rattle.index_rules.specs.Effect.{means, without_name};
 ghost use Rattle.index_plain.specs.Plain.{tables_of, failures_of};
@@ -20,7 +21,7 @@ impl PlainBooks {
         entries::put(&mut self.names, name, NameRecord::Held(project));
     }
 
-    /// The name is held, the user alone owns it, and no release of it is yanked.
+    /// The name is held, the user alone owns it, no release of it is yanked, and it has no case.
     pub(super) fn claim(
         &mut self,
         name: NormalName,
@@ -40,7 +41,7 @@ impl PlainBooks {
         Ok(())
     }
 
-    /// The name is free, and its owners and yanks go.
+    /// The name is free, and its owners, its yanks and its case go.
     pub(super) fn relinquish(&mut self, name: &NormalName)
         ensures tables { tables_of self.new ≡ means (Relinquish name.now) (tables_of self.old) }
         ensures failures { failures_of self.new ≡ failures_of self.old }
@@ -49,7 +50,7 @@ impl PlainBooks {
         entries::remove(&mut self.names, name);
     }
 
-    /// The name is prohibited, its files are deleted, and its owners and yanks go.
+    /// The name is prohibited, its files are deleted, and its owners, its yanks and its case go.
     pub(super) fn prohibit(&mut self, name: NormalName)
         requires { vec_len self.old.names < vec_capacity self.old.names }
         ensures tables { tables_of self.new ≡ means (Prohibit name) (tables_of self.old) }
@@ -61,12 +62,13 @@ impl PlainBooks {
         entries::put(&mut self.names, name, NameRecord::Prohibited);
     }
 
-    /// Takes away the owners and the yanks of a name.
+    /// Takes away the owners, the yanks and the case of a name.
     fn clear(&mut self, name: &NormalName)
         ensures tables { let T = tables_of self.old in
             tables_of self.new ≡ record T {
               owners = without_name name.now T.owners;
               yanks = without_name name.now T.yanks;
+              cases = remove T.cases name.now;
             } }
         ensures failures { failures_of self.new ≡ failures_of self.old }
         ensures names { self.new.names ≡ self.old.names }
@@ -75,5 +77,6 @@ impl PlainBooks {
     {
         owners::clear(&mut self.owners, name);
         yanks::clear(&mut self.yanks, name);
+        self.end_case(name);
     }
 }

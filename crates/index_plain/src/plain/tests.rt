@@ -5,6 +5,7 @@ use index_rules::Project;
 use std::process::Abort;
 use std::test::Fail;
 
+mod cases;
 mod files;
 mod names;
 mod releases;
@@ -43,6 +44,7 @@ fn project(alloc: Global, shown: &str, quota: u64) -> Result<Project, Fail> {
         quota,
         charge: 0,
         undeleted: 0,
+        last_upload: None,
     })
 }
 

@@ -3,8 +3,8 @@ ghost use Rattle.std.specs.Prelude.{◌≡◌, ◌<◌, OnOk, OnErr, vec_len, ve
 ghost use Rattle.index_rules.specs.Effect.{means};
 ghost use Rattle.index_plain.specs.Plain.{tables_of, failures_of};
 
+use crate::entries;
 use crate::plain::PlainBooks;
-use crate::{entries, owners};
 use index_rules::Change;
 use std::alloc::AllocError;
 
@@ -26,30 +26,20 @@ impl PlainBooks {
                 project,
                 owner,
             } => self.claim(name, project, owner)?,
-            Change::AddOwner { name, user } => owners::add(&mut self.owners, name, user),
-            Change::RemoveOwner { name, user } => owners::remove(&mut self.owners, &name, &user),
-            Change::Upload {
-                name,
-                project,
-                file,
-                record,
-                body,
-            } => self.upload(name, project, file, record, body)?,
-            Change::Delete {
-                name,
-                project,
-                file,
-                record,
-            } => self.delete(name, project, file, record),
-            Change::Yank {
-                name,
-                release,
-                reason,
-            } => entries::put(&mut self.yanks, (name, release), reason),
-            Change::Unyank { name, release } => entries::remove(&mut self.yanks, &(name, release)),
+            Change::AddOwner { name, user } => self.add_owner(name, user),
+            Change::RemoveOwner { name, user } => self.remove_owner(&name, &user),
+            change @ (Change::Upload { .. }
+            | Change::Delete { .. }
+            | Change::Yank { .. }
+            | Change::Unyank { .. }) => self.make_of_release(change)?,
             Change::Relinquish { name } => self.relinquish(&name),
             Change::Prohibit { name } => self.prohibit(name),
             Change::Allow { name } => entries::remove(&mut self.names, &name),
+            Change::OpenCase { name, case } | Change::RecordAttempt { name, case } => {
+                entries::put(&mut self.cases, name, case);
+            }
+            Change::Transfer { name, candidate } => self.transfer(name, candidate),
+            Change::CloseCase { name } | Change::AnswerCase { name } => self.end_case(&name),
         }
         Ok(())
     }
@@ -64,6 +54,7 @@ impl PlainBooks {
         ensures files { OnOk result (vec_len self.new.files < vec_capacity self.new.files) }
         ensures bodies { OnOk result (vec_len self.new.bodies < vec_capacity self.new.bodies) }
         ensures yanks { OnOk result (vec_len self.new.yanks < vec_capacity self.new.yanks) }
+        ensures cases { OnOk result (vec_len self.new.cases < vec_capacity self.new.cases) }
     {
         self.users.reserve(1)?;
         self.names.reserve(1)?;
@@ -71,6 +62,7 @@ impl PlainBooks {
         self.files.reserve(1)?;
         self.bodies.reserve(1)?;
         self.yanks.reserve(1)?;
+        self.cases.reserve(1)?;
         Ok(())
     }
 }

@@ -5,7 +5,7 @@ ghost use Rattle.index_rules.specs.Facts.{facts_seen};
 ghost use Rattle.index_digest.specs.Digest.{digest_in};
 ghost use Rattle.index_rules.specs.Maps.{Bytes};
 ghost use Rattle.index_rules.specs.Verdict.{verdict_in_order, applies, decided, file_refusals, is_already, exceeds_quota, is_other_file};
-ghost use Rattle.index_rules.specs.Effect.{effect, deleted as deleted_lem, without_file as without_file_lem};
+ghost use Rattle.index_rules.specs.Effect.{effect, deleted as deleted_lem, later, without_file as without_file_lem};
 ghost use Rattle.index_rules.specs.Decided.{Decides};
 ghost use Rattle.index_rules.specs.declared.records.NameRecord.TheVariants.{Held};
 
@@ -26,6 +26,7 @@ const LARGEST_BODY: usize = 16_777_216;
 
 pub fn upload(
     alloc: Global,
+    at: u64,
     file: Bytes,
     sha256: Bytes,
     body: Bytes,
@@ -34,7 +35,7 @@ pub fn upload(
     view: &View,
 ) -> Result<Decision, Stop>
     requires { view.now.caller ≡ Some caller.now }
-    ensures { let r = Upload file sha256 body requires_python in let facts = facts_seen view.now r in Decides result (verdict_in_order r facts) (effect r facts) }
+    ensures { let r = Upload file sha256 body requires_python in let facts = facts_seen view.now r in Decides result (verdict_in_order r facts) (effect at r facts) }
 {
     let Some(file) = readable_file(alloc, &file)? else {
         return Err(Stop::Refused(Refusal::BadFileName));
@@ -53,11 +54,12 @@ pub fn upload(
     let Ok(body) = Sealed::new(body, digest) else {
         return Err(Stop::Refused(Refusal::DigestMismatch));
     };
-    accept(file, digest, size, body, requires_python, caller, view)
+    accept(at, file, digest, size, body, requires_python, caller, view)
 }
 
 /// The decision on an upload whose parts are in order.
 fn accept(
+    at: u64,
     file: FileName,
     digest: Digest256,
     size: u64,
@@ -70,7 +72,7 @@ fn accept(
     requires size { size ≡ length body }
     ensures { (sha256 : Bytes) → digest_in sha256 ≡ Some digest
         → let r = Upload file sha256 body requires_python in let facts = facts_seen view.now r in
-        Decides result (decided (find (applies 0 r facts) file_refusals) (is_already r facts)) (effect r facts) }
+        Decides result (decided (find (applies 0 r facts) file_refusals) (is_already r facts)) (effect at r facts) }
 {
     let Some(project) = project_of(&view.name) else {
         return Err(Stop::Refused(Refusal::NoProject));
@@ -99,6 +101,7 @@ fn accept(
             quota: project.quota,
             charge,
             undeleted,
+            last_upload: Some(latest(project.last_upload, at)),
         },
         record: FileRecord {
             project: file.project().clone()?,
@@ -113,6 +116,16 @@ fn accept(
     }))
 }
 
+/// The greater of two moments, in Unix seconds.
+fn latest(before: Option<u64>, at: u64) -> u64
+    ensures { result ≡ later before at }
+{
+    match before {
+        Some(before) => at.max(before),
+        None => at,
+    }
+}
+
 fn is_other(record: &FileRecord, digest: &Digest256, size: u64) -> bool
     ensures { result ≡ is_other_file (Some digest.now) size (Some record.now) }
 {
@@ -121,7 +134,7 @@ fn is_other(record: &FileRecord, digest: &Digest256, size: u64) -> bool
 
 pub fn delete(alloc: Global, file: Bytes, caller: &Caller, view: &View) -> Result<Decision, Stop>
     requires { view.now.caller ≡ Some caller.now }
-    ensures { let r = Delete file in let facts = facts_seen view.now r in Decides result (verdict_in_order r facts) (effect r facts) }
+    ensures { let r = Delete file in let facts = facts_seen view.now r in Decides result (verdict_in_order r facts) (effect 0 r facts) }
 {
     let Some(file) = readable_file(alloc, &file)? else {
         return Err(Stop::Refused(Refusal::BadFileName));
@@ -155,6 +168,7 @@ fn without_file(project: &Project, size: u64) -> Result<Project, AllocError>
         quota: project.quota,
         charge: project.charge.saturating_sub(size),
         undeleted: project.undeleted.saturating_sub(1),
+        last_upload: project.last_upload,
     })
 }
 

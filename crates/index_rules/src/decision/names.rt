@@ -25,7 +25,7 @@ const LARGEST_QUOTA: u64 = 1_099_511_627_776;
 
 pub fn claim(alloc: Global, name: Bytes, caller: &Caller, view: &View) -> Result<Decision, Stop>
     requires { view.now.caller ≡ Some caller.now }
-    ensures { let r = Claim name in let facts = facts_seen view.now r in Decides result (verdict_in_order r facts) (effect r facts) }
+    ensures { let r = Claim name in let facts = facts_seen view.now r in Decides result (verdict_in_order r facts) (effect 0 r facts) }
 {
     let Some(shown) = Text::from_utf8(name.into_vec()) else {
         return Err(Stop::Refused(Refusal::BadName));
@@ -51,6 +51,7 @@ pub fn claim(alloc: Global, name: Bytes, caller: &Caller, view: &View) -> Result
             quota: FIRST_QUOTA,
             charge: 0,
             undeleted: 0,
+            last_upload: None,
         },
         owner: caller.user.clone()?,
     }))
@@ -64,7 +65,7 @@ pub fn set_quota(
     view: &View,
 ) -> Result<Decision, Stop>
     requires { view.now.caller ≡ Some caller.now }
-    ensures { let r = SetQuota name quota in let facts = facts_seen view.now r in Decides result (verdict_in_order r facts) (effect r facts) }
+    ensures { let r = SetQuota name quota in let facts = facts_seen view.now r in Decides result (verdict_in_order r facts) (effect 0 r facts) }
 {
     if !caller.office {
         return Err(Stop::Refused(Refusal::NotOffice));
@@ -91,6 +92,7 @@ pub fn set_quota(
             quota,
             charge: project.charge,
             undeleted: project.undeleted,
+            last_upload: project.last_upload,
         },
     }))
 }
@@ -102,7 +104,7 @@ pub fn relinquish(
     view: &View,
 ) -> Result<Decision, Stop>
     requires { view.now.caller ≡ Some caller.now }
-    ensures { let r = Relinquish name in let facts = facts_seen view.now r in Decides result (verdict_in_order r facts) (effect r facts) }
+    ensures { let r = Relinquish name in let facts = facts_seen view.now r in Decides result (verdict_in_order r facts) (effect 0 r facts) }
 {
     let Some(name) = readable_name(alloc, &name)? else {
         return Err(Stop::Refused(Refusal::BadName));
@@ -121,7 +123,7 @@ pub fn relinquish(
 
 pub fn prohibit(alloc: Global, name: Bytes, caller: &Caller, view: &View) -> Result<Decision, Stop>
     requires { view.now.caller ≡ Some caller.now }
-    ensures { let r = Prohibit name in let facts = facts_seen view.now r in Decides result (verdict_in_order r facts) (effect r facts) }
+    ensures { let r = Prohibit name in let facts = facts_seen view.now r in Decides result (verdict_in_order r facts) (effect 0 r facts) }
 {
     if !caller.office {
         return Err(Stop::Refused(Refusal::NotOffice));
@@ -137,7 +139,7 @@ pub fn prohibit(alloc: Global, name: Bytes, caller: &Caller, view: &View) -> Res
 
 pub fn allow(alloc: Global, name: Bytes, caller: &Caller, view: &View) -> Result<Decision, Stop>
     requires { view.now.caller ≡ Some caller.now }
-    ensures { let r = Allow name in let facts = facts_seen view.now r in Decides result (verdict_in_order r facts) (effect r facts) }
+    ensures { let r = Allow name in let facts = facts_seen view.now r in Decides result (verdict_in_order r facts) (effect 0 r facts) }
 {
     if !caller.office {
         return Err(Stop::Refused(Refusal::NotOffice));

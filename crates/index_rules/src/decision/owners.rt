@@ -23,7 +23,7 @@ pub fn add_owner(
     view: &View,
 ) -> Result<Decision, Stop>
     requires { view.now.caller ≡ Some caller.now }
-    ensures { let r = AddOwner name user in let facts = facts_seen view.now r in Decides result (verdict_in_order r facts) (effect r facts) }
+    ensures { let r = AddOwner name user in let facts = facts_seen view.now r in Decides result (verdict_in_order r facts) (effect 0 r facts) }
 {
     let Some(user) = readable_user(alloc, &user)? else {
         return Err(Stop::Refused(Refusal::BadUser));
@@ -54,7 +54,7 @@ pub fn remove_owner(
     view: &View,
 ) -> Result<Decision, Stop>
     requires { view.now.caller ≡ Some caller.now }
-    ensures { let r = RemoveOwner name user in let facts = facts_seen view.now r in Decides result (verdict_in_order r facts) (effect r facts) }
+    ensures { let r = RemoveOwner name user in let facts = facts_seen view.now r in Decides result (verdict_in_order r facts) (effect 0 r facts) }
 {
     let Some(user) = readable_user(alloc, &user)? else {
         return Err(Stop::Refused(Refusal::BadUser));

@@ -24,7 +24,7 @@ pub fn yank(
     view: &View,
 ) -> Result<Decision, Stop>
     requires { view.now.caller ≡ Some caller.now }
-    ensures { let r = Yank name release reason in let facts = facts_seen view.now r in Decides result (verdict_in_order r facts) (effect r facts) }
+    ensures { let r = Yank name release reason in let facts = facts_seen view.now r in Decides result (verdict_in_order r facts) (effect 0 r facts) }
 {
     let Some(name) = readable_name(alloc, &name)? else {
         return Err(Stop::Refused(Refusal::BadName));
@@ -62,7 +62,7 @@ pub fn unyank(
     view: &View,
 ) -> Result<Decision, Stop>
     requires { view.now.caller ≡ Some caller.now }
-    ensures { let r = Unyank name release in let facts = facts_seen view.now r in Decides result (verdict_in_order r facts) (effect r facts) }
+    ensures { let r = Unyank name release in let facts = facts_seen view.now r in Decides result (verdict_in_order r facts) (effect 0 r facts) }
 {
     let Some(name) = readable_name(alloc, &name)? else {
         return Err(Stop::Refused(Refusal::BadName));

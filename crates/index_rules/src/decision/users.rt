@@ -26,7 +26,7 @@ pub fn add_user(
     view: &View,
 ) -> Result<Decision, Stop>
     requires { view.now.caller ≡ Some caller.now }
-    ensures { let r = AddUser user office token in let facts = facts_seen view.now r in Decides result (verdict_in_order r facts) (effect r facts) }
+    ensures { let r = AddUser user office token in let facts = facts_seen view.now r in Decides result (verdict_in_order r facts) (effect 0 r facts) }
 {
     if !caller.office {
         return Err(Stop::Refused(Refusal::NotOffice));
@@ -66,7 +66,7 @@ pub fn set_token(
     view: &View,
 ) -> Result<Decision, Stop>
     requires { view.now.caller ≡ Some caller.now }
-    ensures { let r = SetToken user token in let facts = facts_seen view.now r in Decides result (verdict_in_order r facts) (effect r facts) }
+    ensures { let r = SetToken user token in let facts = facts_seen view.now r in Decides result (verdict_in_order r facts) (effect 0 r facts) }
 {
     if !caller.office {
         return Err(Stop::Refused(Refusal::NotOffice));

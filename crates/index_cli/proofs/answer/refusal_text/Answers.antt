@@ -107,3 +107,35 @@ returns-in-OverQuota c = rw c.in-OverQuota.is refl
 pub returns-in-QuotaBelowCharge : goal.returns-in-QuotaBelowCharge
 unfolding answer_text_of digits serde_json_on_literals
 returns-in-QuotaBelowCharge c = rw c.in-QuotaBelowCharge.is refl
+
+pub returns-in-CaseOpen : goal.returns-in-CaseOpen
+unfolding answer_text_of digits serde_json_on_literals
+returns-in-CaseOpen c = rw c.in-CaseOpen.is refl
+
+pub returns-in-OwnerCandidate : goal.returns-in-OwnerCandidate
+unfolding answer_text_of digits serde_json_on_literals
+returns-in-OwnerCandidate c = rw c.in-OwnerCandidate.is refl
+
+pub returns-in-NoCase : goal.returns-in-NoCase
+unfolding answer_text_of digits serde_json_on_literals
+returns-in-NoCase c = rw c.in-NoCase.is refl
+
+pub returns-in-AttemptsFull : goal.returns-in-AttemptsFull
+unfolding answer_text_of digits serde_json_on_literals
+returns-in-AttemptsFull c = rw c.in-AttemptsFull.is refl
+
+pub returns-in-TooFewAttempts : goal.returns-in-TooFewAttempts
+unfolding answer_text_of digits serde_json_on_literals
+returns-in-TooFewAttempts c = rw c.in-TooFewAttempts.is refl
+
+pub returns-in-TooEarly : goal.returns-in-TooEarly
+unfolding answer_text_of digits serde_json_on_literals
+returns-in-TooEarly c = rw c.in-TooEarly.is refl
+
+pub returns-in-RecentRelease : goal.returns-in-RecentRelease
+unfolding answer_text_of digits serde_json_on_literals
+returns-in-RecentRelease c = rw c.in-RecentRelease.is refl
+
+pub returns-in-HomePageActive : goal.returns-in-HomePageActive
+unfolding answer_text_of digits serde_json_on_literals
+returns-in-HomePageActive c = rw c.in-HomePageActive.is refl

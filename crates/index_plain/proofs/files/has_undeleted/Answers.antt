@@ -1,4 +1,4 @@
-use Rattle.std.proofs.Common.{◌≡◌, ◌<◌, false, sym, ap, ◌∙◌, Some, List, arith}
+use Rattle.std.proofs.Common.{◌<◌, sym, ap, ◌∙◌, Some, List, arith}
 use Rattle.std.specs.FinMap.{get, from_entries, get-from_entries}
 use Rattle.std.proofs.lemmas.Cmp.{nat_list_cmp_total}
 use Rattle.std.proofs.lemmas.Map.Lookups.{exact_bytes}

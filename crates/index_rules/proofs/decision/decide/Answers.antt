@@ -9,5 +9,5 @@ use Rattle.index_rules.proofs.decision.decide.Goals as goal
 
 pub returns-clause-tables : goal.returns-clause-tables
 returns-clause-tables c = λ T one sees.
-    subst (λ (f : Facts). Decides c.judge.result (verdict_on c.args.call f) (effect c.args.call.request f))
+    subst (λ (f : Facts). Decides c.judge.result (verdict_on c.args.call f) (effect c.args.call.at c.args.call.request f))
     (facts-seen T one c.args.call (keys_of c.args.call) c.args.view.now refl sees) c.judge.ensures

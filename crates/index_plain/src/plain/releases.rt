@@ -1,0 +1,68 @@
+//! What is written of a release: of its files and its yank.
+ghost use Rattle.std.specs.Prelude.{◌≡◌, ◌<◌, OnOk, OnErr, true, vec_len, vec_capacity};
+ghost use Rattle.index_rules.specs.declared.change.Change.TheVariants.{Unyank, Yank};
+ghost use Rattle.index_rules.specs.Effect.{means};
+ghost use Rattle.index_plain.specs.Plain.{tables_of, failures_of, is_of_release};
+
+use crate::entries;
+use crate::plain::PlainBooks;
+use index_names::{NormalName, Release, Text};
+use index_rules::Change;
+use std::alloc::AllocError;
+
+impl PlainBooks {
+    /// Makes a change of a release, or leaves the tables as they were.
+    pub(super) fn make_of_release(&mut self, change: Change) -> Result<(), AllocError>
+        requires release { is_of_release change ≡ true }
+        requires names { vec_len self.old.names < vec_capacity self.old.names }
+        requires files { vec_len self.old.files < vec_capacity self.old.files }
+        requires bodies { vec_len self.old.bodies < vec_capacity self.old.bodies }
+        requires yanks { vec_len self.old.yanks < vec_capacity self.old.yanks }
+        ensures written { OnOk result (tables_of self.new ≡ means change (tables_of self.old)) }
+        ensures unchanged { OnErr result (tables_of self.new ≡ tables_of self.old) }
+        ensures failures { failures_of self.new ≡ failures_of self.old }
+    {
+        match change {
+            Change::Upload {
+                name,
+                project,
+                file,
+                record,
+                body,
+            } => self.upload(name, project, file, record, body)?,
+            Change::Delete {
+                name,
+                project,
+                file,
+                record,
+            } => self.delete(name, project, file, record),
+            Change::Yank {
+                name,
+                release,
+                reason,
+            } => self.add_yank(name, release, reason),
+            Change::Unyank { name, release } => self.remove_yank(name, release),
+            _ => unreachable!(),
+        }
+        Ok(())
+    }
+
+    /// The release is yanked, for this reason, and the case ends.
+    fn add_yank(&mut self, name: NormalName, release: Release, reason: Text)
+        requires { vec_len self.old.yanks < vec_capacity self.old.yanks }
+        ensures tables { tables_of self.new ≡ means (Yank name release reason) (tables_of self.old) }
+        ensures failures { failures_of self.new ≡ failures_of self.old }
+    {
+        self.end_case(&name);
+        entries::put(&mut self.yanks, (name, release), reason);
+    }
+
+    /// The release is yanked no more, and the case ends.
+    fn remove_yank(&mut self, name: NormalName, release: Release)
+        ensures tables { tables_of self.new ≡ means (Unyank name release) (tables_of self.old) }
+        ensures failures { failures_of self.new ≡ failures_of self.old }
+    {
+        self.end_case(&name);
+        entries::remove(&mut self.yanks, &(name, release));
+    }
+}

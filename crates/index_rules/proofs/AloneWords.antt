@@ -1,0 +1,181 @@
+-- The entries of one name, with those on users, make of that name what the whole history makes of it.
+use Rattle.std.proofs.Common.{◌≡◌, ℕ, Bool, true, false, cond, ◌&&◌, inl, inr, refl, sym, ap, ◌∙◌, List, [], ◌∷◌, length, Option, Some, None, find, option_map}
+use Rattle.std.specs.Option.{option_or}
+use Rattle.std.proofs.lemmas.Bool.{false≢true}
+use Rattle.index_names.specs.Project.{read_name}
+use Rattle.index_names.specs.FileName.{project_of}
+use Rattle.index_names.specs.Release.{read_release}
+use Rattle.index_digest.specs.Digest.{digest_in}
+use Rattle.index_retention.specs.Attempts.{attempt_of}
+use Rattle.index_rules.specs.declared.call.Request.{Request}
+use Rattle.index_rules.specs.declared.call.Request.TheVariants.{AddUser, SetToken, SetQuota, Claim, AddOwner, RemoveOwner, Upload, Delete, Yank, Unyank, Relinquish, Prohibit, Allow, OpenCase, RecordAttempt, Transfer, CloseCase}
+use Rattle.index_rules.specs.declared.records.UserRecord.{UserRecord}
+use Rattle.index_rules.specs.Maps.{Bytes, same}
+use Rattle.index_rules.specs.Users.{read_user}
+use Rattle.index_rules.specs.Requests.{read_file}
+use Rattle.index_rules.specs.Verdict.{bears}
+use Rattle.index_rules.specs.Effect.{key, first_quota}
+use Rattle.index_rules.specs.History.{History, Entry, begins, more, is_read_as}
+use Rattle.index_rules.specs.PastUsers.{user_of, user_by, added, added_by, bearer}
+use Rattle.index_rules.specs.PastNames.{State, Free, Held, Prohibited, state_of, state_by, shown_of, shown_by, quota_of, quota_by, uploads_of, uploads_by, is_given, given_by, yanked_for, yanked_by}
+use Rattle.index_rules.specs.PastCases.{Case, case_of, case_by, with_attempt_more, is_owners_request}
+use Rattle.index_rules.specs.PastFiles.{known, known_by, undeleted, undeleted_by, requires_of, requires_by}
+use Rattle.index_rules.specs.Laws.{is_kept, only}
+use Rattle.index_rules.proofs.KeyLemmas.{same-refl, cases_same}
+
+-- ---- what an entry that is left out leaves alone
+
+module _ (n : Bytes) where
+  user_left : (r : Request) (u : Bytes) → is_kept r n ≡ false → (before : Option UserRecord) → user_by r u before ≡ before
+  user_left (AddUser user office token) u other before = absurd (false≢true (sym other))
+  user_left (SetToken user token) u other before = absurd (false≢true (sym other))
+  user_left r u other before = refl
+
+  added_left : (r : Request) → is_kept r n ≡ false → (before : List Bytes) → added_by r before ≡ before
+  added_left (AddUser user office token) other before = absurd (false≢true (sym other))
+  added_left r other before = refl
+
+  state_left : (r : Request) → is_kept r n ≡ false → (before : State) → state_by r n before ≡ before
+  state_left (Claim name) other before = ap (λ b. cond b Held before) other
+  state_left (Relinquish name) other before = ap (λ b. cond b Free before) other
+  state_left (Prohibit name) other before = ap (λ b. cond b Prohibited before) other
+  state_left (Allow name) other before = ap (λ b. cond b Free before) other
+  state_left r other before = refl
+
+  shown_left : (r : Request) → is_kept r n ≡ false → (before : Bytes) → shown_by r n before ≡ before
+  shown_left (Claim name) other before = ap (λ b. cond b name before) other
+  shown_left r other before = refl
+
+  quota_left : (r : Request) → is_kept r n ≡ false → (before : ℕ) → quota_by r n before ≡ before
+  quota_left (Claim name) other before = ap (λ b. cond b first_quota before) other
+  quota_left (SetQuota name quota) other before = ap (λ b. cond b quota before) other
+  quota_left r other before = refl
+
+  uploads_left : (r : Request) (at : ℕ) → is_kept r n ≡ false → (before : List ℕ) → uploads_by r at n before ≡ before
+  uploads_left (Claim name) at other before = ap (λ b. cond b [] before) other
+  uploads_left (Upload file sha256 body requires) at other before = ap (λ b. cond b (at ∷ before) before) other
+  uploads_left r at other before = refl
+
+  -- an owner's request of the name is not left out
+  owners_left : (r : Request) → is_kept r n ≡ false → is_owners_request r n ≡ false
+  owners_left (AddUser user office token) other = refl
+  owners_left (SetToken user token) other = refl
+  owners_left (SetQuota name quota) other = refl
+  owners_left (Claim name) other = refl
+  owners_left (Prohibit name) other = refl
+  owners_left (Allow name) other = refl
+  owners_left (OpenCase name kind contact work why) other = refl
+  owners_left (RecordAttempt name means sent) other = refl
+  owners_left (Transfer name quiet) other = refl
+  owners_left (CloseCase name) other = refl
+  owners_left r other = other
+
+  case_left : (r : Request) (actor : Bytes) (at : ℕ) → is_kept r n ≡ false → (before : Option Case) → case_by r actor at n before ≡ before
+  case_left (OpenCase name kind contact work why) actor at other before =
+      ap (λ b. cond b (Some (record { kind = kind; candidate = actor; contact = contact; work = work; why = why; opened = at; attempts = [] })) before) other
+  case_left (RecordAttempt name means sent) actor at other before = ap (λ b. cond b (option_map (with_attempt_more (attempt_of means sent at)) before) before) other
+  case_left (CloseCase name) actor at other before = ap (λ b. cond b None before) other
+  case_left (Transfer name quiet) actor at other before = ap (λ b. cond b None before) other
+  case_left (Prohibit name) actor at other before = ap (λ b. cond b None before) other
+  case_left r actor at other before = ap (λ b. cond b None before) (owners_left r other)
+
+  given_left : (r : Request) (actor : Bytes) (candidate : Option Bytes) (u : Bytes) → is_kept r n ≡ false → (before : Bool) → given_by r actor candidate n u before ≡ before
+  given_left (Claim name) actor candidate u other before = ap (λ b. cond b (same u actor) before) other
+  given_left (AddOwner name user) actor candidate u other before = ap (λ b. cond (b && is_read_as (read_user user) u) true before) other
+  given_left (RemoveOwner name user) actor candidate u other before = ap (λ b. cond (b && is_read_as (read_user user) u) false before) other
+  given_left (Transfer name quiet) actor candidate u other before = ap (λ b. cond b (is_read_as candidate u) before) other
+  given_left r actor candidate u other before = refl
+
+  yanked_left : (r : Request) (release : Bytes) → is_kept r n ≡ false → (before : Option Bytes) → yanked_by r n release before ≡ before
+  yanked_left (Claim name) release other before = ap (λ b. cond b None before) other
+  yanked_left (Yank name yanked reason) release other before = ap (λ b. cond (b && is_read_as (read_release yanked) release) (Some reason) before) other
+  yanked_left (Unyank name yanked) release other before = ap (λ b. cond (b && is_read_as (read_release yanked) release) None before) other
+  yanked_left r release other before = refl
+
+  module _ (f : Bytes) (project : project_of f ≡ n) where
+    -- a file of the name is none that another name's request speaks of
+    other_file : (read : Option Bytes) → is_read_as (option_map project_of read) n ≡ false → is_read_as read f ≡ false
+    other_file None other = other
+    other_file (Some g) other = elim (cases_same f g) [
+      | inl is ↦ absurd (false≢true (sym other ∙ ap (same n) (ap project_of (sym is) ∙ project) ∙ same-refl n))
+      | inr apart ↦ apart
+    ]
+
+    known_left : (r : Request) → is_kept r n ≡ false → (before : Option (Bytes × ℕ)) → known_by r f before ≡ before
+    known_left (Upload file sha256 body requires) other before =
+        ap (λ b. option_or before (cond b (Some (key (digest_in sha256), length body)) None)) (other_file (read_file file) other) ∙ or_none before
+      where
+        or_none : (o : Option (Bytes × ℕ)) → option_or o None ≡ o
+        or_none None = refl
+        or_none (Some first) = refl
+    known_left r other before = refl
+
+    undeleted_left : (r : Request) → is_kept r n ≡ false → (before : Bool) → undeleted_by r f before ≡ before
+    undeleted_left (Upload file sha256 body requires) other before = ap (λ b. cond b true before) (other_file (read_file file) other)
+    undeleted_left (Delete file) other before = ap (λ b. cond b false before) (other_file (read_file file) other)
+    undeleted_left (Prohibit name) other before = ap (λ b. cond b false before) (ap (is_read_as (read_name name)) project ∙ other)
+    undeleted_left r other before = refl
+
+    requires_left : (r : Request) → is_kept r n ≡ false → (before : Bytes) → requires_by r f before ≡ before
+    requires_left (Upload file sha256 body requires) other before = ap (λ b. cond b requires before) (other_file (read_file file) other)
+    requires_left r other before = refl
+
+-- ---- words that agree
+
+-- a word that each entry takes on from what it was, and that an entry that is left out leaves alone
+word-only : {A : Type 0} (n : Bytes) (word : History → A) (by : Entry → A → A)
+    → ((h : History) (e : Entry) → word (more h e) ≡ by e (word h))
+    → ((e : Entry) → is_kept e.call.request n ≡ false → (before : A) → by e before ≡ before)
+    → (h : History) → word (only n h) ≡ word h
+word-only n word by step left (begins user token) = refl
+word-only n word by step left (more h e) =
+    elim (is_kept e.call.request n) as (λ b. is_kept e.call.request n ≡ b → word (cond b (more (only n h) e) (only n h)) ≡ word (more h e)) [
+      | true ↦ λ _. step (only n h) e ∙ ap (by e) (word-only n word by step left h) ∙ sym (step h e)
+      | false ↦ λ other. word-only n word by step left h ∙ sym (step h e ∙ left e other (word h))
+    ] refl
+
+module _ (n : Bytes) where
+  pub user-only : (h : History) (u : Bytes) → user_of (only n h) u ≡ user_of h u
+  user-only h u = word-only n (λ g. user_of g u) (λ e. user_by e.call.request u) (λ g e. refl) (λ e. user_left n e.call.request u) h
+
+  added-only : (h : History) → added (only n h) ≡ added h
+  added-only = word-only n added (λ e. added_by e.call.request) (λ g e. refl) (λ e. added_left n e.call.request)
+
+  pub bearer-only : (h : History) (token : Bytes) → bearer (only n h) token ≡ bearer h token
+  bearer-only h token = λ i. find (λ u. bears (Some token) (user-only h u i)) (added-only h i)
+
+  pub state-only : (h : History) → state_of (only n h) n ≡ state_of h n
+  state-only = word-only n (λ g. state_of g n) (λ e. state_by e.call.request n) (λ g e. refl) (λ e. state_left n e.call.request)
+
+  pub shown-only : (h : History) → shown_of (only n h) n ≡ shown_of h n
+  shown-only = word-only n (λ g. shown_of g n) (λ e. shown_by e.call.request n) (λ g e. refl) (λ e. shown_left n e.call.request)
+
+  pub quota-only : (h : History) → quota_of (only n h) n ≡ quota_of h n
+  quota-only = word-only n (λ g. quota_of g n) (λ e. quota_by e.call.request n) (λ g e. refl) (λ e. quota_left n e.call.request)
+
+  pub uploads-only : (h : History) → uploads_of (only n h) n ≡ uploads_of h n
+  uploads-only = word-only n (λ g. uploads_of g n) (λ e. uploads_by e.call.request e.call.at n) (λ g e. refl) (λ e. uploads_left n e.call.request e.call.at)
+
+  pub case-only : (h : History) → case_of (only n h) n ≡ case_of h n
+  case-only = word-only n (λ g. case_of g n) (λ e. case_by e.call.request e.actor e.call.at n) (λ g e. refl) (λ e. case_left n e.call.request e.actor e.call.at)
+
+  -- a transfer gives the name to the candidate of its case, so the case goes along
+  pub given-only : (h : History) (u : Bytes) → is_given (only n h) n u ≡ is_given h n u
+  given-only h u =
+      let by : Entry → Option Case × Bool → Option Case × Bool = λ e before.
+      (case_by e.call.request e.actor e.call.at n before.0, given_by e.call.request e.actor (option_map (λ case. case.candidate) before.0) n u before.1) in
+      ap (λ both. both.1) (word-only n (λ g. (case_of g n, is_given g n u)) by (λ g e. refl) (λ e other before.
+      λ i. (case_left n e.call.request e.actor e.call.at other before.0 i, given_left n e.call.request e.actor (option_map (λ case. case.candidate) before.0) u other before.1 i)) h)
+
+  pub yanked-only : (h : History) (r : Bytes) → yanked_for (only n h) n r ≡ yanked_for h n r
+  yanked-only h r = word-only n (λ g. yanked_for g n r) (λ e. yanked_by e.call.request n r) (λ g e. refl) (λ e. yanked_left n e.call.request r) h
+
+  module _ (h : History) (f : Bytes) (project : project_of f ≡ n) where
+    pub known-only : known (only n h) f ≡ known h f
+    known-only = word-only n (λ g. known g f) (λ e. known_by e.call.request f) (λ g e. refl) (λ e. known_left n f project e.call.request) h
+
+    pub undeleted-only : undeleted (only n h) f ≡ undeleted h f
+    undeleted-only = word-only n (λ g. undeleted g f) (λ e. undeleted_by e.call.request f) (λ g e. refl) (λ e. undeleted_left n f project e.call.request) h
+
+    pub requires-only : requires_of (only n h) f ≡ requires_of h f
+    requires-only = word-only n (λ g. requires_of g f) (λ e. requires_by e.call.request f) (λ g e. refl) (λ e. requires_left n f project e.call.request) h

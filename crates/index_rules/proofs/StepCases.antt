@@ -1,0 +1,112 @@
+-- The open cases after an accepted call are those of the history with it.
+use Rattle.std.proofs.Common.{◌≡◌, ℕ, Bool, true, false, cond, refl, sym, ap, ◌∙◌, [], Option, Some, None, is_some, is_none, option_map, option_and_then, unwrap_or}
+use Rattle.std.specs.FinMap.{get, remove}
+use Rattle.std.proofs.lemmas.Bool.{true≢false, false≢true}
+use Rattle.index_names.specs.Project.{read_name}
+use Rattle.index_names.specs.FileName.{project_of}
+use Rattle.index_retention.specs.declared.attempts.CaseKind.{CaseKind}
+use Rattle.index_retention.specs.declared.attempts.Means.{Means}
+use Rattle.index_retention.specs.Attempts.{Attempt, attempt_of, tally_of}
+use Rattle.index_retention.proofs.TallyLemmas.{attempts_are_counted}
+use Rattle.index_rules.specs.declared.call.Call.{Call}
+use Rattle.index_rules.specs.declared.call.Request.{Request}
+use Rattle.index_rules.specs.declared.call.Request.TheVariants.{AddUser, SetToken, SetQuota, Claim, AddOwner, RemoveOwner, Upload, Delete, Yank, Unyank, Relinquish, Prohibit, Allow, OpenCase, RecordAttempt, Transfer, CloseCase, AnswerCase}
+use Rattle.index_rules.specs.declared.records.CaseRecord.{CaseRecord}
+use Rattle.index_rules.specs.Maps.{Bytes}
+use Rattle.index_rules.specs.Tables.{Tables}
+use Rattle.index_rules.specs.Requests.{read_file}
+use Rattle.index_rules.specs.Facts.{bearer_in, caller_by, facts_in}
+use Rattle.index_rules.specs.Verdict.{Accept, verdict_now, is_held}
+use Rattle.index_rules.specs.Effect.{key, no_case, with_attempt, after}
+use Rattle.index_rules.specs.Sound.{IsSound}
+use Rattle.index_rules.specs.History.{History, more, is_read_as}
+use Rattle.index_rules.specs.PastCases.{Case, case_of, with_attempt_more}
+use Rattle.index_rules.specs.StandsFor.{name_at, case_at, case_by_attempts}
+use Rattle.index_rules.proofs.PutLemmas.{each_put, each_without}
+use Rattle.index_rules.proofs.Accepted.{accepted, and_not}
+use Rattle.index_rules.proofs.PastReading.{read_key, read_itself, at_key, at_other}
+
+module _ (T : Tables) (h : History) (sound : IsSound T) (names : (name : Bytes) → get T.names name ≡ name_at h name) (stands : (name : Bytes) → get T.cases name ≡ case_at h name)
+    (at : ℕ) (token actor : Bytes) (acts : key (option_map (λ caller. caller.user) (option_map caller_by (bearer_in T token))) ≡ actor) where
+  abbrev of : Request → Call
+  of request = record { at = at; token = token; request = request }
+
+  abbrev then : Request → History
+  then request = more h (record { actor = actor; call = of request })
+
+  -- a case that ends
+  ended : (read : Option Bytes) (n : Bytes) → read ≡ Some n → (q : Bytes) → get (remove T.cases n) q ≡ option_map case_by_attempts (cond (is_read_as read q) None (case_of h q))
+  ended read n reads = each_without T.cases n (λ q found. found ≡ option_map case_by_attempts (cond (is_read_as read q) None (case_of h q)))
+      (sym (ap (option_map case_by_attempts) (at_key read n reads None (case_of h n))))
+      (λ q other. stands q ∙ sym (ap (option_map case_by_attempts) (at_other read n reads None (case_of h q) q other)))
+
+  ended_by : (read : Option Bytes) → is_none read ≡ false → (q : Bytes) → get (remove T.cases (key read)) q ≡ option_map case_by_attempts (cond (is_read_as read q) None (case_of h q))
+  ended_by read unread = ended read (key read) (read_key read unread)
+
+  -- a free name has none
+  none_of_free : (n : Bytes) → is_held (get T.names n) ≡ false → (q : Bytes) → get (remove T.cases n) q ≡ case_at h q
+  none_of_free n free = each_without T.cases n (λ q found. found ≡ case_at h q) (sym (by (get T.cases n) (sound.cases n)) ∙ stands n) (λ q _. stands q)
+    where
+      by : (found : Option CaseRecord) → (is_some found ≡ true → is_held (get T.names n) ≡ true) → found ≡ None
+      by None held = refl
+      by (Some case) held = absurd (false≢true (sym free ∙ held refl))
+
+  opened : (name : Bytes) (kind : CaseKind) (contact work why : Bytes) → is_none (read_name name) ≡ false
+      → (q : Bytes) → get (after T (of (OpenCase name kind contact work why))).cases q ≡ case_at (then (OpenCase name kind contact work why)) q
+  opened name kind contact work why unread =
+      let n : Bytes = key (read_name name) in
+      let reads : read_name name ≡ Some n = read_key (read_name name) unread in
+      let case : Case = record { kind = kind; candidate = actor; contact = contact; work = work; why = why; opened = at; attempts = [] } in
+      each_put T.cases n (record { kind = kind; candidate = key (option_map (λ caller. caller.user) (option_map caller_by (bearer_in T token))); contact = contact; work = work; why = why; opened = at; state = tally_of [] })
+      (λ q found. found ≡ case_at (then (OpenCase name kind contact work why)) q)
+      ((λ i. Some (record { kind = kind; candidate = acts i; contact = contact; work = work; why = why; opened = at; state = tally_of [] }))
+      ∙ sym (ap (option_map case_by_attempts) (at_key (read_name name) n reads (Some case) (case_of h n))))
+      (λ q other. stands q ∙ sym (ap (option_map case_by_attempts) (at_other (read_name name) n reads (Some case) (case_of h q) q other)))
+
+  recorded : (name : Bytes) (means : Means) (sent : Bool) → is_none (read_name name) ≡ false → is_none (option_and_then (get T.cases) (read_name name)) ≡ false
+      → (q : Bytes) → get (after T (of (RecordAttempt name means sent))).cases q ≡ case_at (then (RecordAttempt name means sent)) q
+  recorded name means sent unread missing =
+      let n : Bytes = key (read_name name) in
+      let reads : read_name name ≡ Some n = read_key (read_name name) unread in
+      let attempt : Attempt = attempt_of means sent at in
+      let found : option_and_then (get T.cases) (read_name name) ≡ case_at h n = ap (option_and_then (get T.cases)) reads ∙ stands n in
+      each_put T.cases n (with_attempt attempt (unwrap_or (option_and_then (get T.cases) (read_name name)) no_case)) (λ q found. found ≡ case_at (then (RecordAttempt name means sent)) q)
+      (ap (λ o. Some (with_attempt attempt (unwrap_or o no_case))) found ∙ by attempt (case_of h n) (sym (ap is_none found) ∙ missing)
+      ∙ sym (ap (option_map case_by_attempts) (at_key (read_name name) n reads (option_map (with_attempt_more attempt) (case_of h n)) (case_of h n))))
+      (λ q other. stands q ∙ sym (ap (option_map case_by_attempts) (at_other (read_name name) n reads (option_map (with_attempt_more attempt) (case_of h q)) (case_of h q) q other)))
+    where
+      by : (attempt : Attempt) (case : Option Case) → is_none (option_map case_by_attempts case) ≡ false
+          → Some (with_attempt attempt (unwrap_or (option_map case_by_attempts case) no_case)) ≡ option_map case_by_attempts (option_map (with_attempt_more attempt) case)
+      by attempt None missing = absurd (true≢false missing)
+      by attempt (Some case) missing = λ i. Some (record (case_by_attempts case) { state = sym (attempts_are_counted attempt case.attempts) i })
+
+  pub cases_after : (request : Request) → verdict_now T (of request) ≡ Accept → (q : Bytes) → get (after T (of request)).cases q ≡ case_at (then request) q
+  cases_after (AddUser user office digest) accepts = stands
+  cases_after (SetToken user digest) accepts = stands
+  cases_after (SetQuota name quota) accepts = stands
+  cases_after (Claim name) accepts =
+      let all = accepted (of (Claim name)) (facts_in T (of (Claim name))) accepts in
+      let n : Bytes = key (read_name name) in
+      let reads : read_name name ≡ Some n = read_key (read_name name) all.0.1.1.0 in
+      none_of_free n (sym (ap (λ r. is_held (option_and_then (get T.names) r)) reads) ∙ and_not _ _ all.0.1.1.1.1.0 all.1)
+  cases_after (AddOwner name user) accepts = ended_by (read_name name) (accepted (of (AddOwner name user)) (facts_in T (of (AddOwner name user))) accepts).0.1.1.1.0
+  cases_after (RemoveOwner name user) accepts = ended_by (read_name name) (accepted (of (RemoveOwner name user)) (facts_in T (of (RemoveOwner name user))) accepts).0.1.1.1.0
+  cases_after (Upload file digest body requires) accepts =
+      let all = accepted (of (Upload file digest body requires)) (facts_in T (of (Upload file digest body requires))) accepts in
+      ended (option_map project_of (read_file file)) (project_of file) (ap (option_map project_of) (read_itself file all.0.1.1.0))
+  cases_after (Delete file) accepts =
+      let all = accepted (of (Delete file)) (facts_in T (of (Delete file))) accepts in
+      ended (option_map project_of (read_file file)) (project_of file) (ap (option_map project_of) (read_itself file all.0.1.1.0))
+  cases_after (Yank name release reason) accepts = ended_by (read_name name) (accepted (of (Yank name release reason)) (facts_in T (of (Yank name release reason))) accepts).0.1.1.0
+  cases_after (Unyank name release) accepts = ended_by (read_name name) (accepted (of (Unyank name release)) (facts_in T (of (Unyank name release))) accepts).0.1.1.0
+  cases_after (Relinquish name) accepts = ended_by (read_name name) (accepted (of (Relinquish name)) (facts_in T (of (Relinquish name))) accepts).0.1.1.0
+  cases_after (Prohibit name) accepts = ended_by (read_name name) (accepted (of (Prohibit name)) (facts_in T (of (Prohibit name))) accepts).0.1.1.1.0
+  cases_after (Allow name) accepts = stands
+  cases_after (OpenCase name kind contact work why) accepts =
+      opened name kind contact work why (accepted (of (OpenCase name kind contact work why)) (facts_in T (of (OpenCase name kind contact work why))) accepts).0.1.1.0
+  cases_after (RecordAttempt name means sent) accepts =
+      let all = accepted (of (RecordAttempt name means sent)) (facts_in T (of (RecordAttempt name means sent))) accepts in
+      recorded name means sent all.0.1.1.1.0 all.0.1.1.1.1.1.0
+  cases_after (Transfer name quiet) accepts = ended_by (read_name name) (accepted (of (Transfer name quiet)) (facts_in T (of (Transfer name quiet))) accepts).0.1.1.1.0
+  cases_after (CloseCase name) accepts = ended_by (read_name name) (accepted (of (CloseCase name)) (facts_in T (of (CloseCase name))) accepts).0.1.1.1.0
+  cases_after (AnswerCase name) accepts = ended_by (read_name name) (accepted (of (AnswerCase name)) (facts_in T (of (AnswerCase name))) accepts).0.1.1.0

@@ -1,0 +1,72 @@
+-- What a history makes of a retention case: which is open, and its attempts (PEP 541).
+use Rattle.std.specs.Prelude.{ℕ, Bool, false, not, ◌&&◌, ◌||◌, if◌then◌else◌, List, [], ◌∷◌, Option, Some, None, option_map}
+use Rattle.index_names.specs.Project.{read_name}
+use Rattle.index_names.specs.FileName.{project_of}
+use Rattle.index_retention.specs.declared.attempts.CaseKind.{CaseKind}
+use Rattle.index_retention.specs.Attempts.{Attempt, attempt_of}
+use Rattle.index_rules.specs.declared.call.Request.{Request}
+use Rattle.index_rules.specs.declared.call.Request.TheVariants.{AddUser, SetToken, SetQuota, Claim, AddOwner, RemoveOwner, Upload, Delete, Yank, Unyank, Relinquish, Prohibit, Allow, OpenCase, RecordAttempt, Transfer, CloseCase, AnswerCase}
+use Rattle.index_rules.specs.Maps.{Bytes}
+use Rattle.index_rules.specs.Requests.{read_file}
+use Rattle.index_rules.specs.History.{History, begins, more, is_read_as}
+
+-- an open case, with its attempts, the newest first
+pub record Case : Type 0 where
+  pub kind : CaseKind
+  pub candidate : Bytes
+  pub contact : Bytes
+  pub work : Bytes
+  pub why : Bytes
+  pub opened : ℕ
+  pub attempts : List Attempt
+
+abbrev pub with_attempt_more : Attempt → Case → Case
+with_attempt_more attempt case = record case { attempts = attempt ∷ case.attempts }
+
+-- a request of an owner on a name
+abbrev pub is_owners_request : Request → Bytes → Bool
+is_owners_request (AddUser user office token) n = false
+is_owners_request (SetToken user token) n = false
+is_owners_request (SetQuota name quota) n = false
+is_owners_request (Claim name) n = false
+is_owners_request (AddOwner name user) n = is_read_as (read_name name) n
+is_owners_request (RemoveOwner name user) n = is_read_as (read_name name) n
+is_owners_request (Upload file sha256 body requires) n = is_read_as (option_map project_of (read_file file)) n
+is_owners_request (Delete file) n = is_read_as (option_map project_of (read_file file)) n
+is_owners_request (Yank name release reason) n = is_read_as (read_name name) n
+is_owners_request (Unyank name release) n = is_read_as (read_name name) n
+is_owners_request (Relinquish name) n = is_read_as (read_name name) n
+is_owners_request (Prohibit name) n = false
+is_owners_request (Allow name) n = false
+is_owners_request (OpenCase name kind contact work why) n = false
+is_owners_request (RecordAttempt name means sent) n = false
+is_owners_request (Transfer name quiet) n = false
+is_owners_request (CloseCase name) n = false
+is_owners_request (AnswerCase name) n = is_read_as (read_name name) n
+
+abbrev pub case_by : Request → Bytes → ℕ → Bytes → Option Case → Option Case
+case_by (OpenCase name kind contact work why) actor at n before =
+    if is_read_as (read_name name) n then Some (record { kind = kind; candidate = actor; contact = contact; work = work; why = why; opened = at; attempts = [] }) else before
+case_by (RecordAttempt name means sent) actor at n before = if is_read_as (read_name name) n then option_map (with_attempt_more (attempt_of means sent at)) before else before
+case_by (CloseCase name) actor at n before = if is_read_as (read_name name) n then None else before
+case_by (Transfer name quiet) actor at n before = if is_read_as (read_name name) n then None else before
+case_by (Prohibit name) actor at n before = if is_read_as (read_name name) n then None else before
+case_by request actor at n before = if is_owners_request request n then None else before
+
+-- the last case that was opened on the name, where no closing, transfer or prohibition of the name and no owner's request stands after it
+abbrev pub case_of : History → Bytes → Option Case
+case_of (begins user token) n = None
+case_of (more h e) n = case_by e.call.request e.actor e.call.at n (case_of h n)
+
+-- its candidate
+abbrev pub candidate_of : History → Bytes → Option Bytes
+candidate_of h n = option_map (λ case. case.candidate) (case_of h n)
+
+-- since the last case was opened on the name, no owner's request of it was accepted
+abbrev pub opens_case : Request → Bytes → Bool
+opens_case (OpenCase name kind contact work why) n = is_read_as (read_name name) n
+opens_case request n = false
+
+abbrev pub is_unanswered : History → Bytes → Bool
+is_unanswered (begins user token) n = false
+is_unanswered (more h e) n = opens_case e.call.request n || (not (is_owners_request e.call.request n) && is_unanswered h n)
