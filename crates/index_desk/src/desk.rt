@@ -109,7 +109,8 @@ impl<B: Books> Desk<B> {
         standing_of(&mut self.books, alloc, name)
     }
 
-    /// The bytes of a file with their digest, or `None` where it is not undeleted. It changes nothing.
+    /// The bytes that are kept of a file with their digest, or `None` where none are: in sound tables, where it is not
+    /// undeleted. It changes nothing.
     pub fn body(&mut self, alloc: Global, file: &FileName) -> Result<Option<Sealed>, Fault>
         ensures body { B.IsHonest self.new → IfOk result (λ body. body ≡ get (B.tables self.old).bodies file.now) }
         ensures unchanged { B.IsHonest self.new → B.tables self.new ≡ B.tables self.old }

@@ -143,20 +143,20 @@ same_tables h T T' one other = λ i. record {
     by (Some u) (Some v) is = refl
 
 -- tables that stand for a legal history are sound
-pub IsSound-legal : (h : History) → IsLegal h → (T : Tables) → StandsFor T h → IsSound T
-IsSound-legal h legal T stands = let made = legal_made h legal in subst IsSound (same_tables h (tables_of h) T made.stands stands) made.sound
+pub sound_when_legal : (h : History) → IsLegal h → (T : Tables) → StandsFor T h → IsSound T
+sound_when_legal h legal T stands = let made = legal_made h legal in subst IsSound (same_tables h (tables_of h) T made.stands stands) made.sound
 
 -- ---- the theorems
 
 pub CarriesOn-answer : (h : History) → IsLegal h → (T : Tables) → StandsFor T h → (c : Call) (answer : Answer) (T' : Tables)
     → (HasOneBearer T → Answers (verdict_now T c) answer) → (HasOneBearer T → T' ≡ tables_after T c answer) → CarriesOn h c answer T'
 CarriesOn-answer h legal T stands c answer T' answers after_is =
-    let sound : IsSound T = IsSound-legal h legal T stands in
+    let sound : IsSound T = sound_when_legal h legal T stands in
     by answer (answers sound.one_bearer) (subst (λ v. Answers v answer) (verdict_agrees T h sound stands c) (answers sound.one_bearer)) (after_is sound.one_bearer)
   where
     by : (answer : Answer) → Answers (verdict_now T c) answer → Answers (verdict_after h c) answer → T' ≡ tables_after T c answer → CarriesOn h c answer T'
     by Accepted now verdict is =
-        let sound : IsSound T = IsSound-legal h legal T stands in
+        let sound : IsSound T = sound_when_legal h legal T stands in
         record { verdict = verdict; legal = (legal, verdict, caller_there T h sound stands c now); stands = subst (λ x. StandsFor x (with_call h c)) (sym is) (StandsFor-after T h sound stands c now) }
     by Already now verdict is = record { verdict = verdict; legal = legal; stands = subst (λ x. StandsFor x h) (sym is) stands }
     by (Refused refusal) now verdict is = record { verdict = verdict; legal = legal; stands = subst (λ x. StandsFor x h) (sym is) stands }

@@ -62,11 +62,12 @@ case_of (more h e) n = case_by e.call.request e.actor e.call.at n (case_of h n)
 abbrev pub candidate_of : History → Bytes → Option Bytes
 candidate_of h n = option_map (λ case. case.candidate) (case_of h n)
 
--- since the last case was opened on the name, no owner's request of it was accepted
+-- a request that opens a case on the name
 abbrev pub opens_case : Request → Bytes → Bool
 opens_case (OpenCase name kind contact work why) n = is_read_as (read_name name) n
 opens_case request n = false
 
+-- since the last case was opened on the name, no owner's request of it was accepted
 abbrev pub is_unanswered : History → Bytes → Bool
 is_unanswered (begins user token) n = false
 is_unanswered (more h e) n = opens_case e.call.request n || (not (is_owners_request e.call.request n) && is_unanswered h n)

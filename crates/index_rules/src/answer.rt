@@ -22,7 +22,7 @@ pub enum Refusal {
     BadFileName,
     /// The bytes are no version text.
     BadRelease,
-    /// The bytes are no text that the index keeps.
+    /// The bytes are no text that the index keeps; for a text of a case, also no bytes at all.
     BadText,
     /// The bytes are no digest's text; for a token, also the digest of the empty text.
     BadDigest,

@@ -46,7 +46,8 @@ pub trait Books {
         ensures honest { IsHonest self.new → IsHonest self.old }
         ensures failures { failures self.new ≡ counted (failures self.old) (is_ok result) };
 
-    /// The bytes of a file, or `None` where it is not undeleted. It changes nothing.
+    /// The bytes that are kept of a file, or `None` where none are: in sound tables, where it is not undeleted. It changes
+    /// nothing.
     fn bytes_of(&mut self, alloc: Global, file: &FileName) -> Result<Option<Sealed>, Fault>
         ensures found { IsHonest self.new → IfOk result (λ body. body ≡ get (tables self.old).bodies file.now) }
         ensures unchanged { IsHonest self.new → tables self.new ≡ tables self.old }

@@ -22,7 +22,7 @@ pub enum Change {
         name: NormalName,
         project: Project,
     },
-    /// The name is held, the user alone owns it, and no release of it is yanked.
+    /// The name is held, the user alone owns it, no release of it is yanked, and it has no case.
     Claim {
         name: NormalName,
         project: Project,

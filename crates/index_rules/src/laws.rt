@@ -1,6 +1,9 @@
 //! Laws of every legal history. Each function does nothing, and its contract is the law.
 ghost use Rattle.index_rules.specs.History.{History};
 ghost use Rattle.index_rules.specs.Legal.{IsLegal};
+ghost use Rattle.index_rules.specs.Tables.{Tables};
+ghost use Rattle.index_rules.specs.Sound.{IsSound};
+ghost use Rattle.index_rules.specs.StandsFor.{StandsFor};
 ghost use Rattle.index_rules.specs.Laws.{BindsFiles, MovesAsRecorded, StandsAlone, TransfersWereReady};
 
 /// A file name is bound for good: any two uploads of it have the same digest and size, whatever stands between
@@ -33,4 +36,10 @@ pub fn transfers_were_ready()
 #[tactic(auto, using(crate::proofs::AloneLemmas::stands_alone))]
 pub fn names_stand_alone()
     ensures { (h : History) → IsLegal h → StandsAlone h }
+{}
+
+/// Tables that stand for a legal history are sound, so that no two users bear one digest in them.
+#[tactic(auto, using(crate::proofs::StandsOn::sound_when_legal))]
+pub fn tables_of_a_legal_history_are_sound()
+    ensures { (h : History) → IsLegal h → (T : Tables) → StandsFor T h → IsSound T }
 {}

@@ -5,7 +5,7 @@ use Rattle.index_rules.specs.Sound.{IsSound}
 use Rattle.index_rules.specs.History.{History}
 use Rattle.index_rules.specs.StandsFor.{StandsFor}
 use Rattle.index_rules.specs.Legal.{CarriesOnBy, IsLegal}
-use Rattle.index_rules.proofs.StandsOn.{CarriesOnBy-Runs, IsSound-legal}
+use Rattle.index_rules.proofs.StandsOn.{CarriesOnBy-Runs, sound_when_legal}
 use Rattle.index_rules.proofs.OneBearer.{HasOneBearer-Runs}
 use Rattle.index_rules.proofs.SoundLemmas.{IsSound-Runs}
 use Rattle.index_desk.proofs.desk.Desk.run.Goals as goal
@@ -34,4 +34,4 @@ returns-clause-history g c =
     (λ honest h legal stands.
     let T = g.B.Books.tables c.self.inside.books in
     CarriesOnBy-Runs h legal T stands c.args.calls.items c.run_on.new.answers.items (g.B.Books.tables c.run_on.new.books)
-    (c.run_on.ensures.runs honest (IsSound-legal h legal T stands).one_bearer))
+    (c.run_on.ensures.runs honest (sound_when_legal h legal T stands).one_bearer))
