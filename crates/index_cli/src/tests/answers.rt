@@ -3,6 +3,8 @@ use crate::{answer_text, standing_text};
 use index_desk::Standing;
 use index_names::normal;
 use index_rules::{Answer, Fault, Refusal};
+use std::alloc::AllocGlobal;
+use std::process::Abort;
 use std::test::Fail;
 
 #[test]
@@ -24,10 +26,24 @@ fn writes_answers(rt: HostRuntime) {
     }
 }
 
-/// The numbers and names of the refusals, as `docs/REQUESTS.md` has them.
+/// The text of a refusal has its number and its name, as `docs/REQUESTS.md` has them.
+fn assert_refusal(
+    rt: &(impl Abort + AllocGlobal),
+    refusal: Refusal,
+    code: u8,
+    name: &str,
+) -> Result<(), Fail> {
+    let text = format!(in rt.alloc();
+        "{{\"answer\":\"refused\",\"code\":{code},\"name\":\"{name}\"}}"
+    )?;
+    assert_eq!(rt; refusal.number(), code, "{name}");
+    assert_eq!(rt; answer_text(&Answer::Refused(refusal)), text.as_str());
+    Ok(())
+}
+
 #[test]
-fn writes_refusals(rt: HostRuntime) -> Result<(), Fail> {
-    let refusals = [
+fn writes_refusals_of_what_can_not_be_read(rt: HostRuntime) -> Result<(), Fail> {
+    for (refusal, code, name) in [
         (Refusal::BadMoment, 1, "BadMoment"),
         (Refusal::BadToken, 2, "BadToken"),
         (Refusal::NotOffice, 3, "NotOffice"),
@@ -37,43 +53,82 @@ fn writes_refusals(rt: HostRuntime) -> Result<(), Fail> {
         (Refusal::BadRelease, 7, "BadRelease"),
         (Refusal::BadText, 8, "BadText"),
         (Refusal::BadDigest, 9, "BadDigest"),
+    ] {
+        assert_refusal(&rt, refusal, code, name)?;
+    }
+    Ok(())
+}
+
+#[test]
+fn writes_refusals_of_users_and_limits(rt: HostRuntime) -> Result<(), Fail> {
+    for (refusal, code, name) in [
         (Refusal::TooLarge, 10, "TooLarge"),
         (Refusal::DigestMismatch, 11, "DigestMismatch"),
         (Refusal::QuotaTooLarge, 12, "QuotaTooLarge"),
         (Refusal::NoUser, 13, "NoUser"),
         (Refusal::UserExists, 14, "UserExists"),
         (Refusal::TokenTaken, 15, "TokenTaken"),
+    ] {
+        assert_refusal(&rt, refusal, code, name)?;
+    }
+    Ok(())
+}
+
+#[test]
+fn writes_refusals_of_names_and_owners(rt: HostRuntime) -> Result<(), Fail> {
+    for (refusal, code, name) in [
         (Refusal::NameProhibited, 16, "NameProhibited"),
         (Refusal::NoProject, 17, "NoProject"),
         (Refusal::NotOwner, 18, "NotOwner"),
         (Refusal::NameHeld, 19, "NameHeld"),
         (Refusal::LastOwner, 20, "LastOwner"),
         (Refusal::FilesRemain, 21, "FilesRemain"),
+    ] {
+        assert_refusal(&rt, refusal, code, name)?;
+    }
+    Ok(())
+}
+
+#[test]
+fn writes_refusals_of_files_and_quotas(rt: HostRuntime) -> Result<(), Fail> {
+    for (refusal, code, name) in [
         (Refusal::NoFile, 22, "NoFile"),
         (Refusal::NoRelease, 23, "NoRelease"),
         (Refusal::FileNameTaken, 24, "FileNameTaken"),
         (Refusal::OverQuota, 26, "OverQuota"),
         (Refusal::QuotaBelowCharge, 27, "QuotaBelowCharge"),
-        (Refusal::CaseOpen, 28, "CaseOpen"),
-        (Refusal::OwnerCandidate, 29, "OwnerCandidate"),
-        (Refusal::NoCase, 30, "NoCase"),
-        (Refusal::AttemptsFull, 31, "AttemptsFull"),
-        (Refusal::TooFewAttempts, 32, "TooFewAttempts"),
-        (Refusal::TooEarly, 33, "TooEarly"),
-        (Refusal::RecentRelease, 34, "RecentRelease"),
-        (Refusal::HomePageActive, 35, "HomePageActive"),
-    ];
-    for (refusal, number, name) in refusals {
-        let text = format!(in rt.alloc();
-            "{{\"answer\":\"refused\",\"code\":{number},\"name\":\"{name}\"}}"
-        )?;
-        assert_eq!(rt; refusal.number(), number, "{name}");
-        assert_eq!(rt; answer_text(&Answer::Refused(refusal)), text.as_str());
+    ] {
+        assert_refusal(&rt, refusal, code, name)?;
     }
     Ok(())
 }
 
-/// A held name's text is that of the standings after worked requests.
+#[test]
+fn writes_refusals_of_cases(rt: HostRuntime) -> Result<(), Fail> {
+    for (refusal, code, name) in [
+        (Refusal::CaseOpen, 28, "CaseOpen"),
+        (Refusal::OwnerCandidate, 29, "OwnerCandidate"),
+        (Refusal::NoCase, 30, "NoCase"),
+        (Refusal::AttemptsFull, 31, "AttemptsFull"),
+    ] {
+        assert_refusal(&rt, refusal, code, name)?;
+    }
+    Ok(())
+}
+
+#[test]
+fn writes_refusals_of_transfers(rt: HostRuntime) -> Result<(), Fail> {
+    for (refusal, code, name) in [
+        (Refusal::TooFewAttempts, 32, "TooFewAttempts"),
+        (Refusal::TooEarly, 33, "TooEarly"),
+        (Refusal::RecentRelease, 34, "RecentRelease"),
+        (Refusal::HomePageActive, 35, "HomePageActive"),
+    ] {
+        assert_refusal(&rt, refusal, code, name)?;
+    }
+    Ok(())
+}
+
 #[test]
 fn writes_the_standing_of_a_name_that_is_not_held(rt: HostRuntime) -> Result<(), Fail> {
     let alloc = rt.alloc();
