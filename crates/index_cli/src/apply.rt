@@ -119,10 +119,9 @@ fn answer_lines<R: Read, W: Write, B: Books>(
     let mut line = Vec::new(alloc);
     let mut left = MOST_BYTES;
     for count in 0..MOST_BYTES {
-        let Some(size) = next_line(reader, &mut line, left)? else {
+        let Some(size) = next_line(reader, &mut line, &mut left)? else {
             return Ok(count);
         };
-        left -= size + 1;
         let reply = reply_to(alloc, desk, line.as_slice(), size)?;
         let Ok(()) = write_line(writer, reply.as_bytes()) else {
             return Err(LineEnd::WriteFault);

@@ -5,7 +5,7 @@ use std::fmt;
 /// Why a run over lines ended before the end of its input.
 #[derive(Clone, Copy, Debug, PartialEq, Eq, Hash)]
 pub enum LineEnd {
-    /// A read failed, or the input has more than 1,099,511,627,776 bytes.
+    /// A read failed, or 1,099,511,627,776 bytes were read.
     ReadFault,
     /// A write failed, or took no byte.
     WriteFault,

@@ -9,23 +9,29 @@ use std::io::{ErrorKind, Read};
 pub const LONGEST_LINE: u64 = 65_536;
 
 /// Takes the next line from a reader, with its line feed, and answers its size without it. `None` is the end of
-/// the input. Of a line longer than 65,536 bytes `line` has these first ones. `ReadFault` where a read failed, or
-/// where `left` bytes held no line feed.
+/// the input. Of a line longer than 65,536 bytes `line` has these first ones. It takes the bytes that it read from
+/// `left`, the most that may be read. `ReadFault` where a read failed, or where these held no line feed.
 pub fn next_line<R: Read>(
     reader: &mut R,
     line: &mut Vec<u8>,
-    left: u64,
+    left: &mut u64,
 ) -> Result<Option<u64>, LineEnd>
     ensures line { IfOk result (λ size. TakesLine size line.new.items (R.remaining reader.old) (R.remaining reader.new)) }
-    ensures size { IfOk result (λ size. IfSome size (λ size. size < left)) }
     ensures fault { IfErr result (λ end. end ≢ LineEnd.WriteFault) }
 {
     line.clear();
-    for size in 0..left {
+    let most = *left;
+    for size in 0..most {
         match next_byte(reader)? {
             None if size == 0 => return Ok(None),
-            None => return Ok(Some(size)),
-            Some(b'\n') => return Ok(Some(size)),
+            None => {
+                *left = most - size;
+                return Ok(Some(size));
+            }
+            Some(b'\n') => {
+                *left = most - size - 1;
+                return Ok(Some(size));
+            }
             Some(byte) => keep_front(line, byte, size)?,
         }
     }

@@ -1,5 +1,6 @@
 pub mod Cut
 pub mod FileName
+pub mod Printed
 pub mod Project
 pub mod Release
 pub mod Spelling

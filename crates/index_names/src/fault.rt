@@ -19,13 +19,18 @@ pub enum NameFault {
 }
 
 impl fmt::Display for NameFault {
+    ghost use Rattle.std.specs.Prelude.{Some};
+    ghost use Rattle.index_names.specs.Printed.{name_fault_text};
+
+    ghost output = { λ fault. Some (name_fault_text fault) };
+
     fn fmt<W: fmt::Write>(&self, f: &mut fmt::Formatter<W>) -> fmt::Result {
-        match self {
-            NameFault::BadName => write!(f, "not a project name"),
-            NameFault::BadFileName => write!(f, "not a file name of a wheel or a source archive"),
-            NameFault::BadRelease => write!(f, "not a version text"),
-            NameFault::OutOfMemory => write!(f, "out of memory"),
-        }
+        f.write_str(match self {
+            NameFault::BadName => "not a project name",
+            NameFault::BadFileName => "not a file name of a wheel or a source archive",
+            NameFault::BadRelease => "not a version text",
+            NameFault::OutOfMemory => "out of memory",
+        })
     }
 }
 

@@ -17,6 +17,11 @@ pub enum CaseFault {
 }
 
 impl fmt::Display for CaseFault {
+    ghost use Rattle.std.specs.Prelude.{Some};
+    ghost use Rattle.index_retention.specs.Printed.{case_fault_text};
+
+    ghost output = { λ fault. Some (case_fault_text fault) };
+
     fn fmt<W: fmt::Write>(&self, f: &mut fmt::Formatter<W>) -> fmt::Result {
         f.write_str(match self {
             CaseFault::AttemptsFull => "the case has 1,000 attempts",

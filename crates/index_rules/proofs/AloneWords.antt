@@ -18,7 +18,7 @@ use Rattle.index_rules.specs.Effect.{key, first_quota}
 use Rattle.index_rules.specs.History.{History, Entry, begins, more, is_read_as}
 use Rattle.index_rules.specs.PastUsers.{user_of, user_by, added, added_by, bearer}
 use Rattle.index_rules.specs.PastNames.{State, Free, Held, Prohibited, state_of, state_by, shown_of, shown_by, quota_of, quota_by, uploads_of, uploads_by, is_given, given_by, yanked_for, yanked_by}
-use Rattle.index_rules.specs.PastCases.{Case, case_of, case_by, with_attempt_more, is_owners_request}
+use Rattle.index_rules.specs.PastCases.{Case, case_of, case_by, with_attempt, is_owners_request}
 use Rattle.index_rules.specs.PastFiles.{known, known_by, undeleted, undeleted_by, requires_of, requires_by}
 use Rattle.index_rules.specs.Laws.{is_kept, only}
 use Rattle.index_rules.proofs.KeyLemmas.{same-refl, cases_same}
@@ -73,7 +73,7 @@ module _ (n : Bytes) where
   case_left : (r : Request) (actor : Bytes) (at : ℕ) → is_kept r n ≡ false → (before : Option Case) → case_by r actor at n before ≡ before
   case_left (OpenCase name kind contact work why) actor at other before =
       ap (λ b. cond b (Some (record { kind = kind; candidate = actor; contact = contact; work = work; why = why; opened = at; attempts = [] })) before) other
-  case_left (RecordAttempt name means sent) actor at other before = ap (λ b. cond b (option_map (with_attempt_more (attempt_of means sent at)) before) before) other
+  case_left (RecordAttempt name means sent) actor at other before = ap (λ b. cond b (option_map (with_attempt (attempt_of means sent at)) before) before) other
   case_left (CloseCase name) actor at other before = ap (λ b. cond b None before) other
   case_left (Transfer name quiet) actor at other before = ap (λ b. cond b None before) other
   case_left (Prohibit name) actor at other before = ap (λ b. cond b None before) other

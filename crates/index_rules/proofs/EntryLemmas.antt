@@ -37,7 +37,7 @@ find-passes p (y ∷ xs) x e = elim (p y) as (λ b. p y ≡ b → cond b (Some y
 
 -- ---- entries of a map
 
-both_hold : (a b : Bool) → T (a && b) → T a × T b
+pub both_hold : (a b : Bool) → T (a && b) → T a × T b
 both_hold true b p = (tt, p)
 both_hold false b p = absurd p
 

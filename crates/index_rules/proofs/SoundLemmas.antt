@@ -27,6 +27,7 @@ use Rattle.index_rules.specs.Effect.{key, no_file, no_project, file_of, user_in,
 use Rattle.index_rules.specs.Runs.{Answers, Runs, tables_after}
 use Rattle.index_rules.specs.Sound.{IsSound, undeleted_in}
 use Rattle.index_rules.proofs.OwnerLists.{same-is}
+use Rattle.index_rules.proofs.PastReading.{read_itself}
 use Rattle.index_rules.proofs.Accepted.{accepted, some_there, and_not}
 use Rattle.index_rules.proofs.SoundUsers.{IsSound-user, not_taken}
 use Rattle.index_rules.proofs.SoundNames.{IsSound-project, IsSound-claim}
@@ -54,9 +55,9 @@ free_at T None unread free = absurd (true≢false unread)
 free_at T (Some name) unread free = free
 
 -- a prohibited name is not held
-prohibited_at : (T : Tables) (name : Option Bytes) → is_prohibited (option_and_then (get T.names) name) ≡ true → project_in (get T.names (key name)) ≡ None
-prohibited_at T None prohibited = absurd (false≢true prohibited)
-prohibited_at T (Some name) prohibited = by (get T.names name) prohibited
+no_project_at : (T : Tables) (name : Option Bytes) → is_prohibited (option_and_then (get T.names) name) ≡ true → project_in (get T.names (key name)) ≡ None
+no_project_at T None prohibited = absurd (false≢true prohibited)
+no_project_at T (Some name) prohibited = by (get T.names name) prohibited
   where
     by : (found : Option NameRecord) → is_prohibited found ≡ true → project_in found ≡ None
     by None prohibited = refl
@@ -79,13 +80,13 @@ no_owner T sound None user owns sole = absurd (false≢true owns)
 no_owner T sound (Some name) None owns sole = absurd (false≢true owns)
 no_owner T sound (Some name) (Some user) owns sole = IsSound-no_owner T sound name user owns sole
 
-file_read : (file : Bytes) → is_none (read_file file) ≡ false → (is_some (read_file_name file) ≡ true) × (read_file file ≡ Some file)
+file_spelled : (file : Bytes) → is_none (read_file file) ≡ false → is_some (read_file_name file) ≡ true
 unfolding read_file
-file_read file unread = by (read_file_name file) unread
+file_spelled file unread = by (read_file_name file) unread
   where
-    by : (spelled : Option Spelled) → is_none (option_map (λ _. file) spelled) ≡ false → (is_some spelled ≡ true) × (option_map (λ _. file) spelled ≡ Some file)
+    by : (spelled : Option Spelled) → is_none (option_map (λ _. file) spelled) ≡ false → is_some spelled ≡ true
     by None unread = absurd (true≢false unread)
-    by (Some spelled) unread = (refl, refl)
+    by (Some spelled) unread = refl
 
 pub undeleted_there : (found : Option FileRecord) → is_undeleted found ≡ true → (found ≡ Some (unwrap_or found no_file)) × ((unwrap_or found no_file).is_undeleted ≡ true)
 undeleted_there None undeleted = absurd (false≢true undeleted)
@@ -123,16 +124,16 @@ module _ (T : Tables) (sound : IsSound T) (at : ℕ) (token : Bytes) where
   uploaded file digest body requires accepts =
       let all = accepted (of (Upload file digest body requires)) (facts (Upload file digest body requires)) accepts in
       let f : Facts = facts (Upload file digest body requires) in
-      let read = file_read file all.0.1.1.0 in
-      let name_is : f.name ≡ get T.names (project_of file) = ap (λ o. option_and_then (get T.names) (option_map project_of o)) read.1 in
-      let file_is : f.file ≡ get T.files file = ap (option_and_then (get T.files)) read.1 in
+      let reads = read_itself file all.0.1.1.0 in
+      let name_is : f.name ≡ get T.names (project_of file) = ap (λ o. option_and_then (get T.names) (option_map project_of o)) reads in
+      let file_is : f.file ≡ get T.files file = ap (option_and_then (get T.files)) reads in
       let held : project_in f.name ≡ Some (held_in f) = project_there _ all.0.1.1.1.1.1.1.1.0 in
       let within : exceeds_quota (length body) f.name ≡ false = sym (λ i. not (all.1 i) && exceeds_quota (length body) f.name) ∙ all.0.1.1.1.1.1.1.1.1.1.1.0 in
       let fits : (held_in f).charge + length body ≤ (held_in f).quota = ltb-false _ _ (sym (ap (λ o. option_map_or (λ project. nat_lt project.quota (project.charge + length body)) o false) held) ∙ within) in
       IsSound-upload at (closed (project_of file) T) (IsSound-closed T sound (project_of file)) file
       (record { project = project_of file; release = release_of file; digest = key (digest_in digest); size = length body; requires_python = requires; is_undeleted = true })
       body (held_in f) refl (sym (ap is_undeleted file_is) ∙ all.1) (sym (ap project_in name_is) ∙ held)
-      (record { is_file_name = read.0; project = refl; release = refl })
+      (record { is_file_name = file_spelled file all.0.1.1.0; project = refl; release = refl })
       (record { size = refl; digest = digest_is (digest_in digest) body all.0.1.1.1.1.0 all.0.1.1.1.1.1.1.0 })
       fits
 
@@ -140,9 +141,9 @@ module _ (T : Tables) (sound : IsSound T) (at : ℕ) (token : Bytes) where
   deleted_one file accepts =
       let all = accepted (of (Delete file)) (facts (Delete file)) accepts in
       let f : Facts = facts (Delete file) in
-      let read = file_read file all.0.1.1.0 in
-      let name_is : f.name ≡ get T.names (project_of file) = ap (λ o. option_and_then (get T.names) (option_map project_of o)) read.1 in
-      let file_is : f.file ≡ get T.files file = ap (option_and_then (get T.files)) read.1 in
+      let reads = read_itself file all.0.1.1.0 in
+      let name_is : f.name ≡ get T.names (project_of file) = ap (λ o. option_and_then (get T.names) (option_map project_of o)) reads in
+      let file_is : f.file ≡ get T.files file = ap (option_and_then (get T.files)) reads in
       let known = undeleted_there f.file (not-false _ all.1) in
       IsSound-delete (closed (project_of file) T) (IsSound-closed T sound (project_of file)) file (file_of f) (held_in f) known.1 (sym file_is ∙ known.0) (sym (ap project_in name_is) ∙ project_there _ all.0.1.1.1.0)
 
@@ -178,7 +179,7 @@ module _ (T : Tables) (sound : IsSound T) (at : ℕ) (token : Bytes) where
       IsSound-prohibit (closed n T) (IsSound-closed T sound n) n (get-without_here T.cases n)
   each_request (Allow name) accepts =
       let all = accepted (of (Allow name)) (facts (Allow name)) accepts in
-      IsSound-allow T sound (key (read_name name)) (prohibited_at T (read_name name) (not-false _ all.1))
+      IsSound-allow T sound (key (read_name name)) (no_project_at T (read_name name) (not-false _ all.1))
   each_request (OpenCase name kind contact work why) accepts =
       let all = accepted (of (OpenCase name kind contact work why)) (facts (OpenCase name kind contact work why)) accepts in
       IsSound-case T sound (key (read_name name)) _ (ap is_some (project_at T (read_name name) all.0.1.1.1.1.0))

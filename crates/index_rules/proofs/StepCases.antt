@@ -17,10 +17,10 @@ use Rattle.index_rules.specs.Tables.{Tables}
 use Rattle.index_rules.specs.Requests.{read_file}
 use Rattle.index_rules.specs.Facts.{bearer_in, caller_by, facts_in}
 use Rattle.index_rules.specs.Verdict.{Accept, verdict_now, is_held}
-use Rattle.index_rules.specs.Effect.{key, no_case, with_attempt, after}
+use Rattle.index_rules.specs.Effect.{key, no_case, with_attempt_noted, after}
 use Rattle.index_rules.specs.Sound.{IsSound}
 use Rattle.index_rules.specs.History.{History, more, is_read_as}
-use Rattle.index_rules.specs.PastCases.{Case, case_of, with_attempt_more}
+use Rattle.index_rules.specs.PastCases.{Case, case_of, with_attempt}
 use Rattle.index_rules.specs.StandsFor.{name_at, case_at, case_by_attempts}
 use Rattle.index_rules.proofs.PutLemmas.{each_put, each_without}
 use Rattle.index_rules.proofs.Accepted.{accepted, and_not}
@@ -70,13 +70,13 @@ module _ (T : Tables) (h : History) (sound : IsSound T) (names : (name : Bytes) 
       let reads : read_name name ≡ Some n = read_key (read_name name) unread in
       let attempt : Attempt = attempt_of means sent at in
       let found : option_and_then (get T.cases) (read_name name) ≡ case_at h n = ap (option_and_then (get T.cases)) reads ∙ stands n in
-      each_put T.cases n (with_attempt attempt (unwrap_or (option_and_then (get T.cases) (read_name name)) no_case)) (λ q found. found ≡ case_at (then (RecordAttempt name means sent)) q)
-      (ap (λ o. Some (with_attempt attempt (unwrap_or o no_case))) found ∙ by attempt (case_of h n) (sym (ap is_none found) ∙ missing)
-      ∙ sym (ap (option_map case_by_attempts) (at_key (read_name name) n reads (option_map (with_attempt_more attempt) (case_of h n)) (case_of h n))))
-      (λ q other. stands q ∙ sym (ap (option_map case_by_attempts) (at_other (read_name name) n reads (option_map (with_attempt_more attempt) (case_of h q)) (case_of h q) q other)))
+      each_put T.cases n (with_attempt_noted attempt (unwrap_or (option_and_then (get T.cases) (read_name name)) no_case)) (λ q found. found ≡ case_at (then (RecordAttempt name means sent)) q)
+      (ap (λ o. Some (with_attempt_noted attempt (unwrap_or o no_case))) found ∙ by attempt (case_of h n) (sym (ap is_none found) ∙ missing)
+      ∙ sym (ap (option_map case_by_attempts) (at_key (read_name name) n reads (option_map (with_attempt attempt) (case_of h n)) (case_of h n))))
+      (λ q other. stands q ∙ sym (ap (option_map case_by_attempts) (at_other (read_name name) n reads (option_map (with_attempt attempt) (case_of h q)) (case_of h q) q other)))
     where
       by : (attempt : Attempt) (case : Option Case) → is_none (option_map case_by_attempts case) ≡ false
-          → Some (with_attempt attempt (unwrap_or (option_map case_by_attempts case) no_case)) ≡ option_map case_by_attempts (option_map (with_attempt_more attempt) case)
+          → Some (with_attempt_noted attempt (unwrap_or (option_map case_by_attempts case) no_case)) ≡ option_map case_by_attempts (option_map (with_attempt attempt) case)
       by attempt None missing = absurd (true≢false missing)
       by attempt (Some case) missing = λ i. Some (record (case_by_attempts case) { state = sym (attempts_are_counted attempt case.attempts) i })
 

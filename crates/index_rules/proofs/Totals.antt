@@ -1,5 +1,5 @@
 -- A sum over the entries of a map, where one entry is put, where each value is changed, and where each entry weighs nothing.
-use Rattle.std.proofs.Common.{◌≡◌, ℕ, ◌+◌, ◌≤◌, Bool, true, false, cond, not, ◌&&◌, refl, sym, ap, ◌∙◌, List, [], ◌∷◌, Some, None, T, arith, sum_by, find, eqb}
+use Rattle.std.proofs.Common.{◌≡◌, ℕ, ◌+◌, ◌≤◌, Bool, true, false, cond, not, refl, sym, ap, ◌∙◌, List, [], ◌∷◌, Some, None, T, arith, sum_by, find, eqb}
 use Rattle.std.specs.Option.{option_map_or}
 use Rattle.std.specs.declared.cmp.Ordering.{Ordering}
 use Rattle.std.specs.declared.cmp.Ordering.TheVariants.{Less, Equal, Greater}
@@ -12,11 +12,7 @@ use Rattle.std.proofs.lemmas.Cmp.{nat_list_cmp_total}
 use Rattle.std.proofs.lemmas.List.Sums.{sum_by-cons}
 use Rattle.index_rules.specs.Maps.{Bytes, Map, bytes_cmp, change_values}
 use Rattle.index_rules.proofs.KeyLemmas.{changed, entries-change_values}
-use Rattle.index_rules.proofs.EntryLemmas.{get-found, find-passes}
-
-both : (a b : Bool) → T (a && b) → T a × T b
-both true b p = (tt, p)
-both false b p = absurd p
+use Rattle.index_rules.proofs.EntryLemmas.{both_hold, get-found, find-passes}
 
 is_less : (o : Ordering) → T (is_lt o) → o ≡ Less
 is_less Less p = refl
@@ -27,7 +23,7 @@ is_less Greater p = absurd p
 find-below : {X : Type 0} (q k : Bytes) (es : List (Bytes × X)) → bytes_cmp q k ≡ Less → T (below_all bytes_cmp k es) → fin.find bytes_cmp q es ≡ None
 find-below q k [] lower low = refl
 find-below q k (e ∷ es) lower low =
-    let parts = both _ _ low in
+    let parts = both_hold _ _ low in
     ap (λ o. cond (is_eq o) (Some e.1) (fin.find bytes_cmp q es)) (nat_list_cmp_total.trans q k e.0 lower (is_less _ parts.0)) ∙ find-below q k es lower parts.1
 
 module _ {X : Type 0} (weight : X → ℕ) where
@@ -40,7 +36,7 @@ module _ {X : Type 0} (weight : X → ℕ) where
   total_of-put : (k : Bytes) (v : X) (es : List (Bytes × X)) → T (is_sorted bytes_cmp es) → total_of (put bytes_cmp k v es) + option_map_or weight (fin.find bytes_cmp k es) 0 ≡ total_of es + weight v
   total_of-put k v [] sorted = omega (arith, total_of-cons (k, v) [])
   total_of-put k v (e ∷ es) sorted =
-      let parts = both _ _ sorted in
+      let parts = both_hold _ _ sorted in
       elim (bytes_cmp k e.0) as (λ o. bytes_cmp k e.0 ≡ o → total_of (by_order o ((k, v) ∷ e ∷ es) ((e.0, v) ∷ es) (e ∷ put bytes_cmp k v es)) + option_map_or weight (cond (is_eq o) (Some e.1) (fin.find bytes_cmp k es)) 0 ≡ total_of (e ∷ es) + weight v) [
         | Less ↦ λ lower.
             let gone : option_map_or weight (fin.find bytes_cmp k es) 0 ≡ 0 = ap (λ o. option_map_or weight o 0) (find-below k e.0 es lower parts.0) in

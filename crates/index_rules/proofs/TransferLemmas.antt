@@ -15,7 +15,7 @@ use Rattle.index_rules.specs.Maps.{Bytes, same}
 use Rattle.index_rules.specs.Verdict.{Accept, project_in, is_held}
 use Rattle.index_rules.specs.History.{History, begins, more, is_read_as}
 use Rattle.index_rules.specs.PastNames.{State, Free, Held, Prohibited, state_of, is_held_now, is_given, last_upload_of}
-use Rattle.index_rules.specs.PastCases.{Case, with_attempt_more, case_by, case_of, is_owners_request, opens_case, is_unanswered}
+use Rattle.index_rules.specs.PastCases.{Case, with_attempt, case_by, case_of, is_owners_request, opens_case, is_unanswered}
 use Rattle.index_rules.specs.StandsFor.{name_by, project_at, name_at, case_by_attempts, case_at}
 use Rattle.index_rules.specs.Legal.{IsLegal, verdict_after, facts_after}
 use Rattle.index_rules.specs.Laws.{WasReady, TransferWasReady, TransfersWereReady}
@@ -45,7 +45,7 @@ module _ (n : Bytes) (before : Option Case) (unanswered : Bool) (was : is_some b
   unanswered_by : (r : Request) (actor : Bytes) (at : ℕ) → is_some (case_by r actor at n before) ≡ true → (opens_case r n || (not (is_owners_request r n) && unanswered)) ≡ true
   unanswered_by (OpenCase name kind contact work why) actor at there =
       newly_open (record { kind = kind; candidate = actor; contact = contact; work = work; why = why; opened = at; attempts = [] }) (is_read_as (read_name name) n) there
-  unanswered_by (RecordAttempt name means sent) actor at there = was (open_before (with_attempt_more (attempt_of means sent at)) (is_read_as (read_name name) n) before there)
+  unanswered_by (RecordAttempt name means sent) actor at there = was (open_before (with_attempt (attempt_of means sent at)) (is_read_as (read_name name) n) before there)
   unanswered_by (CloseCase name) actor at there = was_open (is_read_as (read_name name) n) there
   unanswered_by (Transfer name quiet) actor at there = was_open (is_read_as (read_name name) n) there
   unanswered_by (Prohibit name) actor at there = was_open (is_read_as (read_name name) n) there

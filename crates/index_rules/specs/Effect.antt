@@ -88,8 +88,8 @@ abbrev pub without_name : {X : Type 0} → Bytes → PairMap X → PairMap X
 without_name name m = retain_keys m (λ pair. not (same name pair.0))
 
 -- one attempt more
-abbrev pub with_attempt : Attempt → CaseRecord → CaseRecord
-with_attempt attempt case = record case { state = noted case.state attempt }
+abbrev pub with_attempt_noted : Attempt → CaseRecord → CaseRecord
+with_attempt_noted attempt case = record case { state = noted case.state attempt }
 
 -- what an accepted request at a moment writes
 abbrev pub effect : ℕ → Request → Facts → Change
@@ -121,7 +121,7 @@ effect at (Prohibit name) f = change.Prohibit (key (name_key (Prohibit name)))
 effect at (Allow name) f = change.Allow (key (name_key (Allow name)))
 effect at (OpenCase name kind contact work why) f = change.OpenCase (key (name_key (OpenCase name kind contact work why)))
     (record { kind = kind; candidate = caller_in f; contact = contact; work = work; why = why; opened = at; state = tally_of [] })
-effect at (RecordAttempt name means sent) f = change.RecordAttempt (key (name_key (RecordAttempt name means sent))) (with_attempt (attempt_of means sent at) (case_in f))
+effect at (RecordAttempt name means sent) f = change.RecordAttempt (key (name_key (RecordAttempt name means sent))) (with_attempt_noted (attempt_of means sent at) (case_in f))
 effect at (Transfer name quiet) f = change.Transfer (key (name_key (Transfer name quiet))) (case_in f).candidate
 effect at (CloseCase name) f = change.CloseCase (key (name_key (CloseCase name)))
 effect at (AnswerCase name) f = change.AnswerCase (key (name_key (AnswerCase name)))

@@ -20,8 +20,8 @@ pub record Case : Type 0 where
   pub opened : ℕ
   pub attempts : List Attempt
 
-abbrev pub with_attempt_more : Attempt → Case → Case
-with_attempt_more attempt case = record case { attempts = attempt ∷ case.attempts }
+abbrev pub with_attempt : Attempt → Case → Case
+with_attempt attempt case = record case { attempts = attempt ∷ case.attempts }
 
 -- a request of an owner on a name
 abbrev pub is_owners_request : Request → Bytes → Bool
@@ -47,7 +47,7 @@ is_owners_request (AnswerCase name) n = is_read_as (read_name name) n
 abbrev pub case_by : Request → Bytes → ℕ → Bytes → Option Case → Option Case
 case_by (OpenCase name kind contact work why) actor at n before =
     if is_read_as (read_name name) n then Some (record { kind = kind; candidate = actor; contact = contact; work = work; why = why; opened = at; attempts = [] }) else before
-case_by (RecordAttempt name means sent) actor at n before = if is_read_as (read_name name) n then option_map (with_attempt_more (attempt_of means sent at)) before else before
+case_by (RecordAttempt name means sent) actor at n before = if is_read_as (read_name name) n then option_map (with_attempt (attempt_of means sent at)) before else before
 case_by (CloseCase name) actor at n before = if is_read_as (read_name name) n then None else before
 case_by (Transfer name quiet) actor at n before = if is_read_as (read_name name) n then None else before
 case_by (Prohibit name) actor at n before = if is_read_as (read_name name) n then None else before

@@ -126,10 +126,10 @@ fn latest(before: Option<u64>, at: u64) -> u64
     }
 }
 
-fn is_other(record: &FileRecord, digest: &Digest256, size: u64) -> bool
-    ensures { result ≡ is_other_file (Some digest.now) size (Some record.now) }
+fn is_other(known: &FileRecord, digest: &Digest256, size: u64) -> bool
+    ensures { result ≡ is_other_file (Some digest.now) size (Some known.now) }
 {
-    !(*digest == record.digest && size == record.size)
+    !(*digest == known.digest && size == known.size)
 }
 
 pub fn delete(alloc: Global, file: Bytes, caller: &Caller, view: &View) -> Result<Decision, Stop>
@@ -173,15 +173,15 @@ fn without_file(project: &Project, size: u64) -> Result<Project, AllocError>
 }
 
 /// The record of the file once it is deleted.
-fn deleted(record: &FileRecord) -> Result<FileRecord, AllocError>
-    ensures { IfOk result (λ gone. gone ≡ deleted_lem record.now) }
+fn deleted(known: &FileRecord) -> Result<FileRecord, AllocError>
+    ensures { IfOk result (λ gone. gone ≡ deleted_lem known.now) }
 {
     Ok(FileRecord {
-        project: record.project.clone()?,
-        release: record.release.clone()?,
-        digest: record.digest,
-        size: record.size,
-        requires_python: record.requires_python.clone()?,
+        project: known.project.clone()?,
+        release: known.release.clone()?,
+        digest: known.digest,
+        size: known.size,
+        requires_python: known.requires_python.clone()?,
         is_undeleted: false,
     })
 }

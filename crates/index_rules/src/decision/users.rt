@@ -95,10 +95,10 @@ pub fn set_token(
     }))
 }
 
-fn is_user_with(record: &UserRecord, office: bool, token: &Digest256) -> bool
-    ensures { result ≡ is_user_with_lem office (Some token.now) record.now }
+fn is_user_with(user: &UserRecord, office: bool, token: &Digest256) -> bool
+    ensures { result ≡ is_user_with_lem office (Some token.now) user.now }
 {
-    record.office == office && *token == record.token
+    user.office == office && *token == user.token
 }
 
 /// Whether somebody else bears the token.
