@@ -158,6 +158,14 @@ mod tests {
     }
 
     #[test]
+    fn a_copy_is_equal(rt: HostRuntime) -> Result<(), Fail> {
+        let name = normal(rt.alloc(), b"frob-nest")?;
+        let copy = name.clone()?;
+        assert!(rt; copy == name);
+        Ok(())
+    }
+
+    #[test]
     fn no_names(rt: HostRuntime) {
         for text in ["", "-", "-a", "a-", ".a", "a_", "a b", "a/b", "a+b", "é"] {
             assert!(rt; !is_name(text.as_bytes()), "{text}");

@@ -6,9 +6,10 @@ use index_desk::Desk;
 use index_digest::Sealed;
 use index_names::{FileName, NormalName};
 use index_rules::{Books, Change, Fault, Keys, Owners, View};
-use std::alloc::Global;
+use std::alloc::{AllocGlobal, Global};
 use std::io;
 use std::io::{Error, ErrorKind, Read, Write};
+use std::process::Abort;
 use std::test::Fail;
 
 /// Books that answer a store fault to everything. No contract knows what they hold.
@@ -88,35 +89,40 @@ const BAD_BODY: &str = "{\"answer\":\"message\",\"name\":\"BadBody\"}\n";
 
 const NEST_IS_FREE: &str = r#"{"name":"nest","state":"free"}"#;
 
+/// A claim by ann and one by bob, whose line has no line feed.
+const BOTH_CLAIMS: &str = r#"{"at":2,"token":"abc","do":"claim","name":"frob"}
+{"at":2,"token":"hello","do":"claim","name":"nest"}"#;
+
+/// Asks these lines of a new desk, which are so many and answered so.
+fn assert_count(
+    rt: &(impl Abort + AllocGlobal),
+    input: &str,
+    lines: u64,
+    output: &str,
+) -> Result<(), Fail> {
+    let mut desk = desk_with_users(rt)?;
+    let mut reader = input.as_bytes();
+    let mut written = Vec::new(rt.alloc());
+    let count = apply_lines(rt.alloc(), &mut reader, &mut written, &mut desk)?;
+    assert_eq!(rt; count, lines, "{input}");
+    assert_eq!(rt; written.as_slice(), output.as_bytes(), "{input}");
+    Ok(())
+}
+
 #[test]
 fn counts_lines(rt: HostRuntime) -> Result<(), Fail> {
-    let alloc = rt.alloc();
-    let two = format!(in alloc; "{CLAIM}\n{OTHER_CLAIM}")?;
-    let both = format!(in alloc; "{ACCEPTED}{ACCEPTED}")?;
-    let after_an_empty_one = format!(in alloc; "\n{CLAIM}\n")?;
-    let bad_and_accepted = format!(in alloc; "{BAD_BODY}{ACCEPTED}")?;
-    let runs = [
-        ("", 0, ""),
-        ("\n", 1, BAD_BODY),
-        ("{}", 1, BAD_BODY),
-        (CLAIM, 1, ACCEPTED),
-        (two.as_str(), 2, both.as_str()),
-        (after_an_empty_one.as_str(), 2, bad_and_accepted.as_str()),
-        (
-            "{\"do\":\"standing\",\"name\":\"-a\"}\n",
-            1,
-            "{\"answer\":\"refused\",\"code\":5,\"name\":\"BadName\"}\n",
-        ),
-    ];
-    for (input, lines, output) in runs {
-        let mut desk = desk_with_users(&rt)?;
-        let mut reader = input.as_bytes();
-        let mut written = Vec::new(alloc);
-        let count = apply_lines(alloc, &mut reader, &mut written, &mut desk)?;
-        assert_eq!(rt; count, lines, "{input}");
-        assert_eq!(rt; written.as_slice(), output.as_bytes(), "{input}");
-    }
-    Ok(())
+    assert_count(&rt, "", 0, "")?;
+    assert_count(&rt, "\n", 1, BAD_BODY)?;
+    assert_count(&rt, "{}", 1, BAD_BODY)?;
+    assert_count(&rt, CLAIM, 1, ACCEPTED)?;
+    let twice = "{\"answer\":\"accepted\"}\n{\"answer\":\"accepted\"}\n";
+    assert_count(&rt, BOTH_CLAIMS, 2, twice)?;
+    let bad_and_accepted =
+        "{\"answer\":\"message\",\"name\":\"BadBody\"}\n{\"answer\":\"accepted\"}\n";
+    let after_an_empty_line = "\n{\"at\":2,\"token\":\"abc\",\"do\":\"claim\",\"name\":\"frob\"}\n";
+    assert_count(&rt, after_an_empty_line, 2, bad_and_accepted)?;
+    let bad_name = "{\"answer\":\"refused\",\"code\":5,\"name\":\"BadName\"}\n";
+    assert_count(&rt, r#"{"do":"standing","name":"-a"}"#, 1, bad_name)
 }
 
 /// A line of 65,536 bytes is read, and a longer one is skipped up to its line feed.

@@ -1,7 +1,7 @@
 //! Names, their owners and their quotas.
 use super::{
-    FROB, OF_A, OF_NOTHING, Upload, add_user, answers_to, assert_answer, assert_frob,
-    assert_upload, desk_with_frob, new_desk, set_quota,
+    FROB, OF_A, OF_NOTHING, Upload, add_user, answers_to, assert_answer, assert_answers,
+    assert_frob, assert_upload, desk_with_frob, new_desk, set_quota,
 };
 use std::test::Fail;
 
@@ -28,31 +28,47 @@ fn a_name_stays_with_its_first_claim(rt: HostRuntime) -> Result<(), Fail> {
     Ok(())
 }
 
+/// The office does not own a name by being the office.
 #[test]
-fn owners_add_and_remove_owners(rt: HostRuntime) -> Result<(), Fail> {
+fn owners_alone_add_and_remove_owners(rt: HostRuntime) -> Result<(), Fail> {
+    let lines = r#"{"at":10,"token":"abc","do":"remove_owner","name":"frob","user":"ann"}
+{"at":10,"token":"abc","do":"remove_owner","name":"frob","user":"bob"}
+{"at":10,"token":"abc","do":"remove_owner","name":"frob","user":"zed"}
+{"at":10,"token":"abc","do":"add_owner","name":"frob","user":"zed"}
+{"at":10,"token":"abc","do":"add_owner","name":"frob","user":"Bob"}
+{"at":10,"token":"abc","do":"add_owner","name":"-frob","user":"bob"}
+{"at":10,"token":"abc","do":"add_owner","name":"frob-nest","user":"bob"}
+{"at":10,"token":"hello","do":"add_owner","name":"frob","user":"bob"}
+{"at":10,"token":"office","do":"remove_owner","name":"frob","user":"ann"}
+"#;
+    let answers = r#"{"answer":"refused","code":20,"name":"LastOwner"}
+{"answer":"already"}
+{"answer":"refused","code":13,"name":"NoUser"}
+{"answer":"refused","code":13,"name":"NoUser"}
+{"answer":"refused","code":4,"name":"BadUser"}
+{"answer":"refused","code":5,"name":"BadName"}
+{"answer":"refused","code":17,"name":"NoProject"}
+{"answer":"refused","code":18,"name":"NotOwner"}
+{"answer":"refused","code":18,"name":"NotOwner"}
+"#;
     let mut desk = desk_with_frob(&rt)?;
-    let rows = [
-        ("abc", "remove_owner", "frob", "ann", "20 LastOwner"),
-        ("abc", "remove_owner", "frob", "bob", "already"),
-        ("abc", "remove_owner", "frob", "zed", "13 NoUser"),
-        ("abc", "add_owner", "frob", "zed", "13 NoUser"),
-        ("abc", "add_owner", "frob", "Bob", "4 BadUser"),
-        ("abc", "add_owner", "-frob", "bob", "5 BadName"),
-        ("abc", "add_owner", "frob-nest", "bob", "17 NoProject"),
-        ("hello", "add_owner", "frob", "bob", "18 NotOwner"),
-        // The office does not own a name by being the office.
-        ("office", "remove_owner", "frob", "ann", "18 NotOwner"),
-        ("abc", "add_owner", "FROB", "bob", "accepted"),
-        ("hello", "add_owner", "frob", "ann", "already"),
-        ("abc", "remove_owner", "frob", "ann", "accepted"),
-        ("hello", "remove_owner", "frob", "bob", "20 LastOwner"),
-    ];
-    for (token, word, name, user, answer) in rows {
-        let line = format!(in rt.alloc();
-            "{{\"at\":10,\"token\":\"{token}\",\"do\":\"{word}\",\"name\":\"{name}\",\"user\":\"{user}\"}}"
-        )?;
-        assert_answer(&rt, &mut desk, line.as_str(), answer)?;
-    }
+    assert_answers(&rt, &mut desk, lines, answers)
+}
+
+#[test]
+fn an_owner_hands_a_name_on(rt: HostRuntime) -> Result<(), Fail> {
+    let lines = r#"{"at":10,"token":"abc","do":"add_owner","name":"FROB","user":"bob"}
+{"at":10,"token":"hello","do":"add_owner","name":"frob","user":"ann"}
+{"at":10,"token":"abc","do":"remove_owner","name":"frob","user":"ann"}
+{"at":10,"token":"hello","do":"remove_owner","name":"frob","user":"bob"}
+"#;
+    let answers = r#"{"answer":"accepted"}
+{"answer":"already"}
+{"answer":"accepted"}
+{"answer":"refused","code":20,"name":"LastOwner"}
+"#;
+    let mut desk = desk_with_frob(&rt)?;
+    assert_answers(&rt, &mut desk, lines, answers)?;
     assert_frob(&rt, &mut desk, 0, r#"["bob"]"#, 1_073_741_824)?;
     assert_upload(&rt, &mut desk, &FROB, "18 NotOwner")
 }

@@ -1,15 +1,21 @@
 //! Uploads in lines.
-use super::{FROB, OF_A, OF_HELLO, OF_NOTHING, Upload, assert_frob, assert_upload, desk_with_frob};
+use super::{
+    FROB, OF_A, OF_ABC, OF_HELLO, OF_NOTHING, Upload, assert_frob, assert_upload, desk_with_file,
+    desk_with_frob,
+};
 use std::test::Fail;
 
 const OF_ABC_IN_UPPER_CASE: &str =
     "BA7816BF8F01CFEA414140DE5DAE2223B00361A396177A9CB410FF61F20015AD";
 
+/// The SHA-256 digest of `abd`.
+const OF_ABD: &str = "a52d159f262b2c6ddb724a61840befc36eb30c88877a4030b65cbe86298449c9";
+
 const QUOTA: u64 = 1_073_741_824;
 
-/// Uploads to a project that has no file yet.
+/// What is declared of a file. Of several refusals the one with the least number is answered.
 #[test]
-fn a_first_upload_is_looked_through(rt: HostRuntime) -> Result<(), Fail> {
+fn a_first_upload_is_as_declared(rt: HostRuntime) -> Result<(), Fail> {
     let rows = [
         // The declared digest is compared with the bytes, and not kept as it was declared.
         (
@@ -26,44 +32,12 @@ fn a_first_upload_is_looked_through(rt: HostRuntime) -> Result<(), Fail> {
             },
             "9 BadDigest",
         ),
-        (Upload { token: "x", ..FROB }, "2 BadToken"),
-        (
-            Upload {
-                token: "hello",
-                ..FROB
-            },
-            "18 NotOwner",
-        ),
-        // The office does not own a name by being the office.
-        (
-            Upload {
-                token: "office",
-                ..FROB
-            },
-            "18 NotOwner",
-        ),
-        (
-            Upload {
-                file: "foo-1.0.tar.gz",
-                ..FROB
-            },
-            "17 NoProject",
-        ),
         (
             Upload {
                 file: "frob-1.0.zip",
                 ..FROB
             },
             "6 BadFileName",
-        ),
-        // Of several refusals the one with the least number is answered.
-        (
-            Upload {
-                token: "hello",
-                sha256: OF_NOTHING,
-                ..FROB
-            },
-            "11 DigestMismatch",
         ),
         (
             Upload {
@@ -72,6 +46,14 @@ fn a_first_upload_is_looked_through(rt: HostRuntime) -> Result<(), Fail> {
                 ..FROB
             },
             "6 BadFileName",
+        ),
+        (
+            Upload {
+                token: "hello",
+                sha256: OF_NOTHING,
+                ..FROB
+            },
+            "11 DigestMismatch",
         ),
         (FROB, "accepted"),
     ];
@@ -82,70 +64,71 @@ fn a_first_upload_is_looked_through(rt: HostRuntime) -> Result<(), Fail> {
     assert_frob(&rt, &mut desk, 3, r#"["ann"]"#, QUOTA)
 }
 
+/// The office does not own a name by being the office.
+#[test]
+fn owners_alone_upload(rt: HostRuntime) -> Result<(), Fail> {
+    let rows = [
+        ("x", "frob-1.0.tar.gz", "2 BadToken"),
+        ("hello", "frob-1.0.tar.gz", "18 NotOwner"),
+        ("office", "frob-1.0.tar.gz", "18 NotOwner"),
+        ("abc", "foo-1.0.tar.gz", "17 NoProject"),
+        ("abc", "frob-1.0.tar.gz", "accepted"),
+        ("hello", "frob-1.0.tar.gz", "18 NotOwner"),
+    ];
+    let mut desk = desk_with_frob(&rt)?;
+    for (token, file, answer) in rows {
+        let upload = Upload {
+            token,
+            file,
+            ..FROB
+        };
+        assert_upload(&rt, &mut desk, &upload, answer)?;
+    }
+    assert_frob(&rt, &mut desk, 3, r#"["ann"]"#, QUOTA)
+}
+
 /// Uploads of a file that is there.
 #[test]
 fn a_file_name_is_bound_to_its_bytes(rt: HostRuntime) -> Result<(), Fail> {
     let rows = [
-        (FROB, "accepted"),
-        (FROB, "already"),
+        (OF_ABC, "616263", "", "already"),
         // A repeated upload changes nothing, whatever it says of Python.
-        (
-            Upload {
-                requires_python: ">=3.8",
-                ..FROB
-            },
-            "already",
-        ),
-        (
-            Upload {
-                sha256: OF_NOTHING,
-                hex: "",
-                ..FROB
-            },
-            "24 FileNameTaken",
-        ),
+        (OF_ABC, "616263", ">=3.8", "already"),
+        (OF_NOTHING, "", "", "24 FileNameTaken"),
         // Bytes of another digest and the size of the first ones.
-        (
-            Upload {
-                sha256: "a52d159f262b2c6ddb724a61840befc36eb30c88877a4030b65cbe86298449c9",
-                hex: "616264",
-                ..FROB
-            },
-            "24 FileNameTaken",
-        ),
-        (
-            Upload {
-                token: "hello",
-                ..FROB
-            },
-            "18 NotOwner",
-        ),
-        // Another spelling of the project, and so another file.
-        (
-            Upload {
-                file: "FROB-1.0.tar.gz",
-                hex: "68656C6C6F",
-                sha256: OF_HELLO,
-                ..FROB
-            },
-            "accepted",
-        ),
-        (
-            Upload {
-                file: "frob-1.0-py3-none-any.whl",
-                hex: "61",
-                sha256: OF_A,
-                ..FROB
-            },
-            "accepted",
-        ),
+        (OF_ABD, "616264", "", "24 FileNameTaken"),
     ];
-    let mut desk = desk_with_frob(&rt)?;
-    let mut charges = [3, 3, 3, 3, 3, 3, 8, 9].iter();
-    for (upload, answer) in rows {
+    let mut desk = desk_with_file(&rt)?;
+    for (sha256, hex, requires_python, answer) in rows {
+        let upload = Upload {
+            sha256,
+            hex,
+            requires_python,
+            ..FROB
+        };
         assert_upload(&rt, &mut desk, &upload, answer)?;
-        let charge = charges.next().ok_or("no charge")?;
-        assert_frob(&rt, &mut desk, *charge, r#"["ann"]"#, QUOTA)?;
+        assert_frob(&rt, &mut desk, 3, r#"["ann"]"#, QUOTA)?;
+    }
+    Ok(())
+}
+
+#[test]
+fn each_file_is_charged(rt: HostRuntime) -> Result<(), Fail> {
+    let rows = [
+        // Another spelling of the project, and so another file.
+        ("FROB-1.0.tar.gz", OF_HELLO, "68656C6C6F", 8),
+        ("frob-1.0-py3-none-any.whl", OF_A, "61", 9),
+    ];
+    let mut desk = desk_with_file(&rt)?;
+    for (file, sha256, hex, charge) in rows {
+        let upload = Upload {
+            file,
+            sha256,
+            hex,
+            ..FROB
+        };
+        assert_upload(&rt, &mut desk, &upload, "accepted")?;
+        assert_frob(&rt, &mut desk, charge, r#"["ann"]"#, QUOTA)?;
     }
     Ok(())
 }

@@ -132,10 +132,18 @@ fn longest_file_name(rt: HostRuntime) -> Result<(), Fail> {
 fn two_file_names(rt: HostRuntime) -> Result<(), Fail> {
     let upper = FileName::read(rt.alloc(), b"Frob-1.0.tar.gz")?;
     let lower = FileName::read(rt.alloc(), b"frob-1.0.tar.gz")?;
-    assert!(rt; upper != lower && upper < lower);
-    assert!(rt; upper.project() == lower.project() && upper.release() == lower.release());
-    let copy = upper.clone()?;
-    assert!(rt; copy == upper && copy.kind() == FileKind::Source);
-    assert!(rt; copy.project().clone()? == upper.project().clone()?);
+    assert!(rt; upper != lower);
+    assert!(rt; upper < lower);
+    assert!(rt; upper.project() == lower.project());
+    assert!(rt; upper.release() == lower.release());
+    Ok(())
+}
+
+#[test]
+fn a_copy_is_equal(rt: HostRuntime) -> Result<(), Fail> {
+    let name = FileName::read(rt.alloc(), b"frob-1.0.tar.gz")?;
+    let copy = name.clone()?;
+    assert!(rt; copy == name);
+    assert!(rt; copy.kind() == FileKind::Source);
     Ok(())
 }
