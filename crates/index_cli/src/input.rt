@@ -1,5 +1,5 @@
 //! Lines of bounded size from any reader.
-ghost use Rattle.std.specs.Prelude.{◌≡◌, ◌≢◌, ◌<◌, ◌≤◌, [], ◌∷◌, ◌++◌, IfErr, IfOk, IfSome, OnOk};
+ghost use Rattle.std.specs.Prelude.{◌≡◌, ◌≢◌, ◌+◌, ◌<◌, ◌≤◌, [], ◌∷◌, ◌++◌, IfErr, IfOk, IfSome, OnOk};
 ghost use Rattle.index_cli.specs.Lines.{TakesByte, TakesLine};
 
 use crate::end::LineEnd;
@@ -17,6 +17,7 @@ pub fn next_line<R: Read>(
     left: &mut u64,
 ) -> Result<Option<u64>, LineEnd>
     ensures line { IfOk result (λ size. TakesLine size line.new.items (R.remaining reader.old) (R.remaining reader.new)) }
+    ensures left { IfOk result (λ size. IfSome size (λ size. size + left.new ≤ left.old)) }
     ensures fault { IfErr result (λ end. end ≢ LineEnd.WriteFault) }
 {
     line.clear();
