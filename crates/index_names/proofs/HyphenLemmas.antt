@@ -1,11 +1,12 @@
 -- Where a text is cut at its hyphens.
 use Rattle.std.proofs.Common.{◌≡◌, ◌≢◌, ℕ, ◌+◌, ◌-◌, ◌<◌, ◌≤◌, Bool, true, false, not, List, [], ◌∷◌, ◌++◌, length, get_or, take, drop, Bor, Option, Some, None, All, inl, inr, ◌⊎◌, sym, ap, ◌∙◌, refl, arith, length-append}
 use Rattle.std.specs.Option.{MatchOption, is_some}
-use Rattle.std.specs.List.{list_all, suffix_len, before_last, after_last, slice_split, onto_first, join_with_byte, AllByRecursion}
+use Rattle.std.specs.List.{list_all, list_any, suffix_len, before_last, after_last, slice_split, onto_first, join_with_byte, AllByRecursion}
 use Rattle.std.proofs.Math.Seq.{take-append_seam, drop-append-add, get_or-append_seam}
 use Rattle.std.proofs.lemmas.Bool.{false≢true, and_parts, cases_Bool, eq-eqb, ne_eqb, eqb-true, eqb-false, not_from_false, not_from_true}
 use Rattle.std.proofs.lemmas.List.{get_or-append-add, take-append-drop, drop_more, length-take-le, get_or-take}
 use Rattle.std.proofs.lemmas.List.Elements.{All-nil, All-cons, All-get_or, All-from_get_or}
+use Rattle.std.proofs.lemmas.List.Folds.{list_any_at, list_any_none}
 use Rattle.std.proofs.lemmas.List.Splits.{slice_split_at, slice_split_none, slice_split-cons_yes, slice_split-cons_no}
 use Rattle.std.proofs.lemmas.List.Sums.{suffix_len_is}
 use Rattle.index_names.specs.Spelling.{is_hyphen}
@@ -39,6 +40,15 @@ before_last-none x lacks =
     let cut : suffix_len (λ c. not (is_hyphen c)) x ≡ length x - 0 = suffix_len-lacking x 0 (omega arith) (λ positive. absurd (omega arith)) lacks in
     let none : length x - (length x - 0) - 1 ≡ 0 = omega arith in
     ap (λ n. take (length x - n - 1) x) cut ∙ ap (λ n. take n x) none
+
+pub list_any-none : (x : List ℕ) → LacksHyphenFrom x 0 → list_any is_hyphen x ≡ false
+list_any-none x lacks =
+    list_any_none is_hyphen x (All-from_get_or (λ c. is_hyphen c ≡ false) x 0 (λ k inside. ne_eqb _ 45 (lacks k (omega arith) inside)))
+
+-- nothing stands before a hyphen that is not there
+pub before_last_without : (x : List ℕ) → list_any is_hyphen x ≡ false → before_last is_hyphen x ≡ []
+before_last_without x none =
+    before_last-none x (λ k above inside hyphen. false≢true (sym none ∙ list_any_at is_hyphen x k 0 inside (eq-eqb _ 45 hyphen)))
 
 abbrev pub LacksHyphen : List ℕ → Type 0
 LacksHyphen x = All (λ c. is_hyphen c ≡ false) x

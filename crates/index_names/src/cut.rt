@@ -35,6 +35,7 @@ pub fn cut_of(bytes: &[u8]) -> Option<Cut<'_>>
     None
 }
 
+#[tactic(auto, using(crate::proofs::HyphenLemmas::before_last_without))]
 fn cut_source(stem: &[u8]) -> Option<Cut<'_>>
     ensures { IsCutOf result (read_source stem.now) }
 {

@@ -1,5 +1,5 @@
-ghost use Rattle.std.specs.Prelude.{◌≡◌, [], ◌∷◌, MatchOption};
-ghost use Rattle.std.specs.List.{before_last, after_last, slice_split};
+ghost use Rattle.std.specs.Prelude.{◌≡◌, [], ◌∷◌, MatchOption, false};
+ghost use Rattle.std.specs.List.{before_last, after_last, list_any, slice_split};
 ghost use Rattle.index_names.specs.Spelling.{is_hyphen};
 
 /// What stands before the first hyphen of a text and after it.
@@ -15,7 +15,7 @@ pub fn split_at_first_hyphen(text: &[u8]) -> Option<(&[u8], &[u8])>
 /// What stands before the last hyphen of a text and after it.
 pub fn split_at_last_hyphen(text: &[u8]) -> Option<(&[u8], &[u8])>
     ensures { MatchOption result
-        (before_last is_hyphen text.now ≡ [])
+        (list_any is_hyphen text.now ≡ false)
         (λ parts. (parts.0.now ≡ before_last is_hyphen text.now) × (parts.1.now ≡ after_last is_hyphen text.now)) }
 {
     let hyphen = text.iter().rposition(|&byte| byte == b'-')?;
