@@ -97,7 +97,7 @@ impl<B: Books> Desk<B> {
         Ok(answers)
     }
 
-    /// What stands of a name. It changes nothing.
+    /// What stands of a name. It changes no table.
     pub fn standing(&mut self, alloc: Global, name: &NormalName) -> Result<Standing, Fault>
         ensures standing { B.IsHonest self.new → IfOk result (λ standing. standing ≡ standing_in (B.tables self.old) name.now) }
         ensures history { B.IsHonest self.new → IfOk result (λ standing. (h : History) → StandsFor (B.tables self.old) h → IsStandingAfter h name.now standing) }
@@ -110,7 +110,7 @@ impl<B: Books> Desk<B> {
     }
 
     /// The bytes that are kept of a file with their digest, or `None` where none are: in sound tables, where it is not
-    /// undeleted. It changes nothing.
+    /// undeleted. It changes no table.
     pub fn body(&mut self, alloc: Global, file: &FileName) -> Result<Option<Sealed>, Fault>
         ensures body { B.IsHonest self.new → IfOk result (λ body. body ≡ get (B.tables self.old).bodies file.now) }
         ensures unchanged { B.IsHonest self.new → B.tables self.new ≡ B.tables self.old }
@@ -135,7 +135,7 @@ fn apply_to<B: Books>(books: &mut B, alloc: Global, call: Call) -> Answer
     }
 }
 
-/// The decision on a call. It changes nothing.
+/// The decision on a call. It changes no table.
 fn consider<B: Books>(
     books: &mut B,
     alloc: Global,
@@ -222,7 +222,7 @@ struct Found {
     case: Option<CaseRecord>,
 }
 
-/// The record of a name and its open case. It changes nothing.
+/// The record of a name and its open case. It changes no table.
 fn record_of<B: Books>(books: &mut B, alloc: Global, name: &NormalName) -> Result<Found, Fault>
     ensures record { B.IsHonest books.new → IfOk result (λ found. found.record ≡ get (B.tables books.old).names name.now) }
     ensures case { B.IsHonest books.new → IfOk result (λ found. found.case ≡ get (B.tables books.old).cases name.now) }

@@ -1,3 +1,4 @@
+//! The cut of a file name into what it spells.
 ghost use Rattle.index_names.specs.FileName.{read_file_name, read_source};
 ghost use Rattle.index_names.specs.Cut.{IsCutOf};
 

@@ -1,3 +1,4 @@
+//! Why bytes were not read.
 ghost use Rattle.std.specs.Prelude.{◌≡◌};
 ghost use Rattle.index_names.specs.declared.fault.NameFault.TheVariants.{OutOfMemory};
 

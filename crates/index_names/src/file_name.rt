@@ -1,3 +1,4 @@
+//! The names of wheels (PEP 427) and source archives (PEP 625).
 ghost use Rattle.std.specs.Prelude.{◌≡◌, ◌⊎◌, ◌↔◌, None, Some, IfOk, OnOk, IfErr, IsErrOf, IsSome, option_map, bytes_eq, refl};
 ghost use Rattle.std.specs.Ordering.{nat_cmp};
 ghost use Rattle.std.specs.Cmp.{partial_equiv_from_equiv};

@@ -1,3 +1,4 @@
+//! Cuts of a text at its first or last hyphen.
 ghost use Rattle.std.specs.Prelude.{◌≡◌, [], ◌∷◌, MatchOption, false};
 ghost use Rattle.std.specs.List.{before_last, after_last, list_any, slice_split};
 ghost use Rattle.index_names.specs.Spelling.{is_hyphen};

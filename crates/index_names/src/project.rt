@@ -1,3 +1,4 @@
+//! Project names and their normal form (PEP 503, "Normalized Names").
 ghost use Rattle.std.specs.Prelude.{◌≡◌, ◌||◌, ◌++◌, ◌⊎◌, ◌↔◌, None, Some, IfOk, IfErr, OnOk, IsErrOf, IsSome, IsTrue, string_bytes};
 ghost use Rattle.std.specs.List.{list_all};
 ghost use Rattle.index_names.specs.Project.{is_separator, is_project_name, normal_form, read_name, IsNormalName};

@@ -1,3 +1,4 @@
+//! Releases: version texts in lower case.
 ghost use Rattle.std.specs.Prelude.{◌≡◌, ◌||◌, ◌⊎◌, ◌↔◌, None, Some, IfOk, IfErr, IsErrOf, IsTrue};
 ghost use Rattle.std.specs.List.{list_all};
 ghost use Rattle.index_names.specs.Release.{is_version_byte, is_version_text, release_named_by, read_release, IsRelease};

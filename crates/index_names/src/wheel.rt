@@ -1,3 +1,4 @@
+//! The cut of the name of a wheel (PEP 427, "File name convention").
 ghost use Rattle.std.specs.Prelude.{◌≡◌, not, option_map};
 ghost use Rattle.std.specs.List.{list_all, slice_split};
 ghost use Rattle.index_names.specs.FileName.{wheel_cut_of, read_wheel};

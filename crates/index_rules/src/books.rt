@@ -25,7 +25,7 @@ pub trait Books {
     /// How many calls answered a fault, up to 18,446,744,073,709,551,615.
     ghost failures: { Self → ℕ };
 
-    /// The records that the keys name. It changes nothing.
+    /// The records that the keys name. It changes no table.
     fn view(&mut self, alloc: Global, keys: &Keys) -> Result<View, Fault>
         ensures found { IsHonest self.new → IfOk result (Sees (tables self.old) keys.now) }
         ensures unchanged { IsHonest self.new → tables self.new ≡ tables self.old }
@@ -39,7 +39,7 @@ pub trait Books {
         ensures honest { IsHonest self.new → IsHonest self.old }
         ensures failures { failures self.new ≡ counted (failures self.old) (is_ok result) };
 
-    /// The owners of a name in byte order. It changes nothing.
+    /// The owners of a name in byte order. It changes no table.
     fn owners_of(&mut self, alloc: Global, name: &NormalName) -> Result<Owners, Fault>
         ensures found { IsHonest self.new → IfOk result (λ owners. owners ≡ owners_in (tables self.old) name.now) }
         ensures unchanged { IsHonest self.new → tables self.new ≡ tables self.old }
@@ -47,7 +47,7 @@ pub trait Books {
         ensures failures { failures self.new ≡ counted (failures self.old) (is_ok result) };
 
     /// The bytes that are kept of a file, or `None` where none are: in sound tables, where it is not undeleted. It changes
-    /// nothing.
+    /// no table.
     fn bytes_of(&mut self, alloc: Global, file: &FileName) -> Result<Option<Sealed>, Fault>
         ensures found { IsHonest self.new → IfOk result (λ body. body ≡ get (tables self.old).bodies file.now) }
         ensures unchanged { IsHonest self.new → tables self.new ≡ tables self.old }
