@@ -34,21 +34,18 @@ after_last-at x i within hyphen lacks =
     suffix_len-lacking x (i + 1) (omega arith) (λ _. ap (λ k. get_or x k 0) (omega arith) ∙ hyphen) lacks in
     ap (λ n. drop (length x - n) x) cut ∙ ap (λ n. drop n x) (omega arith)
 
--- with no hyphen nothing stands before it
-pub before_last-none : (x : List ℕ) → LacksHyphenFrom x 0 → before_last is_hyphen x ≡ []
-before_last-none x lacks =
-    let cut : suffix_len (λ c. not (is_hyphen c)) x ≡ length x - 0 = suffix_len-lacking x 0 (omega arith) (λ positive. absurd (omega arith)) lacks in
-    let none : length x - (length x - 0) - 1 ≡ 0 = omega arith in
-    ap (λ n. take (length x - n - 1) x) cut ∙ ap (λ n. take n x) none
-
+-- a text that lacks hyphens from its first byte on has none
 pub list_any-none : (x : List ℕ) → LacksHyphenFrom x 0 → list_any is_hyphen x ≡ false
 list_any-none x lacks =
     list_any_none is_hyphen x (All-from_get_or (λ c. is_hyphen c ≡ false) x 0 (λ k inside. ne_eqb _ 45 (lacks k (omega arith) inside)))
 
--- nothing stands before a hyphen that is not there
+-- with no hyphen nothing stands before it
 pub before_last_without : (x : List ℕ) → list_any is_hyphen x ≡ false → before_last is_hyphen x ≡ []
 before_last_without x none =
-    before_last-none x (λ k above inside hyphen. false≢true (sym none ∙ list_any_at is_hyphen x k 0 inside (eq-eqb _ 45 hyphen)))
+    let lacks : LacksHyphenFrom x 0 = λ k above inside hyphen. false≢true (sym none ∙ list_any_at is_hyphen x k 0 inside (eq-eqb _ 45 hyphen)) in
+    let cut : suffix_len (λ c. not (is_hyphen c)) x ≡ length x - 0 = suffix_len-lacking x 0 (omega arith) (λ positive. absurd (omega arith)) lacks in
+    let left : length x - (length x - 0) - 1 ≡ 0 = omega arith in
+    ap (λ n. take (length x - n - 1) x) cut ∙ ap (λ n. take n x) left
 
 abbrev pub LacksHyphen : List ℕ → Type 0
 LacksHyphen x = All (λ c. is_hyphen c ≡ false) x
@@ -95,14 +92,10 @@ last_hyphen (c ∷ x) = elim (last_hyphen x) [
   | inr cut ↦ inr (record { front = c ∷ cut.front; back = cut.back; is = ap (λ y. c ∷ y) cut.is; lacks = cut.lacks })
 ]
 
-before_last-lacking : (x : List ℕ) → LacksHyphen x → before_last is_hyphen x ≡ []
-before_last-lacking x lacks =
-    before_last-none x (λ k above inside. eqb-false _ 45 (All-get_or (λ c. is_hyphen c ≡ false) x k 0 inside lacks))
-
 -- where something stands before the last hyphen, the text is that, the hyphen and what stands after it
 pub join-last : (x : List ℕ) → before_last is_hyphen x ≢ [] → x ≡ before_last is_hyphen x ++ 45 ∷ after_last is_hyphen x
 join-last x something = elim (last_hyphen x) [
-  | inl lacks ↦ absurd (something (before_last-lacking x lacks))
+  | inl lacks ↦ absurd (something (before_last_without x (list_any_none is_hyphen x lacks)))
   | inr cut ↦
       let before : before_last is_hyphen x ≡ cut.front = ap (before_last is_hyphen) cut.is ∙ before_last-split cut.front cut.back cut.lacks in
       let after : after_last is_hyphen x ≡ cut.back = ap (after_last is_hyphen) cut.is ∙ after_last-split cut.front cut.back cut.lacks in
