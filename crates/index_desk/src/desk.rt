@@ -5,7 +5,8 @@ ghost use Rattle.index_rules.specs.Runs.{Answers, Runs, tables_after, tables_by}
 ghost use Rattle.index_rules.specs.Decided.{Decides};
 ghost use Rattle.index_rules.specs.Effect.{effect};
 ghost use Rattle.index_rules.specs.Verdict.{Verdict, verdict_now};
-ghost use Rattle.index_rules.specs.Facts.{HasOneBearer, facts_in};
+ghost use Rattle.index_rules.specs.Facts.{HasOneBearer, Sees, facts_in};
+ghost use Rattle.index_rules.specs.Requests.{keys_of};
 ghost use Rattle.index_rules.specs.Sound.{IsSound};
 ghost use Rattle.index_rules.specs.Failures.{FailsAtMostOnce, HasFailed};
 ghost use Rattle.index_rules.specs.History.{History};
@@ -149,9 +150,32 @@ fn consider<B: Books>(
     ensures failures { FailsAtMostOnce (B.failures books.old) (B.failures books.new) }
     ensures honest { B.IsHonest books.new → B.IsHonest books.old }
 {
+    match seen(books, alloc, &call) {
+        Ok(view) => {
+            let decision = decide(alloc, call, &view);
+            drop(view);
+            Ok(decision)
+        }
+        Err(fault) => {
+            drop(call);
+            Err(fault)
+        }
+    }
+}
+
+/// What a call's keys name. It changes no table.
+fn seen<B: Books>(books: &mut B, alloc: Global, call: &Call) -> Result<View, Fault>
+    ensures found { B.IsHonest books.new → IfOk result (Sees (B.tables books.old) (keys_of call.now)) }
+    ensures unchanged { B.IsHonest books.new → B.tables books.new ≡ B.tables books.old }
+    ensures kept { OnOk result (B.failures books.new ≡ B.failures books.old) }
+    ensures store { IfErr result (λ fault. fault ≡ Fault.Store → HasFailed (B.failures books.old) (B.failures books.new)) }
+    ensures failures { FailsAtMostOnce (B.failures books.old) (B.failures books.new) }
+    ensures honest { B.IsHonest books.new → B.IsHonest books.old }
+{
     let keys = call.keys(alloc)?;
-    let view = books.view(alloc, &keys)?;
-    Ok(decide(alloc, call, &view))
+    let found = books.view(alloc, &keys);
+    drop(keys);
+    found
 }
 
 /// The answer by a decision, whose change is written.
@@ -233,11 +257,12 @@ fn record_of<B: Books>(books: &mut B, alloc: Global, name: &NormalName) -> Resul
     ensures honest { B.IsHonest books.new → B.IsHonest books.old }
 {
     let keys = Keys::of_name(name)?;
-    let View {
-        name: record,
-        case,
-        ..
-    } = books.view(alloc, &keys)?;
+    let found = books.view(alloc, &keys);
+    drop(keys);
+    let mut view = found?;
+    let record = view.name.take();
+    let case = view.case.take();
+    drop(view);
     Ok(Found { record, case })
 }
 

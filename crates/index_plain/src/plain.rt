@@ -22,7 +22,7 @@ mod tests;
 mod write;
 
 /// The tables in memory, as vectors in any order. A fault of theirs is always `OutOfMemory`.
-#[derive(Debug, Drop)]
+#[derive(Debug)]
 pub struct PlainBooks {
     users: Vec<(UserId, UserRecord)>,
     names: Vec<(NormalName, NameRecord)>,
@@ -32,6 +32,22 @@ pub struct PlainBooks {
     yanks: Vec<((NormalName, Release), Text)>,
     cases: Vec<(NormalName, CaseRecord)>,
     failures: u64,
+}
+
+// By hand: a drop is then one call at each exit of a function (docs/ARCHITECTURE.md, "What a proof costs").
+impl Drop for PlainBooks {
+    fn drop(self) {
+        let PlainBooks {
+            users: _users,
+            names: _names,
+            owners: _owners,
+            files: _files,
+            bodies: _bodies,
+            yanks: _yanks,
+            cases: _cases,
+            failures: _failures,
+        } = self;
+    }
 }
 
 impl PlainBooks {

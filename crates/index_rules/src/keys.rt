@@ -1,7 +1,11 @@
 //! The readable parts of a call.
 ghost use Rattle.std.specs.Prelude.{◌≡◌, Some, None, IfOk, IfErr, option_map};
 ghost use Rattle.index_names.specs.FileName.{project_of};
+ghost use Rattle.index_names.specs.Project.{read_name};
+ghost use Rattle.index_names.specs.Release.{read_release};
 ghost use Rattle.index_rules.specs.Requests.{keys_of, read_file};
+ghost use Rattle.index_rules.specs.Texts.{read_token as read_token_lem};
+ghost use Rattle.index_rules.specs.Users.{read_user};
 
 use crate::answer::Fault;
 use crate::bytes::Bytes;
@@ -13,7 +17,7 @@ use index_names::{FileName, NormalName, Release};
 use std::alloc::{AllocError, Global};
 
 /// What is looked up for a call.
-#[derive(Debug, Drop)]
+#[derive(Debug)]
 pub struct Keys {
     /// The digest of the caller's token.
     pub caller: Option<Digest256>,
@@ -26,29 +30,35 @@ pub struct Keys {
     pub release: Option<Release>,
 }
 
+// By hand: a drop is then one call at each exit of a function (docs/ARCHITECTURE.md, "What a proof costs").
+impl Drop for Keys {
+    fn drop(self) {
+        let Keys {
+            caller: _caller,
+            user: _user,
+            token: _token,
+            name: _name,
+            file: _file,
+            release: _release,
+        } = self;
+    }
+}
+
 impl Keys {
     /// This name alone.
     pub fn of_name(name: &NormalName) -> Result<Keys, Fault>
         ensures keys { IfOk result (λ keys. keys ≡ record { caller = None; user = None; token = None; name = Some name.now; file = None; release = None }) }
         ensures memory { IfErr result (λ fault. fault ≡ Fault.OutOfMemory) }
     {
+        let name = name.clone()?;
         Ok(Keys {
-            name: Some(name.clone()?),
-            ..Keys::of_caller(None)
-        })
-    }
-
-    fn of_caller(caller: Option<Digest256>) -> Keys
-        ensures { result ≡ record { caller = caller; user = None; token = None; name = None; file = None; release = None } }
-    {
-        Keys {
-            caller,
+            caller: None,
             user: None,
             token: None,
-            name: None,
+            name: Some(name),
             file: None,
             release: None,
-        }
+        })
     }
 }
 
@@ -58,13 +68,11 @@ impl Call {
         ensures keys { IfOk result (λ keys. keys ≡ keys_of self.now) }
         ensures memory { IfErr result (λ fault. fault ≡ Fault.OutOfMemory) }
     {
-        let keys = Keys::of_caller(Some(self.token));
-        Ok(match &self.request {
-            Request::AddUser { user, token, .. } | Request::SetToken { user, token } => Keys {
-                user: readable_user(alloc, user)?,
-                token: read_token(token.as_slice()),
-                ..keys
-            },
+        let caller = Some(self.token);
+        let keys = match &self.request {
+            Request::AddUser { user, token, .. } | Request::SetToken { user, token } => {
+                user_keys(alloc, caller, user, token)
+            }
             Request::SetQuota { name, .. }
             | Request::Claim { name }
             | Request::Relinquish { name }
@@ -74,38 +82,110 @@ impl Call {
             | Request::RecordAttempt { name, .. }
             | Request::Transfer { name, .. }
             | Request::CloseCase { name }
-            | Request::AnswerCase { name } => Keys {
-                name: readable_name(alloc, name)?,
-                ..keys
-            },
-            Request::AddOwner { name, user } | Request::RemoveOwner { name, user } => Keys {
-                user: readable_user(alloc, user)?,
-                name: readable_name(alloc, name)?,
-                ..keys
-            },
-            Request::Yank { name, release, .. } | Request::Unyank { name, release } => Keys {
-                name: readable_name(alloc, name)?,
-                release: readable_release(alloc, release)?,
-                ..keys
-            },
-            Request::Upload { file, .. } | Request::Delete { file } => file_keys(
-                alloc, keys, file,
-            )?,
-        })
+            | Request::AnswerCase { name } => name_keys(alloc, caller, name),
+            Request::AddOwner { name, user } | Request::RemoveOwner { name, user } => {
+                owner_keys(alloc, caller, name, user)
+            }
+            Request::Yank { name, release, .. } | Request::Unyank { name, release } => {
+                release_keys(alloc, caller, name, release)
+            }
+            Request::Upload { file, .. } | Request::Delete { file } => {
+                file_keys(alloc, caller, file)
+            }
+        };
+        Ok(keys?)
     }
 }
 
-/// The file and the project that its name decides, with the other keys.
-fn file_keys(alloc: Global, keys: Keys, file: &Bytes) -> Result<Keys, AllocError>
-    ensures { IfOk result (λ found. found ≡ record keys {
-      name = option_map project_of (read_file file.now);
-      file = read_file file.now;
-    }) }
+/// The user and the digest of the token that a call brings for that user.
+fn user_keys(
+    alloc: Global,
+    caller: Option<Digest256>,
+    user: &Bytes,
+    token: &Bytes,
+) -> Result<Keys, AllocError>
+    ensures { IfOk result (λ keys. keys ≡ record { caller = caller; user = read_user user.now; token = read_token_lem token.now; name = None; file = None; release = None }) }
+{
+    Ok(Keys {
+        caller,
+        user: readable_user(alloc, user)?,
+        token: read_token(token.as_slice()),
+        name: None,
+        file: None,
+        release: None,
+    })
+}
+
+fn name_keys(alloc: Global, caller: Option<Digest256>, name: &Bytes) -> Result<Keys, AllocError>
+    ensures { IfOk result (λ keys. keys ≡ record { caller = caller; user = None; token = None; name = read_name name.now; file = None; release = None }) }
+{
+    Ok(Keys {
+        caller,
+        user: None,
+        token: None,
+        name: readable_name(alloc, name)?,
+        file: None,
+        release: None,
+    })
+}
+
+fn owner_keys(
+    alloc: Global,
+    caller: Option<Digest256>,
+    name: &Bytes,
+    user: &Bytes,
+) -> Result<Keys, AllocError>
+    ensures { IfOk result (λ keys. keys ≡ record { caller = caller; user = read_user user.now; token = None; name = read_name name.now; file = None; release = None }) }
+{
+    Ok(Keys {
+        caller,
+        user: readable_user(alloc, user)?,
+        token: None,
+        name: readable_name(alloc, name)?,
+        file: None,
+        release: None,
+    })
+}
+
+fn release_keys(
+    alloc: Global,
+    caller: Option<Digest256>,
+    name: &Bytes,
+    release: &Bytes,
+) -> Result<Keys, AllocError>
+    ensures { IfOk result (λ keys. keys ≡ record { caller = caller; user = None; token = None; name = read_name name.now; file = None; release = read_release release.now }) }
+{
+    Ok(Keys {
+        caller,
+        user: None,
+        token: None,
+        name: readable_name(alloc, name)?,
+        file: None,
+        release: readable_release(alloc, release)?,
+    })
+}
+
+/// The file and the project that its name decides.
+fn file_keys(alloc: Global, caller: Option<Digest256>, file: &Bytes) -> Result<Keys, AllocError>
+    ensures { IfOk result (λ keys. keys ≡ record { caller = caller; user = None; token = None; name = option_map project_of (read_file file.now); file = read_file file.now; release = None }) }
 {
     let file = readable_file(alloc, file)?;
-    let name = match &file {
-        Some(file) => Some(file.project().clone()?),
-        None => None,
-    };
-    Ok(Keys { name, file, ..keys })
+    let name = project_of_file(&file)?;
+    Ok(Keys {
+        caller,
+        user: None,
+        token: None,
+        name,
+        file,
+        release: None,
+    })
+}
+
+fn project_of_file(file: &Option<FileName>) -> Result<Option<NormalName>, AllocError>
+    ensures { IfOk result (λ name. name ≡ option_map project_of file.now) }
+{
+    match file {
+        Some(file) => Ok(Some(file.project().clone()?)),
+        None => Ok(None),
+    }
 }

@@ -21,7 +21,7 @@ pub enum NameRecord {
 }
 
 /// A held name.
-#[derive(Clone, Debug, Drop)]
+#[derive(Clone, Debug)]
 pub struct Project {
     /// The spelling of the last claim.
     pub shown: Text,
@@ -35,8 +35,21 @@ pub struct Project {
     pub last_upload: Option<u64>,
 }
 
+// By hand: a drop is then one call at each exit of a function (docs/ARCHITECTURE.md, "What a proof costs").
+impl Drop for Project {
+    fn drop(self) {
+        let Project {
+            shown: _shown,
+            quota: _quota,
+            charge: _charge,
+            undeleted: _undeleted,
+            last_upload: _last_upload,
+        } = self;
+    }
+}
+
 /// An open case (PEP 541).
-#[derive(Clone, Debug, Drop)]
+#[derive(Clone, Debug)]
 pub struct CaseRecord {
     pub kind: CaseKind,
     /// Who opened it, and gets the name at a transfer.
@@ -53,8 +66,22 @@ pub struct CaseRecord {
     pub state: CaseState,
 }
 
+impl Drop for CaseRecord {
+    fn drop(self) {
+        let CaseRecord {
+            kind: _kind,
+            candidate: _candidate,
+            contact: _contact,
+            work: _work,
+            why: _why,
+            opened: _opened,
+            state: _state,
+        } = self;
+    }
+}
+
 /// What the index keeps for good of a file name that was once accepted.
-#[derive(Clone, Debug, Drop)]
+#[derive(Clone, Debug)]
 pub struct FileRecord {
     /// The project and the release that the file name decides.
     pub project: NormalName,
@@ -65,4 +92,17 @@ pub struct FileRecord {
     /// The Python versions that the last upload declared.
     pub requires_python: Text,
     pub is_undeleted: bool,
+}
+
+impl Drop for FileRecord {
+    fn drop(self) {
+        let FileRecord {
+            project: _project,
+            release: _release,
+            digest: _digest,
+            size: _size,
+            requires_python: _requires_python,
+            is_undeleted: _is_undeleted,
+        } = self;
+    }
 }

@@ -7,9 +7,16 @@ use index_names::Text;
 use std::marker::Model;
 
 /// Owners of a name. Contracts see the list of their ids.
-#[derive(Debug, Drop)]
+#[derive(Debug)]
 pub struct Owners {
     users: Vec<UserId>,
+}
+
+// By hand: a drop is then one call at each exit of a function (docs/ARCHITECTURE.md, "What a proof costs").
+impl Drop for Owners {
+    fn drop(self) {
+        let Owners { users: _users } = self;
+    }
 }
 
 impl Model for Owners {
@@ -35,15 +42,24 @@ impl Owners {
 }
 
 /// The user who bears a token.
-#[derive(Clone, Debug, Drop)]
+#[derive(Clone, Debug)]
 pub struct Caller {
     pub user: UserId,
     /// Whether the user is of the office.
     pub office: bool,
 }
 
+impl Drop for Caller {
+    fn drop(self) {
+        let Caller {
+            user: _user,
+            office: _office,
+        } = self;
+    }
+}
+
 /// The records that a call's keys name.
-#[derive(Debug, Drop)]
+#[derive(Debug)]
 pub struct View {
     /// Who bears the caller's token.
     pub caller: Option<Caller>,
@@ -60,4 +76,20 @@ pub struct View {
     pub has_release: bool,
     /// The open case of the name.
     pub case: Option<CaseRecord>,
+}
+
+impl Drop for View {
+    fn drop(self) {
+        let View {
+            caller: _caller,
+            user: _user,
+            bearer: _bearer,
+            name: _name,
+            owners: _owners,
+            file: _file,
+            yank: _yank,
+            has_release: _has_release,
+            case: _case,
+        } = self;
+    }
 }
