@@ -1,6 +1,8 @@
--- What is no text is read as nothing.
+-- What is read is ASCII, and what is no text is read as nothing.
 use Rattle.std.proofs.Common.{◌≡◌, ℕ, List, Option, Some, None, refl}
-use Rattle.std.specs.Str.{IsUtf8}
+use Rattle.std.specs.Prelude.{IsSome}
+use Rattle.std.specs.Str.{IsAscii, IsUtf8}
+use Rattle.std.proofs.lemmas.Bool.{false≢true}
 use Rattle.std.proofs.lemmas.Str.{IsUtf8-from_ascii}
 use Rattle.index_names.specs.Project.{read_name}
 use Rattle.index_names.specs.Release.{read_release}
@@ -12,6 +14,15 @@ use Rattle.index_names.proofs.ReleaseLaws.{version_text-read_release}
 none_where : {A : Type 0} (read : Option A) → ((x : A) → ¬ (read ≡ Some x)) → read ≡ None
 none_where None lacks = refl
 none_where (Some x) lacks = absurd (lacks x refl)
+
+some_where : {A : Type 0} (read : Option A) → IsSome read → (x : A) × (read ≡ Some x)
+some_where None is_some = absurd (false≢true is_some)
+some_where (Some x) is_some = (x, refl)
+
+pub read_name-ascii : (x : List ℕ) → IsSome (read_name x) → IsAscii x
+read_name-ascii x is_read =
+    let read = some_where (read_name x) is_read in
+    IsAscii-name x (project_name-read_name x read.0 read.1)
 
 pub read_name-no_text : (x : List ℕ) → ¬ (IsUtf8 x) → read_name x ≡ None
 read_name-no_text x no_text =

@@ -5,7 +5,7 @@ ghost use Rattle.index_names.specs.Cut.{IsCutOf};
 use crate::file_name::FileKind;
 use crate::hyphens::split_at_last_hyphen;
 use crate::project::is_name;
-use crate::release::is_version_text;
+use crate::release::is_version;
 use crate::wheel::cut_wheel;
 
 /// The most bytes of a file name.
@@ -41,7 +41,7 @@ fn cut_source(stem: &[u8]) -> Option<Cut<'_>>
     ensures { IsCutOf result (read_source stem.now) }
 {
     let (name, version) = split_at_last_hyphen(stem)?;
-    if is_name(name) && is_version_text(version) {
+    if is_name(name) && is_version(version) {
         Some(Cut {
             name,
             version,

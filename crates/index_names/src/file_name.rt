@@ -1,5 +1,5 @@
 //! The names of wheels (PEP 427) and source archives (PEP 625).
-ghost use Rattle.std.specs.Prelude.{◌≡◌, ◌⊎◌, ◌↔◌, None, Some, IfOk, OnOk, IfErr, IsErrOf, IsSome, option_map, bytes_eq, refl};
+ghost use Rattle.std.specs.Prelude.{◌≡◌, ◌⊎◌, ◌↔◌, None, Some, IfOk, OnOk, IfErr, IsErrOf, IsSome, IsTrue, option_map, bytes_eq, refl};
 ghost use Rattle.std.specs.Ordering.{nat_cmp};
 ghost use Rattle.std.specs.Cmp.{partial_equiv_from_equiv};
 ghost use Rattle.std.specs.Cmp.Lexicographic.{slice_cmp, nat_list_eq_equiv, nat_list_cmp_total, texts_ties, texts_po};
@@ -14,6 +14,13 @@ use crate::text::{Text, ascii};
 use std::alloc::{AllocError, Global};
 use std::cmp::Ordering;
 use std::marker::Model;
+
+/// Whether these bytes are the name of a wheel or a source archive, of 1 to 255 bytes.
+pub fn is_file_name(bytes: &[u8]) -> bool
+    ensures { IsTrue result ↔ IsSome (read_file_name bytes.now) }
+{
+    cut_of(bytes).is_some()
+}
 
 /// What a file is.
 #[derive(Clone, Copy, Debug, PartialEq, Eq)]

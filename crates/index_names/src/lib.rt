@@ -16,7 +16,7 @@ mod text;
 mod wheel;
 
 pub use fault::NameFault;
-pub use file_name::{FileKind, FileName};
+pub use file_name::{FileKind, FileName, is_file_name};
 pub use project::{NormalName, is_name, normal};
-pub use release::{Release, release_key};
+pub use release::{Release, is_version, release_key};
 pub use text::{Text, ascii};

@@ -1,5 +1,5 @@
 //! Releases: version texts in lower case.
-ghost use Rattle.std.specs.Prelude.{◌≡◌, ◌||◌, ◌⊎◌, ◌↔◌, None, Some, IfOk, IfErr, IsErrOf, IsTrue};
+ghost use Rattle.std.specs.Prelude.{◌≡◌, ◌||◌, ◌⊎◌, ◌↔◌, None, Some, IfOk, IfErr, IsErrOf, IsSome, IsTrue};
 ghost use Rattle.std.specs.List.{list_all};
 ghost use Rattle.index_names.specs.Release.{is_version_byte, is_version_text, release_named_by, read_release, IsRelease};
 
@@ -73,14 +73,18 @@ pub fn release_key(alloc: Global, bytes: &[u8]) -> Result<Release, NameFault>
     ensures bad_release { IsErrOf result NameFault.BadRelease ↔ (read_release bytes.now ≡ None) }
     ensures fault { IfErr result (λ fault. (fault ≡ NameFault.BadRelease) ⊎ (fault ≡ NameFault.OutOfMemory)) }
 {
-    if !is_version_text(bytes) {
+    if !is_version(bytes) {
         return Err(NameFault::BadRelease);
     }
     Ok(Release::of(alloc, bytes)?)
 }
 
-pub(crate) fn is_version_text(bytes: &[u8]) -> bool
-    ensures { result ≡ is_version_text bytes.now }
+/// Whether these bytes are a version text: 1 to 64 ASCII letters, digits, `.`, `_`, `+` and `!`, of which the first and
+/// the last are letters or digits (this index's own rule).
+#[tactic(auto, unfolding(crate::specs::Release::read_release))]
+pub fn is_version(bytes: &[u8]) -> bool
+    ensures version { result ≡ is_version_text bytes.now }
+    ensures readable { IsTrue result ↔ IsSome (read_release bytes.now) }
 {
     1 <= bytes.len()
         && bytes.len() <= LONGEST_VERSION

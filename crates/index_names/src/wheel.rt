@@ -9,7 +9,7 @@ use crate::cut::Cut;
 use crate::file_name::FileKind;
 use crate::hyphens::split_at_first_hyphen;
 use crate::project::is_name;
-use crate::release::is_version_text;
+use crate::release::is_version;
 
 /// The parts of a wheel's name (PEP 427, "File name convention").
 #[derive(Clone, Copy)]
@@ -73,7 +73,7 @@ fn is_wheel(parts: &WheelParts<'_>) -> bool
     ensures { result ≡ is_wheel_cut (wheel_cut parts.now) }
 {
     is_distribution(parts.distribution)
-        && is_version_text(parts.version)
+        && is_version(parts.version)
         && parts.build.is_none_or(is_build_tag)
         && is_tag(parts.python)
         && is_tag(parts.abi)

@@ -43,3 +43,9 @@ is_text-utf8 x utf8 =
     and_true : (b : Bool) → (b && true) ≡ b
     and_true true = refl
     and_true false = refl
+
+pub is_text-no_utf8 : (x : Bytes) → ¬ (IsUtf8 x) → false ≡ is_text x
+is_text-no_utf8 x no_utf8 = elim (is_text x) as (λ b. is_text x ≡ b → false ≡ b) [
+  | false ↦ λ _. refl
+  | true ↦ λ passes. absurd (no_utf8 (IsText-from_is_text x passes).utf8)
+] refl

@@ -1,15 +1,59 @@
 -- What a decision says of a verdict.
-use Rattle.std.specs.Prelude.{◌≡◌, Result, Ok, Err}
+use Rattle.std.specs.Prelude.{◌≡◌, List, [], Option, Some, None, Result, Ok, Err, find, length}
+use Rattle.index_rules.specs.declared.answer.Refusal.{Refusal}
+use Rattle.index_rules.specs.declared.call.Request.{Request}
+use Rattle.index_rules.specs.declared.call.Request.TheVariants.{Upload}
 use Rattle.index_rules.specs.declared.decision.Decision.{Decision}
 use Rattle.index_rules.specs.declared.decision.Decision.TheVariants as decision
 use Rattle.index_rules.specs.declared.decision.Stop.{Stop}
 use Rattle.index_rules.specs.declared.decision.Stop.TheVariants as stop
+use Rattle.index_rules.specs.declared.decision.context.Context.{Context}
 use Rattle.index_rules.specs.declared.change.Change.{Change}
-use Rattle.index_rules.specs.Verdict.{Verdict, Accept, AlreadySo, Refuse}
+use Rattle.index_rules.specs.declared.records.Project.{Project}
+use Rattle.index_rules.specs.Maps.{Bytes}
+use Rattle.index_rules.specs.Facts.{facts_seen}
+use Rattle.index_rules.specs.Verdict.{Verdict, Accept, AlreadySo, Refuse, applies, decided, file_refusals, is_already, refusals_of}
+use Rattle.index_rules.specs.Effect.{effect, held_in, with_file}
 
--- the decision is the verdict, and its change the effect, unless memory ran out
+-- the decision is the verdict, and its change the effect; memory can run out only where the verdict is to accept
 abbrev pub Decides : Result Decision Stop → Verdict → Change → Type 0
 Decides (Ok decision.Already) verdict effect = verdict ≡ AlreadySo
 Decides (Ok (decision.Change change)) verdict effect = (verdict ≡ Accept) × (change ≡ effect)
 Decides (Err (stop.Refused refusal)) verdict effect = verdict ≡ Refuse refusal
-Decides (Err stop.OutOfMemory) verdict effect = Unit {0}
+Decides (Err stop.OutOfMemory) verdict effect = verdict ≡ Accept
+
+-- the same of what an accepted request needs, before its change is made
+abbrev pub Finds : {A : Type 0} → Result (Option A) Stop → Verdict → A → Type 0
+Finds (Ok None) verdict need = verdict ≡ AlreadySo
+Finds (Ok (Some found)) verdict need = (verdict ≡ Accept) × (found ≡ need)
+Finds (Err (stop.Refused refusal)) verdict need = verdict ≡ Refuse refusal
+Finds (Err stop.OutOfMemory) verdict need = verdict ≡ Accept
+
+-- the caller is the one in view
+abbrev pub IsOfCaller : Context → Type 0
+IsOfCaller context = context.view.now.caller ≡ Some context.caller.now
+
+-- the verdict by these refusals, on what is in view
+abbrev pub verdict_by : Context → List Refusal → Request → Verdict
+verdict_by context refusals request =
+    let facts = facts_seen context.view.now request in
+    decided (find (applies context.at request facts) refusals) (is_already request facts)
+
+-- what an accepted request writes, by what is in view
+abbrev pub effect_in : Context → Request → Change
+effect_in context request = effect context.at request (facts_seen context.view.now request)
+
+-- a decision on a request whose moment and token are in order
+abbrev pub DecidesIn : Context → Request → Result Decision Stop → Type 0
+DecidesIn context request result = Decides result (verdict_by context (refusals_of request) request) (effect_in context request)
+
+-- the same on an upload whose parts are in order
+abbrev pub DecidesOnFile : Context → Request → Result Decision Stop → Type 0
+DecidesOnFile context request result = Decides result (verdict_by context file_refusals request) (effect_in context request)
+
+-- the project with the body of such an upload, which declares this digest
+abbrev pub FindsProject : Context → Bytes → Bytes → Result (Option Project) Stop → Type 0
+FindsProject context declared body result =
+    let request = Upload [] declared body [] in
+    let held = held_in (facts_seen context.view.now request) in
+    Finds result (verdict_by context file_refusals request) (with_file context.at (length body) held)

@@ -2,13 +2,17 @@
 use Rattle.std.specs.Prelude.{ℕ, ◌+◌, ◌-◌, max, Bool, true, false, not, if◌then◌else◌, [], Option, Some, None, unwrap_or, option_map, length}
 use Rattle.std.specs.Option.{option_map_or}
 use Rattle.std.specs.FinMap.{get, insert, remove, retain_keys}
+use Rattle.index_digest.specs.Digest.{digest_in, sha256}
 use Rattle.index_names.specs.FileName.{project_of, release_of}
+use Rattle.index_names.specs.Project.{read_name}
+use Rattle.index_names.specs.Release.{read_release}
 use Rattle.index_rules.specs.declared.call.Call.{Call}
 use Rattle.index_rules.specs.declared.call.Request.{Request}
 use Rattle.index_rules.specs.declared.call.Request.TheVariants.{AddUser, SetToken, SetQuota, Claim, AddOwner, RemoveOwner, Upload, Delete, Yank, Unyank, Relinquish, Prohibit, Allow, OpenCase, RecordAttempt, Transfer, CloseCase, AnswerCase}
 use Rattle.index_rules.specs.declared.change.Change.{Change}
 use Rattle.index_rules.specs.declared.change.Change.TheVariants as change
 use Rattle.index_rules.specs.declared.records.NameRecord.TheVariants.{Held, Prohibited}
+use Rattle.index_retention.specs.declared.attempts.CaseKind.{CaseKind}
 use Rattle.index_retention.specs.declared.attempts.CaseKind.TheVariants.{Continue}
 use Rattle.index_retention.specs.Attempts.{Attempt, attempt_of, noted, tally_of}
 use Rattle.index_rules.specs.declared.records.CaseRecord.{CaseRecord}
@@ -17,7 +21,8 @@ use Rattle.index_rules.specs.declared.records.Project.{Project}
 use Rattle.index_rules.specs.declared.records.UserRecord.{UserRecord}
 use Rattle.index_rules.specs.Maps.{Bytes, Map, PairMap, same, change_values}
 use Rattle.index_rules.specs.Tables.{Tables}
-use Rattle.index_rules.specs.Requests.{user_key, name_key, release_key, declared_digest}
+use Rattle.index_rules.specs.Texts.{read_token}
+use Rattle.index_rules.specs.Users.{read_user}
 use Rattle.index_rules.specs.Facts.{Facts, facts_in}
 use Rattle.index_rules.specs.Verdict.{project_in}
 
@@ -91,40 +96,45 @@ without_name name m = retain_keys m (λ pair. not (same name pair.0))
 abbrev pub with_attempt_noted : Attempt → CaseRecord → CaseRecord
 with_attempt_noted attempt case = record case { state = noted case.state attempt }
 
+-- the project of a name that is claimed in this spelling
+abbrev pub claimed : Bytes → Project
+claimed shown = record { shown = shown; quota = first_quota; charge = 0; undeleted = 0; last_upload = None }
+
+-- a file's record, of its upload with this digest
+abbrev pub uploaded : Bytes → Bytes → Bytes → Bytes → FileRecord
+uploaded digest file body requires =
+    record { project = project_of file; release = release_of file; digest = digest; size = length body; requires_python = requires; is_undeleted = true }
+
+-- the change by the upload of a file to a project that has it in its charge
+abbrev pub upload_of : Project → Bytes → Bytes → Bytes → Change
+upload_of project file body requires = change.Upload (project_of file) project file (uploaded (sha256 body) file body requires) body
+
+-- a case that this candidate opened at this moment
+abbrev pub opened_case : ℕ → Bytes → CaseKind → Bytes → Bytes → Bytes → CaseRecord
+opened_case at candidate kind contact work why =
+    record { kind = kind; candidate = candidate; contact = contact; work = work; why = why; opened = at; state = tally_of [] }
+
 -- what an accepted request at a moment writes
 abbrev pub effect : ℕ → Request → Facts → Change
-effect at (AddUser user office token) f =
-    change.AddUser (key (user_key (AddUser user office token))) (record { office = office; token = key (declared_digest (AddUser user office token)) })
-effect at (SetToken user token) f =
-    change.SetToken (key (user_key (SetToken user token))) (record { office = (user_in f).office; token = key (declared_digest (SetToken user token)) })
-effect at (SetQuota name quota) f = change.SetQuota (key (name_key (SetQuota name quota))) (record (held_in f) { quota = quota })
-effect at (Claim name) f =
-    change.Claim (key (name_key (Claim name))) (record { shown = name; quota = first_quota; charge = 0; undeleted = 0; last_upload = None }) (caller_in f)
-effect at (AddOwner name user) f = change.AddOwner (key (name_key (AddOwner name user))) (key (user_key (AddOwner name user)))
-effect at (RemoveOwner name user) f = change.RemoveOwner (key (name_key (RemoveOwner name user))) (key (user_key (RemoveOwner name user)))
-effect at (Upload file sha256 body requires) f =
-    change.Upload (project_of file) (with_file at (length body) (held_in f)) file
-    (record {
-      project = project_of file;
-      release = release_of file;
-      digest = key (declared_digest (Upload file sha256 body requires));
-      size = length body;
-      requires_python = requires;
-      is_undeleted = true;
-    })
-    body
+effect at (AddUser user office token) f = change.AddUser (key (read_user user)) (record { office = office; token = key (read_token token) })
+effect at (SetToken user token) f = change.SetToken (key (read_user user)) (record { office = (user_in f).office; token = key (read_token token) })
+effect at (SetQuota name quota) f = change.SetQuota (key (read_name name)) (record (held_in f) { quota = quota })
+effect at (Claim name) f = change.Claim (key (read_name name)) (claimed name) (caller_in f)
+effect at (AddOwner name user) f = change.AddOwner (key (read_name name)) (key (read_user user))
+effect at (RemoveOwner name user) f = change.RemoveOwner (key (read_name name)) (key (read_user user))
+effect at (Upload file declared body requires) f =
+    change.Upload (project_of file) (with_file at (length body) (held_in f)) file (uploaded (key (digest_in declared)) file body requires) body
 effect at (Delete file) f = change.Delete (project_of file) (without_file (file_of f).size (held_in f)) file (deleted (file_of f))
-effect at (Yank name release reason) f = change.Yank (key (name_key (Yank name release reason))) (key (release_key (Yank name release reason))) reason
-effect at (Unyank name release) f = change.Unyank (key (name_key (Unyank name release))) (key (release_key (Unyank name release)))
-effect at (Relinquish name) f = change.Relinquish (key (name_key (Relinquish name)))
-effect at (Prohibit name) f = change.Prohibit (key (name_key (Prohibit name)))
-effect at (Allow name) f = change.Allow (key (name_key (Allow name)))
-effect at (OpenCase name kind contact work why) f = change.OpenCase (key (name_key (OpenCase name kind contact work why)))
-    (record { kind = kind; candidate = caller_in f; contact = contact; work = work; why = why; opened = at; state = tally_of [] })
-effect at (RecordAttempt name means sent) f = change.RecordAttempt (key (name_key (RecordAttempt name means sent))) (with_attempt_noted (attempt_of means sent at) (case_in f))
-effect at (Transfer name quiet) f = change.Transfer (key (name_key (Transfer name quiet))) (case_in f).candidate
-effect at (CloseCase name) f = change.CloseCase (key (name_key (CloseCase name)))
-effect at (AnswerCase name) f = change.AnswerCase (key (name_key (AnswerCase name)))
+effect at (Yank name release reason) f = change.Yank (key (read_name name)) (key (read_release release)) reason
+effect at (Unyank name release) f = change.Unyank (key (read_name name)) (key (read_release release))
+effect at (Relinquish name) f = change.Relinquish (key (read_name name))
+effect at (Prohibit name) f = change.Prohibit (key (read_name name))
+effect at (Allow name) f = change.Allow (key (read_name name))
+effect at (OpenCase name kind contact work why) f = change.OpenCase (key (read_name name)) (opened_case at (caller_in f) kind contact work why)
+effect at (RecordAttempt name means sent) f = change.RecordAttempt (key (read_name name)) (with_attempt_noted (attempt_of means sent at) (case_in f))
+effect at (Transfer name quiet) f = change.Transfer (key (read_name name)) (case_in f).candidate
+effect at (CloseCase name) f = change.CloseCase (key (read_name name))
+effect at (AnswerCase name) f = change.AnswerCase (key (read_name name))
 
 -- what a change means for the tables
 abbrev pub means : Change → Tables → Tables

@@ -241,7 +241,3 @@ verdict_on c f = decided (find (applies c.at c.request f) (BadMoment ∷ BadToke
 -- the verdict on the tables as they are
 abbrev pub verdict_now : Tables → Call → Verdict
 verdict_now T c = verdict_on c (facts_in T c)
-
--- the verdict where the moment and the token are in order, of a request that no moment decides (all but Transfer)
-abbrev pub verdict_in_order : Request → Facts → Verdict
-verdict_in_order r f = decided (find (applies 0 r f) (refusals_of r)) (is_already r f)

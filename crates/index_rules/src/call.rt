@@ -4,7 +4,7 @@ use index_digest::Digest256;
 use index_retention::{CaseKind, Means};
 
 /// What is asked. Names, digests and texts are the bytes that came, which nothing has read yet.
-#[derive(Debug, Drop)]
+#[derive(Drop)]
 pub enum Request {
     /// The office adds a user, whose token has this SHA-256 digest.
     AddUser {
@@ -102,7 +102,7 @@ pub enum Request {
 }
 
 /// A request at a moment, in Unix seconds, by the user whose token has this SHA-256 digest.
-#[derive(Debug, Drop)]
+#[derive(Drop)]
 pub struct Call {
     pub at: u64,
     pub token: Digest256,

@@ -6,7 +6,7 @@ use index_names::{FileName, NormalName, Release, Text};
 
 /// What an accepted call writes, with the new records whole. A change that an owner or a prohibition makes also ends
 /// the name's open case.
-#[derive(Debug, Drop)]
+#[derive(Drop)]
 pub enum Change {
     /// The user has this record.
     AddUser {

@@ -5,13 +5,14 @@ ghost use Rattle.index_rules.specs.Requests.{keys_of};
 ghost use Rattle.index_rules.specs.Facts.{HasOneBearer, Sees, facts_in, facts_seen};
 ghost use Rattle.index_rules.specs.Verdict.{verdict_now, verdict_on};
 ghost use Rattle.index_rules.specs.Effect.{effect};
-ghost use Rattle.index_rules.specs.Decided.{Decides};
+ghost use Rattle.index_rules.specs.Decided.{Decides, DecidesIn, IsOfCaller};
 
 use crate::answer::Refusal;
 use crate::call::{Call, Request};
 use crate::change::Change;
 use crate::view::View;
 use cases::{answer_case, close_case, open_case, record_attempt, transfer};
+use context::Context;
 use files::{delete, upload};
 use names::{allow, claim, prohibit, relinquish, set_quota};
 use owners::{add_owner, remove_owner};
@@ -20,7 +21,7 @@ use std::alloc::{AllocError, Global};
 use users::{add_user, set_token};
 
 mod cases;
-mod facts;
+mod context;
 mod files;
 mod names;
 mod owners;
@@ -31,7 +32,7 @@ mod users;
 const LAST_MOMENT: u64 = 253_402_300_799;
 
 /// What becomes of a call that is not refused.
-#[derive(Debug, Drop)]
+#[derive(Drop)]
 pub enum Decision {
     Already,
     Change(Change),
@@ -58,67 +59,81 @@ impl From<AllocError> for Stop {
 /// where it is so already, else the change that the call makes.
 pub fn decide(alloc: Global, call: Call, view: &View) -> Result<Decision, Stop>
     // By what the view has it is the verdict, and the change is the effect.
-    ensures seen { let facts = facts_seen view.now call.request in Decides result (verdict_on call facts) (effect call.at call.request facts) }
+    ensures seen { let facts = facts_seen view.now call.request in
+        Decides result (verdict_on call facts) (effect call.at call.request facts) }
 
     // On every tables with that view it is the verdict on them, and the change is the effect there.
-    ensures tables { (T : Tables) → HasOneBearer T → Sees T (keys_of call) view.now → Decides result (verdict_now T call) (effect call.at call.request (facts_in T call)) }
+    ensures tables { (T : Tables) → HasOneBearer T → Sees T (keys_of call) view.now
+        → Decides result (verdict_now T call) (effect call.at call.request (facts_in T call)) }
 {
     judge(alloc, call, view)
 }
 
 fn judge(alloc: Global, call: Call, view: &View) -> Result<Decision, Stop>
-    ensures { let facts = facts_seen view.now call.request in Decides result (verdict_on call facts) (effect call.at call.request facts) }
+    ensures { let facts = facts_seen view.now call.request in
+        Decides result (verdict_on call facts) (effect call.at call.request facts) }
 {
-    let Call {
-        at,
-        token: _,
-        request,
-    } = call;
-    if at > LAST_MOMENT {
+    if call.at > LAST_MOMENT {
+        drop(call);
         return Err(Stop::Refused(Refusal::BadMoment));
     }
     let Some(caller) = &view.caller else {
+        drop(call);
         return Err(Stop::Refused(Refusal::BadToken));
     };
+    let context = Context {
+        alloc,
+        at: call.at,
+        caller,
+        view,
+    };
+    decide_in(&context, call.request)
+}
+
+/// The decision on a request whose moment and token are in order.
+fn decide_in(context: &Context<'_>, request: Request) -> Result<Decision, Stop>
+    requires { IsOfCaller context.now }
+    ensures { DecidesIn context.now request result }
+{
     match request {
         Request::AddUser {
             user,
             office,
             token,
-        } => add_user(alloc, user, office, token, caller, view),
-        Request::SetToken { user, token } => set_token(alloc, user, token, caller, view),
-        Request::SetQuota { name, quota } => set_quota(alloc, name, quota, caller, view),
-        Request::Claim { name } => claim(alloc, name, caller, view),
-        Request::AddOwner { name, user } => add_owner(alloc, name, user, caller, view),
-        Request::RemoveOwner { name, user } => remove_owner(alloc, name, user, caller, view),
+        } => add_user(context, &user, office, &token),
+        Request::SetToken { user, token } => set_token(context, &user, &token),
+        Request::SetQuota { name, quota } => set_quota(context, &name, quota),
+        Request::Claim { name } => claim(context, &name),
+        Request::AddOwner { name, user } => add_owner(context, &name, &user),
+        Request::RemoveOwner { name, user } => remove_owner(context, &name, &user),
         Request::Upload {
             file,
             sha256,
             body,
             requires_python,
-        } => upload(alloc, at, file, sha256, body, requires_python, caller, view),
-        Request::Delete { file } => delete(alloc, file, caller, view),
+        } => upload(context, &file, &sha256, body, &requires_python),
+        Request::Delete { file } => delete(context, &file),
         Request::Yank {
             name,
             release,
             reason,
-        } => yank(alloc, name, release, reason, caller, view),
-        Request::Unyank { name, release } => unyank(alloc, name, release, caller, view),
-        Request::Relinquish { name } => relinquish(alloc, name, caller, view),
-        Request::Prohibit { name } => prohibit(alloc, name, caller, view),
-        Request::Allow { name } => allow(alloc, name, caller, view),
+        } => yank(context, &name, &release, &reason),
+        Request::Unyank { name, release } => unyank(context, &name, &release),
+        Request::Relinquish { name } => relinquish(context, &name),
+        Request::Prohibit { name } => prohibit(context, &name),
+        Request::Allow { name } => allow(context, &name),
         Request::OpenCase {
             name,
             kind,
             contact,
             work,
             why,
-        } => open_case(alloc, at, name, kind, contact, work, why, caller, view),
-        Request::RecordAttempt { name, means, sent } => record_attempt(
-            alloc, at, name, means, sent, caller, view,
-        ),
-        Request::Transfer { name, quiet } => transfer(alloc, at, name, quiet, caller, view),
-        Request::CloseCase { name } => close_case(alloc, name, caller, view),
-        Request::AnswerCase { name } => answer_case(alloc, name, caller, view),
+        } => open_case(context, &name, kind, &contact, &work, &why),
+        Request::RecordAttempt { name, means, sent } => {
+            record_attempt(context, &name, means, sent)
+        }
+        Request::Transfer { name, quiet } => transfer(context, &name, quiet),
+        Request::CloseCase { name } => close_case(context, &name),
+        Request::AnswerCase { name } => answer_case(context, &name),
     }
 }

@@ -1,5 +1,5 @@
 //! What the bytes of a request are read as.
-ghost use Rattle.std.specs.Prelude.{◌≡◌, ◌↔◌, not, IfOk, IfSome, IsSome, IsTrue};
+ghost use Rattle.std.specs.Prelude.{◌≡◌, ◌↔◌, not, IfErr, IfOk, IfSome, IsSome, IsTrue, None, Some, if◌then◌else◌};
 ghost use Rattle.std.specs.Char.{is_control};
 ghost use Rattle.std.specs.List.{list_all};
 ghost use Rattle.std.specs.Str.{chars};
@@ -7,12 +7,15 @@ ghost use Rattle.index_names.specs.Project.{read_name};
 ghost use Rattle.index_names.specs.Release.{read_release};
 ghost use Rattle.index_rules.specs.Requests.{read_file};
 ghost use Rattle.index_rules.specs.Users.{read_user};
-ghost use Rattle.index_rules.specs.Texts.{is_evidence, is_text as is_text_lem, read_token};
+ghost use Rattle.index_rules.specs.Texts.{is_evidence as is_evidence_lem, is_text as is_text_lem, read_token};
 
 use crate::bytes::Bytes;
-use crate::user::{UserFault, UserId};
+use crate::user::{UserFault, UserId, is_user_id};
 use index_digest::Digest256;
-use index_names::{FileName, NameFault, NormalName, Release, Text, normal, release_key};
+use index_names::{
+    FileName, NameFault, NormalName, Release, Text, ascii, is_file_name, is_version, normal,
+    release_key,
+};
 use std::alloc::{AllocError, Global};
 
 /// The most bytes of a text.
@@ -20,7 +23,8 @@ const LONGEST_TEXT: usize = 512;
 
 /// The normal form of a name, where it can be read.
 pub fn readable_name(alloc: Global, name: &Bytes) -> Result<Option<NormalName>, AllocError>
-    ensures { IfOk result (λ key. key ≡ read_name name.now) }
+    ensures key { IfOk result (λ key. key ≡ read_name name.now) }
+    ensures readable { IfErr result (λ _. IsSome (read_name name.now)) }
 {
     match normal(alloc, name.as_slice()) {
         Ok(key) => Ok(Some(key)),
@@ -31,7 +35,8 @@ pub fn readable_name(alloc: Global, name: &Bytes) -> Result<Option<NormalName>, 
 
 /// A user id, where it can be read.
 pub fn readable_user(alloc: Global, user: &Bytes) -> Result<Option<UserId>, AllocError>
-    ensures { IfOk result (λ key. key ≡ read_user user.now) }
+    ensures key { IfOk result (λ key. key ≡ read_user user.now) }
+    ensures readable { IfErr result (λ _. IsSome (read_user user.now)) }
 {
     match UserId::read(alloc, user.as_slice()) {
         Ok(key) => Ok(Some(key)),
@@ -42,7 +47,8 @@ pub fn readable_user(alloc: Global, user: &Bytes) -> Result<Option<UserId>, Allo
 
 /// The release that a version text gives, where it is one.
 pub fn readable_release(alloc: Global, release: &Bytes) -> Result<Option<Release>, AllocError>
-    ensures { IfOk result (λ key. key ≡ read_release release.now) }
+    ensures key { IfOk result (λ key. key ≡ read_release release.now) }
+    ensures readable { IfErr result (λ _. IsSome (read_release release.now)) }
 {
     match release_key(alloc, release.as_slice()) {
         Ok(key) => Ok(Some(key)),
@@ -56,6 +62,7 @@ pub fn readable_release(alloc: Global, release: &Bytes) -> Result<Option<Release
 pub fn readable_file(alloc: Global, file: &Bytes) -> Result<Option<FileName>, AllocError>
     ensures file { IfOk result (λ key. key ≡ read_file file.now) }
     ensures text { IfOk result (λ key. IfSome key (λ text. text ≡ file.now)) }
+    ensures readable { IfErr result (λ _. IsSome (read_file file.now)) }
 {
     match FileName::read(alloc, file.as_slice()) {
         Ok(key) => Ok(Some(key)),
@@ -77,34 +84,126 @@ pub fn read_token(text: &[u8]) -> Option<Digest256>
     }
 }
 
-/// A text that the index keeps: 0 to 512 bytes of UTF-8 without the code points 0 to 31 and 127 to 159.
-pub fn readable_text(text: Bytes) -> Option<Text>
-    ensures text { IfSome result (λ kept. kept ≡ text) }
-    ensures readable { IsSome result ↔ IsTrue (is_text_lem text) }
+/// Whether these bytes are a project name.
+pub fn is_name(name: &Bytes) -> bool
+    ensures { IsTrue result ↔ IsSome (read_name name.now) }
 {
-    let kept = Text::from_utf8(text.into_vec())?;
-    if is_text(kept.as_str()) {
-        Some(kept)
-    } else {
-        None
+    index_names::is_name(name.as_slice())
+}
+
+/// The normal form of a project name.
+pub fn to_name(alloc: Global, name: &Bytes) -> Result<NormalName, AllocError>
+    requires { IsSome (read_name name.now) }
+    ensures { IfOk result (λ key. read_name name.now ≡ Some key) }
+{
+    match normal(alloc, name.as_slice()) {
+        Ok(key) => Ok(key),
+        Err(NameFault::OutOfMemory) => Err(AllocError),
+        Err(_) => unreachable!(),
     }
 }
 
-/// An evidence text of a case: a text that the index keeps, of one byte or more.
-pub fn readable_evidence(text: Bytes) -> Option<Text>
-    ensures text { IfSome result (λ kept. kept ≡ text) }
-    ensures readable { IsSome result ↔ IsTrue (is_evidence text) }
+/// A project name as it was spelled.
+pub fn to_shown(alloc: Global, name: &Bytes) -> Result<Text, AllocError>
+    requires { IsSome (read_name name.now) }
+    ensures { IfOk result (λ shown. shown ≡ name.now) }
 {
-    if text.as_slice().is_empty() {
-        return None;
-    }
-    readable_text(text)
+    Ok(Text::new(String::from_str(alloc, ascii(name.as_slice()))?))
 }
 
-fn is_text(text: &str) -> bool
+/// Whether these bytes are a user id.
+#[tactic(auto, unfolding(crate::specs::Users::read_user))]
+pub fn is_user(user: &Bytes) -> bool
+    ensures { read_user user.now ≡ (if result then Some user.now else None) }
+{
+    is_user_id(user.as_slice())
+}
+
+/// The user id that bytes are.
+pub fn to_user(alloc: Global, user: &Bytes) -> Result<UserId, AllocError>
+    requires { read_user user.now ≡ Some user.now }
+    ensures { IfOk result (λ key. key ≡ user.now) }
+{
+    match UserId::read(alloc, user.as_slice()) {
+        Ok(key) => Ok(key),
+        Err(UserFault::OutOfMemory) => Err(AllocError),
+        Err(UserFault::BadUser) => unreachable!(),
+    }
+}
+
+/// Whether these bytes are a version text.
+pub fn is_release(release: &Bytes) -> bool
+    ensures { IsTrue result ↔ IsSome (read_release release.now) }
+{
+    is_version(release.as_slice())
+}
+
+/// The release that a version text gives.
+pub fn to_release(alloc: Global, release: &Bytes) -> Result<Release, AllocError>
+    requires { IsSome (read_release release.now) }
+    ensures { IfOk result (λ key. read_release release.now ≡ Some key) }
+{
+    match release_key(alloc, release.as_slice()) {
+        Ok(key) => Ok(key),
+        Err(NameFault::OutOfMemory) => Err(AllocError),
+        Err(_) => unreachable!(),
+    }
+}
+
+/// Whether these bytes are a file name.
+#[tactic(auto, unfolding(crate::specs::Requests::read_file))]
+pub fn is_file(file: &Bytes) -> bool
+    ensures { IsTrue result ↔ IsSome (read_file file.now) }
+{
+    is_file_name(file.as_slice())
+}
+
+/// The file name that bytes are.
+#[tactic(auto, unfolding(crate::specs::Requests::read_file))]
+pub fn to_file(alloc: Global, file: &Bytes) -> Result<FileName, AllocError>
+    requires { IsSome (read_file file.now) }
+    ensures { IfOk result (λ key. key ≡ file.now) }
+{
+    match FileName::read(alloc, file.as_slice()) {
+        Ok(key) => Ok(key),
+        Err(NameFault::OutOfMemory) => Err(AllocError),
+        Err(_) => unreachable!(),
+    }
+}
+
+/// Whether these bytes are a text that the index keeps: 0 to 512 bytes of UTF-8 without the code points 0 to 31 and
+/// 127 to 159.
+pub fn is_text(bytes: &Bytes) -> bool
+    ensures { result ≡ is_text_lem bytes.now }
+{
+    match str::from_utf8(bytes.as_slice()) {
+        Ok(text) => is_kept_text(text),
+        Err(_) => false,
+    }
+}
+
+fn is_kept_text(text: &str) -> bool
     ensures { result ≡ is_text_lem text.now }
 {
     text.len() <= LONGEST_TEXT && has_no_control(text)
+}
+
+/// A text that the index keeps.
+pub fn to_text(alloc: Global, text: &Bytes) -> Result<Text, AllocError>
+    requires { IsTrue (is_text_lem text.now) }
+    ensures { IfOk result (λ kept. kept ≡ text.now) }
+{
+    match str::from_utf8(text.as_slice()) {
+        Ok(text) => Ok(Text::new(String::from_str(alloc, text)?)),
+        Err(_) => unreachable!(),
+    }
+}
+
+/// Whether these bytes are an evidence text of a case: a text that the index keeps, of one byte or more.
+pub fn is_evidence(text: &Bytes) -> bool
+    ensures { result ≡ is_evidence_lem text.now }
+{
+    !text.as_slice().is_empty() && is_text(text)
 }
 
 fn has_no_control(text: &str) -> bool

@@ -1,13 +1,16 @@
 //! User ids.
 ghost use Rattle.std.specs.Prelude.{◌≡◌, ◌↔◌, IfOk, Some, None, Err};
 ghost use Rattle.std.specs.List.{list_all};
-ghost use Rattle.index_rules.specs.Users.{is_user_id, is_user_letter as is_user_letter_lem, read_user};
+ghost use Rattle.index_rules.specs.Users.{is_user_id as is_user_id_lem, is_user_letter as is_user_letter_lem, read_user};
 
 use index_names::{Text, ascii};
 use std::alloc::{AllocError, Global};
 use std::error::Error;
 use std::fmt;
 use std::marker::Model;
+
+/// The most bytes of a user id.
+const LONGEST_USER_ID: usize = 32;
 
 /// A user id: 1 to 32 bytes of `a-z0-9`. Contracts see its bytes, and it compares in byte order.
 #[derive(Clone, Debug, PartialEq, Eq, PartialOrd, Ord)]
@@ -71,7 +74,7 @@ impl UserId {
         ensures id { IfOk result (λ id. read_user bytes.now ≡ Some id) }
         ensures bad { (result ≡ Err UserFault.BadUser) ↔ (read_user bytes.now ≡ None) }
     {
-        if bytes.is_empty() || bytes.len() > 32 || !has_user_letters(bytes) {
+        if !is_user_id(bytes) {
             return Err(UserFault::BadUser);
         }
         let text = Text::new(String::from_str(alloc, ascii(bytes))?);
@@ -84,6 +87,13 @@ impl UserId {
     {
         self.text.as_str()
     }
+}
+
+/// Whether these bytes are a user id.
+pub(crate) fn is_user_id(bytes: &[u8]) -> bool
+    ensures { result ≡ is_user_id_lem bytes.now }
+{
+    !bytes.is_empty() && bytes.len() <= LONGEST_USER_ID && has_user_letters(bytes)
 }
 
 fn has_user_letters(bytes: &[u8]) -> bool

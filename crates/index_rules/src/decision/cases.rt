@@ -1,134 +1,136 @@
 //! Requests on retention cases (PEP 541).
-ghost use Rattle.std.specs.Prelude.{◌≡◌, ◌↔◌, Some, IfErr, IfOk, IfSome, IsOk, IsSome, IsTrue, find, true};
+ghost use Rattle.std.specs.Prelude.{◌≡◌, Some, IfOk, IsTrue, false};
+ghost use Rattle.std.specs.Option.{option_map_or};
 ghost use Rattle.index_rules.specs.declared.call.Request.TheVariants.{AnswerCase, CloseCase, OpenCase, RecordAttempt, Transfer};
-ghost use Rattle.index_rules.specs.Facts.{facts_seen};
-ghost use Rattle.index_rules.specs.Texts.{is_evidence};
-ghost use Rattle.index_rules.specs.Verdict.{applies, decided, refusal_of, is_already, refusals_of, verdict_in_order};
-ghost use Rattle.index_rules.specs.Effect.{effect};
-ghost use Rattle.index_rules.specs.Decided.{Decides};
+ghost use Rattle.index_rules.specs.Maps.{same};
+ghost use Rattle.index_rules.specs.Texts.{is_evidence as is_evidence_lem};
+ghost use Rattle.index_rules.specs.Verdict.{refusal_of};
+ghost use Rattle.index_rules.specs.Effect.{opened_case as opened_case_lem};
+ghost use Rattle.index_rules.specs.Decided.{DecidesIn, IsOfCaller};
 
-use super::facts::{is_one, project_of};
+use super::context::Context;
 use super::{Decision, Stop};
 use crate::answer::Refusal;
 use crate::bytes::Bytes;
 use crate::change::Change;
-use crate::reading::{readable_evidence, readable_name};
+use crate::reading::{is_evidence, is_name, to_name, to_text};
 use crate::records::CaseRecord;
-use crate::view::{Caller, View};
 use index_retention::{CaseFault, CaseKind, CaseState, Means, may_transfer, note};
-use std::alloc::Global;
+use std::alloc::AllocError;
 
 pub fn open_case(
-    alloc: Global,
-    at: u64,
-    name: Bytes,
+    context: &Context<'_>,
+    name: &Bytes,
     kind: CaseKind,
-    contact: Bytes,
-    work: Bytes,
-    why: Bytes,
-    caller: &Caller,
-    view: &View,
+    contact: &Bytes,
+    work: &Bytes,
+    why: &Bytes,
 ) -> Result<Decision, Stop>
-    requires { view.now.caller ≡ Some caller.now }
-    ensures { let r = OpenCase name kind contact work why in let facts = facts_seen view.now r in Decides result (verdict_in_order r facts) (effect at r facts) }
+    requires { IsOfCaller context.now }
+    ensures { DecidesIn context.now (OpenCase name.now kind contact.now work.now why.now) result }
 {
-    let Some(name) = readable_name(alloc, &name)? else {
+    if !is_name(name) {
         return Err(Stop::Refused(Refusal::BadName));
-    };
-    let Some(contact) = readable_evidence(contact) else {
+    }
+    if !is_evidence(contact) || !is_evidence(work) || !is_evidence(why) {
         return Err(Stop::Refused(Refusal::BadText));
-    };
-    let Some(work) = readable_evidence(work) else {
-        return Err(Stop::Refused(Refusal::BadText));
-    };
-    let Some(why) = readable_evidence(why) else {
-        return Err(Stop::Refused(Refusal::BadText));
-    };
-    if project_of(&view.name).is_none() {
+    }
+    if context.project().is_none() {
         return Err(Stop::Refused(Refusal::NoProject));
     }
-    if view.case.is_some() {
+    if context.view.case.is_some() {
         return Err(Stop::Refused(Refusal::CaseOpen));
     }
-    if is_one(view.owners.as_slice(), &caller.user) {
+    if context.owns() {
         return Err(Stop::Refused(Refusal::OwnerCandidate));
     }
-    Ok(Decision::Change(Change::OpenCase {
-        name,
-        case: CaseRecord {
-            kind,
-            candidate: caller.user.clone()?,
-            contact,
-            work,
-            why,
-            opened: at,
-            state: CaseState::new(),
-        },
-    }))
+    let name = to_name(context.alloc, name)?;
+    let case = opened_case(context, kind, contact, work, why)?;
+    Ok(Decision::Change(Change::OpenCase { name, case }))
+}
+
+/// The record of a case that the caller just opened.
+fn opened_case(
+    context: &Context<'_>,
+    kind: CaseKind,
+    contact: &Bytes,
+    work: &Bytes,
+    why: &Bytes,
+) -> Result<CaseRecord, AllocError>
+    requires contact { IsTrue (is_evidence_lem contact.now) }
+    requires work { IsTrue (is_evidence_lem work.now) }
+    requires why { IsTrue (is_evidence_lem why.now) }
+    ensures { let user = context.now.caller.now.user in
+        IfOk result (λ case. case ≡ opened_case_lem context.now.at user kind contact.now work.now why.now) }
+{
+    let candidate = context.caller.user.clone()?;
+    let contact = to_text(context.alloc, contact)?;
+    let work = to_text(context.alloc, work)?;
+    let why = to_text(context.alloc, why)?;
+    Ok(CaseRecord {
+        kind,
+        candidate,
+        contact,
+        work,
+        why,
+        opened: context.at,
+        state: CaseState::new(),
+    })
 }
 
 pub fn record_attempt(
-    alloc: Global,
-    at: u64,
-    name: Bytes,
+    context: &Context<'_>,
+    name: &Bytes,
     means: Means,
     sent: bool,
-    caller: &Caller,
-    view: &View,
 ) -> Result<Decision, Stop>
-    requires { view.now.caller ≡ Some caller.now }
-    ensures { let r = RecordAttempt name means sent in let facts = facts_seen view.now r in Decides result (verdict_in_order r facts) (effect at r facts) }
+    requires { IsOfCaller context.now }
+    ensures { DecidesIn context.now (RecordAttempt name.now means sent) result }
 {
-    if !caller.office {
+    if !context.caller.office {
         return Err(Stop::Refused(Refusal::NotOffice));
     }
-    let Some(name) = readable_name(alloc, &name)? else {
+    if !is_name(name) {
         return Err(Stop::Refused(Refusal::BadName));
-    };
-    if project_of(&view.name).is_none() {
+    }
+    if context.project().is_none() {
         return Err(Stop::Refused(Refusal::NoProject));
     }
-    let Some(case) = &view.case else {
+    let Some(case) = &context.view.case else {
         return Err(Stop::Refused(Refusal::NoCase));
     };
-    let mut case = case.clone()?;
-    match note(&mut case.state, means, sent, at) {
-        Ok(()) => Ok(Decision::Change(Change::RecordAttempt { name, case })),
-        Err(_) => Err(Stop::Refused(Refusal::AttemptsFull)),
+    let mut state = case.state;
+    if note(&mut state, means, sent, context.at).is_err() {
+        return Err(Stop::Refused(Refusal::AttemptsFull));
     }
+    let name = to_name(context.alloc, name)?;
+    let mut case = case.clone()?;
+    case.state = state;
+    Ok(Decision::Change(Change::RecordAttempt { name, case }))
 }
 
-pub fn transfer(
-    alloc: Global,
-    at: u64,
-    name: Bytes,
-    quiet: bool,
-    caller: &Caller,
-    view: &View,
-) -> Result<Decision, Stop>
-    requires { view.now.caller ≡ Some caller.now }
-    ensures { let r = Transfer name quiet in let facts = facts_seen view.now r in
-        Decides result (decided (find (applies at r facts) (refusals_of r)) (is_already r facts)) (effect at r facts) }
+pub fn transfer(context: &Context<'_>, name: &Bytes, quiet: bool) -> Result<Decision, Stop>
+    requires { IsOfCaller context.now }
+    ensures { DecidesIn context.now (Transfer name.now quiet) result }
 {
-    if !caller.office {
+    if !context.caller.office {
         return Err(Stop::Refused(Refusal::NotOffice));
     }
-    let Some(name) = readable_name(alloc, &name)? else {
+    if !is_name(name) {
         return Err(Stop::Refused(Refusal::BadName));
-    };
-    let Some(project) = project_of(&view.name) else {
+    }
+    let Some(project) = context.project() else {
         return Err(Stop::Refused(Refusal::NoProject));
     };
-    let Some(case) = &view.case else {
+    let Some(case) = &context.view.case else {
         return Err(Stop::Refused(Refusal::NoCase));
     };
-    match may_transfer(&case.state, project.last_upload, quiet, at) {
-        Ok(()) => Ok(Decision::Change(Change::Transfer {
-            name,
-            candidate: case.candidate.clone()?,
-        })),
-        Err(fault) => Err(Stop::Refused(refusal_by(fault))),
+    if let Err(fault) = may_transfer(&case.state, project.last_upload, quiet, context.at) {
+        return Err(Stop::Refused(refusal_by(fault)));
     }
+    let name = to_name(context.alloc, name)?;
+    let candidate = case.candidate.clone()?;
+    Ok(Decision::Change(Change::Transfer { name, candidate }))
 }
 
 /// The refusal by what stands against a transfer.
@@ -144,54 +146,53 @@ fn refusal_by(fault: CaseFault) -> Refusal
     }
 }
 
-pub fn close_case(
-    alloc: Global,
-    name: Bytes,
-    caller: &Caller,
-    view: &View,
-) -> Result<Decision, Stop>
-    requires { view.now.caller ≡ Some caller.now }
-    ensures { let r = CloseCase name in let facts = facts_seen view.now r in Decides result (verdict_in_order r facts) (effect 0 r facts) }
+pub fn close_case(context: &Context<'_>, name: &Bytes) -> Result<Decision, Stop>
+    requires { IsOfCaller context.now }
+    ensures { DecidesIn context.now (CloseCase name.now) result }
 {
-    let is_candidate = view
-        .case
-        .as_ref()
-        .is_some_and(|case| case.candidate == caller.user);
-    if !caller.office && !is_candidate {
+    if !context.caller.office && !is_candidate(context) {
         return Err(Stop::Refused(Refusal::NotOffice));
     }
-    let Some(name) = readable_name(alloc, &name)? else {
+    if !is_name(name) {
         return Err(Stop::Refused(Refusal::BadName));
-    };
-    if project_of(&view.name).is_none() {
+    }
+    if context.project().is_none() {
         return Err(Stop::Refused(Refusal::NoProject));
     }
-    if view.case.is_none() {
+    if context.view.case.is_none() {
         return Err(Stop::Refused(Refusal::NoCase));
     }
+    let name = to_name(context.alloc, name)?;
     Ok(Decision::Change(Change::CloseCase { name }))
 }
 
-pub fn answer_case(
-    alloc: Global,
-    name: Bytes,
-    caller: &Caller,
-    view: &View,
-) -> Result<Decision, Stop>
-    requires { view.now.caller ≡ Some caller.now }
-    ensures { let r = AnswerCase name in let facts = facts_seen view.now r in Decides result (verdict_in_order r facts) (effect 0 r facts) }
+/// Whether the caller opened the case.
+fn is_candidate(context: &Context<'_>) -> bool
+    ensures { let user = context.now.caller.now.user in
+        result ≡ option_map_or (λ case. same case.candidate user) context.now.view.now.case false }
 {
-    let Some(name) = readable_name(alloc, &name)? else {
+    match &context.view.case {
+        Some(case) => case.candidate == context.caller.user,
+        None => false,
+    }
+}
+
+pub fn answer_case(context: &Context<'_>, name: &Bytes) -> Result<Decision, Stop>
+    requires { IsOfCaller context.now }
+    ensures { DecidesIn context.now (AnswerCase name.now) result }
+{
+    if !is_name(name) {
         return Err(Stop::Refused(Refusal::BadName));
-    };
-    if project_of(&view.name).is_none() {
+    }
+    if context.project().is_none() {
         return Err(Stop::Refused(Refusal::NoProject));
     }
-    if !is_one(view.owners.as_slice(), &caller.user) {
+    if !context.owns() {
         return Err(Stop::Refused(Refusal::NotOwner));
     }
-    if view.case.is_none() {
+    if context.view.case.is_none() {
         return Err(Stop::Refused(Refusal::NoCase));
     }
+    let name = to_name(context.alloc, name)?;
     Ok(Decision::Change(Change::AnswerCase { name }))
 }

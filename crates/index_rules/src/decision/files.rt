@@ -1,91 +1,106 @@
 //! Owners' requests on files.
-ghost use Rattle.std.specs.Prelude.{◌≡◌, ◌+◌, Some, None, IfOk, MatchOption, true, false, find, length};
+ghost use Rattle.std.specs.Prelude.{◌≡◌, ◌+◌, [], Some, IfOk, IsSome, IsTrue, MatchOption, true, false, length};
 ghost use Rattle.index_rules.specs.declared.call.Request.TheVariants.{Delete, Upload};
-ghost use Rattle.index_rules.specs.Facts.{facts_seen};
-ghost use Rattle.index_digest.specs.Digest.{digest_in};
-ghost use Rattle.index_rules.specs.Maps.{Bytes};
-ghost use Rattle.index_rules.specs.Verdict.{verdict_in_order, applies, decided, file_refusals, is_already, exceeds_quota, is_other_file};
-ghost use Rattle.index_rules.specs.Effect.{effect, deleted as deleted_lem, later, without_file as without_file_lem};
-ghost use Rattle.index_rules.specs.Decided.{Decides};
 ghost use Rattle.index_rules.specs.declared.records.NameRecord.TheVariants.{Held};
+ghost use Rattle.index_digest.specs.Digest.{digest_in, sha256};
+ghost use Rattle.index_names.specs.FileName.{project_of};
+ghost use Rattle.index_rules.specs.Maps.{Bytes};
+ghost use Rattle.index_rules.specs.Requests.{read_file};
+ghost use Rattle.index_rules.specs.Texts.{is_text as is_text_lem};
+ghost use Rattle.index_rules.specs.Verdict.{Accept, exceeds_quota, is_other_file};
+ghost use Rattle.index_rules.specs.Effect.{deleted as deleted_lem, later, upload_of, uploaded, without_file as without_file_lem};
+ghost use Rattle.index_rules.specs.Decided.{Decides, DecidesIn, DecidesOnFile, FindsProject, IsOfCaller};
 
-use super::facts::{is_one, project_of};
+use super::context::Context;
 use super::{Decision, Stop};
 use crate::answer::Refusal;
 use crate::bytes::Bytes;
 use crate::change::Change;
-use crate::reading::{readable_file, readable_text};
+use crate::reading::{is_file, is_text, to_file, to_text};
 use crate::records::{FileRecord, Project};
-use crate::view::{Caller, View};
 use index_digest::{Digest256, Sealed};
-use index_names::{FileName, Text};
+use index_names::{FileName, NormalName};
 use std::alloc::{AllocError, Global};
 
 /// The most bytes of a body.
 const LARGEST_BODY: usize = 16_777_216;
 
 pub fn upload(
-    alloc: Global,
-    at: u64,
-    file: Bytes,
-    sha256: Bytes,
+    context: &Context<'_>,
+    file: &Bytes,
+    sha256: &Bytes,
     body: Bytes,
-    requires_python: Bytes,
-    caller: &Caller,
-    view: &View,
+    requires_python: &Bytes,
 ) -> Result<Decision, Stop>
-    requires { view.now.caller ≡ Some caller.now }
-    ensures { let r = Upload file sha256 body requires_python in let facts = facts_seen view.now r in Decides result (verdict_in_order r facts) (effect at r facts) }
+    requires { IsOfCaller context.now }
+    ensures { DecidesIn context.now (Upload file.now sha256.now body requires_python.now) result }
 {
-    let Some(file) = readable_file(alloc, &file)? else {
+    if !is_file(file) {
         return Err(Stop::Refused(Refusal::BadFileName));
-    };
-    let Some(requires_python) = readable_text(requires_python) else {
+    }
+    if !is_text(requires_python) {
         return Err(Stop::Refused(Refusal::BadText));
-    };
+    }
     let Some(digest) = Digest256::read_hex(sha256.as_slice()) else {
         return Err(Stop::Refused(Refusal::BadDigest));
     };
-    let body = body.into_vec();
-    if body.len() > LARGEST_BODY {
+    if body.as_slice().len() > LARGEST_BODY {
         return Err(Stop::Refused(Refusal::TooLarge));
     }
-    let size = body.len() as u64;
-    let Ok(body) = Sealed::new(body, digest) else {
-        return Err(Stop::Refused(Refusal::DigestMismatch));
-    };
-    accept(at, file, digest, size, body, requires_python, caller, view)
+    match Sealed::new(body.into_vec(), digest) {
+        Ok(body) => accept(context, file, body, requires_python),
+        Err(body) => {
+            drop(body);
+            Err(Stop::Refused(Refusal::DigestMismatch))
+        }
+    }
 }
 
 /// The decision on an upload whose parts are in order.
 fn accept(
-    at: u64,
-    file: FileName,
-    digest: Digest256,
-    size: u64,
+    context: &Context<'_>,
+    file: &Bytes,
     body: Sealed,
-    requires_python: Text,
-    caller: &Caller,
-    view: &View,
+    requires_python: &Bytes,
 ) -> Result<Decision, Stop>
-    requires caller { view.now.caller ≡ Some caller.now }
-    requires size { size ≡ length body }
-    ensures { (sha256 : Bytes) → digest_in sha256 ≡ Some digest
-        → let r = Upload file sha256 body requires_python in let facts = facts_seen view.now r in
-        Decides result (decided (find (applies 0 r facts) file_refusals) (is_already r facts)) (effect at r facts) }
+    requires caller { IsOfCaller context.now }
+    requires file { IsSome (read_file file.now) }
+    requires text { IsTrue (is_text_lem requires_python.now) }
+    ensures { (declared : Bytes) → digest_in declared ≡ Some (sha256 body)
+        → DecidesOnFile context.now (Upload file.now declared body requires_python.now) result }
 {
-    let Some(project) = project_of(&view.name) else {
+    match project_with(context, &body) {
+        Ok(Some(project)) => upload_to(context.alloc, project, file, body, requires_python),
+        Ok(None) => {
+            drop(body);
+            Ok(Decision::Already)
+        }
+        Err(stop) => {
+            drop(body);
+            Err(stop)
+        }
+    }
+}
+
+/// The project with one more file of these bytes, or `None` where that file is undeleted already.
+fn project_with(context: &Context<'_>, body: &Sealed) -> Result<Option<Project>, Stop>
+    requires caller { IsOfCaller context.now }
+    ensures { (declared : Bytes) → digest_in declared ≡ Some (sha256 body.now)
+        → FindsProject context.now declared body.now result }
+{
+    let size = body.bytes().len() as u64;
+    let Some(project) = context.project() else {
         return Err(Stop::Refused(Refusal::NoProject));
     };
-    if !is_one(view.owners.as_slice(), &caller.user) {
+    if !context.owns() {
         return Err(Stop::Refused(Refusal::NotOwner));
     }
-    if let Some(record) = &view.file {
-        if is_other(record, &digest, size) {
+    if let Some(record) = &context.view.file {
+        if is_other(record, &body.digest(), size) {
             return Err(Stop::Refused(Refusal::FileNameTaken));
         }
         if record.is_undeleted {
-            return Ok(Decision::Already);
+            return Ok(None);
         }
     }
     let Some(charge) = charge_with(project, size) else {
@@ -94,26 +109,81 @@ fn accept(
     let Some(undeleted) = project.undeleted.checked_add(1) else {
         return Err(Stop::OutOfMemory);
     };
-    Ok(Decision::Change(Change::Upload {
-        name: file.project().clone()?,
-        project: Project {
-            shown: project.shown.clone()?,
-            quota: project.quota,
-            charge,
-            undeleted,
-            last_upload: Some(latest(project.last_upload, at)),
-        },
-        record: FileRecord {
-            project: file.project().clone()?,
-            release: file.release().clone()?,
-            digest,
-            size,
-            requires_python,
-            is_undeleted: true,
-        },
-        file,
-        body,
-    }))
+    let mut project = project.clone()?;
+    project.charge = charge;
+    project.undeleted = undeleted;
+    project.last_upload = Some(latest(project.last_upload, context.at));
+    Ok(Some(project))
+}
+
+/// The upload of a file to its project, whose charge has it already.
+fn upload_to(
+    alloc: Global,
+    project: Project,
+    file: &Bytes,
+    body: Sealed,
+    requires_python: &Bytes,
+) -> Result<Decision, Stop>
+    requires file { IsSome (read_file file.now) }
+    requires text { IsTrue (is_text_lem requires_python.now) }
+    ensures { Decides result Accept (upload_of project file.now body requires_python.now) }
+{
+    match recorded(alloc, file, &body, requires_python) {
+        Ok((name, file, record)) => Ok(Decision::Change(Change::Upload {
+            name,
+            project,
+            file,
+            record,
+            body,
+        })),
+        Err(_) => {
+            drop(project);
+            drop(body);
+            Err(Stop::OutOfMemory)
+        }
+    }
+}
+
+/// The project, the name and the record of a file that is uploaded.
+fn recorded(
+    alloc: Global,
+    file: &Bytes,
+    body: &Sealed,
+    requires_python: &Bytes,
+) -> Result<(NormalName, FileName, FileRecord), AllocError>
+    requires file { IsSome (read_file file.now) }
+    requires text { IsTrue (is_text_lem requires_python.now) }
+    ensures { let known = uploaded (sha256 body.now) file.now body.now requires_python.now in
+        IfOk result (λ made. made ≡ (project_of file.now, file.now, known)) }
+{
+    let file = to_file(alloc, file)?;
+    let name = file.project().clone()?;
+    let record = record_of(alloc, &file, body, requires_python)?;
+    Ok((name, file, record))
+}
+
+/// The record of a file that is uploaded.
+fn record_of(
+    alloc: Global,
+    file: &FileName,
+    body: &Sealed,
+    requires_python: &Bytes,
+) -> Result<FileRecord, AllocError>
+    requires { IsTrue (is_text_lem requires_python.now) }
+    ensures { let known = uploaded (sha256 body.now) file.now body.now requires_python.now in
+        IfOk result (λ made. made ≡ known) }
+{
+    let project = file.project().clone()?;
+    let release = file.release().clone()?;
+    let requires_python = to_text(alloc, requires_python)?;
+    Ok(FileRecord {
+        project,
+        release,
+        digest: body.digest(),
+        size: body.bytes().len() as u64,
+        requires_python,
+        is_undeleted: true,
+    })
 }
 
 /// The greater of two moments, in Unix seconds.
@@ -132,60 +202,6 @@ fn is_other(known: &FileRecord, digest: &Digest256, size: u64) -> bool
     !(*digest == known.digest && size == known.size)
 }
 
-pub fn delete(alloc: Global, file: Bytes, caller: &Caller, view: &View) -> Result<Decision, Stop>
-    requires { view.now.caller ≡ Some caller.now }
-    ensures { let r = Delete file in let facts = facts_seen view.now r in Decides result (verdict_in_order r facts) (effect 0 r facts) }
-{
-    let Some(file) = readable_file(alloc, &file)? else {
-        return Err(Stop::Refused(Refusal::BadFileName));
-    };
-    let Some(project) = project_of(&view.name) else {
-        return Err(Stop::Refused(Refusal::NoProject));
-    };
-    if !is_one(view.owners.as_slice(), &caller.user) {
-        return Err(Stop::Refused(Refusal::NotOwner));
-    }
-    let Some(record) = &view.file else {
-        return Err(Stop::Refused(Refusal::NoFile));
-    };
-    if !record.is_undeleted {
-        return Ok(Decision::Already);
-    }
-    Ok(Decision::Change(Change::Delete {
-        name: file.project().clone()?,
-        project: without_file(project, record.size)?,
-        record: deleted(record)?,
-        file,
-    }))
-}
-
-/// The project with one undeleted file less, of this size in bytes.
-fn without_file(project: &Project, size: u64) -> Result<Project, AllocError>
-    ensures { IfOk result (λ less. less ≡ without_file_lem size project.now) }
-{
-    Ok(Project {
-        shown: project.shown.clone()?,
-        quota: project.quota,
-        charge: project.charge.saturating_sub(size),
-        undeleted: project.undeleted.saturating_sub(1),
-        last_upload: project.last_upload,
-    })
-}
-
-/// The record of the file once it is deleted.
-fn deleted(known: &FileRecord) -> Result<FileRecord, AllocError>
-    ensures { IfOk result (λ gone. gone ≡ deleted_lem known.now) }
-{
-    Ok(FileRecord {
-        project: known.project.clone()?,
-        release: known.release.clone()?,
-        digest: known.digest,
-        size: known.size,
-        requires_python: known.requires_python.clone()?,
-        is_undeleted: false,
-    })
-}
-
 /// The charge with one more file, where the quota allows it.
 fn charge_with(project: &Project, size: u64) -> Option<u64>
     ensures { MatchOption result (exceeds_quota size (Some (Held project.now)) ≡ true)
@@ -194,4 +210,54 @@ fn charge_with(project: &Project, size: u64) -> Option<u64>
     let quota = project.quota;
     let charge = project.charge.checked_add(size)?;
     if charge > quota { None } else { Some(charge) }
+}
+
+pub fn delete(context: &Context<'_>, file: &Bytes) -> Result<Decision, Stop>
+    requires { IsOfCaller context.now }
+    ensures { DecidesIn context.now (Delete file.now) result }
+{
+    if !is_file(file) {
+        return Err(Stop::Refused(Refusal::BadFileName));
+    }
+    let Some(project) = context.project() else {
+        return Err(Stop::Refused(Refusal::NoProject));
+    };
+    if !context.owns() {
+        return Err(Stop::Refused(Refusal::NotOwner));
+    }
+    let Some(record) = &context.view.file else {
+        return Err(Stop::Refused(Refusal::NoFile));
+    };
+    if !record.is_undeleted {
+        return Ok(Decision::Already);
+    }
+    let project = without_file(project, record.size)?;
+    let record = deleted(record)?;
+    let file = to_file(context.alloc, file)?;
+    let name = file.project().clone()?;
+    Ok(Decision::Change(Change::Delete {
+        name,
+        project,
+        file,
+        record,
+    }))
+}
+
+/// The project with one undeleted file less, of this size in bytes.
+fn without_file(project: &Project, size: u64) -> Result<Project, AllocError>
+    ensures { IfOk result (λ less. less ≡ without_file_lem size project.now) }
+{
+    let mut less = project.clone()?;
+    less.charge = project.charge.saturating_sub(size);
+    less.undeleted = project.undeleted.saturating_sub(1);
+    Ok(less)
+}
+
+/// The record of the file once it is deleted.
+fn deleted(known: &FileRecord) -> Result<FileRecord, AllocError>
+    ensures { IfOk result (λ gone. gone ≡ deleted_lem known.now) }
+{
+    let mut gone = known.clone()?;
+    gone.is_undeleted = false;
+    Ok(gone)
 }

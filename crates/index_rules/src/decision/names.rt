@@ -1,21 +1,18 @@
 //! Requests on a name and its quota.
-ghost use Rattle.std.specs.Prelude.{◌≡◌, Some};
+ghost use Rattle.std.specs.Prelude.{◌≡◌, IfOk, IsSome};
+ghost use Rattle.index_names.specs.Project.{read_name};
 ghost use Rattle.index_rules.specs.declared.call.Request.TheVariants.{Allow, Claim, Prohibit, Relinquish, SetQuota};
-ghost use Rattle.index_rules.specs.Facts.{facts_seen};
-ghost use Rattle.index_rules.specs.Verdict.{verdict_in_order};
-ghost use Rattle.index_rules.specs.Effect.{effect};
-ghost use Rattle.index_rules.specs.Decided.{Decides};
+ghost use Rattle.index_rules.specs.Effect.{claimed as claimed_lem};
+ghost use Rattle.index_rules.specs.Decided.{DecidesIn, IsOfCaller};
 
-use super::facts::{is_one, project_of};
+use super::context::Context;
 use super::{Decision, Stop};
 use crate::answer::Refusal;
 use crate::bytes::Bytes;
 use crate::change::Change;
-use crate::reading::readable_name;
+use crate::reading::{is_name, to_name, to_shown};
 use crate::records::{NameRecord, Project};
-use crate::view::{Caller, View};
-use index_names::{NameFault, Text, normal};
-use std::alloc::Global;
+use std::alloc::{AllocError, Global};
 
 /// The quota of a name that was just claimed, in bytes.
 const FIRST_QUOTA: u64 = 1_073_741_824;
@@ -23,20 +20,15 @@ const FIRST_QUOTA: u64 = 1_073_741_824;
 /// The greatest quota, in bytes.
 const LARGEST_QUOTA: u64 = 1_099_511_627_776;
 
-pub fn claim(alloc: Global, name: Bytes, caller: &Caller, view: &View) -> Result<Decision, Stop>
-    requires { view.now.caller ≡ Some caller.now }
-    ensures { let r = Claim name in let facts = facts_seen view.now r in Decides result (verdict_in_order r facts) (effect 0 r facts) }
+pub fn claim(context: &Context<'_>, name: &Bytes) -> Result<Decision, Stop>
+    requires { IsOfCaller context.now }
+    ensures { DecidesIn context.now (Claim name.now) result }
 {
-    let Some(shown) = Text::from_utf8(name.into_vec()) else {
+    if !is_name(name) {
         return Err(Stop::Refused(Refusal::BadName));
-    };
-    let key = match normal(alloc, shown.as_str().as_bytes()) {
-        Ok(key) => key,
-        Err(NameFault::OutOfMemory) => return Err(Stop::OutOfMemory),
-        Err(_) => return Err(Stop::Refused(Refusal::BadName)),
-    };
-    let owns = is_one(view.owners.as_slice(), &caller.user);
-    match &view.name {
+    }
+    let owns = context.owns();
+    match &context.view.name {
         Some(NameRecord::Prohibited) => return Err(Stop::Refused(Refusal::NameProhibited)),
         Some(NameRecord::Held(_)) if !owns => return Err(Stop::Refused(Refusal::NameHeld)),
         _ => {}
@@ -44,39 +36,44 @@ pub fn claim(alloc: Global, name: Bytes, caller: &Caller, view: &View) -> Result
     if owns {
         return Ok(Decision::Already);
     }
+    let project = claimed(context.alloc, name)?;
+    let owner = context.caller.user.clone()?;
+    let name = to_name(context.alloc, name)?;
     Ok(Decision::Change(Change::Claim {
-        name: key,
-        project: Project {
-            shown,
-            quota: FIRST_QUOTA,
-            charge: 0,
-            undeleted: 0,
-            last_upload: None,
-        },
-        owner: caller.user.clone()?,
+        name,
+        project,
+        owner,
     }))
 }
 
-pub fn set_quota(
-    alloc: Global,
-    name: Bytes,
-    quota: u64,
-    caller: &Caller,
-    view: &View,
-) -> Result<Decision, Stop>
-    requires { view.now.caller ≡ Some caller.now }
-    ensures { let r = SetQuota name quota in let facts = facts_seen view.now r in Decides result (verdict_in_order r facts) (effect 0 r facts) }
+/// The project of a name that was just claimed, in this spelling.
+fn claimed(alloc: Global, name: &Bytes) -> Result<Project, AllocError>
+    requires { IsSome (read_name name.now) }
+    ensures { IfOk result (λ project. project ≡ claimed_lem name.now) }
 {
-    if !caller.office {
+    Ok(Project {
+        shown: to_shown(alloc, name)?,
+        quota: FIRST_QUOTA,
+        charge: 0,
+        undeleted: 0,
+        last_upload: None,
+    })
+}
+
+pub fn set_quota(context: &Context<'_>, name: &Bytes, quota: u64) -> Result<Decision, Stop>
+    requires { IsOfCaller context.now }
+    ensures { DecidesIn context.now (SetQuota name.now quota) result }
+{
+    if !context.caller.office {
         return Err(Stop::Refused(Refusal::NotOffice));
     }
-    let Some(name) = readable_name(alloc, &name)? else {
+    if !is_name(name) {
         return Err(Stop::Refused(Refusal::BadName));
-    };
+    }
     if quota > LARGEST_QUOTA {
         return Err(Stop::Refused(Refusal::QuotaTooLarge));
     }
-    let Some(project) = project_of(&view.name) else {
+    let Some(project) = context.project() else {
         return Err(Stop::Refused(Refusal::NoProject));
     };
     if quota < project.charge {
@@ -85,70 +82,62 @@ pub fn set_quota(
     if quota == project.quota {
         return Ok(Decision::Already);
     }
-    Ok(Decision::Change(Change::SetQuota {
-        name,
-        project: Project {
-            shown: project.shown.clone()?,
-            quota,
-            charge: project.charge,
-            undeleted: project.undeleted,
-            last_upload: project.last_upload,
-        },
-    }))
+    let mut project = project.clone()?;
+    project.quota = quota;
+    let name = to_name(context.alloc, name)?;
+    Ok(Decision::Change(Change::SetQuota { name, project }))
 }
 
-pub fn relinquish(
-    alloc: Global,
-    name: Bytes,
-    caller: &Caller,
-    view: &View,
-) -> Result<Decision, Stop>
-    requires { view.now.caller ≡ Some caller.now }
-    ensures { let r = Relinquish name in let facts = facts_seen view.now r in Decides result (verdict_in_order r facts) (effect 0 r facts) }
+pub fn relinquish(context: &Context<'_>, name: &Bytes) -> Result<Decision, Stop>
+    requires { IsOfCaller context.now }
+    ensures { DecidesIn context.now (Relinquish name.now) result }
 {
-    let Some(name) = readable_name(alloc, &name)? else {
+    if !is_name(name) {
         return Err(Stop::Refused(Refusal::BadName));
-    };
-    let Some(project) = project_of(&view.name) else {
+    }
+    let Some(project) = context.project() else {
         return Err(Stop::Refused(Refusal::NoProject));
     };
-    if !is_one(view.owners.as_slice(), &caller.user) {
+    if !context.owns() {
         return Err(Stop::Refused(Refusal::NotOwner));
     }
     if project.undeleted > 0 {
         return Err(Stop::Refused(Refusal::FilesRemain));
     }
+    let name = to_name(context.alloc, name)?;
     Ok(Decision::Change(Change::Relinquish { name }))
 }
 
-pub fn prohibit(alloc: Global, name: Bytes, caller: &Caller, view: &View) -> Result<Decision, Stop>
-    requires { view.now.caller ≡ Some caller.now }
-    ensures { let r = Prohibit name in let facts = facts_seen view.now r in Decides result (verdict_in_order r facts) (effect 0 r facts) }
+pub fn prohibit(context: &Context<'_>, name: &Bytes) -> Result<Decision, Stop>
+    requires { IsOfCaller context.now }
+    ensures { DecidesIn context.now (Prohibit name.now) result }
 {
-    if !caller.office {
+    if !context.caller.office {
         return Err(Stop::Refused(Refusal::NotOffice));
     }
-    let Some(name) = readable_name(alloc, &name)? else {
+    if !is_name(name) {
         return Err(Stop::Refused(Refusal::BadName));
-    };
-    match &view.name {
-        Some(NameRecord::Prohibited) => Ok(Decision::Already),
-        _ => Ok(Decision::Change(Change::Prohibit { name })),
     }
+    if let Some(NameRecord::Prohibited) = &context.view.name {
+        return Ok(Decision::Already);
+    }
+    let name = to_name(context.alloc, name)?;
+    Ok(Decision::Change(Change::Prohibit { name }))
 }
 
-pub fn allow(alloc: Global, name: Bytes, caller: &Caller, view: &View) -> Result<Decision, Stop>
-    requires { view.now.caller ≡ Some caller.now }
-    ensures { let r = Allow name in let facts = facts_seen view.now r in Decides result (verdict_in_order r facts) (effect 0 r facts) }
+pub fn allow(context: &Context<'_>, name: &Bytes) -> Result<Decision, Stop>
+    requires { IsOfCaller context.now }
+    ensures { DecidesIn context.now (Allow name.now) result }
 {
-    if !caller.office {
+    if !context.caller.office {
         return Err(Stop::Refused(Refusal::NotOffice));
     }
-    let Some(name) = readable_name(alloc, &name)? else {
+    if !is_name(name) {
         return Err(Stop::Refused(Refusal::BadName));
-    };
-    match &view.name {
-        Some(NameRecord::Prohibited) => Ok(Decision::Change(Change::Allow { name })),
-        _ => Ok(Decision::Already),
     }
+    let Some(NameRecord::Prohibited) = &context.view.name else {
+        return Ok(Decision::Already);
+    };
+    let name = to_name(context.alloc, name)?;
+    Ok(Decision::Change(Change::Allow { name }))
 }

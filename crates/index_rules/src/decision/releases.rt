@@ -1,52 +1,50 @@
 //! Owners' requests on releases.
-ghost use Rattle.std.specs.Prelude.{◌≡◌, Some};
+ghost use Rattle.std.specs.Prelude.{◌≡◌, Some, false};
+ghost use Rattle.std.specs.Option.{option_map_or};
 ghost use Rattle.index_rules.specs.declared.call.Request.TheVariants.{Unyank, Yank};
-ghost use Rattle.index_rules.specs.Facts.{facts_seen};
-ghost use Rattle.index_rules.specs.Verdict.{verdict_in_order};
-ghost use Rattle.index_rules.specs.Effect.{effect};
-ghost use Rattle.index_rules.specs.Decided.{Decides};
+ghost use Rattle.index_rules.specs.Maps.{same};
+ghost use Rattle.index_rules.specs.Decided.{DecidesIn, IsOfCaller};
 
-use super::facts::{is_one, project_of};
+use super::context::Context;
 use super::{Decision, Stop};
 use crate::answer::Refusal;
 use crate::bytes::Bytes;
 use crate::change::Change;
-use crate::reading::{readable_name, readable_release, readable_text};
-use crate::view::{Caller, View};
-use std::alloc::Global;
+use crate::reading::{is_name, is_release, is_text, to_name, to_release, to_text};
 
 pub fn yank(
-    alloc: Global,
-    name: Bytes,
-    release: Bytes,
-    reason: Bytes,
-    caller: &Caller,
-    view: &View,
+    context: &Context<'_>,
+    name: &Bytes,
+    release: &Bytes,
+    reason: &Bytes,
 ) -> Result<Decision, Stop>
-    requires { view.now.caller ≡ Some caller.now }
-    ensures { let r = Yank name release reason in let facts = facts_seen view.now r in Decides result (verdict_in_order r facts) (effect 0 r facts) }
+    requires { IsOfCaller context.now }
+    ensures { DecidesIn context.now (Yank name.now release.now reason.now) result }
 {
-    let Some(name) = readable_name(alloc, &name)? else {
+    if !is_name(name) {
         return Err(Stop::Refused(Refusal::BadName));
-    };
-    let Some(release) = readable_release(alloc, &release)? else {
+    }
+    if !is_release(release) {
         return Err(Stop::Refused(Refusal::BadRelease));
-    };
-    let Some(reason) = readable_text(reason) else {
+    }
+    if !is_text(reason) {
         return Err(Stop::Refused(Refusal::BadText));
-    };
-    if project_of(&view.name).is_none() {
+    }
+    if context.project().is_none() {
         return Err(Stop::Refused(Refusal::NoProject));
     }
-    if !is_one(view.owners.as_slice(), &caller.user) {
+    if !context.owns() {
         return Err(Stop::Refused(Refusal::NotOwner));
     }
-    if !view.has_release {
+    if !context.view.has_release {
         return Err(Stop::Refused(Refusal::NoRelease));
     }
-    if view.yank.as_ref().is_some_and(|before| *before == reason) {
+    if is_yanked_for(context, reason) {
         return Ok(Decision::Already);
     }
+    let name = to_name(context.alloc, name)?;
+    let release = to_release(context.alloc, release)?;
+    let reason = to_text(context.alloc, reason)?;
     Ok(Decision::Change(Change::Yank {
         name,
         release,
@@ -54,33 +52,39 @@ pub fn yank(
     }))
 }
 
-pub fn unyank(
-    alloc: Global,
-    name: Bytes,
-    release: Bytes,
-    caller: &Caller,
-    view: &View,
-) -> Result<Decision, Stop>
-    requires { view.now.caller ≡ Some caller.now }
-    ensures { let r = Unyank name release in let facts = facts_seen view.now r in Decides result (verdict_in_order r facts) (effect 0 r facts) }
+/// Whether the release is yanked for just this reason.
+fn is_yanked_for(context: &Context<'_>, reason: &Bytes) -> bool
+    ensures { result ≡ option_map_or (same reason.now) context.now.view.now.yank false }
 {
-    let Some(name) = readable_name(alloc, &name)? else {
+    match &context.view.yank {
+        Some(before) => reason.as_slice() == before.as_str().as_bytes(),
+        None => false,
+    }
+}
+
+pub fn unyank(context: &Context<'_>, name: &Bytes, release: &Bytes) -> Result<Decision, Stop>
+    requires { IsOfCaller context.now }
+    ensures { DecidesIn context.now (Unyank name.now release.now) result }
+{
+    if !is_name(name) {
         return Err(Stop::Refused(Refusal::BadName));
-    };
-    let Some(release) = readable_release(alloc, &release)? else {
+    }
+    if !is_release(release) {
         return Err(Stop::Refused(Refusal::BadRelease));
-    };
-    if project_of(&view.name).is_none() {
+    }
+    if context.project().is_none() {
         return Err(Stop::Refused(Refusal::NoProject));
     }
-    if !is_one(view.owners.as_slice(), &caller.user) {
+    if !context.owns() {
         return Err(Stop::Refused(Refusal::NotOwner));
     }
-    if !view.has_release {
+    if !context.view.has_release {
         return Err(Stop::Refused(Refusal::NoRelease));
     }
-    if view.yank.is_none() {
+    if context.view.yank.is_none() {
         return Ok(Decision::Already);
     }
+    let name = to_name(context.alloc, name)?;
+    let release = to_release(context.alloc, release)?;
     Ok(Decision::Change(Change::Unyank { name, release }))
 }

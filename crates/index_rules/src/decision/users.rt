@@ -1,43 +1,38 @@
 //! The office's requests on users.
 ghost use Rattle.std.specs.Prelude.{◌≡◌, Some};
 ghost use Rattle.index_rules.specs.declared.call.Request.TheVariants.{AddUser, SetToken};
-ghost use Rattle.index_rules.specs.Facts.{facts_seen};
-ghost use Rattle.index_rules.specs.Verdict.{verdict_in_order, is_user_with as is_user_with_lem, is_taken as is_taken_lem};
-ghost use Rattle.index_rules.specs.Effect.{effect};
-ghost use Rattle.index_rules.specs.Decided.{Decides};
+ghost use Rattle.index_rules.specs.Verdict.{is_user_with as is_user_with_lem, is_taken as is_taken_lem};
+ghost use Rattle.index_rules.specs.Decided.{DecidesIn, IsOfCaller};
 
+use super::context::Context;
 use super::{Decision, Stop};
 use crate::answer::Refusal;
 use crate::bytes::Bytes;
 use crate::change::Change;
-use crate::reading::{read_token, readable_user};
+use crate::reading::{is_user, read_token, to_user};
 use crate::records::UserRecord;
 use crate::user::UserId;
-use crate::view::{Caller, View};
 use index_digest::Digest256;
-use std::alloc::Global;
 
 pub fn add_user(
-    alloc: Global,
-    user: Bytes,
+    context: &Context<'_>,
+    user: &Bytes,
     office: bool,
-    token: Bytes,
-    caller: &Caller,
-    view: &View,
+    token: &Bytes,
 ) -> Result<Decision, Stop>
-    requires { view.now.caller ≡ Some caller.now }
-    ensures { let r = AddUser user office token in let facts = facts_seen view.now r in Decides result (verdict_in_order r facts) (effect 0 r facts) }
+    requires { IsOfCaller context.now }
+    ensures { DecidesIn context.now (AddUser user.now office token.now) result }
 {
-    if !caller.office {
+    if !context.caller.office {
         return Err(Stop::Refused(Refusal::NotOffice));
     }
-    let Some(user) = readable_user(alloc, &user)? else {
+    if !is_user(user) {
         return Err(Stop::Refused(Refusal::BadUser));
-    };
+    }
     let Some(token) = read_token(token.as_slice()) else {
         return Err(Stop::Refused(Refusal::BadDigest));
     };
-    let is_there = match &view.user {
+    let is_there = match &context.view.user {
         Some(record) => {
             if !is_user_with(record, office, &token) {
                 return Err(Stop::Refused(Refusal::UserExists));
@@ -46,53 +41,43 @@ pub fn add_user(
         }
         None => false,
     };
-    if is_taken(&view.bearer, &user) {
+    if is_taken(&context.view.bearer, user.as_slice()) {
         return Err(Stop::Refused(Refusal::TokenTaken));
     }
     if is_there {
         return Ok(Decision::Already);
     }
-    Ok(Decision::Change(Change::AddUser {
-        user,
-        record: UserRecord { office, token },
-    }))
+    let user = to_user(context.alloc, user)?;
+    let record = UserRecord { office, token };
+    Ok(Decision::Change(Change::AddUser { user, record }))
 }
 
-pub fn set_token(
-    alloc: Global,
-    user: Bytes,
-    token: Bytes,
-    caller: &Caller,
-    view: &View,
-) -> Result<Decision, Stop>
-    requires { view.now.caller ≡ Some caller.now }
-    ensures { let r = SetToken user token in let facts = facts_seen view.now r in Decides result (verdict_in_order r facts) (effect 0 r facts) }
+pub fn set_token(context: &Context<'_>, user: &Bytes, token: &Bytes) -> Result<Decision, Stop>
+    requires { IsOfCaller context.now }
+    ensures { DecidesIn context.now (SetToken user.now token.now) result }
 {
-    if !caller.office {
+    if !context.caller.office {
         return Err(Stop::Refused(Refusal::NotOffice));
     }
-    let Some(user) = readable_user(alloc, &user)? else {
+    if !is_user(user) {
         return Err(Stop::Refused(Refusal::BadUser));
-    };
+    }
     let Some(token) = read_token(token.as_slice()) else {
         return Err(Stop::Refused(Refusal::BadDigest));
     };
-    let Some(record) = &view.user else {
+    let Some(record) = &context.view.user else {
         return Err(Stop::Refused(Refusal::NoUser));
     };
-    if is_taken(&view.bearer, &user) {
+    if is_taken(&context.view.bearer, user.as_slice()) {
         return Err(Stop::Refused(Refusal::TokenTaken));
     }
     if token == record.token {
         return Ok(Decision::Already);
     }
-    Ok(Decision::Change(Change::SetToken {
-        user,
-        record: UserRecord {
-            office: record.office,
-            token,
-        },
-    }))
+    let user = to_user(context.alloc, user)?;
+    let office = record.office;
+    let record = UserRecord { office, token };
+    Ok(Decision::Change(Change::SetToken { user, record }))
 }
 
 fn is_user_with(user: &UserRecord, office: bool, token: &Digest256) -> bool
@@ -101,12 +86,12 @@ fn is_user_with(user: &UserRecord, office: bool, token: &Digest256) -> bool
     user.office == office && *token == user.token
 }
 
-/// Whether somebody else bears the token.
-fn is_taken(bearer: &Option<UserId>, user: &UserId) -> bool
+/// Whether somebody else than the user with this id bears the token.
+fn is_taken(bearer: &Option<UserId>, user: &[u8]) -> bool
     ensures { result ≡ is_taken_lem bearer.now (Some user.now) }
 {
     match bearer {
-        Some(bearer) => user != bearer,
+        Some(bearer) => user != bearer.text().as_bytes(),
         None => false,
     }
 }

@@ -1,10 +1,7 @@
-use Rattle.std.proofs.Common.{arith}
-use Rattle.std.proofs.lemmas.Bool.Decides.{nat_tests}
-use Rattle.index_rules.proofs.TextLemmas.{is_text-utf8}
+use Rattle.std.proofs.Common.{sym, subst}
+use Rattle.std.specs.Str.{IsUtf8}
+use Rattle.index_rules.proofs.TextLemmas.{is_text-no_utf8}
 use Rattle.index_rules.proofs.reading.is_text.Goals as goal
 
-pub returns-then-text-le-LONGEST_TEXT : goal.returns-then-text-le-LONGEST_TEXT
-returns-then-text-le-LONGEST_TEXT c = rw (is_text-utf8 c.args.text.now c.utf8.text) (grind (arith, nat_tests))
-
-pub returns-else-text-le-LONGEST_TEXT : goal.returns-else-text-le-LONGEST_TEXT
-returns-else-text-le-LONGEST_TEXT c = rw (is_text-utf8 c.args.text.now c.utf8.text) (grind (arith, nat_tests))
+pub returns-in-Err : goal.returns-in-Err
+returns-in-Err c = is_text-no_utf8 c.args.bytes.now (λ utf8. c.in-Err.ensures.cases.0 (subst IsUtf8 (sym c.as_slice.ensures) utf8))

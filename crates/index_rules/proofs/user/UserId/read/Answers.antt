@@ -1,4 +1,5 @@
 use Rattle.std.proofs.Common.{◌≡◌, ◌<◌, ℕ, sym, true, arith}
+use Rattle.std.proofs.lemmas.Bool.{and_parts}
 use Rattle.std.proofs.lemmas.Bool.Decides.{nat_tests}
 use Rattle.index_rules.specs.Users.{is_user_letter}
 use Rattle.index_names.proofs.AsciiLemmas.{IsAscii-list_all}
@@ -8,4 +9,4 @@ user_letter-ascii : (c : ℕ) → is_user_letter c ≡ true → c < 128
 user_letter-ascii c passes = grind (arith, nat_tests)
 
 pub ascii-requires : goal.ascii-requires
-ascii-requires c = IsAscii-list_all is_user_letter user_letter-ascii c.args.bytes.now (sym c.if-not-has_user_letters.ensures)
+ascii-requires c = IsAscii-list_all is_user_letter user_letter-ascii c.args.bytes.now (and_parts _ _ (sym c.if-not-is_user_id.ensures)).1
