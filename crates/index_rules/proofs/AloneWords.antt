@@ -14,7 +14,8 @@ use Rattle.index_rules.specs.Maps.{Bytes, same}
 use Rattle.index_rules.specs.Users.{read_user}
 use Rattle.index_rules.specs.Requests.{read_file}
 use Rattle.index_rules.specs.Verdict.{bears}
-use Rattle.index_rules.specs.Effect.{key, first_quota}
+use Rattle.index_rules.specs.Effect.{key}
+use Rattle.index_rules.specs.Projects.{first_quota}
 use Rattle.index_rules.specs.History.{History, Entry, begins, more, is_read_as}
 use Rattle.index_rules.specs.PastUsers.{user_of, user_by, added, added_by, bearer}
 use Rattle.index_rules.specs.PastNames.{State, Free, Held, Prohibited, state_of, state_by, shown_of, shown_by, quota_of, quota_by, uploads_of, uploads_by, is_given, given_by, yanked_for, yanked_by}

@@ -15,7 +15,7 @@ use Rattle.index_rules.specs.declared.call.Request.TheVariants.{AddUser, SetToke
 use Rattle.index_rules.specs.declared.records.FileRecord.{FileRecord}
 use Rattle.index_rules.specs.declared.records.NameRecord.{NameRecord}
 use Rattle.index_rules.specs.declared.records.NameRecord.TheVariants.{Held, Prohibited}
-use Rattle.index_rules.specs.declared.records.Project.{Project}
+use Rattle.index_rules.specs.Projects.{Project, first_quota}
 use Rattle.index_rules.specs.Maps.{Bytes, same}
 use Rattle.index_rules.specs.Users.{read_user}
 use Rattle.index_rules.specs.Texts.{read_token}
@@ -23,7 +23,7 @@ use Rattle.index_rules.specs.Tables.{Tables}
 use Rattle.index_rules.specs.Requests.{read_file}
 use Rattle.index_rules.specs.Facts.{Facts, facts_in, of_both, owns_in, alone_owns_in}
 use Rattle.index_rules.specs.Verdict.{Accept, verdict_now, exceeds_quota, has_files, is_prohibited, project_in, is_held, is_undeleted}
-use Rattle.index_rules.specs.Effect.{key, no_file, no_project, file_of, user_in, held_in, caller_in, first_quota, after}
+use Rattle.index_rules.specs.Effect.{key, no_file, no_project, file_of, user_in, held_in, caller_in, after}
 use Rattle.index_rules.specs.Runs.{Answers, Runs, tables_after}
 use Rattle.index_rules.specs.Sound.{IsSound, undeleted_in}
 use Rattle.index_rules.proofs.OwnerLists.{same-is}

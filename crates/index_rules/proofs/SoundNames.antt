@@ -3,7 +3,7 @@ use Rattle.std.proofs.Common.{◌≡◌, ◌≤◌, true, false, cond, not, ◌&
 use Rattle.std.specs.FinMap.{get, insert, contains_key}
 use Rattle.std.proofs.lemmas.Bool.{false≢true, cases_Bool, and_parts}
 use Rattle.index_rules.specs.declared.records.NameRecord.TheVariants.{Held}
-use Rattle.index_rules.specs.declared.records.Project.{Project}
+use Rattle.index_rules.specs.Projects.{Project}
 use Rattle.index_rules.specs.declared.records.FileRecord.{FileRecord}
 use Rattle.index_rules.specs.Maps.{Bytes, Pairs, same}
 use Rattle.index_rules.specs.Tables.{Tables}

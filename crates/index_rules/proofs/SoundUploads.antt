@@ -2,7 +2,7 @@
 use Rattle.std.proofs.Common.{◌≡◌, ℕ, ◌+◌, ◌≤◌, true, false, cond, inl, inr, sym, ap, ◌∙◌, subst, Some, is_some, length, arith}
 use Rattle.std.specs.FinMap.{get, insert}
 use Rattle.index_rules.specs.declared.records.NameRecord.TheVariants.{Held}
-use Rattle.index_rules.specs.declared.records.Project.{Project}
+use Rattle.index_rules.specs.Projects.{Project}
 use Rattle.index_rules.specs.declared.records.FileRecord.{FileRecord}
 use Rattle.index_rules.specs.Maps.{Bytes, same}
 use Rattle.index_digest.specs.Digest.{sha256}

@@ -10,13 +10,13 @@ use Rattle.index_rules.specs.declared.call.Request.{Request}
 use Rattle.index_rules.specs.declared.call.Request.TheVariants.{AddUser, SetToken, SetQuota, Claim, AddOwner, RemoveOwner, Upload, Delete, Yank, Unyank, Relinquish, Prohibit, Allow, OpenCase, RecordAttempt, Transfer, CloseCase, AnswerCase}
 use Rattle.index_rules.specs.declared.records.NameRecord.{NameRecord}
 use Rattle.index_rules.specs.declared.records.NameRecord.TheVariants as name_record
-use Rattle.index_rules.specs.declared.records.Project.{Project}
+use Rattle.index_rules.specs.Projects.{Project, first_quota}
 use Rattle.index_rules.specs.Maps.{Bytes}
 use Rattle.index_rules.specs.Tables.{Tables}
 use Rattle.index_rules.specs.Requests.{read_file}
 use Rattle.index_rules.specs.Facts.{facts_in}
 use Rattle.index_rules.specs.Verdict.{Accept, verdict_now, project_in, is_held, is_prohibited}
-use Rattle.index_rules.specs.Effect.{key, no_project, file_of, first_quota, later, with_file, without_file, after}
+use Rattle.index_rules.specs.Effect.{key, no_project, file_of, later, with_file, without_file, after}
 use Rattle.index_rules.specs.History.{History, more, is_read_as}
 use Rattle.index_rules.specs.PastNames.{State, Free, Held, Prohibited, state_of, shown_of, quota_of, uploads_of, greatest, last_upload_of}
 use Rattle.index_rules.specs.StandsFor.{name_by, project_at, name_at}

@@ -9,7 +9,7 @@ use Rattle.index_rules.specs.declared.decision.Stop.{Stop}
 use Rattle.index_rules.specs.declared.decision.Stop.TheVariants as stop
 use Rattle.index_rules.specs.declared.decision.context.Context.{Context}
 use Rattle.index_rules.specs.declared.change.Change.{Change}
-use Rattle.index_rules.specs.declared.records.Project.{Project}
+use Rattle.index_rules.specs.Projects.{Project}
 use Rattle.index_rules.specs.Maps.{Bytes}
 use Rattle.index_rules.specs.Facts.{facts_seen}
 use Rattle.index_rules.specs.Verdict.{Verdict, Accept, AlreadySo, Refuse, applies, decided, file_refusals, is_already, refusals_of}

@@ -17,7 +17,7 @@ use Rattle.index_retention.specs.declared.attempts.CaseKind.TheVariants.{Continu
 use Rattle.index_retention.specs.Attempts.{Attempt, attempt_of, noted, tally_of}
 use Rattle.index_rules.specs.declared.records.CaseRecord.{CaseRecord}
 use Rattle.index_rules.specs.declared.records.FileRecord.{FileRecord}
-use Rattle.index_rules.specs.declared.records.Project.{Project}
+use Rattle.index_rules.specs.Projects.{Project, claimed}
 use Rattle.index_rules.specs.declared.records.UserRecord.{UserRecord}
 use Rattle.index_rules.specs.Maps.{Bytes, Map, PairMap, same, change_values}
 use Rattle.index_rules.specs.Tables.{Tables}
@@ -60,10 +60,6 @@ case_in f = unwrap_or f.case no_case
 
 -- ---- what is written
 
--- the quota that a claim brings: one gibibyte
-abbrev pub first_quota : ℕ
-first_quota = 1073741824
-
 -- the greater of two moments
 abbrev pub later : Option ℕ → ℕ → ℕ
 later None at = at
@@ -95,10 +91,6 @@ without_name name m = retain_keys m (λ pair. not (same name pair.0))
 -- one attempt more
 abbrev pub with_attempt_noted : Attempt → CaseRecord → CaseRecord
 with_attempt_noted attempt case = record case { state = noted case.state attempt }
-
--- the project of a name that is claimed in this spelling
-abbrev pub claimed : Bytes → Project
-claimed shown = record { shown = shown; quota = first_quota; charge = 0; undeleted = 0; last_upload = None }
 
 -- a file's record, of its upload with this digest
 abbrev pub uploaded : Bytes → Bytes → Bytes → Bytes → FileRecord

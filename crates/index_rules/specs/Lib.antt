@@ -2,6 +2,7 @@ pub mod Maps
 pub mod Users
 pub mod Texts
 pub mod Refusals
+pub mod Projects
 pub mod Tables
 pub mod Opened
 pub mod Requests

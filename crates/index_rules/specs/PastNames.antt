@@ -10,7 +10,7 @@ use Rattle.index_rules.specs.declared.call.Request.TheVariants.{SetQuota, Claim,
 use Rattle.index_rules.specs.Maps.{Bytes, same}
 use Rattle.index_rules.specs.Users.{read_user}
 use Rattle.index_rules.specs.Requests.{read_file}
-use Rattle.index_rules.specs.Effect.{first_quota}
+use Rattle.index_rules.specs.Projects.{first_quota}
 use Rattle.index_rules.specs.History.{History, begins, more, is_read_as}
 use Rattle.index_rules.specs.PastUsers.{with_read}
 use Rattle.index_rules.specs.PastCases.{candidate_of}

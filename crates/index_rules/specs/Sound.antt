@@ -3,7 +3,7 @@ use Rattle.std.specs.Prelude.{◌≡◌, ℕ, ◌≤◌, Bool, true, ◌&&◌, i
 use Rattle.std.specs.FinMap.{get, entries}
 use Rattle.index_names.specs.FileName.{read_file_name, project_of, release_of}
 use Rattle.index_digest.specs.Digest.{sha256}
-use Rattle.index_rules.specs.declared.records.Project.{Project}
+use Rattle.index_rules.specs.Projects.{Project}
 use Rattle.index_rules.specs.declared.records.FileRecord.{FileRecord}
 use Rattle.index_rules.specs.Maps.{Bytes, same}
 use Rattle.index_rules.specs.Tables.{Tables}

@@ -4,7 +4,7 @@ use Rattle.std.specs.FinMap.{get}
 use Rattle.index_names.specs.FileName.{project_of, release_of}
 use Rattle.index_rules.specs.declared.records.NameRecord.{NameRecord}
 use Rattle.index_rules.specs.declared.records.NameRecord.TheVariants as name_record
-use Rattle.index_rules.specs.declared.records.Project.{Project}
+use Rattle.index_rules.specs.Projects.{Project}
 use Rattle.index_retention.specs.Attempts.{tally_of}
 use Rattle.index_rules.specs.declared.records.CaseRecord.{CaseRecord}
 use Rattle.index_rules.specs.declared.records.FileRecord.{FileRecord}

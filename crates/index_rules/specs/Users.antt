@@ -1,5 +1,5 @@
 -- User ids.
-use Rattle.std.specs.Prelude.{ℕ, Bool, ◌&&◌, ◌||◌, nat_le, length, Option, Some, None, if◌then◌else◌}
+use Rattle.std.specs.Prelude.{◌≡◌, ℕ, Bool, ◌&&◌, ◌||◌, nat_le, length, Option, Some, None, if◌then◌else◌}
 use Rattle.std.specs.List.{list_all}
 use Rattle.index_rules.specs.Maps.{Bytes}
 
@@ -14,3 +14,7 @@ is_user_id x = nat_le 1 (length x) && nat_le (length x) 32 && list_all is_user_l
 -- the user id that bytes are
 unfoldable pub read_user : Bytes → Option Bytes
 read_user x = if is_user_id x then Some x else None
+
+-- a user id: it is read as itself
+abbrev pub IsUserId : Bytes → Type 0
+IsUserId user = read_user user ≡ Some user

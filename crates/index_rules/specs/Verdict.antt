@@ -10,7 +10,7 @@ use Rattle.index_rules.specs.declared.answer.Refusal.TheVariants.{BadMoment, Bad
 use Rattle.index_rules.specs.declared.records.UserRecord.{UserRecord}
 use Rattle.index_rules.specs.declared.records.NameRecord.{NameRecord}
 use Rattle.index_rules.specs.declared.records.NameRecord.TheVariants.{Held, Prohibited}
-use Rattle.index_rules.specs.declared.records.Project.{Project}
+use Rattle.index_rules.specs.Projects.{Project, largest_quota}
 use Rattle.index_rules.specs.declared.records.FileRecord.{FileRecord}
 use Rattle.index_retention.specs.declared.fault.CaseFault.{CaseFault}
 use Rattle.index_retention.specs.declared.fault.CaseFault.TheVariants as case_fault
@@ -36,10 +36,6 @@ last_moment = 253402300799
 -- the most bytes of a body
 abbrev pub largest_body : ℕ
 largest_body = 16777216
-
--- the most bytes of a quota
-abbrev pub largest_quota : ℕ
-largest_quota = 1099511627776
 
 -- ---- questions on the facts
 

@@ -1,5 +1,6 @@
 //! What an accepted call writes.
-use crate::records::{CaseRecord, FileRecord, Project, UserRecord};
+use crate::project::Project;
+use crate::records::{CaseRecord, FileRecord, UserRecord};
 use crate::user::UserId;
 use index_digest::Sealed;
 use index_names::{FileName, NormalName, Release, Text};

@@ -10,6 +10,7 @@ mod decision;
 mod keys;
 pub mod laws;
 mod open;
+mod project;
 mod reading;
 mod records;
 mod user;
@@ -23,8 +24,9 @@ pub use change::Change;
 pub use decision::{Decision, Stop, decide};
 pub use keys::Keys;
 pub use open::{OpenFault, first_user};
+pub use project::Project;
 pub use reading::read_token;
-pub use records::{CaseRecord, FileRecord, NameRecord, Project, UserRecord};
+pub use records::{CaseRecord, FileRecord, NameRecord, UserRecord};
 pub use user::{UserFault, UserId};
 pub use view::{Caller, Owners, View};
 

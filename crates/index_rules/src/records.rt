@@ -1,4 +1,5 @@
 //! The records of the tables, without their keys.
+use crate::project::Project;
 use crate::user::UserId;
 use index_digest::Digest256;
 use index_names::{NormalName, Release, Text};
@@ -20,34 +21,6 @@ pub enum NameRecord {
     Prohibited,
 }
 
-/// A held name.
-#[derive(Clone, Debug)]
-pub struct Project {
-    /// The spelling of the last claim.
-    pub shown: Text,
-    /// How many bytes its undeleted files may have.
-    pub quota: u64,
-    /// How many bytes its undeleted files have.
-    pub charge: u64,
-    /// How many undeleted files it has.
-    pub undeleted: u64,
-    /// The greatest moment of its uploads since its last claim, in Unix seconds.
-    pub last_upload: Option<u64>,
-}
-
-// By hand: a drop is then one call at each exit of a function (docs/ARCHITECTURE.md, "What a proof costs").
-impl Drop for Project {
-    fn drop(self) {
-        let Project {
-            shown: _shown,
-            quota: _quota,
-            charge: _charge,
-            undeleted: _undeleted,
-            last_upload: _last_upload,
-        } = self;
-    }
-}
-
 /// An open case (PEP 541).
 #[derive(Clone, Debug)]
 pub struct CaseRecord {
@@ -66,6 +39,7 @@ pub struct CaseRecord {
     pub state: CaseState,
 }
 
+// By hand: a drop is then one call at each exit of a function (docs/ARCHITECTURE.md, "What a proof costs").
 impl Drop for CaseRecord {
     fn drop(self) {
         let CaseRecord {

@@ -1,7 +1,7 @@
 //! User ids.
 ghost use Rattle.std.specs.Prelude.{◌≡◌, ◌↔◌, IfOk, Some, None, Err};
 ghost use Rattle.std.specs.List.{list_all};
-ghost use Rattle.index_rules.specs.Users.{is_user_id as is_user_id_lem, is_user_letter as is_user_letter_lem, read_user};
+ghost use Rattle.index_rules.specs.Users.{IsUserId, is_user_id as is_user_id_lem, is_user_letter as is_user_letter_lem, read_user};
 
 use index_names::{Text, ascii};
 use std::alloc::{AllocError, Global};
@@ -27,10 +27,13 @@ impl Drop for UserId {
 
 impl Model for UserId {
     ghost use Rattle.std.specs.Prelude.{List, ℕ};
+    ghost use Rattle.index_rules.specs.Users.{IsUserId};
 
     ghost Value = { List ℕ };
 
     ghost view = { λ user. user.text };
+
+    ghost invariant = { λ user. IsUserId user.text };
 
     ghost inverse = { λ bytes. record { text = bytes } };
 }
@@ -83,7 +86,8 @@ impl UserId {
 
     /// The id's text.
     pub fn text(&self) -> &str
-        ensures { result.now ≡ self.now }
+        ensures text { result.now ≡ self.now }
+        ensures user { IsUserId self.now }
     {
         self.text.as_str()
     }

@@ -125,7 +125,7 @@ pub fn transfer(context: &Context<'_>, name: &Bytes, quiet: bool) -> Result<Deci
     let Some(case) = &context.view.case else {
         return Err(Stop::Refused(Refusal::NoCase));
     };
-    if let Err(fault) = may_transfer(&case.state, project.last_upload, quiet, context.at) {
+    if let Err(fault) = may_transfer(&case.state, project.last_upload(), quiet, context.at) {
         return Err(Stop::Refused(refusal_by(fault)));
     }
     let name = to_name(context.alloc, name)?;

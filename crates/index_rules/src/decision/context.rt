@@ -5,7 +5,8 @@ ghost use Rattle.index_rules.specs.Maps.{same};
 ghost use Rattle.index_rules.specs.Facts.{is_one_of, is_only_one_of};
 ghost use Rattle.index_rules.specs.Verdict.{project_in};
 
-use crate::records::{NameRecord, Project};
+use crate::project::Project;
+use crate::records::NameRecord;
 use crate::user::UserId;
 use crate::view::{Caller, View};
 use std::alloc::Global;

@@ -1,14 +1,13 @@
 //! Owners' requests on files.
-ghost use Rattle.std.specs.Prelude.{◌≡◌, ◌+◌, [], Some, IfOk, IsSome, IsTrue, MatchOption, true, false, length};
+ghost use Rattle.std.specs.Prelude.{◌≡◌, [], Some, IfOk, IsSome, IsTrue};
 ghost use Rattle.index_rules.specs.declared.call.Request.TheVariants.{Delete, Upload};
-ghost use Rattle.index_rules.specs.declared.records.NameRecord.TheVariants.{Held};
 ghost use Rattle.index_digest.specs.Digest.{digest_in, sha256};
 ghost use Rattle.index_names.specs.FileName.{project_of};
 ghost use Rattle.index_rules.specs.Maps.{Bytes};
 ghost use Rattle.index_rules.specs.Requests.{read_file};
 ghost use Rattle.index_rules.specs.Texts.{is_text as is_text_lem};
-ghost use Rattle.index_rules.specs.Verdict.{Accept, exceeds_quota, is_other_file};
-ghost use Rattle.index_rules.specs.Effect.{deleted as deleted_lem, later, upload_of, uploaded, without_file as without_file_lem};
+ghost use Rattle.index_rules.specs.Verdict.{Accept, is_other_file};
+ghost use Rattle.index_rules.specs.Effect.{deleted as deleted_lem, upload_of, uploaded};
 ghost use Rattle.index_rules.specs.Decided.{Decides, DecidesIn, DecidesOnFile, FindsProject, IsOfCaller};
 
 use super::context::Context;
@@ -16,8 +15,9 @@ use super::{Decision, Stop};
 use crate::answer::Refusal;
 use crate::bytes::Bytes;
 use crate::change::Change;
+use crate::project::Project;
 use crate::reading::{is_file, is_text, to_file, to_text};
-use crate::records::{FileRecord, Project};
+use crate::records::FileRecord;
 use index_digest::{Digest256, Sealed};
 use index_names::{FileName, NormalName};
 use std::alloc::{AllocError, Global};
@@ -103,17 +103,13 @@ fn project_with(context: &Context<'_>, body: &Sealed) -> Result<Option<Project>,
             return Ok(None);
         }
     }
-    let Some(charge) = charge_with(project, size) else {
+    if !project.has_room(size) {
         return Err(Stop::Refused(Refusal::OverQuota));
-    };
-    let Some(undeleted) = project.undeleted.checked_add(1) else {
+    }
+    if !project.takes_more_files() {
         return Err(Stop::OutOfMemory);
-    };
-    let mut project = project.clone()?;
-    project.charge = charge;
-    project.undeleted = undeleted;
-    project.last_upload = Some(latest(project.last_upload, context.at));
-    Ok(Some(project))
+    }
+    Ok(Some(project.with_file(size, context.at)?))
 }
 
 /// The upload of a file to its project, whose charge has it already.
@@ -186,30 +182,10 @@ fn record_of(
     })
 }
 
-/// The greater of two moments, in Unix seconds.
-fn latest(before: Option<u64>, at: u64) -> u64
-    ensures { result ≡ later before at }
-{
-    match before {
-        Some(before) => at.max(before),
-        None => at,
-    }
-}
-
 fn is_other(known: &FileRecord, digest: &Digest256, size: u64) -> bool
     ensures { result ≡ is_other_file (Some digest.now) size (Some known.now) }
 {
     !(*digest == known.digest && size == known.size)
-}
-
-/// The charge with one more file, where the quota allows it.
-fn charge_with(project: &Project, size: u64) -> Option<u64>
-    ensures { MatchOption result (exceeds_quota size (Some (Held project.now)) ≡ true)
-        (λ charge. (exceeds_quota size (Some (Held project.now)) ≡ false) × (charge ≡ project.now.charge + size)) }
-{
-    let quota = project.quota;
-    let charge = project.charge.checked_add(size)?;
-    if charge > quota { None } else { Some(charge) }
 }
 
 pub fn delete(context: &Context<'_>, file: &Bytes) -> Result<Decision, Stop>
@@ -231,7 +207,7 @@ pub fn delete(context: &Context<'_>, file: &Bytes) -> Result<Decision, Stop>
     if !record.is_undeleted {
         return Ok(Decision::Already);
     }
-    let project = without_file(project, record.size)?;
+    let project = project.without_file(record.size)?;
     let record = deleted(record)?;
     let file = to_file(context.alloc, file)?;
     let name = file.project().clone()?;
@@ -241,16 +217,6 @@ pub fn delete(context: &Context<'_>, file: &Bytes) -> Result<Decision, Stop>
         file,
         record,
     }))
-}
-
-/// The project with one undeleted file less, of this size in bytes.
-fn without_file(project: &Project, size: u64) -> Result<Project, AllocError>
-    ensures { IfOk result (λ less. less ≡ without_file_lem size project.now) }
-{
-    let mut less = project.clone()?;
-    less.charge = project.charge.saturating_sub(size);
-    less.undeleted = project.undeleted.saturating_sub(1);
-    Ok(less)
 }
 
 /// The record of the file once it is deleted.

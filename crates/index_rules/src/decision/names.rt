@@ -1,8 +1,5 @@
 //! Requests on a name and its quota.
-ghost use Rattle.std.specs.Prelude.{◌≡◌, IfOk, IsSome};
-ghost use Rattle.index_names.specs.Project.{read_name};
 ghost use Rattle.index_rules.specs.declared.call.Request.TheVariants.{Allow, Claim, Prohibit, Relinquish, SetQuota};
-ghost use Rattle.index_rules.specs.Effect.{claimed as claimed_lem};
 ghost use Rattle.index_rules.specs.Decided.{DecidesIn, IsOfCaller};
 
 use super::context::Context;
@@ -10,15 +7,9 @@ use super::{Decision, Stop};
 use crate::answer::Refusal;
 use crate::bytes::Bytes;
 use crate::change::Change;
+use crate::project::{LARGEST_QUOTA, Project};
 use crate::reading::{is_name, to_name, to_shown};
-use crate::records::{NameRecord, Project};
-use std::alloc::{AllocError, Global};
-
-/// The quota of a name that was just claimed, in bytes.
-const FIRST_QUOTA: u64 = 1_073_741_824;
-
-/// The greatest quota, in bytes.
-const LARGEST_QUOTA: u64 = 1_099_511_627_776;
+use crate::records::NameRecord;
 
 pub fn claim(context: &Context<'_>, name: &Bytes) -> Result<Decision, Stop>
     requires { IsOfCaller context.now }
@@ -36,7 +27,7 @@ pub fn claim(context: &Context<'_>, name: &Bytes) -> Result<Decision, Stop>
     if owns {
         return Ok(Decision::Already);
     }
-    let project = claimed(context.alloc, name)?;
+    let project = Project::claimed(to_shown(context.alloc, name)?);
     let owner = context.caller.user.clone()?;
     let name = to_name(context.alloc, name)?;
     Ok(Decision::Change(Change::Claim {
@@ -44,20 +35,6 @@ pub fn claim(context: &Context<'_>, name: &Bytes) -> Result<Decision, Stop>
         project,
         owner,
     }))
-}
-
-/// The project of a name that was just claimed, in this spelling.
-fn claimed(alloc: Global, name: &Bytes) -> Result<Project, AllocError>
-    requires { IsSome (read_name name.now) }
-    ensures { IfOk result (λ project. project ≡ claimed_lem name.now) }
-{
-    Ok(Project {
-        shown: to_shown(alloc, name)?,
-        quota: FIRST_QUOTA,
-        charge: 0,
-        undeleted: 0,
-        last_upload: None,
-    })
 }
 
 pub fn set_quota(context: &Context<'_>, name: &Bytes, quota: u64) -> Result<Decision, Stop>
@@ -76,14 +53,13 @@ pub fn set_quota(context: &Context<'_>, name: &Bytes, quota: u64) -> Result<Deci
     let Some(project) = context.project() else {
         return Err(Stop::Refused(Refusal::NoProject));
     };
-    if quota < project.charge {
+    if quota < project.charge() {
         return Err(Stop::Refused(Refusal::QuotaBelowCharge));
     }
-    if quota == project.quota {
+    if quota == project.quota() {
         return Ok(Decision::Already);
     }
-    let mut project = project.clone()?;
-    project.quota = quota;
+    let project = project.with_quota(quota)?;
     let name = to_name(context.alloc, name)?;
     Ok(Decision::Change(Change::SetQuota { name, project }))
 }
@@ -101,7 +77,7 @@ pub fn relinquish(context: &Context<'_>, name: &Bytes) -> Result<Decision, Stop>
     if !context.owns() {
         return Err(Stop::Refused(Refusal::NotOwner));
     }
-    if project.undeleted > 0 {
+    if project.undeleted() > 0 {
         return Err(Stop::Refused(Refusal::FilesRemain));
     }
     let name = to_name(context.alloc, name)?;

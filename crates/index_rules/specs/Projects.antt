@@ -1,0 +1,38 @@
+-- Held names.
+use Rattle.std.specs.Prelude.{ℕ, ◌≤◌, Option, None}
+use Rattle.index_rules.specs.Maps.{Bytes}
+
+-- what the index keeps of a held name
+pub record Project : Type 0 where
+  -- the spelling of the last claim
+  pub shown : Bytes
+  -- how many bytes its undeleted files may have
+  pub quota : ℕ
+  -- how many bytes they have
+  pub charge : ℕ
+  -- how many they are
+  pub undeleted : ℕ
+  -- the greatest moment of its uploads since its last claim
+  pub last_upload : Option ℕ
+
+-- the quota that a claim brings: one gibibyte
+abbrev pub first_quota : ℕ
+first_quota = 1073741824
+
+-- the most bytes of a quota
+abbrev pub largest_quota : ℕ
+largest_quota = 1099511627776
+
+-- the most undeleted files of a name
+abbrev pub most_files : ℕ
+most_files = 9223372036854775807
+
+-- numbers that a held name may have
+pub record FitsProject (quota charge undeleted : ℕ) : Type 0 where
+  pub charge_fits : charge ≤ quota
+  pub quota_fits : quota ≤ largest_quota
+  pub undeleted_fit : undeleted ≤ most_files
+
+-- the project of a name that is claimed in this spelling
+abbrev pub claimed : Bytes → Project
+claimed shown = record { shown = shown; quota = first_quota; charge = 0; undeleted = 0; last_upload = None }
