@@ -1,4 +1,4 @@
--- Sound tables stay sound where a prohibited name is allowed, and where a name ends with its owners, files and yanks.
+-- Sound tables stay sound where a name ends with its owners, files and yanks.
 use Rattle.std.proofs.Common.{◌≡◌, Bool, true, false, cond, not, ◌&&◌, inl, inr, refl, sym, ap, ◌∙◌, subst, Option, Some, None, is_some, option_map}
 use Rattle.std.specs.Option.{option_map_or}
 use Rattle.std.specs.FinMap.{get, insert, remove, retain_keys, same_map}
@@ -18,27 +18,6 @@ use Rattle.index_rules.specs.Sound.{IsSound, IsRecordOf, IsBodyOf, undeleted_in}
 use Rattle.index_rules.proofs.KeyLemmas.{cases_same, get-kept, get-change_values, get-without_name, get-without_name_other}
 use Rattle.index_rules.proofs.PutLemmas.{other-sym, get-put_here, get-put_other, get-without_here, get-without_other, each_without, each_changed}
 use Rattle.index_rules.proofs.FileTotals.{total-delete_all, none_undeleted}
-
--- ---- a name that is allowed again
-
-pub IsSound-allow : (T : Tables) → IsSound T → (name : Bytes) → project_in (get T.names name) ≡ None → IsSound (record T { names = remove T.names name })
-IsSound-allow T sound name none =
-    let as_before : (n : Bytes) → project_in (get (remove T.names name) n) ≡ project_in (get T.names n) =
-    each_without T.names name (λ n found. project_in found ≡ project_in (get T.names n)) (sym none) (λ _ _. refl) in
-    record {
-      one_bearer = sound.one_bearer;
-      owners = λ n user owns. ap is_some (as_before n) ∙ sound.owners n user owns;
-      owned = λ n held. sound.owned n (sym (ap is_some (as_before n)) ∙ held);
-      yanks = λ n release yanked. ap is_some (as_before n) ∙ sound.yanks n release yanked;
-      cases = λ n is_open. ap is_some (as_before n) ∙ sound.cases n is_open;
-      spelled = sound.spelled;
-      undeleted_held = λ file known there is. ap is_some (as_before known.project) ∙ sound.undeleted_held file known there is;
-      charge = λ n p at. sound.charge n p (sym (as_before n) ∙ at);
-      undeleted = λ n p at. sound.undeleted n p (sym (as_before n) ∙ at);
-      quota = λ n p at. sound.quota n p (sym (as_before n) ∙ at);
-      bodies = sound.bodies;
-      bytes = sound.bytes;
-    }
 
 -- ---- a name that ends
 

@@ -30,14 +30,14 @@ use Rattle.index_rules.proofs.OwnerLists.{same-is}
 use Rattle.index_rules.proofs.PastReading.{read_itself}
 use Rattle.index_rules.proofs.Accepted.{accepted, some_there, and_not}
 use Rattle.index_rules.proofs.SoundUsers.{IsSound-user, not_taken}
-use Rattle.index_rules.proofs.SoundNames.{IsSound-project, IsSound-claim}
+use Rattle.index_rules.proofs.SoundNames.{IsSound-project, IsSound-claim, undeleted_in-free}
 use Rattle.index_rules.proofs.SoundOwners.{IsSound-owner, IsSound-no_owner}
 use Rattle.index_rules.proofs.SoundUploads.{IsSound-upload}
 use Rattle.index_rules.proofs.SoundDeletes.{IsSound-delete}
 use Rattle.index_rules.proofs.SoundYanks.{IsSound-yank, IsSound-no_yank}
 use Rattle.index_rules.proofs.SoundCases.{closed, IsSound-closed, IsSound-case, IsSound-transfer}
 use Rattle.index_rules.proofs.PutLemmas.{get-without_here}
-use Rattle.index_rules.proofs.SoundEnds.{IsSound-relinquish, IsSound-prohibit, IsSound-allow}
+use Rattle.index_rules.proofs.SoundEnds.{IsSound-relinquish, IsSound-prohibit}
 
 -- ---- what the parts of an accepted request are
 
@@ -55,7 +55,7 @@ free_at T None unread free = absurd (true≢false unread)
 free_at T (Some name) unread free = free
 
 -- a prohibited name is not held
-no_project_at : (T : Tables) (name : Option Bytes) → is_prohibited (option_and_then (get T.names) name) ≡ true → project_in (get T.names (key name)) ≡ None
+pub no_project_at : (T : Tables) (name : Option Bytes) → is_prohibited (option_and_then (get T.names) name) ≡ true → project_in (get T.names (key name)) ≡ None
 no_project_at T None prohibited = absurd (false≢true prohibited)
 no_project_at T (Some name) prohibited = by (get T.names name) prohibited
   where
@@ -179,7 +179,9 @@ module _ (T : Tables) (sound : IsSound T) (at : ℕ) (token : Bytes) where
       IsSound-prohibit (closed n T) (IsSound-closed T sound n) n (get-without_here T.cases n)
   each_request (Allow name) accepts =
       let all = accepted (of (Allow name)) (facts (Allow name)) accepts in
-      IsSound-allow T sound (key (read_name name)) (no_project_at T (read_name name) (not-false _ all.1))
+      let n : Bytes = key (read_name name) in
+      let free : is_held (get T.names n) ≡ false = ap is_some (no_project_at T (read_name name) (not-false _ all.1)) in
+      IsSound-relinquish (closed n T) (IsSound-closed T sound n) n (get-without_here T.cases n) (undeleted_in-free T sound n free)
   each_request (OpenCase name kind contact work why) accepts =
       let all = accepted (of (OpenCase name kind contact work why)) (facts (OpenCase name kind contact work why)) accepts in
       IsSound-case T sound (key (read_name name)) _ (ap is_some (project_at T (read_name name) all.0.1.1.1.1.0))

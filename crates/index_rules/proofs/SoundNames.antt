@@ -80,7 +80,7 @@ module _ (T : Tables) (sound : IsSound T) (name : Bytes) (free : is_held (get T.
   charge_in-free : charge_in T name ≡ 0
   charge_in-free = total-zero (charged_size name) T.files (λ file known there. ap (λ b. cond b known.size 0) (none_of_free file known there))
 
-  undeleted_in-free : undeleted_in T name ≡ 0
+  pub undeleted_in-free : undeleted_in T name ≡ 0
   undeleted_in-free = total-zero (λ known. cond (is_undeleted_of name known) 1 0) T.files (λ file known there. ap (λ b. cond b 1 0) (none_of_free file known there))
 
   module _ (project : Project) (owner : Bytes) where

@@ -22,6 +22,7 @@ use Rattle.index_rules.specs.History.{History, begins, more}
 use Rattle.index_rules.specs.PastUsers.{bearer}
 use Rattle.index_rules.specs.PastNames.{State, Free, Held, Prohibited, state_of, shown_of, quota_of, last_upload_of}
 use Rattle.index_rules.specs.PastFiles.{charge, undeleted_count}
+use Rattle.index_rules.specs.Laws.{HasOneBearerOfEach}
 use Rattle.index_rules.specs.StandsFor.{StandsFor, name_by, project_at, name_at, file_at}
 use Rattle.index_rules.specs.Legal.{verdict_after, with_call, IsLegal, history_after, CarriesOn, CarriesOnBy}
 use Rattle.index_rules.proofs.OwnerLists.{pair_total, exact_pair}
@@ -145,6 +146,11 @@ same_tables h T T' one other = λ i. record {
 -- tables that stand for a legal history are sound
 pub sound_when_legal : (h : History) → IsLegal h → (T : Tables) → StandsFor T h → IsSound T
 sound_when_legal h legal T stands = let made = legal_made h legal in subst IsSound (same_tables h (tables_of h) T made.stands stands) made.sound
+
+pub one_bearer_of_each : (h : History) → IsLegal h → HasOneBearerOfEach h
+one_bearer_of_each h legal u v x y bears_x bears_y same_token =
+    let made = legal_made h legal in
+    made.sound.one_bearer u v x y (made.stands.users u ∙ bears_x) (made.stands.users v ∙ bears_y) same_token
 
 -- ---- the theorems
 

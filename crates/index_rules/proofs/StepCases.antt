@@ -1,7 +1,7 @@
 -- The open cases after an accepted call are those of the history with it.
 use Rattle.std.proofs.Common.{◌≡◌, ℕ, Bool, true, false, cond, refl, sym, ap, ◌∙◌, [], Option, Some, None, is_some, is_none, option_map, option_and_then, unwrap_or}
 use Rattle.std.specs.FinMap.{get, remove}
-use Rattle.std.proofs.lemmas.Bool.{true≢false, false≢true}
+use Rattle.std.proofs.lemmas.Bool.{true≢false, false≢true, not-false}
 use Rattle.index_names.specs.Project.{read_name}
 use Rattle.index_names.specs.FileName.{project_of}
 use Rattle.index_retention.specs.declared.attempts.CaseKind.{CaseKind}
@@ -22,6 +22,7 @@ use Rattle.index_rules.specs.Sound.{IsSound}
 use Rattle.index_rules.specs.History.{History, more, is_read_as}
 use Rattle.index_rules.specs.PastCases.{Case, case_of, with_attempt}
 use Rattle.index_rules.specs.StandsFor.{name_at, case_at, case_by_attempts}
+use Rattle.index_rules.proofs.SoundLemmas.{no_project_at}
 use Rattle.index_rules.proofs.PutLemmas.{each_put, each_without}
 use Rattle.index_rules.proofs.Accepted.{accepted, and_not}
 use Rattle.index_rules.proofs.PastReading.{read_key, read_itself, at_key, at_other}
@@ -101,7 +102,9 @@ module _ (T : Tables) (h : History) (sound : IsSound T) (names : (name : Bytes) 
   cases_after (Unyank name release) accepts = ended_by (read_name name) (accepted (of (Unyank name release)) (facts_in T (of (Unyank name release))) accepts).0.1.1.0
   cases_after (Relinquish name) accepts = ended_by (read_name name) (accepted (of (Relinquish name)) (facts_in T (of (Relinquish name))) accepts).0.1.1.0
   cases_after (Prohibit name) accepts = ended_by (read_name name) (accepted (of (Prohibit name)) (facts_in T (of (Prohibit name))) accepts).0.1.1.1.0
-  cases_after (Allow name) accepts = stands
+  cases_after (Allow name) accepts =
+      let all = accepted (of (Allow name)) (facts_in T (of (Allow name))) accepts in
+      none_of_free (key (read_name name)) (ap is_some (no_project_at T (read_name name) (not-false _ all.1)))
   cases_after (OpenCase name kind contact work why) accepts =
       opened name kind contact work why (accepted (of (OpenCase name kind contact work why)) (facts_in T (of (OpenCase name kind contact work why))) accepts).0.1.1.0
   cases_after (RecordAttempt name means sent) accepts =

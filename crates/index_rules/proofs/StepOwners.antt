@@ -51,10 +51,6 @@ own-ended : (end : State) → is_held_now end ≡ false → (b g : Bool) (s : St
 own-ended end is true g s = sym (ap (λ y. y && g) is)
 own-ended end is false g s = refl
 
-own-allowed : (b g : Bool) (s : State) → (b ≡ true → s ≡ Prohibited) → (is_held_now s && g) ≡ (is_held_now (cond b Free s) && g)
-own-allowed true g s was = ap (λ s. is_held_now s && g) (was refl)
-own-allowed false g s was = refl
-
 -- ---- yanks
 
 yank-claimed : (b : Bool) (y g : Option Bytes) (s : State) → y ≡ cond (is_held_now s) g None → cond (not b) y None ≡ cond (is_held_now (cond b Held s)) (cond b None g) None
@@ -74,10 +70,6 @@ yank-ended : (end : State) → is_held_now end ≡ false → (b : Bool) (g : Opt
 yank-ended end is true g s = sym (ap (λ y. cond y g None) is)
 yank-ended end is false g s = refl
 
-yank-allowed : (b : Bool) (g : Option Bytes) (s : State) → (b ≡ true → s ≡ Prohibited) → cond (is_held_now s) g None ≡ cond (is_held_now (cond b Free s)) g None
-yank-allowed true g s was = ap (λ s. cond (is_held_now s) g None) (was refl)
-yank-allowed false g s was = refl
-
 first_true : (a b : Bool) → (a && b) ≡ true → a ≡ true
 first_true true b is = refl
 first_true false b is = is
@@ -95,10 +87,6 @@ module _ (T : Tables) (h : History) (names : (name : Bytes) → get T.names name
   held_as read n m reads missing is =
       let held : is_held (get T.names n) ≡ true = sym (ap (λ r. is_held (option_and_then (get T.names) r)) reads) ∙ not-false _ missing in
       ap (λ x. is_held_now (state_of h x)) (same-is m n is) ∙ ap is_held_now (held_at T h n (names n) held).state
-
-  prohibited_as : (read : Option Bytes) (n m : Bytes) → read ≡ Some n → not (is_prohibited (option_and_then (get T.names) read)) ≡ false → same m n ≡ true → state_of h m ≡ Prohibited
-  prohibited_as read n m reads other is =
-      ap (state_of h) (same-is m n is) ∙ prohibited_at T h n (names n) (sym (ap (λ r. is_prohibited (option_and_then (get T.names) r)) reads) ∙ not-false _ other)
 
   module _ (stands : (name user : Bytes) → owns_in T name user ≡ owns h name user) (acts : key (option_map (λ caller. caller.user) (option_map caller_by (bearer_in T token))) ≡ actor) where
     owners_claimed : (name : Bytes) → is_none (read_name name) ≡ false → (m u : Bytes) → owns_in (after T (of (Claim name))) m u ≡ owns (then (Claim name)) m u
@@ -183,11 +171,7 @@ module _ (T : Tables) (h : History) (names : (name : Bytes) → get T.names name
     owners_after (Prohibit name) accepts = λ m u.
         has-cleared T.owners (key (read_name name)) m u ∙ owners_ended Prohibited refl (read_name name) (accepted (of (Prohibit name)) (facts_in T (of (Prohibit name))) accepts).0.1.1.1.0 m u
     owners_after (Allow name) accepts = λ m u.
-        let all = accepted (of (Allow name)) (facts_in T (of (Allow name))) accepts in
-        let n : Bytes = key (read_name name) in
-        let reads : read_name name ≡ Some n = read_key (read_name name) all.0.1.1.1.0 in
-        stands m u ∙ own-allowed (same m n) (is_given h m u) (state_of h m) (prohibited_as (read_name name) n m reads all.1)
-        ∙ (λ i. is_held_now (cond (is_read_as (sym reads i) m) Free (state_of h m)) && is_given h m u)
+        has-cleared T.owners (key (read_name name)) m u ∙ owners_ended Free refl (read_name name) (accepted (of (Allow name)) (facts_in T (of (Allow name))) accepts).0.1.1.1.0 m u
     owners_after (OpenCase name kind contact work why) accepts = stands
     owners_after (RecordAttempt name means sent) accepts = stands
     owners_after (Transfer name quiet) accepts =
@@ -251,12 +235,7 @@ module _ (T : Tables) (h : History) (names : (name : Bytes) → get T.names name
         unyanked name release all.0.1.1.0 all.0.1.1.1.0
     yanks_after (Relinquish name) accepts = yanks_ended Free refl (read_name name) (accepted (of (Relinquish name)) (facts_in T (of (Relinquish name))) accepts).0.1.1.0
     yanks_after (Prohibit name) accepts = yanks_ended Prohibited refl (read_name name) (accepted (of (Prohibit name)) (facts_in T (of (Prohibit name))) accepts).0.1.1.1.0
-    yanks_after (Allow name) accepts = λ m r.
-        let all = accepted (of (Allow name)) (facts_in T (of (Allow name))) accepts in
-        let n : Bytes = key (read_name name) in
-        let reads : read_name name ≡ Some n = read_key (read_name name) all.0.1.1.1.0 in
-        stands m r ∙ yank-allowed (same m n) (yanked_for h m r) (state_of h m) (prohibited_as (read_name name) n m reads all.1)
-        ∙ (λ i. cond (is_held_now (cond (is_read_as (sym reads i) m) Free (state_of h m))) (yanked_for h m r) None)
+    yanks_after (Allow name) accepts = yanks_ended Free refl (read_name name) (accepted (of (Allow name)) (facts_in T (of (Allow name))) accepts).0.1.1.1.0
     yanks_after (OpenCase name kind contact work why) accepts = stands
     yanks_after (RecordAttempt name means sent) accepts = stands
     yanks_after (Transfer name quiet) accepts = stands

@@ -128,6 +128,15 @@ effect at (Transfer name quiet) f = change.Transfer (key (read_name name)) (case
 effect at (CloseCase name) f = change.CloseCase (key (read_name name))
 effect at (AnswerCase name) f = change.AnswerCase (key (read_name name))
 
+-- the tables where a name is free: its owners, its yanks and its case go with it
+abbrev pub without_record : Bytes → Tables → Tables
+without_record name T = record T {
+  names = remove T.names name;
+  owners = without_name name T.owners;
+  yanks = without_name name T.yanks;
+  cases = remove T.cases name;
+}
+
 -- what a change means for the tables
 abbrev pub means : Change → Tables → Tables
 means (change.AddUser user account) T = record T { users = insert T.users user account }
@@ -155,12 +164,7 @@ means (change.Delete name project file known) T = record T {
 }
 means (change.Yank name release reason) T = record T { yanks = insert T.yanks (name, release) reason; cases = remove T.cases name }
 means (change.Unyank name release) T = record T { yanks = remove T.yanks (name, release); cases = remove T.cases name }
-means (change.Relinquish name) T = record T {
-  names = remove T.names name;
-  owners = without_name name T.owners;
-  yanks = without_name name T.yanks;
-  cases = remove T.cases name;
-}
+means (change.Relinquish name) T = without_record name T
 means (change.Prohibit name) T = record T {
   names = insert T.names name Prohibited;
   owners = without_name name T.owners;
@@ -169,7 +173,7 @@ means (change.Prohibit name) T = record T {
   yanks = without_name name T.yanks;
   cases = remove T.cases name;
 }
-means (change.Allow name) T = record T { names = remove T.names name }
+means (change.Allow name) T = without_record name T
 means (change.OpenCase name case) T = record T { cases = insert T.cases name case }
 means (change.RecordAttempt name case) T = record T { cases = insert T.cases name case }
 means (change.Transfer name candidate) T = record T {

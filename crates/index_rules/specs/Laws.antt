@@ -5,6 +5,7 @@ use Rattle.index_names.specs.FileName.{project_of}
 use Rattle.index_digest.specs.Digest.{digest_in}
 use Rattle.index_rules.specs.declared.call.Request.{Request}
 use Rattle.index_rules.specs.declared.call.Request.TheVariants.{AddUser, SetToken, Claim, AddOwner, RemoveOwner, Upload, Delete, Relinquish, Prohibit, Allow, Transfer}
+use Rattle.index_rules.specs.declared.records.UserRecord.{UserRecord}
 use Rattle.index_rules.specs.Maps.{Bytes, same}
 use Rattle.index_retention.specs.Attempts.{tally_of}
 use Rattle.index_retention.specs.Transfer.{IsReady}
@@ -12,10 +13,17 @@ use Rattle.index_rules.specs.declared.call.Call.{Call}
 use Rattle.index_rules.specs.Requests.{name_key, read_file}
 use Rattle.index_rules.specs.Effect.{key}
 use Rattle.index_rules.specs.History.{History, Entry, begins, more, is_read_as}
+use Rattle.index_rules.specs.PastUsers.{user_of}
 use Rattle.index_rules.specs.PastNames.{state_of, quota_of, last_upload_of, owns, yank_of}
 use Rattle.index_rules.specs.PastCases.{Case, case_of, is_unanswered}
 use Rattle.index_rules.specs.Legal.{IsLegal, verdict_after}
 use Rattle.index_rules.specs.PastFiles.{undeleted, size_of, charge}
+
+-- ---- a token has one bearer
+
+-- at most one user bears a digest
+abbrev pub HasOneBearerOfEach : History → Type 0
+HasOneBearerOfEach h = (u v : Bytes) (x y : UserRecord) → user_of h u ≡ Some x → user_of h v ≡ Some y → x.token ≡ y.token → u ≡ v
 
 -- ---- a file name is bound for good
 

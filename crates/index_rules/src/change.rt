@@ -70,7 +70,7 @@ pub enum Change {
     Prohibit {
         name: NormalName,
     },
-    /// The name is free.
+    /// The name is free, and its owners and yanks go.
     Allow {
         name: NormalName,
     },

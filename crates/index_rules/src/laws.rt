@@ -4,7 +4,13 @@ ghost use Rattle.index_rules.specs.Legal.{IsLegal};
 ghost use Rattle.index_rules.specs.Tables.{Tables};
 ghost use Rattle.index_rules.specs.Sound.{IsSound};
 ghost use Rattle.index_rules.specs.StandsFor.{StandsFor};
-ghost use Rattle.index_rules.specs.Laws.{BindsFiles, MovesAsRecorded, StandsAlone, TransfersWereReady};
+ghost use Rattle.index_rules.specs.Laws.{BindsFiles, HasOneBearerOfEach, MovesAsRecorded, StandsAlone, TransfersWereReady};
+
+/// A token has one bearer: no two users bear one digest.
+#[tactic(auto, using(crate::proofs::StandsOn::one_bearer_of_each))]
+pub fn tokens_have_one_bearer()
+    ensures { (h : History) → IsLegal h → HasOneBearerOfEach h }
+{}
 
 /// A file name is bound for good: any two uploads of it have the same digest and size, whatever stands between
 /// them, be it a delete or a prohibition of the project.
