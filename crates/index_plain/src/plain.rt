@@ -17,8 +17,6 @@ mod look;
 mod names;
 mod owners;
 mod releases;
-#[cfg(test)]
-mod tests;
 mod write;
 
 /// The tables in memory, as vectors in any order. A fault of theirs is always `OutOfMemory`.
