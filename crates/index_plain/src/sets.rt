@@ -7,8 +7,8 @@ use crate::key::Key;
 
 /// Puts the elements in order, each once.
 pub fn sort<K: Key>(elements: &mut Vec<K>)
-    ensures { elements.new.items ≡ keys (set_of K.order elements.old.items) }
+    ensures { elements.new.items ≡ keys (set_of K.cmp elements.old.items) }
 {
-    elements.sort_unstable_by(|a, b| a.compare(b));
-    elements.dedup_by(|a, b| a.is_same(b));
+    elements.sort_unstable();
+    elements.dedup();
 }

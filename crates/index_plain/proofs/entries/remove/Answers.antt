@@ -7,5 +7,5 @@ use Rattle.index_plain.proofs.entries.remove.Goals as goal
 
 pub returns-clause-removed : goal.returns-clause-removed
 returns-clause-removed g c =
-    ap (from_entries {R = g.K.Key.order}) (filter_same _ (λ e. not (eq_by_cmp g.K.Key.order c.args.key.now e.0)) _ (λ x b f' h. search rules) _ _ c.retain.ensures.filtered)
-    ∙ from_others g.met.K.Key.total g.met.K.Key.exact c.args.key.now c.args.entries.now.items
+    ap (from_entries {R = g.K.Ord.cmp}) (filter_same _ (λ e. not (eq_by_cmp g.K.Ord.cmp c.args.key.now e.0)) _ (λ x b f' h. search (rules, g.met.K.Ord.matches_eq)) _ _ c.retain.ensures.filtered)
+    ∙ from_others g.met.K.Ord.total g.met.K.Key.exact c.args.key.now c.args.entries.now.items
