@@ -13,7 +13,8 @@ use index_rules::FileRecord;
 
 /// Whether a release has an undeleted file. An entry counts where it is the first with its key.
 pub fn has_undeleted(files: &[(FileName, FileRecord)], name: &NormalName, release: &Release) -> bool
-    ensures { result ≡ list_any (λ file. is_undeleted_in name.now release.now file.1) (entries_in (from_entries {R = bytes_cmp} files.now)) }
+    ensures { let known = entries_in (from_entries {R = bytes_cmp} files.now) in
+        result ≡ list_any (λ file. is_undeleted_in name.now release.now file.1) known }
 {
     for entry in files {
         if is_undeleted(&entry.1, name, release) {
@@ -34,7 +35,8 @@ fn is_undeleted(known: &FileRecord, name: &NormalName, release: &Release) -> boo
 
 /// Marks the files of a name as deleted.
 pub fn mark_deleted(files: &mut [(FileName, FileRecord)], name: &NormalName)
-    ensures { from_entries {R = bytes_cmp} files.new ≡ change_values (deleted_of name.now) (from_entries files.old) }
+    ensures { let before = from_entries {R = bytes_cmp} files.old in
+        from_entries {R = bytes_cmp} files.new ≡ change_values (deleted_of name.now) before }
 {
     for entry in files.iter_mut() {
         if *name == entry.1.project {
@@ -49,7 +51,10 @@ pub fn drop_bodies(
     files: &[(FileName, FileRecord)],
     name: &NormalName,
 )
-    ensures { from_entries {R = bytes_cmp} bodies.new.items ≡ retain_keys (from_entries bodies.old.items) (λ file. not (is_file_of (from_entries files.now) name.now file)) }
+    ensures { let before = from_entries {R = bytes_cmp} bodies.old.items in
+        let known = from_entries {R = bytes_cmp} files.now in
+        from_entries {R = bytes_cmp} bodies.new.items
+        ≡ retain_keys before (λ file. not (is_file_of known name.now file)) }
 {
     bodies.retain(|(file, _)| !is_of(files, file, name));
 }

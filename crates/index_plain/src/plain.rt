@@ -62,10 +62,13 @@ impl PlainBooks {
     pub fn new(alloc: Global, user: &[u8], token: Digest256) -> Result<PlainBooks, OpenFault>
         ensures tables { IfOk result (λ books. tables_of books ≡ opened user.now token) }
         ensures sound { IfOk result (λ books. IsSound (tables_of books)) }
-        ensures history { IfOk result (λ books. StandsFor (tables_of books) (begins user.now token)) }
+        ensures history { let h = begins user.now token in
+            IfOk result (λ books. StandsFor (tables_of books) h) }
         ensures failures { IfOk result (λ books. failures_of books ≡ 0) }
-        ensures bad_first_user { IsErrOf result OpenFault.BadFirstUser ↔ IsBadFirstUser user.now token }
-        ensures fault { IfErr result (λ fault. (fault ≡ OpenFault.BadFirstUser) ⊎ (fault ≡ OpenFault.OutOfMemory)) }
+        ensures bad_first_user { let bad = IsErrOf result OpenFault.BadFirstUser in
+            bad ↔ IsBadFirstUser user.now token }
+        ensures fault { IfErr result (λ fault.
+            (fault ≡ OpenFault.BadFirstUser) ⊎ (fault ≡ OpenFault.OutOfMemory)) }
     {
         PlainBooks::opened(alloc, user, token)
     }
@@ -73,13 +76,13 @@ impl PlainBooks {
     fn opened(alloc: Global, user: &[u8], token: Digest256) -> Result<PlainBooks, OpenFault>
         ensures tables { IfOk result (λ books. tables_of books ≡ opened user.now token) }
         ensures failures { IfOk result (λ books. failures_of books ≡ 0) }
-        ensures bad_first_user { IsErrOf result OpenFault.BadFirstUser ↔ IsBadFirstUser user.now token }
-        ensures fault { IfErr result (λ fault. (fault ≡ OpenFault.BadFirstUser) ⊎ (fault ≡ OpenFault.OutOfMemory)) }
+        ensures bad_first_user { let bad = IsErrOf result OpenFault.BadFirstUser in
+            bad ↔ IsBadFirstUser user.now token }
+        ensures fault { IfErr result (λ fault.
+            (fault ≡ OpenFault.BadFirstUser) ⊎ (fault ≡ OpenFault.OutOfMemory)) }
     {
         let (user, record) = first_user(alloc, user, token)?;
-        let mut users = Vec::new(alloc);
-        users.reserve(1)?;
-        entries::put(&mut users, user, record);
+        let users = entries::single(alloc, user, record)?;
         Ok(PlainBooks {
             users,
             names: Vec::new(alloc),

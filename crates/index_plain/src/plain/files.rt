@@ -1,8 +1,7 @@
 //! What is written where a file is uploaded or deleted.
 ghost use Rattle.std.specs.Prelude.{◌≡◌, ◌<◌, OnOk, OnErr, vec_len, vec_capacity};
 ghost use Rattle.index_rules.specs.declared.change.Change.TheVariants.{Delete, Upload};
-ghost use Rattle.index_rules.specs.Effect.{means};
-ghost use Rattle.index_plain.specs.Plain.{tables_of, failures_of};
+ghost use Rattle.index_plain.specs.Plain.{Writes, tables_of, failures_of};
 
 use crate::entries;
 use crate::plain::PlainBooks;
@@ -24,7 +23,8 @@ impl PlainBooks {
         requires names { vec_len self.old.names < vec_capacity self.old.names }
         requires files { vec_len self.old.files < vec_capacity self.old.files }
         requires bodies { vec_len self.old.bodies < vec_capacity self.old.bodies }
-        ensures written { OnOk result (tables_of self.new ≡ means (Upload name project file known body) (tables_of self.old)) }
+        ensures written { let change = Upload name project file known body in
+            OnOk result (Writes change self.old self.new) }
         ensures unchanged { OnErr result (tables_of self.new ≡ tables_of self.old) }
         ensures failures { failures_of self.new ≡ failures_of self.old }
     {
@@ -46,7 +46,7 @@ impl PlainBooks {
     )
         requires names { vec_len self.old.names < vec_capacity self.old.names }
         requires files { vec_len self.old.files < vec_capacity self.old.files }
-        ensures tables { tables_of self.new ≡ means (Delete name project file known) (tables_of self.old) }
+        ensures tables { Writes (Delete name project file known) self.old self.new }
         ensures failures { failures_of self.new ≡ failures_of self.old }
     {
         self.end_case(&name);

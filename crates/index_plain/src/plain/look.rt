@@ -1,5 +1,6 @@
 //! What the tables have at the keys of a call.
-ghost use Rattle.std.specs.Prelude.{◌≡◌, IfOk, option_map};
+ghost use Rattle.std.specs.Prelude.{◌≡◌, IfOk, option_and_then, option_map};
+ghost use Rattle.std.specs.FinMap.{get};
 ghost use Rattle.index_rules.specs.Facts.{AreOwners, IsBearer, IsBearerAs, Sees, at_both, caller_by, has_release_in, of_both, yank_in};
 ghost use Rattle.index_rules.specs.Tables.{owners_in};
 ghost use Rattle.index_plain.specs.Plain.{tables_of};
@@ -8,24 +9,119 @@ use crate::plain::PlainBooks;
 use crate::{entries, files, owners, sets};
 use index_digest::Digest256;
 use index_names::{NormalName, Release, Text};
-use index_rules::{Caller, Keys, Owners, UserId, UserRecord, View};
+use index_rules::{
+    Caller, CaseRecord, FileRecord, Keys, NameRecord, Owners, UserId, UserRecord, View,
+};
 use std::alloc::{AllocError, Global};
+
+/// What the tables have of users at the keys of a call.
+#[derive(Drop)]
+struct UsersSeen {
+    caller: Option<Caller>,
+    user: Option<UserRecord>,
+    bearer: Option<UserId>,
+}
+
+/// What they have of a name.
+#[derive(Drop)]
+struct NameSeen {
+    record: Option<NameRecord>,
+    owners: Owners,
+    case: Option<CaseRecord>,
+}
+
+/// What they have of a file and a release.
+#[derive(Drop)]
+struct FilesSeen {
+    file: Option<FileRecord>,
+    yank: Option<Text>,
+    has_release: bool,
+}
 
 impl PlainBooks {
     /// The records at the keys.
     pub(crate) fn look(&self, alloc: Global, keys: &Keys) -> Result<View, AllocError>
         ensures { IfOk result (Sees (tables_of self.now) keys.now) }
     {
+        let UsersSeen {
+            caller,
+            user,
+            bearer,
+        } = self.users_at(keys)?;
+        let FilesSeen {
+            file,
+            yank,
+            has_release,
+        } = self.files_at(keys)?;
+        let NameSeen {
+            record,
+            owners,
+            case,
+        } = self.name_at(alloc, &keys.name)?;
         Ok(View {
-            caller: self.caller(keys.caller)?,
-            user: entries::copy_at_key(self.users.as_slice(), &keys.user)?,
-            bearer: self.bearer_id(keys.token)?,
-            name: entries::copy_at_key(self.names.as_slice(), &keys.name)?,
-            owners: self.owners_by_key(alloc, &keys.name)?,
-            file: entries::copy_at_key(self.files.as_slice(), &keys.file)?,
-            yank: self.yank(&keys.name, &keys.release)?,
-            has_release: self.has_release(&keys.name, &keys.release),
-            case: entries::copy_at_key(self.cases.as_slice(), &keys.name)?,
+            caller,
+            user,
+            bearer,
+            name: record,
+            owners,
+            file,
+            yank,
+            has_release,
+            case,
+        })
+    }
+
+    fn users_at(&self, keys: &Keys) -> Result<UsersSeen, AllocError>
+        ensures caller { let k = keys.now in
+            IfOk result (λ seen. IsBearerAs caller_by (tables_of self.now) k.caller seen.caller) }
+        ensures user { let T = tables_of self.now in
+            IfOk result (λ seen. seen.user ≡ option_and_then (get T.users) keys.now.user) }
+        ensures bearer { let k = keys.now in
+            let T = tables_of self.now in
+            IfOk result (λ seen. IsBearerAs (λ user. user.0) T k.token seen.bearer) }
+    {
+        let user = entries::copy_at_key(self.users.as_slice(), &keys.user)?;
+        let caller = self.caller(keys.caller)?;
+        let bearer = self.bearer_id(keys.token)?;
+        Ok(UsersSeen {
+            caller,
+            user,
+            bearer,
+        })
+    }
+
+    fn files_at(&self, keys: &Keys) -> Result<FilesSeen, AllocError>
+        ensures file { let T = tables_of self.now in
+            IfOk result (λ seen. seen.file ≡ option_and_then (get T.files) keys.now.file) }
+        ensures yank { let T = tables_of self.now in let k = keys.now in
+            IfOk result (λ seen. seen.yank ≡ at_both (yank_in T) k.name k.release) }
+        ensures release { let T = tables_of self.now in let k = keys.now in
+            IfOk result (λ seen. seen.has_release ≡ of_both (has_release_in T) k.name k.release) }
+    {
+        let has_release = self.has_release(&keys.name, &keys.release);
+        let file = entries::copy_at_key(self.files.as_slice(), &keys.file)?;
+        let yank = self.yank(&keys.name, &keys.release)?;
+        Ok(FilesSeen {
+            file,
+            yank,
+            has_release,
+        })
+    }
+
+    fn name_at(&self, alloc: Global, name: &Option<NormalName>) -> Result<NameSeen, AllocError>
+        ensures record { let T = tables_of self.now in
+            IfOk result (λ seen. seen.record ≡ option_and_then (get T.names) name.now) }
+        ensures owners { IfOk result (λ seen. AreOwners (tables_of self.now) name.now seen.owners) }
+        ensures case { let T = tables_of self.now in
+            IfOk result (λ seen. seen.case ≡ option_and_then (get T.cases) name.now) }
+    {
+        let case = entries::copy_at_key(self.cases.as_slice(), name)?;
+        let owners = self.owners_by_key(alloc, name)?;
+        let record = entries::copy_at_key(self.names.as_slice(), name)?;
+        Ok(NameSeen {
+            record,
+            owners,
+            case,
         })
     }
 
@@ -57,7 +153,8 @@ impl PlainBooks {
         name: &Option<NormalName>,
         release: &Option<Release>,
     ) -> Result<Option<Text>, AllocError>
-        ensures { IfOk result (λ reason. reason ≡ at_both (yank_in (tables_of self.now)) name.now release.now) }
+        ensures { let T = tables_of self.now in
+            IfOk result (λ reason. reason ≡ at_both (yank_in T) name.now release.now) }
     {
         match (name, release) {
             (Some(name), Some(release)) => {
@@ -82,13 +179,14 @@ impl PlainBooks {
 
     /// Who bears the token with this digest. An entry counts where it is the first with its key.
     fn bearer(&self, token: Digest256) -> Option<(&UserId, UserRecord)>
-        ensures { IsBearer (tables_of self.now) token (option_map (λ user. (user.0.now, user.1)) result) }
+        ensures { let bearer = option_map (λ user. (user.0.now, user.1)) result in
+            IsBearer (tables_of self.now) token bearer }
     {
         let users = self.users.as_slice();
         for entry in users {
-            if entry.1.token == token {
+            if token == entry.1.token {
                 match entries::find(users, &entry.0) {
-                    Some(record) if record.token == token => return Some((&entry.0, *record)),
+                    Some(record) if token == record.token => return Some((&entry.0, *record)),
                     _ => {}
                 }
             }

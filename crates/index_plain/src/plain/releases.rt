@@ -1,8 +1,7 @@
 //! What is written of a release: of its files and its yank.
 ghost use Rattle.std.specs.Prelude.{◌≡◌, ◌<◌, OnOk, OnErr, true, vec_len, vec_capacity};
 ghost use Rattle.index_rules.specs.declared.change.Change.TheVariants.{Unyank, Yank};
-ghost use Rattle.index_rules.specs.Effect.{means};
-ghost use Rattle.index_plain.specs.Plain.{tables_of, failures_of, is_of_release};
+ghost use Rattle.index_plain.specs.Plain.{HasRoom, Writes, tables_of, failures_of, is_of_release};
 
 use crate::entries;
 use crate::plain::PlainBooks;
@@ -14,11 +13,8 @@ impl PlainBooks {
     /// Makes a change of a release, or leaves the tables as they were.
     pub(super) fn make_of_release(&mut self, change: Change) -> Result<(), AllocError>
         requires release { is_of_release change ≡ true }
-        requires names { vec_len self.old.names < vec_capacity self.old.names }
-        requires files { vec_len self.old.files < vec_capacity self.old.files }
-        requires bodies { vec_len self.old.bodies < vec_capacity self.old.bodies }
-        requires yanks { vec_len self.old.yanks < vec_capacity self.old.yanks }
-        ensures written { OnOk result (tables_of self.new ≡ means change (tables_of self.old)) }
+        requires room { HasRoom self.old }
+        ensures written { OnOk result (Writes change self.old self.new) }
         ensures unchanged { OnErr result (tables_of self.new ≡ tables_of self.old) }
         ensures failures { failures_of self.new ≡ failures_of self.old }
     {
@@ -50,7 +46,7 @@ impl PlainBooks {
     /// The release is yanked, for this reason, and the case ends.
     fn add_yank(&mut self, name: NormalName, release: Release, reason: Text)
         requires { vec_len self.old.yanks < vec_capacity self.old.yanks }
-        ensures tables { tables_of self.new ≡ means (Yank name release reason) (tables_of self.old) }
+        ensures tables { Writes (Yank name release reason) self.old self.new }
         ensures failures { failures_of self.new ≡ failures_of self.old }
     {
         self.end_case(&name);
@@ -59,7 +55,7 @@ impl PlainBooks {
 
     /// The release is yanked no more, and the case ends.
     fn remove_yank(&mut self, name: NormalName, release: Release)
-        ensures tables { tables_of self.new ≡ means (Unyank name release) (tables_of self.old) }
+        ensures tables { Writes (Unyank name release) self.old self.new }
         ensures failures { failures_of self.new ≡ failures_of self.old }
     {
         self.end_case(&name);
