@@ -27,9 +27,8 @@ impl PlainBooks {
                 project,
                 owner,
             } => self.claim(name, project, owner)?,
-            Change::Relinquish { name } => self.relinquish(&name),
+            Change::Relinquish { name } | Change::Allow { name } => self.relinquish(&name),
             Change::Prohibit { name } => self.prohibit(name),
-            Change::Allow { name } => entries::remove(&mut self.names, &name),
             _ => unreachable!(),
         }
         Ok(())
