@@ -1,0 +1,97 @@
+//! Transcripts: constant texts that have each request as a line of JSON, and below it `= ` and its answer, as they come
+//! in and go out. A line that begins with `#` says why. An empty line says nothing.
+use index_cli::apply_lines;
+use index_desk::Desk;
+use index_digest::Digest256;
+use index_plain::PlainBooks;
+use std::alloc::AllocGlobal;
+use std::process::Abort;
+use std::test::Fail;
+
+mod cases;
+mod deletes;
+mod long_runs;
+mod names;
+mod owners;
+mod prohibitions;
+mod quotas;
+mod uploads;
+mod users;
+mod yanks;
+
+/// The office adds ann, whose token is `abc`, and bob, whose token is `hello`.
+const USERS: &str = r#"
+{"at":1,"token":"office","do":"add_user","user":"ann","office":false,"token_sha256":"ba7816bf8f01cfea414140de5dae2223b00361a396177a9cb410ff61f20015ad"}
+= {"answer":"accepted"}
+{"at":1,"token":"office","do":"add_user","user":"bob","office":false,"token_sha256":"2cf24dba5fb0a30e26e83b2ac5b9e29e1b161e5c1fa7425e73043362938b9824"}
+= {"answer":"accepted"}
+"#;
+
+/// Then ann claims `frob`.
+const FROB: &str = r#"
+{"at":10,"token":"abc","do":"claim","name":"frob"}
+= {"answer":"accepted"}
+"#;
+
+/// Then ann uploads `frob-1.0.tar.gz`, the bytes `abc`.
+const FILE: &str = r#"
+{"at":11,"token":"abc","do":"upload","file":"frob-1.0.tar.gz","sha256":"ba7816bf8f01cfea414140de5dae2223b00361a396177a9cb410ff61f20015ad","hex":"616263","requires_python":""}
+= {"answer":"accepted"}
+"#;
+
+/// Or she uploads it later, and bob opens a case later still.
+const CASE: &str = r#"
+{"at":12092801,"token":"abc","do":"upload","file":"frob-1.0.tar.gz","sha256":"ba7816bf8f01cfea414140de5dae2223b00361a396177a9cb410ff61f20015ad","hex":"616263","requires_python":""}
+= {"answer":"accepted"}
+{"at":39999999,"token":"hello","do":"open_case","name":"frob","kind":"continue","contact":"mail","work":"fork","why":"used"}
+= {"answer":"accepted"}
+"#;
+
+/// Asks the requests of these texts in one run, at a desk whose one user is `office`, of the office, with the token
+/// `office`. Each is answered as the texts have it.
+fn assert_transcript(rt: &(impl Abort + AllocGlobal), texts: &[&str]) -> Result<(), Fail> {
+    let mut requests = String::new(rt.alloc());
+    let mut answers = String::new(rt.alloc());
+    for text in texts {
+        split(text, &mut requests, &mut answers)?;
+    }
+    let told = answers_to(rt, requests.as_str())?;
+    let asked_and_told = requests.lines().zip(told.lines());
+    for ((request, told), answer) in asked_and_told.zip(answers.lines()) {
+        assert_eq!(rt; told, answer, "{request}");
+    }
+    assert_eq!(rt; told.as_str(), answers.as_str());
+    Ok(())
+}
+
+/// Adds the requests and the answers of a transcript to others, a line each.
+fn split(text: &str, requests: &mut String, answers: &mut String) -> Result<(), Fail> {
+    for line in text.lines() {
+        match line.strip_prefix("= ") {
+            Some(answer) => writeln!(answers, "{answer}")?,
+            None if line.is_empty() || line.starts_with('#') => {}
+            None => writeln!(requests, "{line}")?,
+        }
+    }
+    Ok(())
+}
+
+/// What a new desk writes for these lines.
+fn answers_to(rt: &impl AllocGlobal, lines: &str) -> Result<String, Fail> {
+    let token = Digest256::of(b"office");
+    let mut desk = Desk::new(PlainBooks::new(rt.alloc(), b"office", token)?);
+    let mut reader = lines.as_bytes();
+    let mut written = Vec::new(rt.alloc());
+    apply_lines(rt.alloc(), &mut reader, &mut written, &mut desk)?;
+    let text = String::from_utf8(written).ok().ok_or("not UTF-8")?;
+    Ok(text)
+}
+
+/// A text so many times.
+fn repeated(rt: &impl AllocGlobal, text: &str, times: u64) -> Result<String, Fail> {
+    let mut whole = String::new(rt.alloc());
+    for _ in 0..times {
+        whole.push_str(text)?;
+    }
+    Ok(whole)
+}

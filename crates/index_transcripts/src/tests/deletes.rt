@@ -1,0 +1,93 @@
+//! Deletes, and what is left of a deleted file.
+use super::{FILE, FROB, USERS, assert_transcript};
+use std::test::Fail;
+
+/// A file without bytes is deleted, and its name is bound to no bytes.
+const BOUND: &str = r#"
+{"at":12,"token":"abc","do":"upload","file":"frob-1.1.tar.gz","sha256":"e3b0c44298fc1c149afbf4c8996fb92427ae41e4649b934ca495991b7852b855","hex":"","requires_python":""}
+= {"answer":"accepted"}
+{"do":"standing","name":"frob"}
+= {"case":null,"charge":3,"name":"frob","owners":["ann"],"quota":1073741824,"shown":"frob","state":"held"}
+{"at":13,"token":"abc","do":"delete","file":"frob-1.1.tar.gz"}
+= {"answer":"accepted"}
+{"do":"standing","name":"frob"}
+= {"case":null,"charge":3,"name":"frob","owners":["ann"],"quota":1073741824,"shown":"frob","state":"held"}
+{"at":14,"token":"abc","do":"upload","file":"frob-1.1.tar.gz","sha256":"ca978112ca1bbdcafac231b39a23dc4da786eff8147c4e72b9807785afee48bb","hex":"61","requires_python":""}
+= {"answer":"refused","code":24,"name":"FileNameTaken"}
+"#;
+
+#[test]
+fn a_deleted_file_name_stays_bound(rt: HostRuntime) -> Result<(), Fail> {
+    assert_transcript(&rt, &[USERS, FROB, FILE, BOUND])
+}
+
+const COMES_BACK: &str = r#"
+{"at":12,"token":"abc","do":"delete","file":"frob-1.0.tar.gz"}
+= {"answer":"accepted"}
+{"do":"standing","name":"frob"}
+= {"case":null,"charge":0,"name":"frob","owners":["ann"],"quota":1073741824,"shown":"frob","state":"held"}
+{"at":13,"token":"abc","do":"delete","file":"frob-1.0.tar.gz"}
+= {"answer":"already"}
+{"at":14,"token":"abc","do":"upload","file":"frob-1.0.tar.gz","sha256":"ca978112ca1bbdcafac231b39a23dc4da786eff8147c4e72b9807785afee48bb","hex":"61","requires_python":""}
+= {"answer":"refused","code":24,"name":"FileNameTaken"}
+{"at":15,"token":"abc","do":"upload","file":"frob-1.0.tar.gz","sha256":"ba7816bf8f01cfea414140de5dae2223b00361a396177a9cb410ff61f20015ad","hex":"616263","requires_python":""}
+= {"answer":"accepted"}
+{"do":"standing","name":"frob"}
+= {"case":null,"charge":3,"name":"frob","owners":["ann"],"quota":1073741824,"shown":"frob","state":"held"}
+{"at":16,"token":"abc","do":"delete","file":"frob-9.tar.gz"}
+= {"answer":"refused","code":22,"name":"NoFile"}
+"#;
+
+#[test]
+fn a_deleted_file_comes_back_with_its_bytes_alone(rt: HostRuntime) -> Result<(), Fail> {
+    assert_transcript(&rt, &[USERS, FROB, FILE, COMES_BACK])
+}
+
+const REFUSED: &str = r#"
+{"at":12,"token":"abc","do":"delete","file":"frob-1.0.zip"}
+= {"answer":"refused","code":6,"name":"BadFileName"}
+{"at":12,"token":"abc","do":"delete","file":"foo-1.0.tar.gz"}
+= {"answer":"refused","code":17,"name":"NoProject"}
+{"at":12,"token":"hello","do":"delete","file":"frob-1.0.tar.gz"}
+= {"answer":"refused","code":18,"name":"NotOwner"}
+{"at":12,"token":"hello","do":"delete","file":"frob-9.tar.gz"}
+= {"answer":"refused","code":18,"name":"NotOwner"}
+{"at":12,"token":"office","do":"delete","file":"frob-1.0.tar.gz"}
+= {"answer":"refused","code":18,"name":"NotOwner"}
+{"do":"standing","name":"frob"}
+= {"case":null,"charge":3,"name":"frob","owners":["ann"],"quota":1073741824,"shown":"frob","state":"held"}
+"#;
+
+#[test]
+fn deletes_are_refused(rt: HostRuntime) -> Result<(), Fail> {
+    assert_transcript(&rt, &[USERS, FROB, FILE, REFUSED])
+}
+
+/// The files of a name are bound to their bytes for its next owners too.
+const RELINQUISHED: &str = r#"
+{"at":12,"token":"abc","do":"relinquish","name":"frob"}
+= {"answer":"refused","code":21,"name":"FilesRemain"}
+{"at":13,"token":"hello","do":"relinquish","name":"frob"}
+= {"answer":"refused","code":18,"name":"NotOwner"}
+{"at":14,"token":"abc","do":"delete","file":"frob-1.0.tar.gz"}
+= {"answer":"accepted"}
+{"at":15,"token":"abc","do":"relinquish","name":"frob"}
+= {"answer":"accepted"}
+{"do":"standing","name":"frob"}
+= {"name":"frob","state":"free"}
+{"at":16,"token":"abc","do":"relinquish","name":"frob"}
+= {"answer":"refused","code":17,"name":"NoProject"}
+{"at":17,"token":"hello","do":"claim","name":"frob"}
+= {"answer":"accepted"}
+{"at":18,"token":"hello","do":"upload","file":"frob-1.0.tar.gz","sha256":"ca978112ca1bbdcafac231b39a23dc4da786eff8147c4e72b9807785afee48bb","hex":"61","requires_python":""}
+= {"answer":"refused","code":24,"name":"FileNameTaken"}
+{"at":19,"token":"hello","do":"upload","file":"frob-1.0.tar.gz","sha256":"ba7816bf8f01cfea414140de5dae2223b00361a396177a9cb410ff61f20015ad","hex":"616263","requires_python":""}
+= {"answer":"accepted"}
+{"do":"standing","name":"frob"}
+= {"case":null,"charge":3,"name":"frob","owners":["bob"],"quota":1073741824,"shown":"frob","state":"held"}
+"#;
+
+#[test]
+fn a_relinquished_name_is_free(rt: HostRuntime) -> Result<(), Fail> {
+    assert_transcript(&rt, &[USERS, FROB, FILE, RELINQUISHED])
+}
