@@ -17,6 +17,3 @@ pub use apply::apply_lines;
 pub use end::LineEnd;
 pub use line::{Line, read_line};
 pub use standing::standing_text;
-
-#[cfg(test)]
-mod tests;

@@ -8,6 +8,3 @@ mod standing;
 pub use desk::Desk;
 pub use output::write_bytes;
 pub use standing::{HeldName, Standing};
-
-#[cfg(test)]
-mod tests;

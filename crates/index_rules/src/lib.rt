@@ -29,6 +29,3 @@ pub use reading::read_token;
 pub use records::{CaseRecord, FileRecord, NameRecord, UserRecord};
 pub use user::{UserFault, UserId};
 pub use view::{Caller, Owners, View};
-
-#[cfg(test)]
-mod tests;

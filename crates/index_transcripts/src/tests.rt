@@ -56,11 +56,7 @@ fn assert_transcript(rt: &(impl Abort + AllocGlobal), texts: &[&str]) -> Result<
         split(text, &mut requests, &mut answers)?;
     }
     let told = answers_to(rt, requests.as_str())?;
-    let asked_and_told = requests.lines().zip(told.lines());
-    for ((request, told), answer) in asked_and_told.zip(answers.lines()) {
-        assert_eq!(rt; told, answer, "{request}");
-    }
-    assert_eq!(rt; told.as_str(), answers.as_str());
+    assert_lines(rt, requests.as_str(), told.as_str(), answers.as_str());
     Ok(())
 }
 
@@ -74,6 +70,15 @@ fn split(text: &str, requests: &mut String, answers: &mut String) -> Result<(), 
         }
     }
     Ok(())
+}
+
+/// What is told to requests is these answers.
+fn assert_lines(rt: &impl Abort, requests: &str, told: &str, answers: &str) {
+    let asked_and_told = requests.lines().zip(told.lines());
+    for ((request, told), answer) in asked_and_told.zip(answers.lines()) {
+        assert_eq!(rt; told, answer, "{request}");
+    }
+    assert_eq!(rt; told, answers);
 }
 
 /// What a new desk writes for these lines.

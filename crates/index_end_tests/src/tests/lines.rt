@@ -1,67 +1,89 @@
 //! What a line asks.
 use super::{OF_A, OF_ABC};
-use crate::{Line, read_line};
+use index_cli::{Line, read_line};
 use index_digest::Digest256;
 use index_rules::{Call, Request};
 use std::alloc::AllocGlobal;
+use std::process::Abort;
 use std::test::Fail;
 
-/// The request of a line, with its moment and the digest of its token.
-fn call_of(rt: &impl AllocGlobal, line: &str) -> Result<Call, Fail> {
-    match read_line(rt.alloc(), line.as_bytes())? {
-        Some(Line::Call(call)) => Ok(call),
-        _ => Err(Fail::from("no call")),
-    }
+/// Whether a line asks something.
+fn asks(rt: &impl AllocGlobal, line: &[u8]) -> Result<bool, Fail> {
+    let found = read_line(rt.alloc(), line)?;
+    let is_there = found.is_some();
+    drop(found);
+    Ok(is_there)
+}
+
+/// Whether this is the claim of a name at a moment by the bearer of a token.
+fn is_claim(line: &Option<Line>, moment: u64, digest: Digest256, text: &str) -> bool {
+    let Some(Line::Call(Call { at, token, request })) = line else {
+        return false;
+    };
+    let Request::Claim { name } = request else {
+        return false;
+    };
+    *at == moment && *token == digest && name.as_slice() == text.as_bytes()
+}
+
+fn assert_claim(
+    rt: &(impl Abort + AllocGlobal),
+    line: &str,
+    moment: u64,
+    digest: Digest256,
+    name: &str,
+) -> Result<(), Fail> {
+    let found = read_line(rt.alloc(), line.as_bytes())?;
+    let is_claim = is_claim(&found, moment, digest, name);
+    drop(found);
+    assert!(rt; is_claim, "{line}");
+    Ok(())
 }
 
 #[test]
 fn reads_a_claim_in_any_order(rt: HostRuntime) -> Result<(), Fail> {
-    let lines = [
+    let digest = Digest256::read_hex(OF_ABC.as_bytes()).ok_or("no digest")?;
+    for line in [
         r#"{"at":2,"token":"abc","do":"claim","name":"Frob._-Nest"}"#,
         r#"{ "name":"Frob._-Nest","do":"claim", "token":"abc","at":2}"#,
-    ];
-    let digest = Digest256::read_hex(OF_ABC.as_bytes());
-    for line in lines {
-        let Call { at, token, request } = call_of(&rt, line)?;
-        assert_eq!(rt; at, 2);
-        assert_eq!(rt; Some(token), digest);
-        let Request::Claim { name } = request else {
-            return Err(Fail::from("no claim"));
-        };
-        assert_eq!(rt; name.as_slice(), b"Frob._-Nest".as_slice());
+    ] {
+        assert_claim(&rt, line, 2, digest, "Frob._-Nest")?;
     }
     Ok(())
 }
 
-/// The lines that ask nothing, and the least numbers past a `u64`.
+/// Lines that ask nothing, the first of them empty, with the least numbers past a `u64`.
+const NO_LINES: &str = r#"
+{}
+[]
+claim
+{"do":"claim","name":"a"}
+{"at":1,"token":"t","do":"claim"}
+{"at":1,"token":"t","do":"claim","name":"a","x":1}
+{"at":1,"token":"t","do":"claim","name":1}
+{"at":1,"token":"t","do":"lay_claim","name":"a"}
+{"at":1.0,"token":"t","do":"claim","name":"a"}
+{"at":1e2,"token":"t","do":"claim","name":"a"}
+{"at":-1,"token":"t","do":"claim","name":"a"}
+{"at":18446744073709551616,"token":"t","do":"claim","name":"a"}
+{"at":1,"token":1,"do":"claim","name":"a"}
+{"at":1,"token":"t","do":"standing","name":"a"}
+{"do":"standing"}"#;
+
 #[test]
 fn refuses_what_is_no_line(rt: HostRuntime) -> Result<(), Fail> {
-    let lines = [
-        "",
-        "{}",
-        "[]",
-        "claim",
-        r#"{"do":"claim","name":"a"}"#,
-        r#"{"at":1,"token":"t","do":"claim"}"#,
-        r#"{"at":1,"token":"t","do":"claim","name":"a","x":1}"#,
-        r#"{"at":1,"token":"t","do":"claim","name":1}"#,
-        r#"{"at":1,"token":"t","do":"lay_claim","name":"a"}"#,
-        r#"{"at":1.0,"token":"t","do":"claim","name":"a"}"#,
-        r#"{"at":1e2,"token":"t","do":"claim","name":"a"}"#,
-        r#"{"at":-1,"token":"t","do":"claim","name":"a"}"#,
-        r#"{"at":18446744073709551616,"token":"t","do":"claim","name":"a"}"#,
-        r#"{"at":1,"token":1,"do":"claim","name":"a"}"#,
-        r#"{"at":1,"token":"t","do":"standing","name":"a"}"#,
-        r#"{"do":"standing"}"#,
-    ];
-    for line in lines {
-        assert!(rt; read_line(rt.alloc(), line.as_bytes())?.is_none(), "{line}");
+    for line in NO_LINES.lines() {
+        assert!(rt; !asks(&rt, line.as_bytes())?, "{line}");
     }
-    let not_utf8 = b"{\"do\":\"standing\",\"name\":\"\xff\"}".as_slice();
-    assert!(rt; read_line(rt.alloc(), not_utf8)?.is_none());
-    let greatest = r#"{"at":18446744073709551615,"token":"t","do":"claim","name":"a"}"#;
-    assert_eq!(rt; call_of(&rt, greatest)?.at, 18_446_744_073_709_551_615);
+    assert!(rt; !asks(&rt, b"{\"do\":\"standing\",\"name\":\"\xff\"}")?);
     Ok(())
+}
+
+#[test]
+fn reads_the_greatest_number(rt: HostRuntime) -> Result<(), Fail> {
+    let line = r#"{"at":18446744073709551615,"token":"t","do":"claim","name":"a"}"#;
+    let digest = Digest256::of(b"t");
+    assert_claim(&rt, line, 18_446_744_073_709_551_615, digest, "a")
 }
 
 /// Rows with their own keys.
@@ -133,16 +155,40 @@ const NO_ROWS: &str = r#""do":"add_user","user":"u","token_sha256":"t"
 "do":"answer_case","name":1
 "do":"answer_case","name":"a","x":1"#;
 
-#[test]
-fn reads_the_keys_of_each_row(rt: HostRuntime) -> Result<(), Fail> {
-    for (rows, are_calls) in [(ROWS, true), (NO_ROWS, false)] {
-        for members in rows.lines() {
-            let line = format!(in rt.alloc(); "{{\"at\":1,\"token\":\"t\",{members}}}")?;
-            let found = read_line(rt.alloc(), line.as_bytes())?;
-            assert_eq!(rt; found.is_some(), are_calls, "{line}");
-        }
+/// Each of these rows, with a moment and a token, asks something, or none does.
+fn assert_rows(rt: &(impl Abort + AllocGlobal), rows: &str, are_calls: bool) -> Result<(), Fail> {
+    for members in rows.lines() {
+        let line = format!(in rt.alloc(); "{{\"at\":1,\"token\":\"t\",{members}}}")?;
+        assert!(rt; asks(rt, line.as_bytes())? == are_calls, "{line}");
     }
     Ok(())
+}
+
+#[test]
+fn reads_the_keys_of_each_row(rt: HostRuntime) -> Result<(), Fail> {
+    assert_rows(&rt, ROWS, true)?;
+    assert_rows(&rt, NO_ROWS, false)
+}
+
+/// Whether this is an upload of the file `f` with the digest of `a`, the bytes `JZ`, 0 and 255, and `é` of Python.
+fn is_upload(line: &Option<Line>) -> bool {
+    let Some(Line::Call(call)) = line else {
+        return false;
+    };
+    match &call.request {
+        Request::Upload {
+            file,
+            sha256,
+            body,
+            requires_python,
+        } => {
+            file.as_slice() == b"f".as_slice()
+                && sha256.as_slice() == OF_A.as_bytes()
+                && body.as_slice() == b"JZ\x00\xff".as_slice()
+                && requires_python.as_slice() == b"\xc3\xa9".as_slice()
+        }
+        _ => false,
+    }
 }
 
 #[test]
@@ -150,18 +196,9 @@ fn an_upload_brings_its_bytes(rt: HostRuntime) -> Result<(), Fail> {
     let line = format!(in rt.alloc();
         "{{\"at\":1,\"token\":\"t\",\"do\":\"upload\",\"file\":\"f\",\"sha256\":\"{OF_A}\",\"hex\":\"4a5A00fF\",\"requires_python\":\"é\"}}"
     )?;
-    let Request::Upload {
-        file,
-        sha256,
-        body,
-        requires_python,
-    } = call_of(&rt, line.as_str())?.request
-    else {
-        return Err(Fail::from("no upload"));
-    };
-    assert_eq!(rt; file.as_slice(), b"f".as_slice());
-    assert_eq!(rt; sha256.as_slice(), OF_A.as_bytes());
-    assert_eq!(rt; body.as_slice(), b"JZ\x00\xff".as_slice());
-    assert_eq!(rt; requires_python.as_slice(), b"\xc3\xa9".as_slice());
+    let found = read_line(rt.alloc(), line.as_bytes())?;
+    let is_upload = is_upload(&found);
+    drop(found);
+    assert!(rt; is_upload);
     Ok(())
 }

@@ -1,0 +1,77 @@
+//! The tables in memory: that changes and looks succeed, and what a look finds after them.
+//!
+//! A script has a line for each change that is written and each look. A look is followed by ` = ` and what it finds,
+//! where `-` stands for nothing.
+use super::token;
+use index_plain::PlainBooks;
+use index_rules::{Books, OpenFault};
+use std::alloc::{AllocGlobal, Global};
+use std::process::Abort;
+use std::test::Fail;
+
+mod case_changes;
+mod changes;
+mod file_changes;
+mod looks;
+mod scripts;
+
+use changes::change_of;
+use looks::found_by;
+
+/// Books whose one user is `office`, with the token `office`.
+fn opened(alloc: Global) -> Result<PlainBooks, Fail> {
+    Ok(PlainBooks::new(alloc, b"office", token("office"))?)
+}
+
+/// Writes and looks, line by line, at new books.
+fn assert_script(rt: &(impl Abort + AllocGlobal), scripts: &[&str]) -> Result<(), Fail> {
+    let mut books = opened(rt.alloc())?;
+    for script in scripts {
+        for line in script.lines() {
+            follow(rt, &mut books, line)?;
+        }
+    }
+    Ok(())
+}
+
+/// Writes a line's change, or looks and finds what the line says.
+fn follow(rt: &(impl Abort + AllocGlobal), books: &mut PlainBooks, line: &str) -> Result<(), Fail> {
+    match line.split_once(" = ") {
+        Some((look, want)) => assert_found(rt, books, look, want),
+        None => write(rt.alloc(), books, line),
+    }
+}
+
+fn write(alloc: Global, books: &mut PlainBooks, line: &str) -> Result<(), Fail> {
+    let change = change_of(alloc, line)?;
+    Ok(books.write(alloc, change)?)
+}
+
+fn assert_found(
+    rt: &(impl Abort + AllocGlobal),
+    books: &mut PlainBooks,
+    look: &str,
+    want: &str,
+) -> Result<(), Fail> {
+    let found = found_by(rt.alloc(), books, look)?;
+    assert_eq!(rt; found.as_str(), want, "{look}");
+    Ok(())
+}
+
+/// Whether no books are opened with this first user and this text for a token.
+fn is_bad_first_user(alloc: Global, user: &str, text: &str) -> bool {
+    let opened = PlainBooks::new(alloc, user.as_bytes(), token(text));
+    let is_bad = matches!(&opened, Err(OpenFault::BadFirstUser));
+    drop(opened);
+    is_bad
+}
+
+#[test]
+fn a_bad_first_user_is_refused(rt: HostRuntime) {
+    let alloc = rt.alloc();
+    let too_long = "abcdefghijklmnopqrstuvwxyz0123456";
+    assert!(rt; is_bad_first_user(alloc, "Office", "office"));
+    assert!(rt; is_bad_first_user(alloc, "office", ""));
+    assert!(rt; is_bad_first_user(alloc, "", "office"));
+    assert!(rt; is_bad_first_user(alloc, too_long, "office"));
+}

@@ -1,0 +1,76 @@
+//! What no clause says of `write_bytes`: which ends come.
+use index_desk::write_bytes;
+use std::alloc::AllocGlobal;
+use std::io;
+use std::io::{Error, ErrorKind, Write};
+use std::process::Abort;
+
+/// Takes so many bytes at a time, and so many in all; from then on no byte, or a failure.
+struct Short {
+    taken: Vec<u8>,
+    room: usize,
+    at_a_time: usize,
+    fails: bool,
+}
+
+impl Drop for Short {
+    fn drop(self) {
+        let Short {
+            taken: _taken,
+            room: _room,
+            at_a_time: _at_a_time,
+            fails: _fails,
+        } = self;
+    }
+}
+
+impl Write for Short {
+    fn write(&mut self, buf: &[u8]) -> io::Result<usize> {
+        if self.room == 0 && self.fails {
+            return Err(Error::from(ErrorKind::BrokenPipe));
+        }
+        let count = buf.len().min(self.room).min(self.at_a_time);
+        self.taken.extend_from_slice(&buf[..count])?;
+        self.room -= count;
+        Ok(count)
+    }
+
+    fn flush(&mut self) -> io::Result<()> {
+        Ok(())
+    }
+}
+
+/// Just these bytes of a text go out to a writer: the write succeeds where they are all, and else tells how many.
+fn assert_taken(
+    rt: &(impl Abort + AllocGlobal),
+    text: &str,
+    room: usize,
+    at_a_time: usize,
+    fails: bool,
+    taken: &str,
+) {
+    let mut writer = Short {
+        taken: Vec::new(rt.alloc()),
+        room,
+        at_a_time,
+        fails,
+    };
+    let ended = write_bytes(&mut writer, text.as_bytes());
+    let want = if taken == text {
+        Ok(())
+    } else {
+        Err(taken.len())
+    };
+    let is_taken = writer.taken.as_slice() == taken.as_bytes();
+    assert!(rt; ended == want && is_taken, "room {room}");
+}
+
+#[test]
+fn bytes_go_out_as_far_as_they_are_taken(rt: HostRuntime) {
+    assert_taken(&rt, "accepted", 100, 100, true, "accepted");
+    assert_taken(&rt, "accepted", 8, 1, true, "accepted");
+    assert_taken(&rt, "accepted", 5, 100, false, "accep");
+    assert_taken(&rt, "accepted", 5, 1, true, "accep");
+    assert_taken(&rt, "accepted", 0, 1, false, "");
+    assert_taken(&rt, "", 0, 1, true, "");
+}

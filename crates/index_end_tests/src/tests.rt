@@ -1,0 +1,89 @@
+//! Desks, and lines asked of them.
+use index_cli::{LineEnd, apply_lines};
+use index_desk::Desk;
+use index_digest::Digest256;
+use index_plain::PlainBooks;
+use index_rules::Books;
+use std::alloc::AllocGlobal;
+use std::io::Read;
+use std::process::Abort;
+use std::test::Fail;
+
+mod answers;
+mod ends;
+mod fakes;
+mod faults;
+mod interruptions;
+mod lines;
+
+/// The SHA-256 digest of `abc`, an example of FIPS 180-4.
+const OF_ABC: &str = "ba7816bf8f01cfea414140de5dae2223b00361a396177a9cb410ff61f20015ad";
+
+/// The SHA-256 digest of `a`.
+const OF_A: &str = "ca978112ca1bbdcafac231b39a23dc4da786eff8147c4e72b9807785afee48bb";
+
+/// The office adds ann, whose token is `abc`, and bob, whose token is `hello`.
+const USERS: &str =
+    r#"{"at":1,"token":"office","do":"add_user","user":"ann","office":false,"token_sha256":"ba7816bf8f01cfea414140de5dae2223b00361a396177a9cb410ff61f20015ad"}
+{"at":1,"token":"office","do":"add_user","user":"bob","office":false,"token_sha256":"2cf24dba5fb0a30e26e83b2ac5b9e29e1b161e5c1fa7425e73043362938b9824"}
+"#;
+
+/// A claim by ann, and one by bob.
+const CLAIM: &str = r#"{"at":2,"token":"abc","do":"claim","name":"frob"}"#;
+
+const OTHER_CLAIM: &str = r#"{"at":2,"token":"hello","do":"claim","name":"nest"}"#;
+
+/// Both, of which the second has no line feed.
+const BOTH_CLAIMS: &str = r#"{"at":2,"token":"abc","do":"claim","name":"frob"}
+{"at":2,"token":"hello","do":"claim","name":"nest"}"#;
+
+const ACCEPTED: &str = "{\"answer\":\"accepted\"}\n";
+
+const TWICE_ACCEPTED: &str = "{\"answer\":\"accepted\"}\n{\"answer\":\"accepted\"}\n";
+
+const ALREADY: &str = "{\"answer\":\"already\"}\n";
+
+const BAD_BODY: &str = "{\"answer\":\"message\",\"name\":\"BadBody\"}\n";
+
+const STANDING_OF_NEST: &str = r#"{"do":"standing","name":"nest"}"#;
+
+const NEST_IS_FREE: &str = "{\"name\":\"nest\",\"state\":\"free\"}\n";
+
+/// Tables whose one user is `office`, of the office, with the token `office`.
+fn new_books(rt: &impl AllocGlobal) -> Result<PlainBooks, Fail> {
+    let token = Digest256::of(b"office");
+    Ok(PlainBooks::new(rt.alloc(), b"office", token)?)
+}
+
+/// A desk with the users ann and bob.
+fn desk_with_users(rt: &(impl Abort + AllocGlobal)) -> Result<Desk<PlainBooks>, Fail> {
+    let mut desk = Desk::new(new_books(rt)?);
+    assert_answers(rt, &mut desk, USERS, TWICE_ACCEPTED);
+    Ok(desk)
+}
+
+/// A run over what a reader gives ends so, and writes these answers.
+fn assert_run<R: Read, B: Books>(
+    rt: &(impl Abort + AllocGlobal),
+    desk: &mut Desk<B>,
+    reader: &mut R,
+    ended: Result<u64, LineEnd>,
+    answers: &str,
+) {
+    let mut written = Vec::new(rt.alloc());
+    let found = apply_lines(rt.alloc(), reader, &mut written, desk);
+    assert_eq!(rt; written.as_slice(), answers.as_bytes());
+    assert_eq!(rt; found, ended);
+}
+
+/// Asks these lines, which are answered so, each by one line.
+fn assert_answers<B: Books>(
+    rt: &(impl Abort + AllocGlobal),
+    desk: &mut Desk<B>,
+    lines: &str,
+    answers: &str,
+) {
+    let mut reader = lines.as_bytes();
+    let count = answers.lines().count() as u64;
+    assert_run(rt, desk, &mut reader, Ok(count), answers);
+}

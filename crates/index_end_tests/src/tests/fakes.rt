@@ -1,0 +1,170 @@
+//! Readers, writers and books that fail.
+use index_digest::Sealed;
+use index_names::{FileName, NormalName};
+use index_plain::PlainBooks;
+use index_rules::{Books, Change, Fault, Keys, Owners, View};
+use std::alloc::Global;
+use std::io;
+use std::io::{Error, ErrorKind, Read, Write};
+
+/// Gives its bytes, and then fails.
+#[derive(Drop)]
+pub(super) struct FailingReader<'a> {
+    pub(super) rest: &'a [u8],
+}
+
+impl Read for FailingReader<'_> {
+    fn read(&mut self, buf: &mut [u8]) -> io::Result<usize> {
+        if self.rest.is_empty() {
+            return Err(Error::from(ErrorKind::ConnectionReset));
+        }
+        Read::read(&mut self.rest, buf)
+    }
+}
+
+/// Takes so many bytes; from then on none, or it fails.
+pub(super) struct FullWriter {
+    pub(super) taken: Vec<u8>,
+    pub(super) room: usize,
+    pub(super) fails: bool,
+}
+
+impl Drop for FullWriter {
+    fn drop(self) {
+        let FullWriter {
+            taken: _taken,
+            room: _room,
+            fails: _fails,
+        } = self;
+    }
+}
+
+impl Write for FullWriter {
+    fn write(&mut self, buf: &[u8]) -> io::Result<usize> {
+        if self.room == 0 && self.fails {
+            return Err(Error::from(ErrorKind::BrokenPipe));
+        }
+        let count = buf.len().min(self.room);
+        self.taken.extend_from_slice(&buf[..count])?;
+        self.room -= count;
+        Ok(count)
+    }
+
+    fn flush(&mut self) -> io::Result<()> {
+        Ok(())
+    }
+}
+
+/// Gives its bytes. Each read is interrupted once, and then tried again.
+#[derive(Drop)]
+pub(super) struct InterruptedReader<'a> {
+    pub(super) rest: &'a [u8],
+    pub(super) was_interrupted: bool,
+}
+
+impl Read for InterruptedReader<'_> {
+    fn read(&mut self, buf: &mut [u8]) -> io::Result<usize> {
+        self.was_interrupted = !self.was_interrupted;
+        if self.was_interrupted {
+            return Err(Error::from(ErrorKind::Interrupted));
+        }
+        Read::read(&mut self.rest, buf)
+    }
+}
+
+/// Takes at most three bytes at a time. Each write is interrupted once, and then tried again.
+pub(super) struct InterruptedWriter {
+    pub(super) taken: Vec<u8>,
+    pub(super) was_interrupted: bool,
+}
+
+impl Drop for InterruptedWriter {
+    fn drop(self) {
+        let InterruptedWriter {
+            taken: _taken,
+            was_interrupted: _was_interrupted,
+        } = self;
+    }
+}
+
+impl Write for InterruptedWriter {
+    fn write(&mut self, buf: &[u8]) -> io::Result<usize> {
+        self.was_interrupted = !self.was_interrupted;
+        if self.was_interrupted {
+            return Err(Error::from(ErrorKind::Interrupted));
+        }
+        let count = buf.len().min(3);
+        self.taken.extend_from_slice(&buf[..count])?;
+        Ok(count)
+    }
+
+    fn flush(&mut self) -> io::Result<()> {
+        Ok(())
+    }
+}
+
+/// A call of the books.
+#[derive(Clone, Copy, Debug, PartialEq, Eq, Hash)]
+pub(super) enum BooksCall {
+    View,
+    Write,
+    OwnersOf,
+    BytesOf,
+}
+
+/// Books of which one call fails, or none. No contract knows what they hold.
+pub(super) struct FailingBooks {
+    pub(super) books: PlainBooks,
+    pub(super) failing: Option<BooksCall>,
+    pub(super) fault: Fault,
+}
+
+impl Drop for FailingBooks {
+    fn drop(self) {
+        let FailingBooks {
+            books: _books,
+            failing: _failing,
+            fault: _fault,
+        } = self;
+    }
+}
+
+impl Books for FailingBooks {
+    ghost use Rattle.std.specs.FinMap.{empty};
+    ghost use Rattle.index_rules.specs.Failures.{last_count};
+
+    ghost tables = { λ _. record { users = empty; names = empty; owners = empty; files = empty; bodies = empty; yanks = empty; cases = empty } };
+
+    ghost IsHonest = { λ _. ⊥ };
+
+    ghost failures = { λ _. last_count };
+
+    fn view(&mut self, alloc: Global, keys: &Keys) -> Result<View, Fault> {
+        if self.failing == Some(BooksCall::View) {
+            return Err(self.fault);
+        }
+        self.books.view(alloc, keys)
+    }
+
+    fn write(&mut self, alloc: Global, change: Change) -> Result<(), Fault> {
+        if self.failing == Some(BooksCall::Write) {
+            drop(change);
+            return Err(self.fault);
+        }
+        self.books.write(alloc, change)
+    }
+
+    fn owners_of(&mut self, alloc: Global, name: &NormalName) -> Result<Owners, Fault> {
+        if self.failing == Some(BooksCall::OwnersOf) {
+            return Err(self.fault);
+        }
+        self.books.owners_of(alloc, name)
+    }
+
+    fn bytes_of(&mut self, alloc: Global, file: &FileName) -> Result<Option<Sealed>, Fault> {
+        if self.failing == Some(BooksCall::BytesOf) {
+            return Err(self.fault);
+        }
+        self.books.bytes_of(alloc, file)
+    }
+}
