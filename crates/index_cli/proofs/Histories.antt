@@ -9,11 +9,11 @@ use Rattle.index_rules.specs.Legal.{history_after, IsLegal}
 use Rattle.index_rules.proofs.StandsOn.{CarriesOn-answer}
 use Rattle.index_desk.specs.Standings.{standing_in}
 use Rattle.index_desk.proofs.StandingLemmas.{IsStandingAfter-standing_in}
-use Rattle.index_cli.specs.Line.{line_of}
+use Rattle.index_json.specs.Line.{line_of}
 use Rattle.index_cli.specs.Told.{Tells, TellsLine, TellsStanding, Told}
 use Rattle.index_cli.specs.ToldAfter.{TellsAfter, TellsLineAfter, TellsStandingAfter, TellsHistory}
-use Rattle.index_cli.specs.declared.line.Line.{Line}
-use Rattle.index_cli.specs.declared.line.Line.TheVariants as line
+use Rattle.index_json.specs.declared.line.Line.{Line}
+use Rattle.index_json.specs.declared.line.Line.TheVariants as line
 
 standing_after : (h : History) (T : Tables) → StandsFor T h → (name : Option (List ℕ)) (text : List ℕ) → TellsStanding T name text → TellsStandingAfter h name text
 standing_after h T stands None text tells = tells

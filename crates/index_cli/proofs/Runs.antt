@@ -4,8 +4,8 @@ use Rattle.std.specs.Io.KnownBytes.{Appends, Consumes, IsAtEnd}
 use Rattle.std.proofs.KnownBytes.{Appends-trans, Appends-nil}
 use Rattle.std.proofs.Math.Seq.{take-append-add}
 use Rattle.index_rules.specs.Tables.{Tables}
-use Rattle.index_cli.specs.AnswerText.{bad_body_text}
-use Rattle.index_cli.specs.Line.{line_of}
+use Rattle.index_json.specs.AnswerText.{bad_body_text}
+use Rattle.index_json.specs.Line.{line_of}
 use Rattle.index_cli.specs.Lines.{lines_of, IsInput, TakesLine}
 use Rattle.index_cli.specs.Told.{Tells, TellsLine, Told}
 use Rattle.index_cli.proofs.Cuts.{Cuts, Cuts-input, Cuts-nil, Cuts-push, Cuts-whole}

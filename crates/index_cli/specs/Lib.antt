@@ -1,8 +1,3 @@
-pub mod Json
-pub mod Requests
-pub mod Line
-pub mod AnswerText
-pub mod StandingText
 pub mod Lines
 pub mod Told
 pub mod Printed

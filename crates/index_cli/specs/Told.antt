@@ -9,11 +9,11 @@ use Rattle.index_rules.specs.Tables.{Tables}
 use Rattle.index_rules.specs.Verdict.{verdict_now}
 use Rattle.index_rules.specs.Runs.{Answers, tables_after}
 use Rattle.index_desk.specs.Standings.{standing_in}
-use Rattle.index_cli.specs.AnswerText.{answer_text_of, bad_body_text}
-use Rattle.index_cli.specs.StandingText.{standing_text_of}
-use Rattle.index_cli.specs.Line.{line_of}
-use Rattle.index_cli.specs.declared.line.Line.{Line}
-use Rattle.index_cli.specs.declared.line.Line.TheVariants as line
+use Rattle.index_json.specs.AnswerText.{answer_text_of, bad_body_text}
+use Rattle.index_json.specs.StandingText.{standing_text_of}
+use Rattle.index_json.specs.Line.{line_of}
+use Rattle.index_json.specs.declared.line.Line.{Line}
+use Rattle.index_json.specs.declared.line.Line.TheVariants as line
 use Rattle.index_cli.specs.declared.reply.Reply.{Reply}
 use Rattle.index_cli.specs.declared.reply.Reply.TheVariants.{Fixed, Made}
 

@@ -12,11 +12,11 @@ use Rattle.index_rules.specs.StandsFor.{StandsFor}
 use Rattle.index_rules.specs.Legal.{verdict_after, history_after, IsLegal}
 use Rattle.index_desk.specs.declared.standing.Standing.{Standing}
 use Rattle.index_desk.specs.Standings.{IsStandingAfter}
-use Rattle.index_cli.specs.AnswerText.{answer_text_of, bad_body_text}
-use Rattle.index_cli.specs.StandingText.{standing_text_of}
-use Rattle.index_cli.specs.Line.{line_of}
-use Rattle.index_cli.specs.declared.line.Line.{Line}
-use Rattle.index_cli.specs.declared.line.Line.TheVariants as line
+use Rattle.index_json.specs.AnswerText.{answer_text_of, bad_body_text}
+use Rattle.index_json.specs.StandingText.{standing_text_of}
+use Rattle.index_json.specs.Line.{line_of}
+use Rattle.index_json.specs.declared.line.Line.{Line}
+use Rattle.index_json.specs.declared.line.Line.TheVariants as line
 
 -- what is told of the standing of a name, where it can be read: the standing after the history, or a fault
 abbrev pub TellsStandingAfter : History → Option (List ℕ) → List ℕ → Type 0

@@ -2,15 +2,13 @@
 ghost use Rattle.std.specs.Prelude.{◌≡◌, ℕ, List, Some, length, take, IfErr, IfOk, OnErr};
 ghost use Rattle.index_rules.specs.Facts.{HasOneBearer};
 ghost use Rattle.index_rules.specs.Sound.{IsSound};
-ghost use Rattle.index_cli.specs.Line.{line_of};
+ghost use Rattle.index_json.specs.Line.{line_of};
 ghost use Rattle.index_cli.specs.Told.{Tells, TellsLine, reply_text};
 
-use crate::answer::{answer_text, bad_body};
 use crate::end::LineEnd;
 use crate::input::LONGEST_LINE;
-use crate::line::{Line, read_line};
-use crate::standing::standing_text;
 use index_desk::Desk;
+use index_json::{Line, answer_text, bad_body, read_line, standing_text};
 use index_names::{NameFault, normal};
 use index_rules::{Answer, Books, Fault, Refusal};
 use std::alloc::Global;

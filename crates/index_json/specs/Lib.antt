@@ -1,0 +1,5 @@
+pub mod Json
+pub mod Requests
+pub mod Line
+pub mod AnswerText
+pub mod StandingText

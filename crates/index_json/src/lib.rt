@@ -1,0 +1,12 @@
+//! Requests, answers and standings as JSON texts.
+#![tactic(auto)]
+
+mod answer;
+mod line;
+mod members;
+mod request;
+mod standing;
+
+pub use answer::{answer_text, bad_body};
+pub use line::{Line, read_line};
+pub use standing::standing_text;
