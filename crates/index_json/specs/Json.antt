@@ -1,5 +1,5 @@
 -- The JSON value that bytes are, and what its members say.
-use Rattle.std.specs.Prelude.{ℕ, Bool, List, if◌then◌else◌, Option, Some, None, option_map, option_and_then, unwrap_or}
+use Rattle.std.specs.Prelude.{ℕ, Bool, List, if◌then◌else◌, Option, None, option_map, option_and_then, unwrap_or}
 use Rattle.std.specs.Str.{is_utf8}
 use Rattle.std.specs.Result.{result_ok}
 use Rattle.hex.specs.Hex.{decode_of}
@@ -7,12 +7,6 @@ use Rattle.serde_json.specs.Data.{Data}
 use Rattle.serde_json.specs.Events.{members_len}
 use Rattle.serde_json.specs.Read.{read}
 use Rattle.serde_json.specs.Find.{get, as_object, as_str, as_bool, as_number, as_u64}
-
--- the next step, where this one gave something
-infixl 10 ◌>>=◌
-abbrev pub ◌>>=◌ : {A B : Type 0} → Option A → (A → Option B) → Option B
-None >>= f = None
-Some x >>= f = f x
 
 -- the value of a JSON text, which has to be UTF-8 (RFC 8259, sections 2 and 8.1)
 abbrev pub json_of : List ℕ → Option Data

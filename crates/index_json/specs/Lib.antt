@@ -1,4 +1,6 @@
 pub mod Json
+pub mod Object
+pub mod Reading
 pub mod Requests
 pub mod Line
 pub mod AnswerText

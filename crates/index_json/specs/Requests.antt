@@ -1,78 +1,94 @@
--- The rows of requests: a key `do` with the row's name, the row's own keys, and no key beside these and `others` more.
-use Rattle.std.specs.Prelude.{ℕ, ◌+◌, ◌==◌, List, if◌then◌else◌, Option, Some, None, bytes_eq, codes}
-use Rattle.serde_json.specs.Data.{Data}
+-- The rows of requests: a key `do` with the row's name, the row's own keys, and no key beside these and the others.
+use Rattle.std.specs.Prelude.{ℕ, List, if◌then◌else◌, Option, Some, None, bytes_eq, codes, option_and_then}
 use Rattle.index_retention.specs.declared.attempts.CaseKind.{CaseKind}
 use Rattle.index_retention.specs.declared.attempts.CaseKind.TheVariants.{Continue, Reuse}
 use Rattle.index_retention.specs.declared.attempts.Means.{Means}
 use Rattle.index_retention.specs.declared.attempts.Means.TheVariants.{Profile, Author, Pages}
 use Rattle.index_rules.specs.declared.call.Request.{Request}
 use Rattle.index_rules.specs.declared.call.Request.TheVariants.{AddUser, SetToken, SetQuota, Claim, AddOwner, RemoveOwner, Upload, Delete, Yank, Unyank, Relinquish, Prohibit, Allow, OpenCase, RecordAttempt, Transfer, CloseCase, AnswerCase}
-use Rattle.index_json.specs.Json.{◌>>=◌, key_count, text_at, number_at, flag_at, hex_bytes}
+use Rattle.index_json.specs.Json.{hex_bytes, json_of}
+use Rattle.index_json.specs.Object.{alone}
+use Rattle.index_json.specs.Reading.{Reading, ◌>>=◌, flag, given, has_keys, number, text, texts}
 
--- the request, of an object with so many keys
-abbrev pub sized : ℕ → Data → Request → Option Request
-sized keys value request = if key_count value == keys then Some request else None
+-- a row of one text
+abbrev pub one_text : List ℕ → Reading (List ℕ)
+one_text key = do
+  _ ← has_keys 2
+  text key
 
--- ---- rows of one form, by what is made of their keys
+-- a row of two texts
+abbrev pub two_texts : List ℕ → List ℕ → Reading (List ℕ × List ℕ)
+two_texts first second = do
+  _ ← has_keys 3
+  texts first second
 
-abbrev pub name_row : (List ℕ → Request) → ℕ → Data → Option Request
-name_row request others value = do
-  name ← text_at (codes "name") value
-  sized (others + 2) value (request name)
+-- ---- rows on users
 
-abbrev pub owner_row : (List ℕ → List ℕ → Request) → ℕ → Data → Option Request
-owner_row request others value = do
-  name ← text_at (codes "name") value
-  user ← text_at (codes "user") value
-  sized (others + 3) value (request name user)
+abbrev pub add_user_row : Reading Request
+add_user_row = do
+  _ ← has_keys 4
+  office ← flag (codes "office")
+  found ← texts (codes "user") (codes "token_sha256")
+  given (Some (AddUser found.0 office found.1))
 
--- ---- the other rows
+abbrev pub set_token_row : Reading Request
+set_token_row = do
+  found ← two_texts (codes "user") (codes "token_sha256")
+  given (Some (SetToken found.0 found.1))
 
-abbrev pub add_user_of : ℕ → Data → Option Request
-add_user_of others value = do
-  user ← text_at (codes "user") value
-  office ← flag_at (codes "office") value
-  token ← text_at (codes "token_sha256") value
-  sized (others + 4) value (AddUser user office token)
+-- ---- rows on names
 
-abbrev pub set_token_of : ℕ → Data → Option Request
-set_token_of others value = do
-  user ← text_at (codes "user") value
-  token ← text_at (codes "token_sha256") value
-  sized (others + 3) value (SetToken user token)
+-- a row of a name alone
+abbrev pub named : (List ℕ → Request) → Reading Request
+named request = do
+  name ← one_text (codes "name")
+  given (Some (request name))
 
-abbrev pub set_quota_of : ℕ → Data → Option Request
-set_quota_of others value = do
-  name ← text_at (codes "name") value
-  quota ← number_at (codes "quota") value
-  sized (others + 3) value (SetQuota name quota)
+-- a row of a name and a user
+abbrev pub owned : (List ℕ → List ℕ → Request) → Reading Request
+owned request = do
+  found ← two_texts (codes "name") (codes "user")
+  given (Some (request found.0 found.1))
 
-abbrev pub upload_of : ℕ → Data → Option Request
-upload_of others value = do
-  file ← text_at (codes "file") value
-  sha256 ← text_at (codes "sha256") value
-  digits ← text_at (codes "hex") value
-  body ← hex_bytes digits
-  requires ← text_at (codes "requires_python") value
-  sized (others + 5) value (Upload file sha256 body requires)
+abbrev pub set_quota_row : Reading Request
+set_quota_row = do
+  _ ← has_keys 3
+  quota ← number (codes "quota")
+  name ← text (codes "name")
+  given (Some (SetQuota name quota))
 
-abbrev pub delete_of : ℕ → Data → Option Request
-delete_of others value = do
-  file ← text_at (codes "file") value
-  sized (others + 2) value (Delete file)
+-- ---- rows on files
 
-abbrev pub yank_of : ℕ → Data → Option Request
-yank_of others value = do
-  name ← text_at (codes "name") value
-  release ← text_at (codes "release") value
-  reason ← text_at (codes "reason") value
-  sized (others + 4) value (Yank name release reason)
+-- the bytes at a key, in hex digits
+abbrev pub body : Reading (List ℕ)
+body = do
+  digits ← text (codes "hex")
+  given (hex_bytes digits)
 
-abbrev pub unyank_of : ℕ → Data → Option Request
-unyank_of others value = do
-  name ← text_at (codes "name") value
-  release ← text_at (codes "release") value
-  sized (others + 3) value (Unyank name release)
+abbrev pub upload_row : Reading Request
+upload_row = do
+  _ ← has_keys 5
+  body ← body
+  requires ← text (codes "requires_python")
+  found ← texts (codes "file") (codes "sha256")
+  given (Some (Upload found.0 found.1 body requires))
+
+abbrev pub delete_row : Reading Request
+delete_row = do
+  file ← one_text (codes "file")
+  given (Some (Delete file))
+
+abbrev pub yank_row : Reading Request
+yank_row = do
+  _ ← has_keys 4
+  reason ← text (codes "reason")
+  found ← texts (codes "name") (codes "release")
+  given (Some (Yank found.0 found.1 reason))
+
+abbrev pub unyank_row : Reading Request
+unyank_row = do
+  found ← two_texts (codes "name") (codes "release")
+  given (Some (Unyank found.0 found.1))
 
 -- ---- rows on retention cases
 
@@ -89,65 +105,84 @@ means_named word =
     else if bytes_eq word (codes "pages") then Some Pages
     else None
 
--- the kind of a case, as its text says
-abbrev pub kind_at : Data → Option CaseKind
-kind_at value = text_at (codes "kind") value >>= kind_named
+abbrev pub case_kind : Reading CaseKind
+case_kind = do
+  word ← text (codes "kind")
+  given (kind_named word)
 
--- the means of an attempt, as its text says
-abbrev pub means_at : Data → Option Means
-means_at value = text_at (codes "means") value >>= means_named
+abbrev pub attempt_means : Reading Means
+attempt_means = do
+  word ← text (codes "means")
+  given (means_named word)
 
-abbrev pub open_case_of : ℕ → Data → Option Request
-open_case_of others value = do
-  name ← text_at (codes "name") value
-  kind ← kind_at value
-  contact ← text_at (codes "contact") value
-  work ← text_at (codes "work") value
-  why ← text_at (codes "why") value
-  sized (others + 6) value (OpenCase name kind contact work why)
+abbrev pub open_case_row : Reading Request
+open_case_row = do
+  _ ← has_keys 6
+  kind ← case_kind
+  found ← texts (codes "name") (codes "contact")
+  more ← texts (codes "work") (codes "why")
+  given (Some (OpenCase found.0 kind found.1 more.0 more.1))
 
-abbrev pub record_attempt_of : ℕ → Data → Option Request
-record_attempt_of others value = do
-  name ← text_at (codes "name") value
-  means ← means_at value
-  sent ← flag_at (codes "sent") value
-  sized (others + 4) value (RecordAttempt name means sent)
+abbrev pub record_attempt_row : Reading Request
+record_attempt_row = do
+  _ ← has_keys 4
+  means ← attempt_means
+  sent ← flag (codes "sent")
+  name ← text (codes "name")
+  given (Some (RecordAttempt name means sent))
 
-abbrev pub transfer_of : ℕ → Data → Option Request
-transfer_of others value = do
-  name ← text_at (codes "name") value
-  quiet ← flag_at (codes "quiet") value
-  sized (others + 3) value (Transfer name quiet)
+abbrev pub transfer_row : Reading Request
+transfer_row = do
+  _ ← has_keys 3
+  quiet ← flag (codes "quiet")
+  name ← text (codes "name")
+  given (Some (Transfer name quiet))
 
-abbrev pub case_request_by : List ℕ → ℕ → Data → Option Request
-case_request_by word others value =
-    if bytes_eq word (codes "open_case") then open_case_of others value
-    else if bytes_eq word (codes "record_attempt") then record_attempt_of others value
-    else if bytes_eq word (codes "transfer") then transfer_of others value
-    else if bytes_eq word (codes "close_case") then name_row CloseCase others value
-    else if bytes_eq word (codes "answer_case") then name_row AnswerCase others value
+-- ---- the row that a word names
+
+abbrev pub case_row : List ℕ → Reading Request
+case_row word = λ object.
+    if bytes_eq word (codes "open_case") then open_case_row object
+    else if bytes_eq word (codes "record_attempt") then record_attempt_row object
+    else if bytes_eq word (codes "transfer") then transfer_row object
+    else if bytes_eq word (codes "close_case") then named CloseCase object
+    else if bytes_eq word (codes "answer_case") then named AnswerCase object
     else None
 
--- ---- the row that an object names
+abbrev pub file_row : List ℕ → Reading Request
+file_row word = λ object.
+    if bytes_eq word (codes "upload") then upload_row object
+    else if bytes_eq word (codes "delete") then delete_row object
+    else if bytes_eq word (codes "yank") then yank_row object
+    else if bytes_eq word (codes "unyank") then unyank_row object
+    else case_row word object
 
-abbrev pub request_by : List ℕ → ℕ → Data → Option Request
-request_by word others value =
-    if bytes_eq word (codes "add_user") then add_user_of others value
-    else if bytes_eq word (codes "set_token") then set_token_of others value
-    else if bytes_eq word (codes "set_quota") then set_quota_of others value
-    else if bytes_eq word (codes "prohibit") then name_row Prohibit others value
-    else if bytes_eq word (codes "allow") then name_row Allow others value
-    else if bytes_eq word (codes "claim") then name_row Claim others value
-    else if bytes_eq word (codes "relinquish") then name_row Relinquish others value
-    else if bytes_eq word (codes "add_owner") then owner_row AddOwner others value
-    else if bytes_eq word (codes "remove_owner") then owner_row RemoveOwner others value
-    else if bytes_eq word (codes "upload") then upload_of others value
-    else if bytes_eq word (codes "delete") then delete_of others value
-    else if bytes_eq word (codes "yank") then yank_of others value
-    else if bytes_eq word (codes "unyank") then unyank_of others value
-    else case_request_by word others value
+abbrev pub owner_row : List ℕ → Reading Request
+owner_row word = λ object.
+    if bytes_eq word (codes "claim") then named Claim object
+    else if bytes_eq word (codes "relinquish") then named Relinquish object
+    else if bytes_eq word (codes "add_owner") then owned AddOwner object
+    else if bytes_eq word (codes "remove_owner") then owned RemoveOwner object
+    else file_row word object
 
-abbrev pub request_within : ℕ → Data → Option Request
-request_within others value = do
-  word ← text_at (codes "do") value
-  request_by word others value
+abbrev pub name_row : List ℕ → Reading Request
+name_row word = λ object.
+    if bytes_eq word (codes "set_quota") then set_quota_row object
+    else if bytes_eq word (codes "prohibit") then named Prohibit object
+    else if bytes_eq word (codes "allow") then named Allow object
+    else owner_row word object
+
+abbrev pub user_row : List ℕ → Reading Request
+user_row word = λ object.
+    if bytes_eq word (codes "add_user") then add_user_row object
+    else if bytes_eq word (codes "set_token") then set_token_row object
+    else name_row word object
+
+abbrev pub request_row : Reading Request
+request_row = do
+  word ← text (codes "do")
+  user_row word
+
+-- the request that bytes of JSON are, with the keys of its row alone
+unfoldable pub request_of : List ℕ → Option Request
+request_of bytes = option_and_then (λ value. request_row (alone value)) (json_of bytes)

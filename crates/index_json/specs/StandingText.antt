@@ -1,11 +1,13 @@
 -- The text of a standing: compact JSON with keys in byte order.
 use Rattle.std.specs.Prelude.{ℕ, List, map, Option, Some, None, codes}
-use Rattle.serde_json.specs.Data.{Data, null, boolean, number, unsigned, string, array, object, no_members, member}
+use Rattle.serde_json.specs.Data.{Data, null, boolean, number, unsigned, string, array, object, Members, no_members, member, put}
 use Rattle.serde_json.specs.View.{items_of}
 use Rattle.serde_json.specs.Written.{compact_text}
 use Rattle.index_retention.specs.declared.attempts.CaseKind.{CaseKind}
 use Rattle.index_retention.specs.declared.attempts.CaseKind.TheVariants.{Continue, Reuse}
+use Rattle.index_retention.specs.declared.attempts.CaseState.{CaseState}
 use Rattle.index_rules.specs.declared.records.CaseRecord.{CaseRecord}
+use Rattle.index_rules.specs.declared.records.Project.{Project}
 use Rattle.index_desk.specs.declared.standing.HeldName.{HeldName}
 use Rattle.index_desk.specs.declared.standing.Standing.{Standing}
 use Rattle.index_desk.specs.declared.standing.Standing.TheVariants as standing
@@ -68,3 +70,43 @@ standing_value (standing.Held held) = held_value held
 
 unfoldable pub standing_text_of : Standing → List ℕ
 standing_text_of standing = compact_text (standing_value standing)
+
+-- ---- the same by what is put into an object, whatever the order
+
+abbrev pub name_put : List ℕ → List ℕ → Members → Members
+name_put name state members = put (codes "state") (string state) (put (codes "name") (string name) members)
+
+abbrev pub project_put : Project → Members → Members
+project_put project members =
+    put (codes "shown") (string project.shown) (put (codes "quota") (whole project.quota) (put (codes "charge") (whole project.charge) members))
+
+abbrev pub held_put : HeldName → Members → Members
+held_put held members =
+    name_put held.name (codes "held") (project_put held.project (put (codes "owners") (texts held.owners) (put (codes "case") (case_value held.case) members)))
+
+abbrev pub standing_put : Standing → Members → Members
+standing_put (standing.Free name) members = name_put name (codes "free") members
+standing_put (standing.Prohibited name) members = name_put name (codes "prohibited") members
+standing_put (standing.Held held) members = held_put held members
+
+abbrev pub means_put : CaseState → Members → Members
+means_put state members =
+    put (codes "profile") (boolean state.profile) (put (codes "pages") (boolean state.pages) (put (codes "author") (boolean state.author) members))
+
+abbrev pub times_put : CaseRecord → Members → Members
+times_put opened members =
+    put (codes "sent") (whole opened.state.sent)
+    (put (codes "opened") (whole opened.opened)
+    (put (codes "first") (moment_value opened.state.first)
+    (put (codes "attempts") (whole opened.state.attempts) members)))
+
+abbrev pub case_texts_put : CaseRecord → Members → Members
+case_texts_put opened members =
+    put (codes "work") (string opened.work)
+    (put (codes "why") (string opened.why)
+    (put (codes "kind") (string (kind_text opened.kind))
+    (put (codes "contact") (string opened.contact)
+    (put (codes "candidate") (string opened.candidate) members))))
+
+abbrev pub case_put : CaseRecord → Members → Members
+case_put opened members = case_texts_put opened (times_put opened (means_put opened.state members))

@@ -3,10 +3,10 @@
 
 mod answer;
 mod line;
-mod members;
 mod request;
+mod row;
 mod standing;
 
 pub use answer::{answer_text, bad_body};
-pub use line::{Line, read_line};
+pub use line::{Line, read_line, read_request};
 pub use standing::standing_text;

@@ -1,15 +1,21 @@
-//! Lines of input.
-ghost use Rattle.std.specs.Prelude.{◌≡◌, option_map, IfOk, IfErr};
+//! Lines of input, and requests alone.
+ghost use Rattle.std.specs.Prelude.{◌≡◌, IfOk, IfErr};
 ghost use Rattle.serde_json.specs.View.{view};
 ghost use Rattle.index_json.specs.Json.{json_of};
-ghost use Rattle.index_json.specs.Line.{call_of, line_of, line_within, standing_of};
+ghost use Rattle.index_json.specs.Line.{call_row, line_in as line_in_lem, line_of};
+ghost use Rattle.index_json.specs.Object.{object_of};
+ghost use Rattle.index_json.specs.Reading.{Reads};
+ghost use Rattle.index_json.specs.Requests.{request_of};
 
-use crate::members;
-use crate::request::request_in;
+use crate::request::{one_text, request_in};
+use crate::row::{Row, Unread};
 use index_digest::Digest256;
-use index_rules::{Bytes, Call, Fault};
+use index_rules::{Bytes, Call, Fault, Request};
 use serde_json::Value;
 use std::alloc::Global;
+
+/// How many keys of a call's object are none of its request's: its moment and its token.
+const CALL_KEYS: usize = 2;
 
 /// What a line of input asks.
 #[derive(Debug, Drop)]
@@ -27,62 +33,71 @@ pub fn read_line(alloc: Global, line: &[u8]) -> Result<Option<Line>, Fault>
     ensures line { IfOk result (λ read. read ≡ line_of line.now) }
     ensures memory { IfErr result (λ fault. fault ≡ Fault.OutOfMemory) }
 {
-    match parse(alloc, line)? {
-        Some(value) => line_in(alloc, &value),
-        None => Ok(None),
+    match line_read(alloc, line) {
+        Ok(line) => Ok(Some(line)),
+        Err(Unread::NoRow) => Ok(None),
+        Err(Unread::OutOfMemory) => Err(Fault::OutOfMemory),
     }
 }
 
-/// The value that bytes of JSON are. `None` where they are none.
-fn parse(alloc: Global, bytes: &[u8]) -> Result<Option<Value>, Fault>
-    ensures value { IfOk result (λ value. option_map view value ≡ json_of bytes.now) }
+/// The request that bytes of JSON are, with the keys of its row alone. `None` where they are none.
+/// The one fault is `OutOfMemory`.
+#[tactic(auto, unfolding(crate::specs::Requests::request_of))]
+pub fn read_request(alloc: Global, bytes: &[u8]) -> Result<Option<Request>, Fault>
+    ensures request { IfOk result (λ read. read ≡ request_of bytes.now) }
     ensures memory { IfErr result (λ fault. fault ≡ Fault.OutOfMemory) }
+{
+    match request_read(alloc, bytes) {
+        Ok(request) => Ok(Some(request)),
+        Err(Unread::NoRow) => Ok(None),
+        Err(Unread::OutOfMemory) => Err(Fault::OutOfMemory),
+    }
+}
+
+#[tactic(auto, unfolding(crate::specs::Line::line_of))]
+fn line_read(alloc: Global, line: &[u8]) -> Result<Line, Unread>
+    ensures { Reads result (line_of line.now) }
+{
+    let value = parse(alloc, line)?;
+    line_in(alloc, &value)
+}
+
+#[tactic(auto, unfolding(crate::specs::Requests::request_of))]
+fn request_read(alloc: Global, bytes: &[u8]) -> Result<Request, Unread>
+    ensures { Reads result (request_of bytes.now) }
+{
+    let value = parse(alloc, bytes)?;
+    request_in(alloc, &Row::of(&value, 0))
+}
+
+/// The value that bytes of JSON are. Bytes that are none are of no row.
+fn parse(alloc: Global, bytes: &[u8]) -> Result<Value, Unread>
+    ensures value { IfOk result (λ value. json_of bytes.now ≡ Some (view value)) }
+    ensures none { result ≡ Err Unread.NoRow → json_of bytes.now ≡ None }
 {
     match Value::from_slice(alloc, bytes) {
-        Ok(value) => Ok(Some(value)),
-        Err(error) if error.is_memory() => Err(Fault::OutOfMemory),
-        Err(_) => Ok(None),
+        Ok(value) => Ok(value),
+        Err(error) if error.is_memory() => Err(Unread::OutOfMemory),
+        Err(_) => Err(Unread::NoRow),
     }
 }
 
-fn line_in(alloc: Global, value: &Value) -> Result<Option<Line>, Fault>
-    ensures line { IfOk result (λ line. line ≡ line_within (view value.now)) }
-    ensures memory { IfErr result (λ fault. fault ≡ Fault.OutOfMemory) }
+fn line_in(alloc: Global, value: &Value) -> Result<Line, Unread>
+    ensures { Reads result (line_in_lem (view value.now)) }
 {
-    match members::text(value, "do") {
-        Some("standing") => standing_in(alloc, value),
-        Some(_) => call_in(alloc, value),
-        None => Ok(None),
+    let alone = Row::of(value, 0);
+    match alone.text("do")? {
+        "standing" => Ok(Line::Standing(one_text(alloc, &alone, "name")?)),
+        _ => call_in(alloc, &Row::of(value, CALL_KEYS)),
     }
 }
 
-fn standing_in(alloc: Global, value: &Value) -> Result<Option<Line>, Fault>
-    ensures line { IfOk result (λ line. line ≡ standing_of (view value.now)) }
-    ensures memory { IfErr result (λ fault. fault ≡ Fault.OutOfMemory) }
+fn call_in(alloc: Global, row: &Row<'_>) -> Result<Line, Unread>
+    ensures { Reads result (call_row (object_of row.now)) }
 {
-    let Some(name) = members::text(value, "name") else {
-        return Ok(None);
-    };
-    if members::count(value) != 2 {
-        return Ok(None);
-    }
-    let name = Bytes::copy_of(alloc, name.as_bytes())?;
-    Ok(Some(Line::Standing(name)))
-}
-
-fn call_in(alloc: Global, value: &Value) -> Result<Option<Line>, Fault>
-    ensures line { IfOk result (λ line. line ≡ call_of (view value.now)) }
-    ensures memory { IfErr result (λ fault. fault ≡ Fault.OutOfMemory) }
-{
-    let Some(at) = members::number(value, "at") else {
-        return Ok(None);
-    };
-    let Some(token) = members::text(value, "token") else {
-        return Ok(None);
-    };
-    let Some(request) = request_in(alloc, value, 2)? else {
-        return Ok(None);
-    };
+    let at = row.number("at")?;
+    let token = row.text("token")?;
+    let request = request_in(alloc, row)?;
     let token = Digest256::of(token.as_bytes());
-    Ok(Some(Line::Call(Call { at, token, request })))
+    Ok(Line::Call(Call { at, token, request }))
 }

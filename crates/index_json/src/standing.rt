@@ -1,12 +1,17 @@
 //! The text of a standing.
-ghost use Rattle.std.specs.Prelude.{◌≡◌, IfOk, IfErr, string_bytes};
-ghost use Rattle.serde_json.specs.View.{view};
-ghost use Rattle.index_json.specs.StandingText.{case_value as case_value_lem, held_value as held_value_lem, kind_text as kind_text_lem, open_case_value as open_case_value_lem, standing_text_of, standing_value as standing_value_lem, texts};
+//!
+//! The members of an object are put into a map by functions that own nothing, and an object is made of it at one place:
+//! so no exit has a map to drop.
+ghost use Rattle.std.specs.Prelude.{◌≡◌, IfErr, IfOk, Ok, OnOk, string_bytes};
+ghost use Rattle.serde_json.specs.Data.{object, put as put_lem, string};
+ghost use Rattle.serde_json.specs.View.{members_view, view};
+ghost use Rattle.index_json.specs.StandingText.{case_value as case_value_lem, case_texts_put, case_put, held_put, kind_text as kind_text_lem, means_put, name_put, open_case_value as open_case_value_lem, project_put, standing_put, standing_text_of, standing_value as standing_value_lem, texts, times_put};
 
 use index_desk::{HeldName, Standing};
-use index_retention::CaseKind;
-use index_rules::{CaseRecord, Fault, UserId};
-use serde_json::{Value, json};
+use index_names::NormalName;
+use index_retention::{CaseKind, CaseState};
+use index_rules::{CaseRecord, Fault, Project, UserId};
+use serde_json::{Map, Value, put};
 use std::alloc::{AllocError, Global};
 
 /// The standing as compact JSON, with keys in byte order. The one fault is `OutOfMemory`.
@@ -14,41 +19,104 @@ pub fn standing_text(alloc: Global, standing: &Standing) -> Result<String, Fault
     ensures text { IfOk result (λ text. string_bytes text ≡ standing_text_of standing.now) }
     ensures memory { IfErr result (λ fault. fault ≡ Fault.OutOfMemory) }
 {
-    Ok(standing_value(alloc, standing)?.to_string(alloc)?)
+    let value = standing_value(alloc, standing)?;
+    let text = value.to_string(alloc);
+    drop(value);
+    Ok(text?)
 }
 
 fn standing_value(alloc: Global, standing: &Standing) -> Result<Value, AllocError>
     ensures { IfOk result (λ value. view value ≡ standing_value_lem standing.now) }
 {
-    match standing {
-        Standing::Free { name } => {
-            let name = name.text();
-            json!(in alloc; {"name": name, "state": "free"})
+    let mut members = Map::new(alloc);
+    let done = put_standing(&mut members, alloc, standing);
+    object_of(members, done)
+}
+
+/// The object of these members, where putting them was done.
+fn object_of(members: Map<String, Value>, done: Result<(), AllocError>) -> Result<Value, AllocError>
+    ensures { IfOk result (λ value. (done ≡ Ok tt)
+        × (view value ≡ object (members_view members.entries))) }
+{
+    match done {
+        Ok(()) => Ok(Value::Object(members)),
+        Err(error) => {
+            drop(members);
+            Err(error)
         }
-        Standing::Prohibited { name } => {
-            let name = name.text();
-            json!(in alloc; {"name": name, "state": "prohibited"})
-        }
-        Standing::Held(held) => held_value(alloc, held),
     }
 }
 
-fn held_value(alloc: Global, held: &HeldName) -> Result<Value, AllocError>
-    ensures { IfOk result (λ value. view value ≡ held_value_lem held.now) }
+fn put_standing(
+    members: &mut Map<String, Value>,
+    alloc: Global,
+    standing: &Standing,
+) -> Result<(), AllocError>
+    ensures { OnOk result (members_view members.new.entries
+        ≡ standing_put standing.now (members_view members.old.entries)) }
 {
-    let case = case_value(alloc, &held.case)?;
-    let owners = owners_value(alloc, held.owners.as_slice())?;
-    let name = held.name.text();
-    let shown = held.project.shown.as_str();
-    json!(in alloc; {
-        "case": case,
-        "charge": held.project.charge,
-        "name": name,
-        "owners": owners,
-        "quota": held.project.quota,
-        "shown": shown,
-        "state": "held"
-    })
+    match standing {
+        Standing::Free { name } => put_name(members, alloc, name, "free"),
+        Standing::Prohibited { name } => put_name(members, alloc, name, "prohibited"),
+        Standing::Held(held) => put_held(members, alloc, held),
+    }
+}
+
+fn put_name(
+    members: &mut Map<String, Value>,
+    alloc: Global,
+    name: &NormalName,
+    state: &str,
+) -> Result<(), AllocError>
+    ensures { OnOk result (members_view members.new.entries
+        ≡ name_put name.now state.now (members_view members.old.entries)) }
+{
+    put_text(members, alloc, "name", name.text())?;
+    put_text(members, alloc, "state", state)
+}
+
+fn put_held(
+    members: &mut Map<String, Value>,
+    alloc: Global,
+    held: &HeldName,
+) -> Result<(), AllocError>
+    ensures { OnOk result (members_view members.new.entries
+        ≡ held_put held.now (members_view members.old.entries)) }
+{
+    put(members, alloc, "case", case_value(alloc, &held.case)?)?;
+    put(
+        members,
+        alloc,
+        "owners",
+        owners_value(alloc, held.owners.as_slice())?,
+    )?;
+    put_project(members, alloc, &held.project)?;
+    put_name(members, alloc, &held.name, "held")
+}
+
+fn put_project(
+    members: &mut Map<String, Value>,
+    alloc: Global,
+    project: &Project,
+) -> Result<(), AllocError>
+    ensures { OnOk result (members_view members.new.entries
+        ≡ project_put project.now (members_view members.old.entries)) }
+{
+    put(members, alloc, "charge", Value::from(project.charge))?;
+    put(members, alloc, "quota", Value::from(project.quota))?;
+    put_text(members, alloc, "shown", project.shown.as_str())
+}
+
+fn put_text(
+    members: &mut Map<String, Value>,
+    alloc: Global,
+    key: &str,
+    text: &str,
+) -> Result<(), AllocError>
+    ensures { OnOk result (members_view members.new.entries
+        ≡ put_lem key.now (string text.now) (members_view members.old.entries)) }
+{
+    put(members, alloc, key, Value::try_from_str(alloc, text)?)
 }
 
 fn owners_value(alloc: Global, owners: &[UserId]) -> Result<Value, AllocError>
@@ -73,25 +141,71 @@ fn case_value(alloc: Global, case: &Option<CaseRecord>) -> Result<Value, AllocEr
 fn open_case_value(alloc: Global, case: &CaseRecord) -> Result<Value, AllocError>
     ensures { IfOk result (λ value. view value ≡ open_case_value_lem case.now) }
 {
-    let candidate = case.candidate.text();
-    let contact = case.contact.as_str();
-    let kind = kind_text(case.kind);
-    let why = case.why.as_str();
-    let work = case.work.as_str();
-    json!(in alloc; {
-        "attempts": case.state.attempts(),
-        "author": case.state.author(),
-        "candidate": candidate,
-        "contact": contact,
-        "first": case.state.first(),
-        "kind": kind,
-        "opened": case.opened,
-        "pages": case.state.pages(),
-        "profile": case.state.profile(),
-        "sent": case.state.sent(),
-        "why": why,
-        "work": work
-    })
+    let mut members = Map::new(alloc);
+    let done = put_case(&mut members, alloc, case);
+    object_of(members, done)
+}
+
+fn put_case(
+    members: &mut Map<String, Value>,
+    alloc: Global,
+    case: &CaseRecord,
+) -> Result<(), AllocError>
+    ensures { OnOk result (members_view members.new.entries
+        ≡ case_put case.now (members_view members.old.entries)) }
+{
+    put_means(members, alloc, &case.state)?;
+    put_times(members, alloc, case)?;
+    put_case_texts(members, alloc, case)
+}
+
+/// Which means had an attempt.
+fn put_means(
+    members: &mut Map<String, Value>,
+    alloc: Global,
+    state: &CaseState,
+) -> Result<(), AllocError>
+    ensures { OnOk result (members_view members.new.entries
+        ≡ means_put state.now (members_view members.old.entries)) }
+{
+    put(members, alloc, "author", Value::Bool(state.author()))?;
+    put(members, alloc, "pages", Value::Bool(state.pages()))?;
+    put(members, alloc, "profile", Value::Bool(state.profile()))
+}
+
+/// How many attempts a case has, and its moments.
+fn put_times(
+    members: &mut Map<String, Value>,
+    alloc: Global,
+    case: &CaseRecord,
+) -> Result<(), AllocError>
+    ensures { OnOk result (members_view members.new.entries
+        ≡ times_put case.now (members_view members.old.entries)) }
+{
+    put(
+        members,
+        alloc,
+        "attempts",
+        Value::from(case.state.attempts()),
+    )?;
+    put(members, alloc, "first", Value::from(case.state.first()))?;
+    put(members, alloc, "opened", Value::from(case.opened))?;
+    put(members, alloc, "sent", Value::from(case.state.sent()))
+}
+
+fn put_case_texts(
+    members: &mut Map<String, Value>,
+    alloc: Global,
+    case: &CaseRecord,
+) -> Result<(), AllocError>
+    ensures { OnOk result (members_view members.new.entries
+        ≡ case_texts_put case.now (members_view members.old.entries)) }
+{
+    put_text(members, alloc, "candidate", case.candidate.text())?;
+    put_text(members, alloc, "contact", case.contact.as_str())?;
+    put_text(members, alloc, "kind", kind_text(case.kind))?;
+    put_text(members, alloc, "why", case.why.as_str())?;
+    put_text(members, alloc, "work", case.work.as_str())
 }
 
 fn kind_text(kind: CaseKind) -> &'static str

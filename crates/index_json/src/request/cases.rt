@@ -1,130 +1,82 @@
 //! The rows of requests on retention cases (PEP 541).
-ghost use Rattle.std.specs.Prelude.{◌≡◌, ◌≤◌, IfOk, IfErr};
-ghost use Rattle.serde_json.specs.View.{view};
-ghost use Rattle.index_json.specs.Requests.{case_request_by, kind_at as kind_at_lem, means_at as means_at_lem, open_case_of, record_attempt_of, transfer_of};
+ghost use Rattle.index_json.specs.Object.{object_of};
+ghost use Rattle.index_json.specs.Reading.{Reads};
+ghost use Rattle.index_json.specs.Requests.{attempt_means as attempt_means_lem, case_kind as case_kind_lem, case_row, open_case_row, record_attempt_row, transfer_row};
 
-use super::of_name;
-use crate::members;
+use super::one_text;
+use crate::row::{Row, Unread};
 use index_retention::{CaseKind, Means};
-use index_rules::{Bytes, Fault, Request};
-use serde_json::Value;
+use index_rules::Request;
 use std::alloc::Global;
 
-/// The request on a case of an object whose `do` is this word. `None` where it is of no such row.
-pub fn request_named(
-    alloc: Global,
-    word: &str,
-    value: &Value,
-    others: usize,
-) -> Result<Option<Request>, Fault>
-    requires { others ≤ 2 }
-    ensures request { IfOk result (λ request. request ≡ case_request_by word.now others (view value.now)) }
-    ensures memory { IfErr result (λ fault. fault ≡ Fault.OutOfMemory) }
+/// The request on a case of an object whose `do` is this word.
+pub fn request_named(alloc: Global, word: &str, row: &Row<'_>) -> Result<Request, Unread>
+    ensures { Reads result (case_row word.now (object_of row.now)) }
 {
     match word {
-        "open_case" => open_case(alloc, value, others),
-        "record_attempt" => record_attempt(alloc, value, others),
-        "transfer" => transfer(alloc, value, others),
-        "close_case" => of_name(alloc, value, others, |name| Request::CloseCase { name }),
-        "answer_case" => of_name(alloc, value, others, |name| Request::AnswerCase { name }),
-        _ => Ok(None),
+        "open_case" => open_case(alloc, row),
+        "record_attempt" => record_attempt(alloc, row),
+        "transfer" => transfer(alloc, row),
+        "close_case" => one_text(alloc, row, "name").map(|name| Request::CloseCase { name }),
+        "answer_case" => one_text(alloc, row, "name").map(|name| Request::AnswerCase { name }),
+        _ => Err(Unread::NoRow),
     }
 }
 
-fn open_case(alloc: Global, value: &Value, others: usize) -> Result<Option<Request>, Fault>
-    requires { others ≤ 2 }
-    ensures request { IfOk result (λ request. request ≡ open_case_of others (view value.now)) }
-    ensures memory { IfErr result (λ fault. fault ≡ Fault.OutOfMemory) }
+fn open_case(alloc: Global, row: &Row<'_>) -> Result<Request, Unread>
+    ensures { Reads result (open_case_row (object_of row.now)) }
 {
-    let Some(name) = members::text(value, "name") else {
-        return Ok(None);
-    };
-    let Some(kind) = kind_at(value) else {
-        return Ok(None);
-    };
-    let Some(contact) = members::text(value, "contact") else {
-        return Ok(None);
-    };
-    let Some(work) = members::text(value, "work") else {
-        return Ok(None);
-    };
-    let Some(why) = members::text(value, "why") else {
-        return Ok(None);
-    };
-    if members::count(value) != others + 6 {
-        return Ok(None);
-    }
-    let name = Bytes::copy_of(alloc, name.as_bytes())?;
-    let contact = Bytes::copy_of(alloc, contact.as_bytes())?;
-    let work = Bytes::copy_of(alloc, work.as_bytes())?;
-    let why = Bytes::copy_of(alloc, why.as_bytes())?;
-    Ok(Some(Request::OpenCase {
+    row.has_keys(6)?;
+    let kind = case_kind(row)?;
+    let (name, contact) = row.both(alloc, "name", "contact")?;
+    let (work, why) = row.both(alloc, "work", "why")?;
+    Ok(Request::OpenCase {
         name,
         kind,
         contact,
         work,
         why,
-    }))
+    })
 }
 
-fn record_attempt(alloc: Global, value: &Value, others: usize) -> Result<Option<Request>, Fault>
-    requires { others ≤ 2 }
-    ensures request { IfOk result (λ request. request ≡ record_attempt_of others (view value.now)) }
-    ensures memory { IfErr result (λ fault. fault ≡ Fault.OutOfMemory) }
+fn record_attempt(alloc: Global, row: &Row<'_>) -> Result<Request, Unread>
+    ensures { Reads result (record_attempt_row (object_of row.now)) }
 {
-    let Some(name) = members::text(value, "name") else {
-        return Ok(None);
-    };
-    let Some(means) = means_at(value) else {
-        return Ok(None);
-    };
-    let Some(sent) = members::flag(value, "sent") else {
-        return Ok(None);
-    };
-    if members::count(value) != others + 4 {
-        return Ok(None);
-    }
-    let name = Bytes::copy_of(alloc, name.as_bytes())?;
-    Ok(Some(Request::RecordAttempt { name, means, sent }))
+    row.has_keys(4)?;
+    let means = attempt_means(row)?;
+    let sent = row.flag("sent")?;
+    let name = row.bytes(alloc, "name")?;
+    Ok(Request::RecordAttempt { name, means, sent })
 }
 
-fn transfer(alloc: Global, value: &Value, others: usize) -> Result<Option<Request>, Fault>
-    requires { others ≤ 2 }
-    ensures request { IfOk result (λ request. request ≡ transfer_of others (view value.now)) }
-    ensures memory { IfErr result (λ fault. fault ≡ Fault.OutOfMemory) }
+fn transfer(alloc: Global, row: &Row<'_>) -> Result<Request, Unread>
+    ensures { Reads result (transfer_row (object_of row.now)) }
 {
-    let Some(name) = members::text(value, "name") else {
-        return Ok(None);
-    };
-    let Some(quiet) = members::flag(value, "quiet") else {
-        return Ok(None);
-    };
-    if members::count(value) != others + 3 {
-        return Ok(None);
-    }
-    let name = Bytes::copy_of(alloc, name.as_bytes())?;
-    Ok(Some(Request::Transfer { name, quiet }))
+    row.has_keys(3)?;
+    let quiet = row.flag("quiet")?;
+    let name = row.bytes(alloc, "name")?;
+    Ok(Request::Transfer { name, quiet })
 }
 
 /// The kind of a case, as its text says.
-fn kind_at(value: &Value) -> Option<CaseKind>
-    ensures { result ≡ kind_at_lem (view value.now) }
+fn case_kind(row: &Row<'_>) -> Result<CaseKind, Unread>
+    ensures { Reads result (case_kind_lem (object_of row.now)) }
 {
-    match members::text(value, "kind")? {
-        "continue" => Some(CaseKind::Continue),
-        "reuse" => Some(CaseKind::Reuse),
-        _ => None,
+    match row.text("kind")? {
+        "continue" => Ok(CaseKind::Continue),
+        "reuse" => Ok(CaseKind::Reuse),
+        _ => Err(Unread::NoRow),
     }
 }
 
 /// The means of an attempt, as its text says.
-fn means_at(value: &Value) -> Option<Means>
-    ensures { result ≡ means_at_lem (view value.now) }
+fn attempt_means(row: &Row<'_>) -> Result<Means, Unread>
+    ensures { Reads result (attempt_means_lem (object_of row.now)) }
 {
-    match members::text(value, "means")? {
-        "profile" => Some(Means::Profile),
-        "author" => Some(Means::Author),
-        "pages" => Some(Means::Pages),
-        _ => None,
+    match row.text("means")? {
+        "profile" => Ok(Means::Profile),
+        "author" => Ok(Means::Author),
+        "pages" => Ok(Means::Pages),
+        _ => Err(Unread::NoRow),
     }
 }

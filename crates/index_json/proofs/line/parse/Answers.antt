@@ -1,4 +1,4 @@
-use Rattle.std.proofs.Common.{◌≡◌, List, ℕ, Bool, true, false, Option, None, if◌then◌else◌, refl, sym, rules}
+use Rattle.std.proofs.Common.{◌≡◌, List, ℕ, Bool, true, false, Option, None, if◌then◌else◌, refl, rules}
 use Rattle.std.proofs.lemmas.Str.{is_utf8-from_IsUtf8, IsUtf8-from_is_utf8}
 use Rattle.std.specs.Str.{is_utf8, IsUtf8}
 use Rattle.serde_json.specs.Data.{Data}
@@ -6,17 +6,17 @@ use Rattle.serde_json.specs.Read.{read}
 use Rattle.index_json.specs.Json.{json_of}
 use Rattle.index_json.proofs.line.parse.Goals as goal
 
-none_where : (t : Bool) (o : Option Data) → (t ≡ true → o ≡ None) → None ≡ (if t then o else None)
-none_where true o h = sym (h refl)
+none_where : (t : Bool) (o : Option Data) → (t ≡ true → o ≡ None) → (if t then o else None) ≡ None
+none_where true o h = h refl
 none_where false o h = refl
 
 -- what is refused as UTF-8 is no JSON
-refused : (bytes : List ℕ) → (IsUtf8 bytes → read bytes ≡ None) → None ≡ json_of bytes
+refused : (bytes : List ℕ) → (IsUtf8 bytes → read bytes ≡ None) → json_of bytes ≡ None
 refused bytes h = none_where (is_utf8 bytes) (read bytes) (λ e. h (IsUtf8-from_is_utf8 bytes e))
 
 pub returns-in-Ok-clause-value : goal.returns-in-Ok-clause-value
 returns-in-Ok-clause-value c =
-    let text = is_utf8-from_IsUtf8 _ c.in-Ok.ensures.ok.0 in rw text (sym c.in-Ok.ensures.ok.1)
+    let text = is_utf8-from_IsUtf8 _ c.in-Ok.ensures.ok.0 in rw text c.in-Ok.ensures.ok.1
 
-pub returns-in-Err-2-clause-value : goal.returns-in-Err-2-clause-value
-returns-in-Err-2-clause-value c = refused _ (c.in-Err.ensures.err (search rules))
+pub returns-in-Err-2-clause-none : goal.returns-in-Err-2-clause-none
+returns-in-Err-2-clause-none c = λ _. refused _ (c.in-Err.ensures.err (search rules))

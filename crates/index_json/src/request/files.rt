@@ -1,0 +1,86 @@
+//! The rows of requests on files and releases.
+ghost use Rattle.std.specs.Prelude.{◌≡◌, ◌%◌, length, Err};
+ghost use Rattle.index_json.specs.Json.{hex_bytes};
+ghost use Rattle.index_json.specs.Object.{object_of};
+ghost use Rattle.index_json.specs.Reading.{Reads};
+ghost use Rattle.index_json.specs.Requests.{body as body_lem, delete_row, file_row, unyank_row, upload_row, yank_row};
+
+use super::{cases, one_text, two_texts};
+use crate::row::{Row, Unread};
+use hex::FromHexError;
+use index_rules::{Bytes, Request};
+use std::alloc::Global;
+
+/// The request of an object whose `do` is this word, which is none on users, names or owners.
+pub fn request_named(alloc: Global, word: &str, row: &Row<'_>) -> Result<Request, Unread>
+    ensures { Reads result (file_row word.now (object_of row.now)) }
+{
+    match word {
+        "upload" => upload(alloc, row),
+        "delete" => delete(alloc, row),
+        "yank" => yank(alloc, row),
+        "unyank" => unyank(alloc, row),
+        word => cases::request_named(alloc, word, row),
+    }
+}
+
+fn upload(alloc: Global, row: &Row<'_>) -> Result<Request, Unread>
+    ensures { Reads result (upload_row (object_of row.now)) }
+{
+    row.has_keys(5)?;
+    let body = body(alloc, row)?;
+    let requires_python = row.bytes(alloc, "requires_python")?;
+    let (file, sha256) = row.both(alloc, "file", "sha256")?;
+    Ok(Request::Upload {
+        file,
+        sha256,
+        body,
+        requires_python,
+    })
+}
+
+fn delete(alloc: Global, row: &Row<'_>) -> Result<Request, Unread>
+    ensures { Reads result (delete_row (object_of row.now)) }
+{
+    one_text(alloc, row, "file").map(|file| Request::Delete { file })
+}
+
+fn yank(alloc: Global, row: &Row<'_>) -> Result<Request, Unread>
+    ensures { Reads result (yank_row (object_of row.now)) }
+{
+    row.has_keys(4)?;
+    let reason = row.bytes(alloc, "reason")?;
+    let (name, release) = row.both(alloc, "name", "release")?;
+    Ok(Request::Yank {
+        name,
+        release,
+        reason,
+    })
+}
+
+fn unyank(alloc: Global, row: &Row<'_>) -> Result<Request, Unread>
+    ensures { Reads result (unyank_row (object_of row.now)) }
+{
+    let texts = two_texts(alloc, row, "name", "release");
+    texts.map(|(name, release)| Request::Unyank { name, release })
+}
+
+/// The body that a row's hex digits say.
+fn body(alloc: Global, row: &Row<'_>) -> Result<Bytes, Unread>
+    ensures { Reads result (body_lem (object_of row.now)) }
+{
+    let digits = row.text("hex")?;
+    bytes_of_hex(alloc, digits)
+}
+
+/// The bytes of a text of hex digits, in either case.
+fn bytes_of_hex(alloc: Global, digits: &str) -> Result<Bytes, Unread>
+    ensures bytes { Reads result (hex_bytes digits.now) }
+    ensures odd { length digits.now % 2 ≡ 1 → result ≡ Err Unread.NoRow }
+{
+    match hex::decode(alloc, digits) {
+        Ok(bytes) => Ok(Bytes::new(bytes)),
+        Err(FromHexError::OutOfMemory) => Err(Unread::OutOfMemory),
+        Err(_) => Err(Unread::NoRow),
+    }
+}
