@@ -18,7 +18,7 @@ use std::alloc::Global;
 const CALL_KEYS: usize = 2;
 
 /// What a line of input asks.
-#[derive(Debug, Drop)]
+#[derive(Drop)]
 pub enum Line {
     /// A request at a moment, by the bearer of a token.
     Call(Call),

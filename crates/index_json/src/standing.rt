@@ -102,9 +102,9 @@ fn put_project(
     ensures { OnOk result (members_view members.new.entries
         ≡ project_put project.now (members_view members.old.entries)) }
 {
-    put(members, alloc, "charge", Value::from(project.charge))?;
-    put(members, alloc, "quota", Value::from(project.quota))?;
-    put_text(members, alloc, "shown", project.shown.as_str())
+    put(members, alloc, "charge", Value::from(project.charge()))?;
+    put(members, alloc, "quota", Value::from(project.quota()))?;
+    put_text(members, alloc, "shown", project.shown().as_str())
 }
 
 fn put_text(

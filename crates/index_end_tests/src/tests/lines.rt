@@ -1,7 +1,7 @@
 //! What a line asks.
 use super::{OF_A, OF_ABC};
-use index_cli::{Line, read_line};
 use index_digest::Digest256;
+use index_json::{Line, read_line};
 use index_rules::{Call, Request};
 use std::alloc::AllocGlobal;
 use std::process::Abort;

@@ -7,7 +7,7 @@ use std::alloc::Global;
 use std::test::Fail;
 
 /// One gibibyte.
-const QUOTA: u64 = 1_073_741_824;
+pub(super) const QUOTA: u64 = 1_073_741_824;
 
 /// The change that a line writes: a word, and what it is about.
 pub(super) fn change_of(alloc: Global, line: &str) -> Result<Change, Fail> {
@@ -68,14 +68,20 @@ fn set_token(alloc: Global, text: &str, token: &str) -> Result<Change, Fail> {
 
 /// A project without files.
 pub(super) fn project(alloc: Global, shown: &str) -> Result<Project, Fail> {
+    project_with(alloc, shown, QUOTA, 0, 0)
+}
+
+/// A project with this quota, charge and count of files.
+pub(super) fn project_with(
+    alloc: Global,
+    shown: &str,
+    quota: u64,
+    charge: u64,
+    undeleted: u64,
+) -> Result<Project, Fail> {
     let shown = text(alloc, shown)?;
-    Ok(Project {
-        shown,
-        quota: QUOTA,
-        charge: 0,
-        undeleted: 0,
-        last_upload: None,
-    })
+    let made = Project::from_parts(shown, quota, charge, undeleted, None);
+    Ok(made.ok_or("no project")?)
 }
 
 fn claim(alloc: Global, shown: &str, owner: &str) -> Result<Change, Fail> {
@@ -91,8 +97,7 @@ fn claim(alloc: Global, shown: &str, owner: &str) -> Result<Change, Fail> {
 
 fn set_quota(alloc: Global, shown: &str, quota: &str) -> Result<Change, Fail> {
     let name = name(alloc, shown)?;
-    let mut project = project(alloc, shown)?;
-    project.quota = quota.parse()?;
+    let project = project_with(alloc, shown, quota.parse()?, 0, 0)?;
     Ok(Change::SetQuota { name, project })
 }
 

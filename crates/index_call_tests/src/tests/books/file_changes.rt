@@ -1,5 +1,5 @@
 //! Changes of files and releases.
-use super::changes::project;
+use super::changes::{QUOTA, project, project_with};
 use crate::tests::{file_name, name, release, text, token};
 use index_digest::Sealed;
 use index_names::FileName;
@@ -51,9 +51,7 @@ pub(super) fn upload(alloc: Global, shown: &str, file: &str) -> Result<Change, F
 pub(super) fn delete(alloc: Global, file: &str) -> Result<Change, Fail> {
     let file = file_name(alloc, file)?;
     let name = file.project().clone()?;
-    let mut project = project(alloc, "Flask")?;
-    project.charge = 3;
-    project.undeleted = 1;
+    let project = project_with(alloc, "Flask", QUOTA, 3, 1)?;
     let record = record(alloc, &file, false)?;
     Ok(Change::Delete {
         name,

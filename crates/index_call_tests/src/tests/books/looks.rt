@@ -126,7 +126,7 @@ fn told_release(alloc: Global, view: &View) -> Result<String, AllocError> {
 fn told_name(alloc: Global, view: &View) -> Result<String, AllocError> {
     match &view.name {
         Some(NameRecord::Held(project)) => {
-            let (shown, quota) = (project.shown.as_str(), project.quota);
+            let (shown, quota) = (project.shown().as_str(), project.quota());
             format!(in alloc; "{shown} {quota}")
         }
         Some(NameRecord::Prohibited) => String::from_str(alloc, "prohibited"),
@@ -138,7 +138,7 @@ fn told_name(alloc: Global, view: &View) -> Result<String, AllocError> {
 fn told_charge(alloc: Global, view: &View) -> Result<String, AllocError> {
     match &view.name {
         Some(NameRecord::Held(project)) => {
-            let (charge, undeleted) = (project.charge, project.undeleted);
+            let (charge, undeleted) = (project.charge(), project.undeleted());
             format!(in alloc; "{charge} {undeleted}")
         }
         _ => String::from_str(alloc, "-"),
