@@ -1,10 +1,12 @@
 -- An accepted call: no refusal applies, and it is not so already.
-use Rattle.std.proofs.Common.{◌≡◌, Bool, true, false, cond, not, ◌&&◌, refl, List, [], ◌∷◌, Option, Some, None, is_some, find, unwrap_or}
-use Rattle.std.proofs.lemmas.Bool.{false≢true}
+use Rattle.std.proofs.Common.{◌≡◌, Bool, true, false, cond, not, ◌&&◌, ◌||◌, ◌==◌, inl, inr, refl, sym, ap, ◌∙◌, List, [], ◌∷◌, Option, Some, None, is_some, find, unwrap_or}
+use Rattle.std.proofs.lemmas.Bool.{false≢true, cases_Bool}
 use Rattle.index_rules.specs.declared.call.Call.{Call}
 use Rattle.index_rules.specs.declared.answer.Refusal.{Refusal}
 use Rattle.index_rules.specs.declared.answer.Refusal.TheVariants.{BadMoment, BadToken}
+use Rattle.index_rules.specs.Refusals.{number_of}
 use Rattle.index_rules.specs.Facts.{Facts}
+use Rattle.index_rules.proofs.RefusalNumbers.{number_of-is}
 use Rattle.index_rules.specs.Verdict.{Accept, applies, refusals_of, is_already, decided, verdict_on}
 
 -- none of these passes the test
@@ -19,16 +21,39 @@ NonePasses-find p (x ∷ xs) e = elim (p x) as (λ b. cond b (Some x) (find p xs
   | false ↦ λ e. (refl, NonePasses-find p xs e)
 ] e
 
+-- whether a refusal is one of these, by its number
+abbrev pub is_among : Refusal → List Refusal → Bool
+is_among refusal [] = false
+is_among refusal (one ∷ others) = (number_of refusal == number_of one) || is_among refusal others
+
+NonePasses-among : (p : Refusal → Bool) (xs : List Refusal) → NonePasses p xs → (refusal : Refusal) → is_among refusal xs ≡ true → p refusal ≡ false
+NonePasses-among p [] none refusal there = absurd (false≢true there)
+NonePasses-among p (x ∷ xs) none refusal there = elim (cases_Bool (number_of refusal == number_of x)) [
+  | inl e ↦ ap p (number_of-is refusal x e) ∙ none.0
+  | inr e ↦ NonePasses-among p xs none.1 refusal (sym (ap (λ b. b || is_among refusal xs) e) ∙ there)
+]
+
 decided-accept : (refusal : Option Refusal) (already : Bool) → decided refusal already ≡ Accept → (refusal ≡ None) × (already ≡ false)
 decided-accept (Some r) already e = cc
 decided-accept None true e = cc
 decided-accept None false e = (refl, refl)
 
-pub accepted : (c : Call) (f : Facts) → verdict_on c f ≡ Accept
-    → NonePasses (applies c.at c.request f) (BadMoment ∷ BadToken ∷ refusals_of c.request) × (is_already c.request f ≡ false)
+-- the refusals that a call can meet
+abbrev pub refusals : Call → List Refusal
+refusals c = BadMoment ∷ BadToken ∷ refusals_of c.request
+
+-- what an accepted call has passed; `refl` shows that a refusal is one of those that it can meet
+pub record HasPassed (c : Call) (f : Facts) : Type 0 where
+  pub not_refused : (refusal : Refusal) → is_among refusal (refusals c) ≡ true → applies c.at c.request f refusal ≡ false
+  pub not_already : is_already c.request f ≡ false
+
+pub accepted : (c : Call) (f : Facts) → verdict_on c f ≡ Accept → HasPassed c f
 accepted c f e =
-    let both = decided-accept (find (applies c.at c.request f) (BadMoment ∷ BadToken ∷ refusals_of c.request)) (is_already c.request f) e in
-    (NonePasses-find (applies c.at c.request f) (BadMoment ∷ BadToken ∷ refusals_of c.request) both.0, both.1)
+    let both = decided-accept (find (applies c.at c.request f) (refusals c)) (is_already c.request f) e in
+    record {
+      not_refused = NonePasses-among (applies c.at c.request f) (refusals c) (NonePasses-find (applies c.at c.request f) (refusals c) both.0);
+      not_already = both.1;
+    }
 
 -- ---- what is there
 

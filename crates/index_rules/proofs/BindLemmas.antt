@@ -1,8 +1,9 @@
 -- In a legal history a file name is bound to the digest and the size of its first upload.
-use Rattle.std.proofs.Common.{◌≡◌, ℕ, cond, inl, inr, sym, ap, ◌∙◌, [], Option, Some, None, length}
+use Rattle.std.proofs.Common.{◌≡◌, ℕ, cond, inl, inr, sym, ap, ◌∙◌, [], Option, Some, None, length, refl}
 use Rattle.std.specs.Option.{option_or}
 use Rattle.std.specs.FinMap.{get}
 use Rattle.index_digest.specs.Digest.{digest_in}
+use Rattle.index_rules.specs.declared.answer.Refusal.TheVariants.{BadDigest, BadFileName, FileNameTaken}
 use Rattle.index_rules.specs.declared.call.Call.{Call}
 use Rattle.index_rules.specs.declared.call.Request.{Request}
 use Rattle.index_rules.specs.declared.call.Request.TheVariants.{Upload}
@@ -34,11 +35,11 @@ known_now : (T : Tables) (h : History) → ((file : Bytes) → get T.files file 
 known_now T h files at token (Upload file sha256 body requires) f first accepts is =
     let c : Call = record { at = at; token = token; request = Upload file sha256 body requires } in
     let all = accepted c (facts_in T c) accepts in
-    let reads : read_file file ≡ Some file = read_itself file all.0.1.1.0 in
+    let reads : read_file file ≡ Some file = read_itself file (all.not_refused BadFileName refl) in
     let both : Some f ≡ Some file = sym is.0 ∙ reads in
     let here : f ≡ file = cc in
     (λ i. known_by (Upload file sha256 body requires) (here i) (known h (here i)))
-    ∙ known-here T h files at token [] file sha256 body requires reads all.0.1.1.1.1.0 all.0.1.1.1.1.1.1.1.1.1.0
+    ∙ known-here T h files at token [] file sha256 body requires reads (all.not_refused BadDigest refl) (all.not_refused FileNameTaken refl)
     ∙ ap Some (sym is.1)
 known_now T h files at token r f first accepts is = absurd is
 

@@ -1,4 +1,5 @@
 pub mod Accepted
+pub mod RefusalNumbers
 pub mod Counts
 pub mod EntryLemmas
 pub mod FileTotals

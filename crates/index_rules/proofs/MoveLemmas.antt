@@ -7,6 +7,7 @@ use Rattle.std.proofs.lemmas.Bool.{not-false}
 use Rattle.index_names.specs.Project.{read_name}
 use Rattle.index_names.specs.FileName.{project_of, release_of}
 use Rattle.index_digest.specs.Digest.{digest_in}
+use Rattle.index_rules.specs.declared.answer.Refusal.TheVariants.{BadFileName, BadName}
 use Rattle.index_rules.specs.declared.call.Call.{Call}
 use Rattle.index_rules.specs.declared.call.Request.{Request}
 use Rattle.index_rules.specs.declared.call.Request.TheVariants.{Claim, AddOwner, RemoveOwner, Upload, Delete, Relinquish, Prohibit, Allow, Transfer}
@@ -63,19 +64,19 @@ module _ (T : Tables) (h : History) (sound : IsSound T) (stands : StandsFor T h)
       → MovesCharge (Upload file digest body requires) h n (charge_in T n) (charge_in (after T (of (Upload file digest body requires))) n)
   charge-upload file digest body requires accepts n =
       let all = accepted (of (Upload file digest body requires)) (facts_in T (of (Upload file digest body requires))) accepts in
-      let reads : read_file file ≡ Some file = read_itself file all.0.1.1.0 in
+      let reads : read_file file ≡ Some file = read_itself file (all.not_refused BadFileName refl) in
       total-upload (λ known. known.size) T file
       (record { project = project_of file; release = release_of file; digest = key (digest_in digest); size = length body; requires_python = requires; is_undeleted = true })
-      refl (sym (ap (λ read. is_undeleted (option_and_then (get T.files) read)) reads) ∙ all.1) n
+      refl (sym (ap (λ read. is_undeleted (option_and_then (get T.files) read)) reads) ∙ all.not_already) n
       ∙ ap (λ read. charge_in T n + cond (is_read_as (option_map project_of read) n) (length body) 0) (sym reads)
 
   charge-delete : (file : Bytes) → verdict_now T (of (Delete file)) ≡ Accept → (n : Bytes) → MovesCharge (Delete file) h n (charge_in T n) (charge_in (after T (of (Delete file))) n)
   charge-delete file accepts n =
       let all = accepted (of (Delete file)) (facts_in T (of (Delete file))) accepts in
-      let reads : read_file file ≡ Some file = read_itself file all.0.1.1.0 in
+      let reads : read_file file ≡ Some file = read_itself file (all.not_refused BadFileName refl) in
       let found : option_and_then (get T.files) (read_file file) ≡ get T.files file = ap (option_and_then (get T.files)) reads in
       let known : FileRecord = unwrap_or (option_and_then (get T.files) (read_file file)) no_file in
-      let undeleted = undeleted_there (option_and_then (get T.files) (read_file file)) (not-false _ all.1) in
+      let undeleted = undeleted_there (option_and_then (get T.files) (read_file file)) (not-false _ all.not_already) in
       let there : get T.files file ≡ Some known = sym found ∙ undeleted.0 in
       let project : known.project ≡ project_of file = (sound.spelled file known there).project in
       let size : known.size ≡ size_of h file = ap (λ o. (unwrap_or o no_file).size) (found ∙ stands.files file) ∙ size-file_at h file in
@@ -87,7 +88,7 @@ module _ (T : Tables) (h : History) (sound : IsSound T) (stands : StandsFor T h)
   charge-prohibit : (name : Bytes) → verdict_now T (of (Prohibit name)) ≡ Accept → (n : Bytes) → MovesCharge (Prohibit name) h n (charge_in T n) (charge_in (after T (of (Prohibit name))) n)
   charge-prohibit name accepts n =
       let read : Option Bytes = read_name name in
-      let reads : read ≡ Some (key read) = read_key read (accepted (of (Prohibit name)) (facts_in T (of (Prohibit name))) accepts).0.1.1.1.0 in
+      let reads : read ≡ Some (key read) = read_key read ((accepted (of (Prohibit name)) (facts_in T (of (Prohibit name))) accepts).not_refused BadName refl) in
       elim (cases_same n (key read)) [
         | inl is ↦
             ap (charge_in (after T (of (Prohibit name)))) is ∙ none-charged T (key read)
@@ -104,8 +105,8 @@ module _ (T : Tables) (h : History) (sound : IsSound T) (stands : StandsFor T h)
   uploads_anew : (r : Request) → verdict_now T (of r) ≡ Accept → UploadsAnew r h
   uploads_anew (Upload file digest body requires) accepts =
       let all = accepted (of (Upload file digest body requires)) (facts_in T (of (Upload file digest body requires))) accepts in
-      let reads : read_file file ≡ Some file = read_itself file all.0.1.1.0 in
-      ap (λ read. undeleted h (key read)) reads ∙ sym (is_undeleted-file_at h file) ∙ sym (ap is_undeleted (ap (option_and_then (get T.files)) reads ∙ stands.files file)) ∙ all.1
+      let reads : read_file file ≡ Some file = read_itself file (all.not_refused BadFileName refl) in
+      ap (λ read. undeleted h (key read)) reads ∙ sym (is_undeleted-file_at h file) ∙ sym (ap is_undeleted (ap (option_and_then (get T.files)) reads ∙ stands.files file)) ∙ all.not_already
   uploads_anew r accepts = tt
 
 -- ---- the state and the owners

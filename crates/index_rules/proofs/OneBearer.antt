@@ -1,5 +1,6 @@
 -- Each call keeps apart who bears which digest.
-use Rattle.std.proofs.Common.{◌≡◌, sym, subst, List, [], ◌∷◌}
+use Rattle.std.proofs.Common.{◌≡◌, sym, subst, List, [], ◌∷◌, refl}
+use Rattle.index_rules.specs.declared.answer.Refusal.TheVariants.{BadDigest, BadUser, TokenTaken}
 use Rattle.index_rules.specs.declared.answer.Answer.{Answer}
 use Rattle.index_rules.specs.declared.answer.Answer.TheVariants.{Accepted, Already, Refused, Fault}
 use Rattle.index_rules.specs.declared.call.Call.{Call}
@@ -25,11 +26,11 @@ module _ (T : Tables) (one : HasOneBearer T) (at : ℕ) (token : Bytes) where
   each_request (AddUser user office digest) accepts =
       let all = accepted (of (AddUser user office digest)) (facts_in T (of (AddUser user office digest))) accepts in
       HasOneBearer-put T one (key (read_user user)) (record { office = office; token = key (read_token digest) })
-      (not_taken T one (read_token digest) (read_user user) all.0.1.1.1.1.0 all.0.1.1.1.0 all.0.1.1.1.1.1.1.0)
+      (not_taken T one (read_token digest) (read_user user) (all.not_refused BadDigest refl) (all.not_refused BadUser refl) (all.not_refused TokenTaken refl))
   each_request (SetToken user digest) accepts =
       let all = accepted (of (SetToken user digest)) (facts_in T (of (SetToken user digest))) accepts in
       HasOneBearer-put T one (key (read_user user)) (record { office = (user_in (facts_in T (of (SetToken user digest)))).office; token = key (read_token digest) })
-      (not_taken T one (read_token digest) (read_user user) all.0.1.1.1.1.0 all.0.1.1.1.0 all.0.1.1.1.1.1.1.0)
+      (not_taken T one (read_token digest) (read_user user) (all.not_refused BadDigest refl) (all.not_refused BadUser refl) (all.not_refused TokenTaken refl))
   each_request (SetQuota name quota) accepts = one
   each_request (Claim name) accepts = one
   each_request (AddOwner name user) accepts = one

@@ -7,6 +7,7 @@ use Rattle.index_names.specs.Project.{read_name}
 use Rattle.index_names.specs.Release.{read_release}
 use Rattle.index_names.specs.FileName.{Spelled, read_file_name, project_of, release_of}
 use Rattle.index_digest.specs.Digest.{sha256, digest_in}
+use Rattle.index_rules.specs.declared.answer.Refusal.TheVariants.{BadDigest, BadFileName, BadName, BadUser, DigestMismatch, FilesRemain, LastOwner, NameHeld, NoProject, OverQuota, QuotaBelowCharge, TokenTaken}
 use Rattle.index_rules.specs.declared.answer.Answer.{Answer}
 use Rattle.index_rules.specs.declared.answer.Answer.TheVariants.{Accepted, Already, Refused, Fault}
 use Rattle.index_rules.specs.declared.call.Call.{Call}
@@ -109,14 +110,14 @@ module _ (T : Tables) (sound : IsSound T) (at : ℕ) (token : Bytes) where
   quota_set name quota accepts =
       let all = accepted (of (SetQuota name quota)) (facts (SetQuota name quota)) accepts in
       let project : Project = held_in (facts (SetQuota name quota)) in
-      let held : project_in (facts (SetQuota name quota)).name ≡ Some project = project_there _ all.0.1.1.1.1.1.0 in
-      let fits : project.charge ≤ quota = ltb-false quota project.charge (sym (λ i. option_map_or (λ p. nat_lt quota p.charge) (held i) false) ∙ all.0.1.1.1.1.1.1.0) in
-      IsSound-project T sound (key (read_name name)) project (record project { quota = quota }) (project_at T (read_name name) all.0.1.1.1.1.1.0) refl refl fits
+      let held : project_in (facts (SetQuota name quota)).name ≡ Some project = project_there _ (all.not_refused NoProject refl) in
+      let fits : project.charge ≤ quota = ltb-false quota project.charge (sym (λ i. option_map_or (λ p. nat_lt quota p.charge) (held i) false) ∙ (all.not_refused QuotaBelowCharge refl)) in
+      IsSound-project T sound (key (read_name name)) project (record project { quota = quota }) (project_at T (read_name name) (all.not_refused NoProject refl)) refl refl fits
 
   claimed : (name : Bytes) → verdict_now T (of (Claim name)) ≡ Accept → IsSound (after T (of (Claim name)))
   claimed name accepts =
       let all = accepted (of (Claim name)) (facts (Claim name)) accepts in
-      let free : is_held (get T.names (key (read_name name))) ≡ false = free_at T (read_name name) all.0.1.1.0 (and_not _ _ all.0.1.1.1.1.0 all.1) in
+      let free : is_held (get T.names (key (read_name name))) ≡ false = free_at T (read_name name) (all.not_refused BadName refl) (and_not _ _ (all.not_refused NameHeld refl) all.not_already) in
       let n : Bytes = key (read_name name) in
       IsSound-claim (closed n T) (IsSound-closed T sound n) n free (record { shown = name; quota = first_quota; charge = 0; undeleted = 0; last_upload = None }) (caller_in (facts (Claim name))) refl refl
 
@@ -124,73 +125,73 @@ module _ (T : Tables) (sound : IsSound T) (at : ℕ) (token : Bytes) where
   uploaded file digest body requires accepts =
       let all = accepted (of (Upload file digest body requires)) (facts (Upload file digest body requires)) accepts in
       let f : Facts = facts (Upload file digest body requires) in
-      let reads = read_itself file all.0.1.1.0 in
+      let reads = read_itself file (all.not_refused BadFileName refl) in
       let name_is : f.name ≡ get T.names (project_of file) = ap (λ o. option_and_then (get T.names) (option_map project_of o)) reads in
       let file_is : f.file ≡ get T.files file = ap (option_and_then (get T.files)) reads in
-      let held : project_in f.name ≡ Some (held_in f) = project_there _ all.0.1.1.1.1.1.1.1.0 in
-      let within : exceeds_quota (length body) f.name ≡ false = sym (λ i. not (all.1 i) && exceeds_quota (length body) f.name) ∙ all.0.1.1.1.1.1.1.1.1.1.1.0 in
+      let held : project_in f.name ≡ Some (held_in f) = project_there _ (all.not_refused NoProject refl) in
+      let within : exceeds_quota (length body) f.name ≡ false = sym (λ i. not (all.not_already i) && exceeds_quota (length body) f.name) ∙ (all.not_refused OverQuota refl) in
       let fits : (held_in f).charge + length body ≤ (held_in f).quota = ltb-false _ _ (sym (ap (λ o. option_map_or (λ project. nat_lt project.quota (project.charge + length body)) o false) held) ∙ within) in
       IsSound-upload at (closed (project_of file) T) (IsSound-closed T sound (project_of file)) file
       (record { project = project_of file; release = release_of file; digest = key (digest_in digest); size = length body; requires_python = requires; is_undeleted = true })
-      body (held_in f) refl (sym (ap is_undeleted file_is) ∙ all.1) (sym (ap project_in name_is) ∙ held)
-      (record { is_file_name = file_spelled file all.0.1.1.0; project = refl; release = refl })
-      (record { size = refl; digest = digest_is (digest_in digest) body all.0.1.1.1.1.0 all.0.1.1.1.1.1.1.0 })
+      body (held_in f) refl (sym (ap is_undeleted file_is) ∙ all.not_already) (sym (ap project_in name_is) ∙ held)
+      (record { is_file_name = file_spelled file (all.not_refused BadFileName refl); project = refl; release = refl })
+      (record { size = refl; digest = digest_is (digest_in digest) body (all.not_refused BadDigest refl) (all.not_refused DigestMismatch refl) })
       fits
 
   deleted_one : (file : Bytes) → verdict_now T (of (Delete file)) ≡ Accept → IsSound (after T (of (Delete file)))
   deleted_one file accepts =
       let all = accepted (of (Delete file)) (facts (Delete file)) accepts in
       let f : Facts = facts (Delete file) in
-      let reads = read_itself file all.0.1.1.0 in
+      let reads = read_itself file (all.not_refused BadFileName refl) in
       let name_is : f.name ≡ get T.names (project_of file) = ap (λ o. option_and_then (get T.names) (option_map project_of o)) reads in
       let file_is : f.file ≡ get T.files file = ap (option_and_then (get T.files)) reads in
-      let known = undeleted_there f.file (not-false _ all.1) in
-      IsSound-delete (closed (project_of file) T) (IsSound-closed T sound (project_of file)) file (file_of f) (held_in f) known.1 (sym file_is ∙ known.0) (sym (ap project_in name_is) ∙ project_there _ all.0.1.1.1.0)
+      let known = undeleted_there f.file (not-false _ all.not_already) in
+      IsSound-delete (closed (project_of file) T) (IsSound-closed T sound (project_of file)) file (file_of f) (held_in f) known.1 (sym file_is ∙ known.0) (sym (ap project_in name_is) ∙ project_there _ (all.not_refused NoProject refl))
 
   each_request : (request : Request) → verdict_now T (of request) ≡ Accept → IsSound (after T (of request))
   each_request (AddUser user office digest) accepts =
       let all = accepted (of (AddUser user office digest)) (facts (AddUser user office digest)) accepts in
       IsSound-user T sound (key (read_user user)) (record { office = office; token = key (read_token digest) })
-      (not_taken T sound.one_bearer (read_token digest) (read_user user) all.0.1.1.1.1.0 all.0.1.1.1.0 all.0.1.1.1.1.1.1.0)
+      (not_taken T sound.one_bearer (read_token digest) (read_user user) (all.not_refused BadDigest refl) (all.not_refused BadUser refl) (all.not_refused TokenTaken refl))
   each_request (SetToken user digest) accepts =
       let all = accepted (of (SetToken user digest)) (facts (SetToken user digest)) accepts in
       IsSound-user T sound (key (read_user user)) (record { office = (user_in (facts (SetToken user digest))).office; token = key (read_token digest) })
-      (not_taken T sound.one_bearer (read_token digest) (read_user user) all.0.1.1.1.1.0 all.0.1.1.1.0 all.0.1.1.1.1.1.1.0)
+      (not_taken T sound.one_bearer (read_token digest) (read_user user) (all.not_refused BadDigest refl) (all.not_refused BadUser refl) (all.not_refused TokenTaken refl))
   each_request (SetQuota name quota) accepts = quota_set name quota accepts
   each_request (Claim name) accepts = claimed name accepts
   each_request (AddOwner name user) accepts =
       let all = accepted (of (AddOwner name user)) (facts (AddOwner name user)) accepts in
-      IsSound-owner (closed (key (read_name name)) T) (IsSound-closed T sound (key (read_name name))) (key (read_name name)) (key (read_user user)) (ap is_some (project_at T (read_name name) all.0.1.1.1.1.1.0))
+      IsSound-owner (closed (key (read_name name)) T) (IsSound-closed T sound (key (read_name name))) (key (read_name name)) (key (read_user user)) (ap is_some (project_at T (read_name name) (all.not_refused NoProject refl)))
   each_request (RemoveOwner name user) accepts =
       let all = accepted (of (RemoveOwner name user)) (facts (RemoveOwner name user)) accepts in
-      no_owner (closed (key (read_name name)) T) (IsSound-closed T sound (key (read_name name))) (read_name name) (read_user user) (not-false _ all.1) all.0.1.1.1.1.1.1.1.0
+      no_owner (closed (key (read_name name)) T) (IsSound-closed T sound (key (read_name name))) (read_name name) (read_user user) (not-false _ all.not_already) (all.not_refused LastOwner refl)
   each_request (Upload file digest body requires) accepts = uploaded file digest body requires accepts
   each_request (Delete file) accepts = deleted_one file accepts
   each_request (Yank name release reason) accepts =
       let all = accepted (of (Yank name release reason)) (facts (Yank name release reason)) accepts in
-      IsSound-yank (closed (key (read_name name)) T) (IsSound-closed T sound (key (read_name name))) (key (read_name name)) (key (read_release release)) reason (ap is_some (project_at T (read_name name) all.0.1.1.1.1.1.0))
+      IsSound-yank (closed (key (read_name name)) T) (IsSound-closed T sound (key (read_name name))) (key (read_name name)) (key (read_release release)) reason (ap is_some (project_at T (read_name name) (all.not_refused NoProject refl)))
   each_request (Unyank name release) accepts = IsSound-no_yank (closed (key (read_name name)) T) (IsSound-closed T sound (key (read_name name))) (key (read_name name)) (key (read_release release))
   each_request (Relinquish name) accepts =
       let all = accepted (of (Relinquish name)) (facts (Relinquish name)) accepts in
       let n : Bytes = key (read_name name) in
-      IsSound-relinquish (closed n T) (IsSound-closed T sound n) n (get-without_here T.cases n) (no_files T sound (read_name name) all.0.1.1.1.0 all.0.1.1.1.1.1.0)
+      IsSound-relinquish (closed n T) (IsSound-closed T sound n) n (get-without_here T.cases n) (no_files T sound (read_name name) (all.not_refused NoProject refl) (all.not_refused FilesRemain refl))
   each_request (Prohibit name) accepts =
       let n : Bytes = key (read_name name) in
       IsSound-prohibit (closed n T) (IsSound-closed T sound n) n (get-without_here T.cases n)
   each_request (Allow name) accepts =
       let all = accepted (of (Allow name)) (facts (Allow name)) accepts in
       let n : Bytes = key (read_name name) in
-      let free : is_held (get T.names n) ≡ false = ap is_some (no_project_at T (read_name name) (not-false _ all.1)) in
+      let free : is_held (get T.names n) ≡ false = ap is_some (no_project_at T (read_name name) (not-false _ all.not_already)) in
       IsSound-relinquish (closed n T) (IsSound-closed T sound n) n (get-without_here T.cases n) (undeleted_in-free T sound n free)
   each_request (OpenCase name kind contact work why) accepts =
       let all = accepted (of (OpenCase name kind contact work why)) (facts (OpenCase name kind contact work why)) accepts in
-      IsSound-case T sound (key (read_name name)) _ (ap is_some (project_at T (read_name name) all.0.1.1.1.1.0))
+      IsSound-case T sound (key (read_name name)) _ (ap is_some (project_at T (read_name name) (all.not_refused NoProject refl)))
   each_request (RecordAttempt name means sent) accepts =
       let all = accepted (of (RecordAttempt name means sent)) (facts (RecordAttempt name means sent)) accepts in
-      IsSound-case T sound (key (read_name name)) _ (ap is_some (project_at T (read_name name) all.0.1.1.1.1.0))
+      IsSound-case T sound (key (read_name name)) _ (ap is_some (project_at T (read_name name) (all.not_refused NoProject refl)))
   each_request (Transfer name quiet) accepts =
       let all = accepted (of (Transfer name quiet)) (facts (Transfer name quiet)) accepts in
-      IsSound-transfer (closed (key (read_name name)) T) (IsSound-closed T sound (key (read_name name))) (key (read_name name)) _ (ap is_some (project_at T (read_name name) all.0.1.1.1.1.0))
+      IsSound-transfer (closed (key (read_name name)) T) (IsSound-closed T sound (key (read_name name))) (key (read_name name)) _ (ap is_some (project_at T (read_name name) (all.not_refused NoProject refl)))
   each_request (CloseCase name) accepts = IsSound-closed T sound (key (read_name name))
   each_request (AnswerCase name) accepts = IsSound-closed T sound (key (read_name name))
 

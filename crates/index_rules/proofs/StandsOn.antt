@@ -4,6 +4,7 @@ use Rattle.std.specs.FinMap.{get, empty, get-empty, same_map}
 use Rattle.std.proofs.lemmas.Cmp.{nat_list_cmp_total}
 use Rattle.std.proofs.lemmas.Map.Lookups.{exact_bytes}
 use Rattle.std.proofs.lemmas.Bool.{true≢false, false≢true}
+use Rattle.index_rules.specs.declared.answer.Refusal.TheVariants.{BadToken}
 use Rattle.index_rules.specs.declared.call.Call.{Call}
 use Rattle.index_rules.specs.declared.records.NameRecord.TheVariants as name_record
 use Rattle.index_rules.specs.declared.records.UserRecord.{UserRecord}
@@ -85,7 +86,7 @@ module _ (T : Tables) (h : History) (sound : IsSound T) (stands : StandsFor T h)
   -- who made an accepted call bears its token
   caller_there : (c : Call) → verdict_now T c ≡ Accept → bearer h c.token ≡ Some (key (bearer h c.token))
   caller_there c accepts =
-      by (bearer_in T c.token) (accepted c (facts_in T c) accepts).0.1.0 (agree.who_agrees T h sound.one_bearer stands (has_release_agrees T h stands.files) (received h) c.token)
+      by (bearer_in T c.token) ((accepted c (facts_in T c) accepts).not_refused BadToken refl) (agree.who_agrees T h sound.one_bearer stands (has_release_agrees T h stands.files) (received h) c.token)
     where
       by : (found : Option (Bytes × UserRecord)) → is_none (option_map caller_by found) ≡ false → option_map (λ user. user.0) found ≡ bearer h c.token → bearer h c.token ≡ Some (key (bearer h c.token))
       by None missing is = absurd (true≢false missing)

@@ -8,6 +8,7 @@ use Rattle.index_retention.specs.declared.attempts.CaseKind.{CaseKind}
 use Rattle.index_retention.specs.declared.attempts.Means.{Means}
 use Rattle.index_retention.specs.Attempts.{Attempt, attempt_of, tally_of}
 use Rattle.index_retention.proofs.TallyLemmas.{attempts_are_counted}
+use Rattle.index_rules.specs.declared.answer.Refusal.TheVariants.{BadFileName, BadName, NameHeld, NoCase}
 use Rattle.index_rules.specs.declared.call.Call.{Call}
 use Rattle.index_rules.specs.declared.call.Request.{Request}
 use Rattle.index_rules.specs.declared.call.Request.TheVariants.{AddUser, SetToken, SetQuota, Claim, AddOwner, RemoveOwner, Upload, Delete, Yank, Unyank, Relinquish, Prohibit, Allow, OpenCase, RecordAttempt, Transfer, CloseCase, AnswerCase}
@@ -88,28 +89,28 @@ module _ (T : Tables) (h : History) (sound : IsSound T) (names : (name : Bytes) 
   cases_after (Claim name) accepts =
       let all = accepted (of (Claim name)) (facts_in T (of (Claim name))) accepts in
       let n : Bytes = key (read_name name) in
-      let reads : read_name name ≡ Some n = read_key (read_name name) all.0.1.1.0 in
-      none_of_free n (sym (ap (λ r. is_held (option_and_then (get T.names) r)) reads) ∙ and_not _ _ all.0.1.1.1.1.0 all.1)
-  cases_after (AddOwner name user) accepts = ended_by (read_name name) (accepted (of (AddOwner name user)) (facts_in T (of (AddOwner name user))) accepts).0.1.1.1.0
-  cases_after (RemoveOwner name user) accepts = ended_by (read_name name) (accepted (of (RemoveOwner name user)) (facts_in T (of (RemoveOwner name user))) accepts).0.1.1.1.0
+      let reads : read_name name ≡ Some n = read_key (read_name name) (all.not_refused BadName refl) in
+      none_of_free n (sym (ap (λ r. is_held (option_and_then (get T.names) r)) reads) ∙ and_not _ _ (all.not_refused NameHeld refl) all.not_already)
+  cases_after (AddOwner name user) accepts = ended_by (read_name name) ((accepted (of (AddOwner name user)) (facts_in T (of (AddOwner name user))) accepts).not_refused BadName refl)
+  cases_after (RemoveOwner name user) accepts = ended_by (read_name name) ((accepted (of (RemoveOwner name user)) (facts_in T (of (RemoveOwner name user))) accepts).not_refused BadName refl)
   cases_after (Upload file digest body requires) accepts =
       let all = accepted (of (Upload file digest body requires)) (facts_in T (of (Upload file digest body requires))) accepts in
-      ended (option_map project_of (read_file file)) (project_of file) (ap (option_map project_of) (read_itself file all.0.1.1.0))
+      ended (option_map project_of (read_file file)) (project_of file) (ap (option_map project_of) (read_itself file (all.not_refused BadFileName refl)))
   cases_after (Delete file) accepts =
       let all = accepted (of (Delete file)) (facts_in T (of (Delete file))) accepts in
-      ended (option_map project_of (read_file file)) (project_of file) (ap (option_map project_of) (read_itself file all.0.1.1.0))
-  cases_after (Yank name release reason) accepts = ended_by (read_name name) (accepted (of (Yank name release reason)) (facts_in T (of (Yank name release reason))) accepts).0.1.1.0
-  cases_after (Unyank name release) accepts = ended_by (read_name name) (accepted (of (Unyank name release)) (facts_in T (of (Unyank name release))) accepts).0.1.1.0
-  cases_after (Relinquish name) accepts = ended_by (read_name name) (accepted (of (Relinquish name)) (facts_in T (of (Relinquish name))) accepts).0.1.1.0
-  cases_after (Prohibit name) accepts = ended_by (read_name name) (accepted (of (Prohibit name)) (facts_in T (of (Prohibit name))) accepts).0.1.1.1.0
+      ended (option_map project_of (read_file file)) (project_of file) (ap (option_map project_of) (read_itself file (all.not_refused BadFileName refl)))
+  cases_after (Yank name release reason) accepts = ended_by (read_name name) ((accepted (of (Yank name release reason)) (facts_in T (of (Yank name release reason))) accepts).not_refused BadName refl)
+  cases_after (Unyank name release) accepts = ended_by (read_name name) ((accepted (of (Unyank name release)) (facts_in T (of (Unyank name release))) accepts).not_refused BadName refl)
+  cases_after (Relinquish name) accepts = ended_by (read_name name) ((accepted (of (Relinquish name)) (facts_in T (of (Relinquish name))) accepts).not_refused BadName refl)
+  cases_after (Prohibit name) accepts = ended_by (read_name name) ((accepted (of (Prohibit name)) (facts_in T (of (Prohibit name))) accepts).not_refused BadName refl)
   cases_after (Allow name) accepts =
       let all = accepted (of (Allow name)) (facts_in T (of (Allow name))) accepts in
-      none_of_free (key (read_name name)) (ap is_some (no_project_at T (read_name name) (not-false _ all.1)))
+      none_of_free (key (read_name name)) (ap is_some (no_project_at T (read_name name) (not-false _ all.not_already)))
   cases_after (OpenCase name kind contact work why) accepts =
-      opened name kind contact work why (accepted (of (OpenCase name kind contact work why)) (facts_in T (of (OpenCase name kind contact work why))) accepts).0.1.1.0
+      opened name kind contact work why ((accepted (of (OpenCase name kind contact work why)) (facts_in T (of (OpenCase name kind contact work why))) accepts).not_refused BadName refl)
   cases_after (RecordAttempt name means sent) accepts =
       let all = accepted (of (RecordAttempt name means sent)) (facts_in T (of (RecordAttempt name means sent))) accepts in
-      recorded name means sent all.0.1.1.1.0 all.0.1.1.1.1.1.0
-  cases_after (Transfer name quiet) accepts = ended_by (read_name name) (accepted (of (Transfer name quiet)) (facts_in T (of (Transfer name quiet))) accepts).0.1.1.1.0
-  cases_after (CloseCase name) accepts = ended_by (read_name name) (accepted (of (CloseCase name)) (facts_in T (of (CloseCase name))) accepts).0.1.1.1.0
-  cases_after (AnswerCase name) accepts = ended_by (read_name name) (accepted (of (AnswerCase name)) (facts_in T (of (AnswerCase name))) accepts).0.1.1.0
+      recorded name means sent (all.not_refused BadName refl) (all.not_refused NoCase refl)
+  cases_after (Transfer name quiet) accepts = ended_by (read_name name) ((accepted (of (Transfer name quiet)) (facts_in T (of (Transfer name quiet))) accepts).not_refused BadName refl)
+  cases_after (CloseCase name) accepts = ended_by (read_name name) ((accepted (of (CloseCase name)) (facts_in T (of (CloseCase name))) accepts).not_refused BadName refl)
+  cases_after (AnswerCase name) accepts = ended_by (read_name name) ((accepted (of (AnswerCase name)) (facts_in T (of (AnswerCase name))) accepts).not_refused BadName refl)

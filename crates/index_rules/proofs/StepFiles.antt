@@ -6,6 +6,7 @@ use Rattle.std.proofs.lemmas.Bool.{true≢false, false≢true, not-false, and_pa
 use Rattle.index_names.specs.Project.{read_name}
 use Rattle.index_names.specs.FileName.{project_of, release_of}
 use Rattle.index_digest.specs.Digest.{digest_in}
+use Rattle.index_rules.specs.declared.answer.Refusal.TheVariants.{BadDigest, BadFileName, BadName, FileNameTaken, NoFile}
 use Rattle.index_rules.specs.declared.call.Call.{Call}
 use Rattle.index_rules.specs.declared.call.Request.{Request}
 use Rattle.index_rules.specs.declared.call.Request.TheVariants.{AddUser, SetToken, SetQuota, Claim, AddOwner, RemoveOwner, Upload, Delete, Yank, Unyank, Relinquish, Prohibit, Allow, OpenCase, RecordAttempt, Transfer, CloseCase, AnswerCase}
@@ -156,15 +157,15 @@ module _ (T : Tables) (h : History) (files : (file : Bytes) → get T.files file
   files_after (RemoveOwner name user) accepts = files
   files_after (Upload file digest body requires) accepts =
       let all = accepted (of (Upload file digest body requires)) (facts_in T (of (Upload file digest body requires))) accepts in
-      let reads : read_file file ≡ Some file = read_itself file all.0.1.1.0 in
-      file_uploaded file digest body requires reads (known-here file digest body requires reads all.0.1.1.1.1.0 all.0.1.1.1.1.1.1.1.1.1.0)
+      let reads : read_file file ≡ Some file = read_itself file (all.not_refused BadFileName refl) in
+      file_uploaded file digest body requires reads (known-here file digest body requires reads (all.not_refused BadDigest refl) (all.not_refused FileNameTaken refl))
   files_after (Delete file) accepts =
       let all = accepted (of (Delete file)) (facts_in T (of (Delete file))) accepts in
-      file_deleted file (read_itself file all.0.1.1.0) all.0.1.1.1.1.1.0
+      file_deleted file (read_itself file (all.not_refused BadFileName refl)) (all.not_refused NoFile refl)
   files_after (Yank name release reason) accepts = files
   files_after (Unyank name release) accepts = files
   files_after (Relinquish name) accepts = files
-  files_after (Prohibit name) accepts = files_prohibited name (accepted (of (Prohibit name)) (facts_in T (of (Prohibit name))) accepts).0.1.1.1.0
+  files_after (Prohibit name) accepts = files_prohibited name ((accepted (of (Prohibit name)) (facts_in T (of (Prohibit name))) accepts).not_refused BadName refl)
   files_after (Allow name) accepts = files
   files_after (OpenCase name kind contact work why) accepts = files
   files_after (RecordAttempt name means sent) accepts = files
@@ -180,12 +181,12 @@ module _ (T : Tables) (h : History) (files : (file : Bytes) → get T.files file
   bodies_after bodies (AddOwner name user) accepts = bodies
   bodies_after bodies (RemoveOwner name user) accepts = bodies
   bodies_after bodies (Upload file digest body requires) accepts =
-      body_uploaded file digest body requires (read_itself file (accepted (of (Upload file digest body requires)) (facts_in T (of (Upload file digest body requires))) accepts).0.1.1.0) bodies
-  bodies_after bodies (Delete file) accepts = body_deleted file (read_itself file (accepted (of (Delete file)) (facts_in T (of (Delete file))) accepts).0.1.1.0) bodies
+      body_uploaded file digest body requires (read_itself file ((accepted (of (Upload file digest body requires)) (facts_in T (of (Upload file digest body requires))) accepts).not_refused BadFileName refl)) bodies
+  bodies_after bodies (Delete file) accepts = body_deleted file (read_itself file ((accepted (of (Delete file)) (facts_in T (of (Delete file))) accepts).not_refused BadFileName refl)) bodies
   bodies_after bodies (Yank name release reason) accepts = bodies
   bodies_after bodies (Unyank name release) accepts = bodies
   bodies_after bodies (Relinquish name) accepts = bodies
-  bodies_after bodies (Prohibit name) accepts = bodies_prohibited name (accepted (of (Prohibit name)) (facts_in T (of (Prohibit name))) accepts).0.1.1.1.0 bodies
+  bodies_after bodies (Prohibit name) accepts = bodies_prohibited name ((accepted (of (Prohibit name)) (facts_in T (of (Prohibit name))) accepts).not_refused BadName refl) bodies
   bodies_after bodies (Allow name) accepts = bodies
   bodies_after bodies (OpenCase name kind contact work why) accepts = bodies
   bodies_after bodies (RecordAttempt name means sent) accepts = bodies

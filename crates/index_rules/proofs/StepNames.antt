@@ -5,6 +5,7 @@ use Rattle.std.specs.FinMap.{get, insert, remove}
 use Rattle.std.proofs.lemmas.Bool.{false≢true, not-false}
 use Rattle.index_names.specs.Project.{read_name}
 use Rattle.index_names.specs.FileName.{project_of}
+use Rattle.index_rules.specs.declared.answer.Refusal.TheVariants.{BadFileName, BadName, NoProject}
 use Rattle.index_rules.specs.declared.call.Call.{Call}
 use Rattle.index_rules.specs.declared.call.Request.{Request}
 use Rattle.index_rules.specs.declared.call.Request.TheVariants.{AddUser, SetToken, SetQuota, Claim, AddOwner, RemoveOwner, Upload, Delete, Yank, Unyank, Relinquish, Prohibit, Allow, OpenCase, RecordAttempt, Transfer, CloseCase, AnswerCase}
@@ -96,8 +97,8 @@ module _ (T : Tables) (h : History) (stands : (name : Bytes) → get T.names nam
   quota_set name quota accepts =
       let all = accepted (of (SetQuota name quota)) (facts_in T (of (SetQuota name quota))) accepts in
       let n : Bytes = key (read_name name) in
-      let reads : read_name name ≡ Some n = read_key (read_name name) all.0.1.1.1.0 in
-      let held = held_by (read_name name) n reads all.0.1.1.1.1.1.0 in
+      let reads : read_name name ≡ Some n = read_key (read_name name) (all.not_refused BadName refl) in
+      let held = held_by (read_name name) n reads (all.not_refused NoProject refl) in
       let project : Project = unwrap_or (project_in (option_and_then (get T.names) (read_name name))) no_project in
       each_put T.names n (name_record.Held (record project { quota = quota })) (IsNamed (then (SetQuota name quota)))
       (IsShaped-held (state_of h n) (shown_of h n) (quota_of (then (SetQuota name quota)) n) (last_upload_of h n) (record project { quota = quota }) held.0.state (λ i. (held.1 i).shown) (sym (at_key (read_name name) n reads quota (quota_of h n)))
@@ -156,22 +157,22 @@ module _ (T : Tables) (h : History) (stands : (name : Bytes) → get T.names nam
   names_after (AddUser user office digest) accepts = before
   names_after (SetToken user digest) accepts = before
   names_after (SetQuota name quota) accepts = quota_set name quota accepts
-  names_after (Claim name) accepts = claimed name (accepted (of (Claim name)) (facts_in T (of (Claim name))) accepts).0.1.1.0
+  names_after (Claim name) accepts = claimed name ((accepted (of (Claim name)) (facts_in T (of (Claim name))) accepts).not_refused BadName refl)
   names_after (AddOwner name user) accepts = before
   names_after (RemoveOwner name user) accepts = before
   names_after (Upload file digest body requires) accepts =
       let all = accepted (of (Upload file digest body requires)) (facts_in T (of (Upload file digest body requires))) accepts in
-      uploaded file digest body requires (read_itself file all.0.1.1.0) all.0.1.1.1.1.1.1.1.0
+      uploaded file digest body requires (read_itself file (all.not_refused BadFileName refl)) (all.not_refused NoProject refl)
   names_after (Delete file) accepts =
       let all = accepted (of (Delete file)) (facts_in T (of (Delete file))) accepts in
-      let held = held_by (option_map project_of (read_file file)) (project_of file) (ap (option_map project_of) (read_itself file all.0.1.1.0)) all.0.1.1.1.0 in
+      let held = held_by (option_map project_of (read_file file)) (project_of file) (ap (option_map project_of) (read_itself file (all.not_refused BadFileName refl))) (all.not_refused NoProject refl) in
       let size : ℕ = (file_of (facts_in T (of (Delete file)))).size in
       numbered (project_of file) _ held.0.state (λ i. (without_file size (held.1 i)).shown) (λ i. (without_file size (held.1 i)).quota) (λ i. (held.1 i).last_upload)
   names_after (Yank name release reason) accepts = before
   names_after (Unyank name release) accepts = before
-  names_after (Relinquish name) accepts = freed (read_name name) (accepted (of (Relinquish name)) (facts_in T (of (Relinquish name))) accepts).0.1.1.0
-  names_after (Prohibit name) accepts = prohibited name (accepted (of (Prohibit name)) (facts_in T (of (Prohibit name))) accepts).0.1.1.1.0
-  names_after (Allow name) accepts = freed (read_name name) (accepted (of (Allow name)) (facts_in T (of (Allow name))) accepts).0.1.1.1.0
+  names_after (Relinquish name) accepts = freed (read_name name) ((accepted (of (Relinquish name)) (facts_in T (of (Relinquish name))) accepts).not_refused BadName refl)
+  names_after (Prohibit name) accepts = prohibited name ((accepted (of (Prohibit name)) (facts_in T (of (Prohibit name))) accepts).not_refused BadName refl)
+  names_after (Allow name) accepts = freed (read_name name) ((accepted (of (Allow name)) (facts_in T (of (Allow name))) accepts).not_refused BadName refl)
   names_after (OpenCase name kind contact work why) accepts = before
   names_after (RecordAttempt name means sent) accepts = before
   names_after (Transfer name quiet) accepts = before

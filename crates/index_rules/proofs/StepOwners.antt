@@ -4,6 +4,7 @@ use Rattle.std.specs.FinMap.{get}
 use Rattle.std.proofs.lemmas.Bool.{true≢false, not-false}
 use Rattle.index_names.specs.Project.{read_name}
 use Rattle.index_names.specs.Release.{read_release}
+use Rattle.index_rules.specs.declared.answer.Refusal.TheVariants.{BadName, BadRelease, BadUser, NoCase, NoProject}
 use Rattle.index_rules.specs.declared.call.Call.{Call}
 use Rattle.index_rules.specs.declared.call.Request.{Request}
 use Rattle.index_rules.specs.declared.call.Request.TheVariants.{AddUser, SetToken, SetQuota, Claim, AddOwner, RemoveOwner, Upload, Delete, Yank, Unyank, Relinquish, Prohibit, Allow, OpenCase, RecordAttempt, Transfer, CloseCase, AnswerCase}
@@ -155,28 +156,28 @@ module _ (T : Tables) (h : History) (names : (name : Bytes) → get T.names name
     owners_after (AddUser user office digest) accepts = stands
     owners_after (SetToken user digest) accepts = stands
     owners_after (SetQuota name quota) accepts = stands
-    owners_after (Claim name) accepts = owners_claimed name (accepted (of (Claim name)) (facts_in T (of (Claim name))) accepts).0.1.1.0
+    owners_after (Claim name) accepts = owners_claimed name ((accepted (of (Claim name)) (facts_in T (of (Claim name))) accepts).not_refused BadName refl)
     owners_after (AddOwner name user) accepts =
         let all = accepted (of (AddOwner name user)) (facts_in T (of (AddOwner name user))) accepts in
-        owner_added name user all.0.1.1.1.0 all.0.1.1.0 all.0.1.1.1.1.1.0
+        owner_added name user (all.not_refused BadName refl) (all.not_refused BadUser refl) (all.not_refused NoProject refl)
     owners_after (RemoveOwner name user) accepts =
         let all = accepted (of (RemoveOwner name user)) (facts_in T (of (RemoveOwner name user))) accepts in
-        owner_removed name user all.0.1.1.1.0 all.0.1.1.0
+        owner_removed name user (all.not_refused BadName refl) (all.not_refused BadUser refl)
     owners_after (Upload file digest body requires) accepts = stands
     owners_after (Delete file) accepts = stands
     owners_after (Yank name release reason) accepts = stands
     owners_after (Unyank name release) accepts = stands
     owners_after (Relinquish name) accepts = λ m u.
-        has-cleared T.owners (key (read_name name)) m u ∙ owners_ended Free refl (read_name name) (accepted (of (Relinquish name)) (facts_in T (of (Relinquish name))) accepts).0.1.1.0 m u
+        has-cleared T.owners (key (read_name name)) m u ∙ owners_ended Free refl (read_name name) ((accepted (of (Relinquish name)) (facts_in T (of (Relinquish name))) accepts).not_refused BadName refl) m u
     owners_after (Prohibit name) accepts = λ m u.
-        has-cleared T.owners (key (read_name name)) m u ∙ owners_ended Prohibited refl (read_name name) (accepted (of (Prohibit name)) (facts_in T (of (Prohibit name))) accepts).0.1.1.1.0 m u
+        has-cleared T.owners (key (read_name name)) m u ∙ owners_ended Prohibited refl (read_name name) ((accepted (of (Prohibit name)) (facts_in T (of (Prohibit name))) accepts).not_refused BadName refl) m u
     owners_after (Allow name) accepts = λ m u.
-        has-cleared T.owners (key (read_name name)) m u ∙ owners_ended Free refl (read_name name) (accepted (of (Allow name)) (facts_in T (of (Allow name))) accepts).0.1.1.1.0 m u
+        has-cleared T.owners (key (read_name name)) m u ∙ owners_ended Free refl (read_name name) ((accepted (of (Allow name)) (facts_in T (of (Allow name))) accepts).not_refused BadName refl) m u
     owners_after (OpenCase name kind contact work why) accepts = stands
     owners_after (RecordAttempt name means sent) accepts = stands
     owners_after (Transfer name quiet) accepts =
         let all = accepted (of (Transfer name quiet)) (facts_in T (of (Transfer name quiet))) accepts in
-        owners_transferred name quiet all.0.1.1.1.0 all.0.1.1.1.1.0 all.0.1.1.1.1.1.0
+        owners_transferred name quiet (all.not_refused BadName refl) (all.not_refused NoProject refl) (all.not_refused NoCase refl)
     owners_after (CloseCase name) accepts = stands
     owners_after (AnswerCase name) accepts = stands
 
@@ -222,20 +223,20 @@ module _ (T : Tables) (h : History) (names : (name : Bytes) → get T.names name
     yanks_after (AddUser user office digest) accepts = stands
     yanks_after (SetToken user digest) accepts = stands
     yanks_after (SetQuota name quota) accepts = stands
-    yanks_after (Claim name) accepts = yanks_claimed name (accepted (of (Claim name)) (facts_in T (of (Claim name))) accepts).0.1.1.0
+    yanks_after (Claim name) accepts = yanks_claimed name ((accepted (of (Claim name)) (facts_in T (of (Claim name))) accepts).not_refused BadName refl)
     yanks_after (AddOwner name user) accepts = stands
     yanks_after (RemoveOwner name user) accepts = stands
     yanks_after (Upload file digest body requires) accepts = stands
     yanks_after (Delete file) accepts = stands
     yanks_after (Yank name release reason) accepts =
         let all = accepted (of (Yank name release reason)) (facts_in T (of (Yank name release reason))) accepts in
-        yanked name release reason all.0.1.1.0 all.0.1.1.1.0 all.0.1.1.1.1.1.0
+        yanked name release reason (all.not_refused BadName refl) (all.not_refused BadRelease refl) (all.not_refused NoProject refl)
     yanks_after (Unyank name release) accepts =
         let all = accepted (of (Unyank name release)) (facts_in T (of (Unyank name release))) accepts in
-        unyanked name release all.0.1.1.0 all.0.1.1.1.0
-    yanks_after (Relinquish name) accepts = yanks_ended Free refl (read_name name) (accepted (of (Relinquish name)) (facts_in T (of (Relinquish name))) accepts).0.1.1.0
-    yanks_after (Prohibit name) accepts = yanks_ended Prohibited refl (read_name name) (accepted (of (Prohibit name)) (facts_in T (of (Prohibit name))) accepts).0.1.1.1.0
-    yanks_after (Allow name) accepts = yanks_ended Free refl (read_name name) (accepted (of (Allow name)) (facts_in T (of (Allow name))) accepts).0.1.1.1.0
+        unyanked name release (all.not_refused BadName refl) (all.not_refused BadRelease refl)
+    yanks_after (Relinquish name) accepts = yanks_ended Free refl (read_name name) ((accepted (of (Relinquish name)) (facts_in T (of (Relinquish name))) accepts).not_refused BadName refl)
+    yanks_after (Prohibit name) accepts = yanks_ended Prohibited refl (read_name name) ((accepted (of (Prohibit name)) (facts_in T (of (Prohibit name))) accepts).not_refused BadName refl)
+    yanks_after (Allow name) accepts = yanks_ended Free refl (read_name name) ((accepted (of (Allow name)) (facts_in T (of (Allow name))) accepts).not_refused BadName refl)
     yanks_after (OpenCase name kind contact work why) accepts = stands
     yanks_after (RecordAttempt name means sent) accepts = stands
     yanks_after (Transfer name quiet) accepts = stands

@@ -2,6 +2,7 @@
 use Rattle.std.proofs.Common.{◌≡◌, ℕ, Bool, false, cond, refl, sym, ap, ◌∙◌, Option, Some, None, is_none, option_map, option_and_then, unwrap_or}
 use Rattle.std.specs.FinMap.{get}
 use Rattle.std.proofs.lemmas.Bool.{true≢false}
+use Rattle.index_rules.specs.declared.answer.Refusal.TheVariants.{BadUser, NoUser}
 use Rattle.index_rules.specs.declared.call.Call.{Call}
 use Rattle.index_rules.specs.declared.call.Request.{Request}
 use Rattle.index_rules.specs.declared.call.Request.TheVariants.{AddUser, SetToken, SetQuota, Claim, AddOwner, RemoveOwner, Upload, Delete, Yank, Unyank, Relinquish, Prohibit, Allow, OpenCase, RecordAttempt, Transfer, CloseCase, AnswerCase}
@@ -52,10 +53,10 @@ module _ (T : Tables) (h : History) (stands : (user : Bytes) → get T.users use
 
   pub users_after : (request : Request) → verdict_now T (of request) ≡ Accept → (q : Bytes) → get (after T (of request)).users q ≡ user_of (then request) q
   users_after (AddUser user office digest) accepts =
-      user_added user digest office (accepted (of (AddUser user office digest)) (facts_in T (of (AddUser user office digest))) accepts).0.1.1.1.0
+      user_added user digest office ((accepted (of (AddUser user office digest)) (facts_in T (of (AddUser user office digest))) accepts).not_refused BadUser refl)
   users_after (SetToken user digest) accepts =
       let all = accepted (of (SetToken user digest)) (facts_in T (of (SetToken user digest))) accepts in
-      token_set user digest all.0.1.1.1.0 all.0.1.1.1.1.1.0
+      token_set user digest (all.not_refused BadUser refl) (all.not_refused NoUser refl)
   users_after (SetQuota name quota) accepts = stands
   users_after (Claim name) accepts = stands
   users_after (AddOwner name user) accepts = stands

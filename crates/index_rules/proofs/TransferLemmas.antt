@@ -8,6 +8,7 @@ use Rattle.index_retention.specs.declared.fault.CaseFault.TheVariants as case_fa
 use Rattle.index_retention.specs.Attempts.{Attempt, Tally, attempt_of, noted, tally_of}
 use Rattle.index_retention.specs.Transfer.{fewest_sent, six_weeks, twelve_months, too_few_attempts, too_early, recent_release, stands_against, IsReady}
 use Rattle.index_retention.proofs.TallyLemmas.{attempts_are_counted}
+use Rattle.index_rules.specs.declared.answer.Refusal.TheVariants.{HomePageActive, NoCase, NoProject, RecentRelease, TooEarly, TooFewAttempts}
 use Rattle.index_rules.specs.declared.call.Call.{Call}
 use Rattle.index_rules.specs.declared.call.Request.{Request}
 use Rattle.index_rules.specs.declared.call.Request.TheVariants.{OpenCase, RecordAttempt, CloseCase, Transfer, Prohibit}
@@ -122,9 +123,9 @@ ready_then : (h : History) (actor token : Bytes) (at : ℕ) (name : Bytes) (quie
     → WasReady h (record { actor = actor; call = record { at = at; token = token; request = Transfer name quiet } }) n quiet
 ready_then h actor token at name quiet n reads accepts =
     let c : Call = record { at = at; token = token; request = Transfer name quiet } in
-    let refusals = (accepted c (facts_after h c) accepts).0.1.1.1.1 in
-    let there = case_there (case_of h n) (sym (ap (λ read. is_none (option_and_then (case_at h) read)) reads) ∙ refusals.1.0) in
-    let held : state_of h n ≡ Held = state_there h n (state_of h n) (sym (ap (λ read. not (is_held (option_and_then (name_at h) read))) reads) ∙ refusals.0) in
+    let all = accepted c (facts_after h c) accepts in
+    let there = case_there (case_of h n) (sym (ap (λ read. is_none (option_and_then (case_at h) read)) reads) ∙ all.not_refused NoCase refl) in
+    let held : state_of h n ≡ Held = state_there h n (state_of h n) (sym (ap (λ read. not (is_held (option_and_then (name_at h) read))) reads) ∙ all.not_refused NoProject refl) in
     let against : Option Bytes → CaseFault → Bool = λ read fault.
     option_map_or (λ case. option_map_or (λ project. stands_against case.state project.last_upload quiet at fault) (project_in (option_and_then (name_at h) read)) false) (option_and_then (case_at h) read) false in
     let nothing : (fault : CaseFault) → against (read_name name) fault ≡ false → stands_against (tally_of there.0.attempts) (last_upload_of h n) quiet at fault ≡ false = λ fault none.
@@ -135,7 +136,7 @@ ready_then h actor token at name quiet n reads accepts =
       case = there.0;
       is_open = there.1;
       ready = ready_from (tally_of there.0.attempts) (last_upload_of h n) quiet at (HasFirst-tally there.0.attempts)
-          (nothing case_fault.TooFewAttempts refusals.1.1.0) (nothing case_fault.TooEarly refusals.1.1.1.0) (nothing case_fault.RecentRelease refusals.1.1.1.1.0) (nothing case_fault.HomePageActive refusals.1.1.1.1.1.0);
+          (nothing case_fault.TooFewAttempts (all.not_refused TooFewAttempts refl)) (nothing case_fault.TooEarly (all.not_refused TooEarly refl)) (nothing case_fault.RecentRelease (all.not_refused RecentRelease refl)) (nothing case_fault.HomePageActive (all.not_refused HomePageActive refl));
       unanswered = unanswered_open h n (ap is_some there.1);
       owners = λ u. (λ i. is_held_now (held i) && cond (is_read_as (reads i) n) (is_read_as (option_map (λ case. case.candidate) (there.1 i)) u) (is_given h n u))
           ∙ ap (λ b. cond b (same u there.0.candidate) (is_given h n u)) (same-refl n);
