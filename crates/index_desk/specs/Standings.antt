@@ -5,6 +5,8 @@ use Rattle.std.specs.List.Sorted.{IsStrictlySortedBy}
 use Rattle.std.specs.FinMap.{get}
 use Rattle.index_rules.specs.declared.records.NameRecord.{NameRecord}
 use Rattle.index_rules.specs.declared.records.NameRecord.TheVariants.{Held, Prohibited}
+use Rattle.index_rules.specs.declared.records.Project.{Project}
+use Rattle.index_rules.specs.declared.records.CaseRecord.{CaseRecord}
 use Rattle.index_rules.specs.Maps.{Bytes, same, bytes_cmp}
 use Rattle.index_rules.specs.Tables.{Tables, owners_in}
 use Rattle.index_rules.specs.History.{History}
@@ -14,11 +16,14 @@ use Rattle.index_rules.specs.StandsFor.{case_at, project_at}
 use Rattle.index_desk.specs.declared.standing.Standing.{Standing}
 use Rattle.index_desk.specs.declared.standing.Standing.TheVariants as standing
 
+abbrev pub held_with : Bytes → Project → List Bytes → Option CaseRecord → Standing
+held_with name project owners case = standing.Held (record { name = name; project = project; owners = owners; case = case })
+
 -- what stands of a name with this record
 abbrev pub standing_by : Tables → Bytes → Option NameRecord → Standing
 standing_by T name None = standing.Free name
 standing_by T name (Some Prohibited) = standing.Prohibited name
-standing_by T name (Some (Held project)) = standing.Held (record { name = name; project = project; owners = owners_in T name; case = get T.cases name })
+standing_by T name (Some (Held project)) = held_with name project (owners_in T name) (get T.cases name)
 
 abbrev pub standing_in : Tables → Bytes → Standing
 standing_in T name = standing_by T name (get T.names name)

@@ -1,5 +1,5 @@
 //! Calls in order, over any books.
-ghost use Rattle.std.specs.Prelude.{◌≡◌, ◌≤◌, ◌+◌, ℕ, [], IfOk, IfErr, OnOk, OnErr, Contains, length, vec_len, vec_capacity};
+ghost use Rattle.std.specs.Prelude.{◌≡◌, ◌≢◌, [], IfOk, IfErr, OnOk, OnErr, Contains, length, vec_len, vec_capacity};
 ghost use Rattle.std.specs.FinMap.{get};
 ghost use Rattle.index_rules.specs.Runs.{Answers, Runs, tables_after, tables_by};
 ghost use Rattle.index_rules.specs.Decided.{Decides};
@@ -8,17 +8,20 @@ ghost use Rattle.index_rules.specs.Verdict.{Verdict, verdict_now};
 ghost use Rattle.index_rules.specs.Facts.{HasOneBearer, Sees, facts_in};
 ghost use Rattle.index_rules.specs.Requests.{keys_of};
 ghost use Rattle.index_rules.specs.Sound.{IsSound};
+ghost use Rattle.index_rules.specs.Tables.{owners_in};
 ghost use Rattle.index_rules.specs.Failures.{FailsAtMostOnce, HasFailed};
 ghost use Rattle.index_rules.specs.History.{History};
-ghost use Rattle.index_rules.specs.StandsFor.{StandsFor};
+ghost use Rattle.index_rules.specs.StandsFor.{StandsFor, body_at};
 ghost use Rattle.index_rules.specs.Legal.{CarriesOn, CarriesOnBy, IsLegal};
-ghost use Rattle.index_desk.specs.Standings.{IsStandingAfter, standing_in};
+ghost use Rattle.index_desk.specs.Looks.{Looks};
+ghost use Rattle.index_desk.specs.Standings.{IsStandingAfter, held_with, standing_in};
 
 use crate::standing::{HeldName, Standing};
 use index_digest::Sealed;
 use index_names::{FileName, NormalName};
 use index_rules::{
-    Answer, Books, Call, CaseRecord, Change, Decision, Fault, Keys, NameRecord, Stop, View, decide,
+    Answer, Books, Call, CaseRecord, Change, Decision, Fault, Keys, NameRecord, Project, Stop,
+    View, decide,
 };
 use std::alloc::Global;
 use std::marker::Model;
@@ -58,81 +61,125 @@ impl<B: Books> Desk<B> {
     /// Takes one call. After a refusal, an `Already` or a fault the tables are what they were.
     pub fn apply(&mut self, alloc: Global, call: Call) -> Answer
         // The answer is the verdict on the tables as they are, or a fault.
-        ensures answer { B.IsHonest self.new → HasOneBearer (B.tables self.old) → Answers (verdict_now (B.tables self.old) call) result }
+        ensures answer { B.IsHonest self.new → HasOneBearer (B.tables self.old) →
+            Answers (verdict_now (B.tables self.old) call) result }
 
         // After an acceptance the tables are those after the call, else what they were.
-        ensures tables { B.IsHonest self.new → HasOneBearer (B.tables self.old) → B.tables self.new ≡ tables_after (B.tables self.old) call result }
+        ensures tables { B.IsHonest self.new → HasOneBearer (B.tables self.old) →
+            B.tables self.new ≡ tables_after (B.tables self.old) call result }
+        ensures unchanged { B.IsHonest self.new → result ≢ Answer.Accepted →
+            B.tables self.new ≡ B.tables self.old }
 
         // No two users come to bear one digest, and tables whose accounts add up keep adding up.
-        ensures one_bearer { B.IsHonest self.new → HasOneBearer (B.tables self.old) → HasOneBearer (B.tables self.new) }
-        ensures sound { B.IsHonest self.new → IsSound (B.tables self.old) → IsSound (B.tables self.new) }
+        ensures one_bearer { B.IsHonest self.new →
+            HasOneBearer (B.tables self.old) → HasOneBearer (B.tables self.new) }
+        ensures sound { B.IsHonest self.new →
+            IsSound (B.tables self.old) → IsSound (B.tables self.new) }
 
         // Tables that stood for a legal history stand for it with the call, where it was accepted, and else for the same.
-        ensures history { B.IsHonest self.new → (h : History) → IsLegal h → StandsFor (B.tables self.old) h → CarriesOn h call result (B.tables self.new) }
-        ensures store { result ≡ Answer.Fault Fault.Store → HasFailed (B.failures self.old) (B.failures self.new) }
+        ensures history { B.IsHonest self.new → (h : History) → IsLegal h →
+            StandsFor (B.tables self.old) h → CarriesOn h call result (B.tables self.new) }
+        ensures store { result ≡ Answer.Fault Fault.Store →
+            HasFailed (B.failures self.old) (B.failures self.new) }
         ensures failures { FailsAtMostOnce (B.failures self.old) (B.failures self.new) }
         ensures honest { B.IsHonest self.new → B.IsHonest self.old }
     {
-        apply_to(&mut self.books, alloc, call)
+        match consider(&mut self.books, alloc, call) {
+            Ok(decision) => settle(&mut self.books, alloc, decision),
+            Err(fault) => Answer::Fault(fault),
+        }
     }
 
     /// Takes calls in order. Room for all answers is taken first: after its one error, `OutOfMemory`, no call
     /// was taken.
     pub fn run(&mut self, alloc: Global, calls: Vec<Call>) -> Result<Vec<Answer>, Fault>
         // Each answer is the verdict at its point or a fault, and the tables are those after the accepted calls.
-        ensures answers { B.IsHonest self.new → HasOneBearer (B.tables self.old) → IfOk result (λ answers. Runs (B.tables self.old) calls.items answers.items (B.tables self.new)) }
+        ensures answers { B.IsHonest self.new → HasOneBearer (B.tables self.old) →
+            IfOk result (λ answers.
+            Runs (B.tables self.old) calls.items answers.items (B.tables self.new)) }
 
         // No two users come to bear one digest, and the accounts add up as before.
-        ensures one_bearer { B.IsHonest self.new → HasOneBearer (B.tables self.old) → HasOneBearer (B.tables self.new) }
-        ensures sound { B.IsHonest self.new → IsSound (B.tables self.old) → IsSound (B.tables self.new) }
+        ensures one_bearer { B.IsHonest self.new →
+            HasOneBearer (B.tables self.old) → HasOneBearer (B.tables self.new) }
+        ensures sound { B.IsHonest self.new →
+            IsSound (B.tables self.old) → IsSound (B.tables self.new) }
 
         // Tables that stood for a legal history stand for it with exactly the accepted calls, in order.
-        ensures history { B.IsHonest self.new → IfOk result (λ answers. (h : History) → IsLegal h → StandsFor (B.tables self.old) h → CarriesOnBy h calls.items answers.items (B.tables self.new)) }
-        ensures store { IfOk result (λ answers. Contains answers.items (Answer.Fault Fault.Store) → HasFailed (B.failures self.old) (B.failures self.new)) }
+        ensures history { B.IsHonest self.new →
+            IfOk result (λ answers. (h : History) → IsLegal h → StandsFor (B.tables self.old) h →
+            CarriesOnBy h calls.items answers.items (B.tables self.new)) }
+        ensures store { IfOk result (λ answers.
+            Contains answers.items (Answer.Fault Fault.Store) →
+            HasFailed (B.failures self.old) (B.failures self.new)) }
         ensures none { OnErr result (self.new ≡ self.old) }
         ensures fault { IfErr result (λ fault. fault ≡ Fault.OutOfMemory) }
         ensures honest { B.IsHonest self.new → B.IsHonest self.old }
     {
         let mut answers = Vec::with_capacity(alloc, calls.len())?;
-        run_on(&mut self.books, alloc, calls, &mut answers);
+        self.apply_all(alloc, calls, &mut answers);
         Ok(answers)
+    }
+
+    /// Takes calls in order, into answers that have room for theirs.
+    fn apply_all(&mut self, alloc: Global, calls: Vec<Call>, answers: &mut Vec<Answer>)
+        requires room { vec_capacity answers.old ≡ length calls.items }
+        requires none { answers.old.items ≡ [] }
+        ensures runs { B.IsHonest self.new → HasOneBearer (B.tables self.old) →
+            Runs (B.tables self.old) calls.items answers.new.items (B.tables self.new) }
+        ensures store { Contains answers.new.items (Answer.Fault Fault.Store) →
+            HasFailed (B.failures self.old) (B.failures self.new) }
+        ensures honest { B.IsHonest self.new → B.IsHonest self.old }
+    {
+        for call in calls {
+            let answer = self.apply(alloc, call);
+            answers.push_reserved(answer);
+        }
     }
 
     /// What stands of a name. It changes no table.
     pub fn standing(&mut self, alloc: Global, name: &NormalName) -> Result<Standing, Fault>
-        ensures standing { B.IsHonest self.new → IfOk result (λ standing. standing ≡ standing_in (B.tables self.old) name.now) }
-        ensures history { B.IsHonest self.new → IfOk result (λ standing. (h : History) → StandsFor (B.tables self.old) h → IsStandingAfter h name.now standing) }
+        ensures standing { B.IsHonest self.new →
+            IfOk result (λ standing. standing ≡ standing_in (B.tables self.old) name.now) }
+        ensures history { B.IsHonest self.new →
+            IfOk result (λ standing. (h : History) → StandsFor (B.tables self.old) h →
+            IsStandingAfter h name.now standing) }
         ensures unchanged { B.IsHonest self.new → B.tables self.new ≡ B.tables self.old }
-        ensures store { IfErr result (λ fault. fault ≡ Fault.Store → HasFailed (B.failures self.old) (B.failures self.new)) }
+        ensures kept { OnOk result (B.failures self.new ≡ B.failures self.old) }
+        ensures store { IfErr result (λ fault. fault ≡ Fault.Store →
+            HasFailed (B.failures self.old) (B.failures self.new)) }
         ensures failures { FailsAtMostOnce (B.failures self.old) (B.failures self.new) }
         ensures honest { B.IsHonest self.new → B.IsHonest self.old }
     {
-        standing_of(&mut self.books, alloc, name)
+        let mut view = seen_name(&mut self.books, alloc, name)?;
+        match view.name.take() {
+            None => free_name(name),
+            Some(NameRecord::Prohibited) => prohibited_name(name),
+            Some(NameRecord::Held(project)) => {
+                let case = view.case.take();
+                drop(view);
+                held_name(&mut self.books, alloc, name, project, case)
+            }
+        }
     }
 
     /// The bytes that are kept of a file with their digest, or `None` where none are: in sound tables, where it is not
     /// undeleted. It changes no table.
     pub fn body(&mut self, alloc: Global, file: &FileName) -> Result<Option<Sealed>, Fault>
-        ensures body { B.IsHonest self.new → IfOk result (λ body. body ≡ get (B.tables self.old).bodies file.now) }
+        ensures body { B.IsHonest self.new →
+            IfOk result (λ body. body ≡ get (B.tables self.old).bodies file.now) }
+
+        // After a history it is the body of the file's last upload, where the file is undeleted.
+        ensures history { B.IsHonest self.new →
+            IfOk result (λ body. (h : History) → StandsFor (B.tables self.old) h →
+            body ≡ body_at h file.now) }
         ensures unchanged { B.IsHonest self.new → B.tables self.new ≡ B.tables self.old }
-        ensures store { IfErr result (λ fault. fault ≡ Fault.Store → HasFailed (B.failures self.old) (B.failures self.new)) }
+        ensures kept { OnOk result (B.failures self.new ≡ B.failures self.old) }
+        ensures store { IfErr result (λ fault. fault ≡ Fault.Store →
+            HasFailed (B.failures self.old) (B.failures self.new)) }
         ensures failures { FailsAtMostOnce (B.failures self.old) (B.failures self.new) }
         ensures honest { B.IsHonest self.new → B.IsHonest self.old }
     {
-        body_of(&mut self.books, alloc, file)
-    }
-}
-
-fn apply_to<B: Books>(books: &mut B, alloc: Global, call: Call) -> Answer
-    ensures answer { B.IsHonest books.new → HasOneBearer (B.tables books.old) → Answers (verdict_now (B.tables books.old) call) result }
-    ensures tables { B.IsHonest books.new → HasOneBearer (B.tables books.old) → B.tables books.new ≡ tables_after (B.tables books.old) call result }
-    ensures store { result ≡ Answer.Fault Fault.Store → HasFailed (B.failures books.old) (B.failures books.new) }
-    ensures failures { FailsAtMostOnce (B.failures books.old) (B.failures books.new) }
-    ensures honest { B.IsHonest books.new → B.IsHonest books.old }
-{
-    match consider(books, alloc, call) {
-        Ok(decision) => settle(books, alloc, decision),
-        Err(fault) => Answer::Fault(fault),
+        self.books.bytes_of(alloc, file)
     }
 }
 
@@ -142,13 +189,11 @@ fn consider<B: Books>(
     alloc: Global,
     call: Call,
 ) -> Result<Result<Decision, Stop>, Fault>
-    ensures decision { B.IsHonest books.new → HasOneBearer (B.tables books.old) → IfOk result (λ decision.
-        Decides decision (verdict_now (B.tables books.old) call) (effect call.at call.request (facts_in (B.tables books.old) call))) }
-    ensures unchanged { B.IsHonest books.new → B.tables books.new ≡ B.tables books.old }
-    ensures kept { OnOk result (B.failures books.new ≡ B.failures books.old) }
-    ensures store { IfErr result (λ fault. fault ≡ Fault.Store → HasFailed (B.failures books.old) (B.failures books.new)) }
-    ensures failures { FailsAtMostOnce (B.failures books.old) (B.failures books.new) }
-    ensures honest { B.IsHonest books.new → B.IsHonest books.old }
+    ensures decision { B.IsHonest books.new → HasOneBearer (B.tables books.old) →
+        let f = facts_in (B.tables books.old) call in
+        let verdict = verdict_now (B.tables books.old) call in
+        IfOk result (λ decision. Decides decision verdict (effect call.at call.request f)) }
+    ensures look { Looks B.IsHonest B.tables B.failures books.old books.new result }
 {
     match seen(books, alloc, &call) {
         Ok(view) => {
@@ -165,25 +210,25 @@ fn consider<B: Books>(
 
 /// What a call's keys name. It changes no table.
 fn seen<B: Books>(books: &mut B, alloc: Global, call: &Call) -> Result<View, Fault>
-    ensures found { B.IsHonest books.new → IfOk result (Sees (B.tables books.old) (keys_of call.now)) }
-    ensures unchanged { B.IsHonest books.new → B.tables books.new ≡ B.tables books.old }
-    ensures kept { OnOk result (B.failures books.new ≡ B.failures books.old) }
-    ensures store { IfErr result (λ fault. fault ≡ Fault.Store → HasFailed (B.failures books.old) (B.failures books.new)) }
-    ensures failures { FailsAtMostOnce (B.failures books.old) (B.failures books.new) }
-    ensures honest { B.IsHonest books.new → B.IsHonest books.old }
+    ensures found { B.IsHonest books.new →
+        IfOk result (Sees (B.tables books.old) (keys_of call.now)) }
+    ensures look { Looks B.IsHonest B.tables B.failures books.old books.new result }
 {
     let keys = call.keys(alloc)?;
-    let found = books.view(alloc, &keys);
-    drop(keys);
-    found
+    books.view(alloc, &keys)
 }
 
 /// The answer by a decision, whose change is written.
 fn settle<B: Books>(books: &mut B, alloc: Global, decision: Result<Decision, Stop>) -> Answer
-    ensures answer { B.IsHonest books.new → (verdict : Verdict) (change : Change) → Decides decision verdict change → Answers verdict result }
-    ensures tables { B.IsHonest books.new → (verdict : Verdict) (change : Change) → Decides decision verdict change
-        → B.tables books.new ≡ tables_by (B.tables books.old) change result }
-    ensures store { result ≡ Answer.Fault Fault.Store → HasFailed (B.failures books.old) (B.failures books.new) }
+    ensures answer { B.IsHonest books.new → (verdict : Verdict) (change : Change) →
+        Decides decision verdict change → Answers verdict result }
+    ensures tables { B.IsHonest books.new → (verdict : Verdict) (change : Change) →
+        Decides decision verdict change →
+        B.tables books.new ≡ tables_by (B.tables books.old) change result }
+    ensures unchanged { B.IsHonest books.new → result ≢ Answer.Accepted →
+        B.tables books.new ≡ B.tables books.old }
+    ensures store { result ≡ Answer.Fault Fault.Store →
+        HasFailed (B.failures books.old) (B.failures books.new) }
     ensures failures { FailsAtMostOnce (B.failures books.old) (B.failures books.new) }
     ensures honest { B.IsHonest books.new → B.IsHonest books.old }
 {
@@ -198,80 +243,53 @@ fn settle<B: Books>(books: &mut B, alloc: Global, decision: Result<Decision, Sto
     }
 }
 
-fn run_on<B: Books>(books: &mut B, alloc: Global, calls: Vec<Call>, answers: &mut Vec<Answer>)
-    requires room { vec_capacity answers.old ≡ length calls.items }
-    requires none { answers.old.items ≡ [] }
-    ensures runs { B.IsHonest books.new → HasOneBearer (B.tables books.old) → Runs (B.tables books.old) calls.items answers.new.items (B.tables books.new) }
-    ensures store { Contains answers.new.items (Answer.Fault Fault.Store) → HasFailed (B.failures books.old) (B.failures books.new) }
-    ensures honest { B.IsHonest books.new → B.IsHonest books.old }
-{
-    for call in calls {
-        let answer = apply_to(books, alloc, call);
-        match answers.push(answer) {
-            Ok(()) => {}
-            Err(_) => unreachable!(),
-        }
-    }
-}
-
-fn standing_of<B: Books>(books: &mut B, alloc: Global, name: &NormalName) -> Result<Standing, Fault>
-    ensures standing { B.IsHonest books.new → IfOk result (λ standing. standing ≡ standing_in (B.tables books.old) name.now) }
-    ensures unchanged { B.IsHonest books.new → B.tables books.new ≡ B.tables books.old }
-    ensures store { IfErr result (λ fault. fault ≡ Fault.Store → HasFailed (B.failures books.old) (B.failures books.new)) }
-    ensures failures { FailsAtMostOnce (B.failures books.old) (B.failures books.new) }
-    ensures honest { B.IsHonest books.new → B.IsHonest books.old }
-{
-    let Found { record, case } = record_of(books, alloc, name)?;
-    let name = name.clone()?;
-    match record {
-        None => Ok(Standing::Free { name }),
-        Some(NameRecord::Prohibited) => Ok(Standing::Prohibited { name }),
-        Some(NameRecord::Held(project)) => {
-            let owners = books.owners_of(alloc, &name)?;
-            Ok(Standing::Held(HeldName {
-                name,
-                project,
-                owners,
-                case,
-            }))
-        }
-    }
-}
-
-/// What the tables have of a name.
-#[derive(Drop)]
-struct Found {
-    /// `None` where the name is free.
-    record: Option<NameRecord>,
-    case: Option<CaseRecord>,
-}
-
-/// The record of a name and its open case. It changes no table.
-fn record_of<B: Books>(books: &mut B, alloc: Global, name: &NormalName) -> Result<Found, Fault>
-    ensures record { B.IsHonest books.new → IfOk result (λ found. found.record ≡ get (B.tables books.old).names name.now) }
-    ensures case { B.IsHonest books.new → IfOk result (λ found. found.case ≡ get (B.tables books.old).cases name.now) }
-    ensures unchanged { B.IsHonest books.new → B.tables books.new ≡ B.tables books.old }
-    ensures kept { OnOk result (B.failures books.new ≡ B.failures books.old) }
-    ensures store { IfErr result (λ fault. fault ≡ Fault.Store → HasFailed (B.failures books.old) (B.failures books.new)) }
-    ensures failures { FailsAtMostOnce (B.failures books.old) (B.failures books.new) }
-    ensures honest { B.IsHonest books.new → B.IsHonest books.old }
+/// The records at a name. It changes no table.
+fn seen_name<B: Books>(books: &mut B, alloc: Global, name: &NormalName) -> Result<View, Fault>
+    ensures record { B.IsHonest books.new →
+        IfOk result (λ view. view.name ≡ get (B.tables books.old).names name.now) }
+    ensures case { B.IsHonest books.new →
+        IfOk result (λ view. view.case ≡ get (B.tables books.old).cases name.now) }
+    ensures look { Looks B.IsHonest B.tables B.failures books.old books.new result }
 {
     let keys = Keys::of_name(name)?;
-    let found = books.view(alloc, &keys);
-    drop(keys);
-    let mut view = found?;
-    let record = view.name.take();
-    let case = view.case.take();
-    drop(view);
-    Ok(Found { record, case })
+    books.view(alloc, &keys)
 }
 
-fn body_of<B: Books>(books: &mut B, alloc: Global, file: &FileName) -> Result<Option<Sealed>, Fault>
-    ensures body { B.IsHonest books.new → IfOk result (λ body. body ≡ get (B.tables books.old).bodies file.now) }
-    ensures unchanged { B.IsHonest books.new → B.tables books.new ≡ B.tables books.old }
-    ensures store { IfErr result (λ fault. fault ≡ Fault.Store → HasFailed (B.failures books.old) (B.failures books.new)) }
-    ensures failures { FailsAtMostOnce (B.failures books.old) (B.failures books.new) }
-    ensures honest { B.IsHonest books.new → B.IsHonest books.old }
+fn free_name(name: &NormalName) -> Result<Standing, Fault>
+    ensures free { IfOk result (λ standing. standing ≡ Standing.Free name.now) }
+    ensures memory { IfErr result (λ fault. fault ≡ Fault.OutOfMemory) }
 {
-    books.bytes_of(alloc, file)
+    let name = name.clone()?;
+    Ok(Standing::Free { name })
+}
+
+fn prohibited_name(name: &NormalName) -> Result<Standing, Fault>
+    ensures prohibited { IfOk result (λ standing. standing ≡ Standing.Prohibited name.now) }
+    ensures memory { IfErr result (λ fault. fault ≡ Fault.OutOfMemory) }
+{
+    let name = name.clone()?;
+    Ok(Standing::Prohibited { name })
+}
+
+/// The standing of a held name with its owners. It changes no table.
+fn held_name<B: Books>(
+    books: &mut B,
+    alloc: Global,
+    name: &NormalName,
+    project: Project,
+    case: Option<CaseRecord>,
+) -> Result<Standing, Fault>
+    ensures held { B.IsHonest books.new →
+        let owners = owners_in (B.tables books.old) name.now in
+        IfOk result (λ standing. standing ≡ held_with name.now project owners case) }
+    ensures look { Looks B.IsHonest B.tables B.failures books.old books.new result }
+{
+    let owners = books.owners_of(alloc, name)?;
+    let name = name.clone()?;
+    Ok(Standing::Held(HeldName {
+        name,
+        project,
+        owners,
+        case,
+    }))
 }

@@ -1,42 +1,44 @@
 use Rattle.std.proofs.Common.{◌≡◌, subst, sym}
-use Rattle.index_rules.specs.Facts.{HasOneBearer}
+use Rattle.index_rules.specs.Effect.{effect}
+use Rattle.index_rules.specs.Facts.{HasOneBearer, facts_in}
 use Rattle.index_rules.specs.Verdict.{verdict_now}
-use Rattle.index_rules.specs.Runs.{Answers, tables_after}
+use Rattle.index_rules.specs.Runs.{Answers, tables_after, tables_by}
 use Rattle.index_rules.specs.Sound.{IsSound}
-use Rattle.index_rules.specs.History.{History}
-use Rattle.index_rules.specs.StandsFor.{StandsFor}
-use Rattle.index_rules.specs.Legal.{CarriesOn, IsLegal}
 use Rattle.index_rules.proofs.StandsOn.{CarriesOn-answer}
 use Rattle.index_rules.proofs.OneBearer.{HasOneBearer-tables_after}
 use Rattle.index_rules.proofs.SoundLemmas.{IsSound-tables_after}
 use Rattle.index_desk.proofs.desk.Desk.apply.Goals as goal
 
-pub returns-clause-answer : goal.returns-clause-answer
-returns-clause-answer g c =
-    subst (λ x. g.B.Books.IsHonest c.apply_to.new.books → HasOneBearer (g.B.Books.tables x) → Answers (verdict_now (g.B.Books.tables x) c.args.call) c.apply_to.result)
-    c.self.view_is c.apply_to.ensures.answer
+pub returns-in-Ok-clause-answer : goal.returns-in-Ok-clause-answer
+returns-in-Ok-clause-answer g c =
+    let tables = g.B.Books.tables in
+    let call = c.args.call in
+    subst (λ x. g.B.Books.IsHonest c.settle.new.books → HasOneBearer (tables x) → Answers (verdict_now (tables x) call) c.settle.result) c.self.view_is
+    (λ honest one. let T = tables c.self.inside.books in
+    c.settle.ensures.answer honest (verdict_now T call) (effect call.at call.request (facts_in T call)) (c.in-Ok.ensures.decision (c.settle.ensures.honest honest) one))
 
-pub returns-clause-tables : goal.returns-clause-tables
-returns-clause-tables g c =
-    subst (λ x. g.B.Books.IsHonest c.apply_to.new.books → HasOneBearer (g.B.Books.tables x)
-    → g.B.Books.tables c.apply_to.new.books ≡ tables_after (g.B.Books.tables x) c.args.call c.apply_to.result)
-    c.self.view_is c.apply_to.ensures.tables
+pub returns-in-Ok-clause-tables : goal.returns-in-Ok-clause-tables
+returns-in-Ok-clause-tables g c =
+    let tables = g.B.Books.tables in
+    let call = c.args.call in
+    subst (λ x. g.B.Books.IsHonest c.settle.new.books → HasOneBearer (tables x) → tables c.settle.new.books ≡ tables_after (tables x) call c.settle.result) c.self.view_is
+    (λ honest one. let T = tables c.self.inside.books in
+    let before = c.settle.ensures.honest honest in
+    let change = effect call.at call.request (facts_in T call) in
+    subst (λ U. tables c.settle.new.books ≡ tables_by U change c.settle.result) (c.consider.ensures.look.unchanged before)
+    (c.settle.ensures.tables honest (verdict_now T call) change (c.in-Ok.ensures.decision before one)))
 
-pub returns-clause-one_bearer : goal.returns-clause-one_bearer
-returns-clause-one_bearer g c =
-    subst (λ x. g.B.Books.IsHonest c.apply_to.new.books → HasOneBearer (g.B.Books.tables x) → HasOneBearer (g.B.Books.tables c.apply_to.new.books)) c.self.view_is
-    (λ honest one. subst HasOneBearer (sym (c.apply_to.ensures.tables honest one))
-    (HasOneBearer-tables_after (g.B.Books.tables c.self.inside.books) one c.args.call c.apply_to.result (c.apply_to.ensures.answer honest one)))
+pub returns-in-Ok-clause-one_bearer : goal.returns-in-Ok-clause-one_bearer
+returns-in-Ok-clause-one_bearer g c = λ honest one.
+    subst HasOneBearer (sym (returns-in-Ok-clause-tables g c honest one))
+    (HasOneBearer-tables_after (g.B.Books.tables c.args.self.now) one c.args.call c.settle.result (returns-in-Ok-clause-answer g c honest one))
 
-pub returns-clause-sound : goal.returns-clause-sound
-returns-clause-sound g c =
-    subst (λ x. g.B.Books.IsHonest c.apply_to.new.books → IsSound (g.B.Books.tables x) → IsSound (g.B.Books.tables c.apply_to.new.books)) c.self.view_is
-    (λ honest sound. subst IsSound (sym (c.apply_to.ensures.tables honest sound.one_bearer))
-    (IsSound-tables_after (g.B.Books.tables c.self.inside.books) sound c.args.call c.apply_to.result (c.apply_to.ensures.answer honest sound.one_bearer)))
+pub returns-in-Ok-clause-sound : goal.returns-in-Ok-clause-sound
+returns-in-Ok-clause-sound g c = λ honest sound.
+    subst IsSound (sym (returns-in-Ok-clause-tables g c honest sound.one_bearer))
+    (IsSound-tables_after (g.B.Books.tables c.args.self.now) sound c.args.call c.settle.result (returns-in-Ok-clause-answer g c honest sound.one_bearer))
 
-pub returns-clause-history : goal.returns-clause-history
-returns-clause-history g c =
-    subst (λ x. g.B.Books.IsHonest c.apply_to.new.books → (h : History) → IsLegal h → StandsFor (g.B.Books.tables x) h
-    → CarriesOn h c.args.call c.apply_to.result (g.B.Books.tables c.apply_to.new.books)) c.self.view_is
-    (λ honest h legal stands. CarriesOn-answer h legal (g.B.Books.tables c.self.inside.books) stands c.args.call c.apply_to.result (g.B.Books.tables c.apply_to.new.books)
-    (c.apply_to.ensures.answer honest) (c.apply_to.ensures.tables honest))
+pub returns-in-Ok-clause-history : goal.returns-in-Ok-clause-history
+returns-in-Ok-clause-history g c = λ honest h legal stands.
+    CarriesOn-answer h legal (g.B.Books.tables c.args.self.now) stands c.args.call c.settle.result (g.B.Books.tables c.settle.new.books)
+    (returns-in-Ok-clause-answer g c honest) (returns-in-Ok-clause-tables g c honest)

@@ -5,23 +5,23 @@ use Rattle.index_rules.specs.Facts.{HasOneBearer}
 use Rattle.index_rules.proofs.Counts.{NotFewer-more}
 use Rattle.index_rules.proofs.RunLemmas.{Runs-push, HasFailed-push}
 use Rattle.index_rules.proofs.OneBearer.{HasOneBearer-tables_after}
-use Rattle.index_desk.proofs.desk.run_on.Goals as goal
+use Rattle.index_desk.proofs.desk.Desk.apply_all.Goals as goal
 
 pub loop-call-preserved : goal.loop-call-preserved
 loop-call-preserved g c =
     let tables = g.B.Books.tables in
     let before = c.loop-call.invariant in
-    let applied = c.apply_to-answer.ensures in
+    let applied = c.apply-answer.ensures in
     record {
-      runs = λ honest one. let now_one = before.one (applied.honest honest) one in rw c.in-Ok.ensures.items
-          (Runs-push (tables c.args.books.now) c.loop-call.yielded c.loop-call.answers.items (tables c.loop-call.books) c.in-Some.call c.apply_to-answer.result (tables c.apply_to-answer.new.books)
+      runs = λ honest one. let now_one = before.one (applied.honest honest) one in rw c.push_reserved.ensures.items
+          (Runs-push (tables c.args.self.now) c.loop-call.yielded c.loop-call.answers.items (tables c.loop-call.self) c.in-Some.call c.apply-answer.result (tables c.apply-answer.new.self)
           (before.runs (applied.honest honest) one) (applied.answer honest now_one) (applied.tables honest now_one));
       one = λ honest one. let now_one = before.one (applied.honest honest) one in
           subst HasOneBearer (sym (applied.tables honest now_one))
-          (HasOneBearer-tables_after (tables c.loop-call.books) now_one c.in-Some.call c.apply_to-answer.result (applied.answer honest now_one));
-      told = rw c.in-Ok.ensures.items (simp length-append (omega (arith, before.told)));
-      room = omega (arith, before.room, c.in-Ok.ensures.capacity);
-      store = λ found. HasFailed-push c.loop-call.answers.items c.apply_to-answer.result (answer.Fault Store) _ _ _ before.counts applied.failures before.store applied.store (rw c.in-Ok.ensures.items at found);
+          (HasOneBearer-tables_after (tables c.loop-call.self) now_one c.in-Some.call c.apply-answer.result (applied.answer honest now_one));
+      told = rw c.push_reserved.ensures.items (simp length-append (omega (arith, before.told)));
+      room = omega (arith, before.room, c.push_reserved.ensures.capacity);
+      store = λ found. HasFailed-push c.loop-call.answers.items c.apply-answer.result (answer.Fault Store) _ _ _ before.counts applied.failures before.store applied.store (rw c.push_reserved.ensures.items at found);
       counts = NotFewer-more _ _ _ before.counts applied.failures;
       honest = λ honest. before.honest (applied.honest honest);
     }

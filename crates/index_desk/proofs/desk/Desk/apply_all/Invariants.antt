@@ -1,0 +1,19 @@
+use Rattle.std.proofs.Common.{◌≡◌, ◌≤◌, length, vec_capacity, Contains}
+use Rattle.index_rules.specs.declared.answer.Answer.TheVariants as answer
+use Rattle.index_rules.specs.declared.answer.Fault.TheVariants.{Store}
+use Rattle.index_rules.specs.Facts.{HasOneBearer}
+use Rattle.index_rules.specs.Failures.{HasFailed}
+use Rattle.index_rules.specs.Runs.{Runs}
+use Rattle.index_rules.proofs.Counts.{NotFewer}
+use Rattle.index_desk.proofs.desk.Desk.apply_all.Given as goal
+
+abbrev pub invariant-loop-call : goal.invariant-loop-call
+invariant-loop-call g l = record {
+  runs : g.B.Books.IsHonest l.self → HasOneBearer (g.B.Books.tables l.fn.self) → Runs (g.B.Books.tables l.fn.self) l.yielded l.answers.items (g.B.Books.tables l.self);
+  one : g.B.Books.IsHonest l.self → HasOneBearer (g.B.Books.tables l.fn.self) → HasOneBearer (g.B.Books.tables l.self);
+  told : length l.answers.items ≡ length l.yielded;
+  room : length l.fn.calls.items ≤ vec_capacity l.answers;
+  store : Contains l.answers.items (answer.Fault Store) → HasFailed (g.B.Books.failures l.fn.self) (g.B.Books.failures l.self);
+  counts : NotFewer (g.B.Books.failures l.fn.self) (g.B.Books.failures l.self);
+  honest : g.B.Books.IsHonest l.self → g.B.Books.IsHonest l.fn.self;
+}
