@@ -2,8 +2,8 @@
 use index_digest::Digest256;
 use index_names::{FileName, NormalName, Release, Text, normal, release_key};
 use index_rules::UserId;
-use std::alloc::Global;
-use std::test::Fail;
+use std::alloc::AllocGlobal;
+use std::process::Abort;
 
 mod books;
 mod decisions;
@@ -19,24 +19,24 @@ const OF_ABC: &str = "ba7816bf8f01cfea414140de5dae2223b00361a396177a9cb410ff61f2
 /// The SHA-256 digest of the empty text.
 const OF_NOTHING: &str = "e3b0c44298fc1c149afbf4c8996fb92427ae41e4649b934ca495991b7852b855";
 
-fn name(alloc: Global, text: &str) -> Result<NormalName, Fail> {
-    Ok(normal(alloc, text.as_bytes())?)
+fn name(rt: &(impl Abort + AllocGlobal), text: &str) -> NormalName {
+    normal(rt.alloc(), text.as_bytes()).expect(rt, text)
 }
 
-fn user(alloc: Global, text: &str) -> Result<UserId, Fail> {
-    Ok(UserId::read(alloc, text.as_bytes())?)
+fn user(rt: &(impl Abort + AllocGlobal), text: &str) -> UserId {
+    UserId::read(rt.alloc(), text.as_bytes()).expect(rt, text)
 }
 
-fn release(alloc: Global, text: &str) -> Result<Release, Fail> {
-    Ok(release_key(alloc, text.as_bytes())?)
+fn release(rt: &(impl Abort + AllocGlobal), text: &str) -> Release {
+    release_key(rt.alloc(), text.as_bytes()).expect(rt, text)
 }
 
-fn file_name(alloc: Global, text: &str) -> Result<FileName, Fail> {
-    Ok(FileName::read(alloc, text.as_bytes())?)
+fn file_name(rt: &(impl Abort + AllocGlobal), text: &str) -> FileName {
+    FileName::read(rt.alloc(), text.as_bytes()).expect(rt, text)
 }
 
-fn text(alloc: Global, text: &str) -> Result<Text, Fail> {
-    Ok(Text::new(String::from_str(alloc, text)?))
+fn text(rt: &(impl Abort + AllocGlobal), text: &str) -> Text {
+    Text::new(String::from_str(rt.alloc(), text).expect(rt, text))
 }
 
 fn token(text: &str) -> Digest256 {

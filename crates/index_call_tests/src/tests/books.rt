@@ -7,7 +7,6 @@ use index_plain::PlainBooks;
 use index_rules::{Books, OpenFault};
 use std::alloc::{AllocGlobal, Global};
 use std::process::Abort;
-use std::test::Fail;
 
 mod case_changes;
 mod changes;
@@ -18,44 +17,33 @@ mod scripts;
 use changes::change_of;
 use looks::found_by;
 
-/// Books whose one user is `office`, with the token `office`.
-fn opened(alloc: Global) -> Result<PlainBooks, Fail> {
-    Ok(PlainBooks::new(alloc, b"office", token("office"))?)
-}
-
-/// Writes and looks, line by line, at new books.
-fn assert_script(rt: &(impl Abort + AllocGlobal), scripts: &[&str]) -> Result<(), Fail> {
-    let mut books = opened(rt.alloc())?;
+/// Writes and looks, line by line, at new books whose one user is `office`, with the token `office`.
+fn assert_script(rt: &(impl Abort + AllocGlobal), scripts: &[&str]) {
+    let opened = PlainBooks::new(rt.alloc(), b"office", token("office"));
+    let mut books = opened.expect(rt, "books");
     for script in scripts {
         for line in script.lines() {
-            follow(rt, &mut books, line)?;
+            follow(rt, &mut books, line);
         }
     }
-    Ok(())
 }
 
 /// Writes a line's change, or looks and finds what the line says.
-fn follow(rt: &(impl Abort + AllocGlobal), books: &mut PlainBooks, line: &str) -> Result<(), Fail> {
+fn follow(rt: &(impl Abort + AllocGlobal), books: &mut PlainBooks, line: &str) {
     match line.split_once(" = ") {
         Some((look, want)) => assert_found(rt, books, look, want),
-        None => write(rt.alloc(), books, line),
+        None => write(rt, books, line),
     }
 }
 
-fn write(alloc: Global, books: &mut PlainBooks, line: &str) -> Result<(), Fail> {
-    let change = change_of(alloc, line)?;
-    Ok(books.write(alloc, change)?)
+fn write(rt: &(impl Abort + AllocGlobal), books: &mut PlainBooks, line: &str) {
+    let change = change_of(rt, line);
+    books.write(rt.alloc(), change).expect(rt, line);
 }
 
-fn assert_found(
-    rt: &(impl Abort + AllocGlobal),
-    books: &mut PlainBooks,
-    look: &str,
-    want: &str,
-) -> Result<(), Fail> {
-    let found = found_by(rt.alloc(), books, look)?;
+fn assert_found(rt: &(impl Abort + AllocGlobal), books: &mut PlainBooks, look: &str, want: &str) {
+    let found = found_by(rt, books, look);
     assert_eq!(rt; found.as_str(), want, "{look}");
-    Ok(())
 }
 
 /// Whether no books are opened with this first user and this text for a token.

@@ -6,25 +6,23 @@ use index_rules::{
 };
 use std::alloc::{AllocGlobal, Global};
 use std::process::Abort;
-use std::test::Fail;
 
 /// What a call sees of a name that has this record and no owner, by ann, who is not of the office.
-fn view_of(alloc: Global, name: Option<NameRecord>) -> Result<View, Fail> {
-    let user = user(alloc, "ann")?;
-    Ok(View {
+fn view_of(rt: &(impl Abort + AllocGlobal), name: Option<NameRecord>) -> View {
+    View {
         caller: Some(Caller {
-            user,
+            user: user(rt, "ann"),
             office: false,
         }),
         user: None,
         bearer: None,
         name,
-        owners: Owners::new(Vec::new(alloc)),
+        owners: Owners::new(Vec::new(rt.alloc())),
         file: None,
         yank: None,
         has_release: false,
         case: None,
-    })
+    }
 }
 
 /// Why a call is refused, or `None` where it is not.
@@ -40,43 +38,36 @@ fn refusal_of(alloc: Global, call: Call, view: &View) -> Option<Refusal> {
 
 /// A yank of a name that is not held, for this reason, is refused so: for its reason where that is no text, and else
 /// for its name.
-fn assert_refusal(
-    rt: &(impl Abort + AllocGlobal),
-    reason: &[u8],
-    want: Refusal,
-) -> Result<(), Fail> {
-    let view = view_of(rt.alloc(), None)?;
-    let call = call_by("abc", yank(rt.alloc(), reason)?);
+fn assert_refusal(rt: &(impl Abort + AllocGlobal), reason: &[u8], want: Refusal) {
+    let view = view_of(rt, None);
+    let call = call_by("abc", yank(rt, reason));
     let refusal = refusal_of(rt.alloc(), call, &view);
     assert!(rt; refusal == Some(want), "{reason:?}");
-    Ok(())
 }
 
 #[test]
-fn texts_have_no_controls(rt: HostRuntime) -> Result<(), Fail> {
+fn texts_have_no_controls(rt: HostRuntime) {
     for text in ["", ">=3.8, <4", "\u{20}\u{7e}\u{a0}é"] {
-        assert_refusal(&rt, text.as_bytes(), Refusal::NoProject)?;
+        assert_refusal(&rt, text.as_bytes(), Refusal::NoProject);
     }
     for text in ["\u{0}", "a\u{1f}", "\u{7f}a", "a\u{80}", "\u{9f}"] {
-        assert_refusal(&rt, text.as_bytes(), Refusal::BadText)?;
+        assert_refusal(&rt, text.as_bytes(), Refusal::BadText);
     }
-    Ok(())
 }
 
 #[test]
-fn texts_are_short_and_utf8(rt: HostRuntime) -> Result<(), Fail> {
-    assert_refusal(&rt, &[b'a'; 512], Refusal::NoProject)?;
-    assert_refusal(&rt, &[b'a'; 513], Refusal::BadText)?;
-    assert_refusal(&rt, b"\xff", Refusal::BadText)
+fn texts_are_short_and_utf8(rt: HostRuntime) {
+    assert_refusal(&rt, &[b'a'; 512], Refusal::NoProject);
+    assert_refusal(&rt, &[b'a'; 513], Refusal::BadText);
+    assert_refusal(&rt, b"\xff", Refusal::BadText);
 }
 
 #[test]
-fn a_claim_of_a_prohibited_name_is_refused(rt: HostRuntime) -> Result<(), Fail> {
-    let view = view_of(rt.alloc(), Some(NameRecord::Prohibited))?;
-    let call = call_by("abc", claim(rt.alloc(), "frob")?);
+fn a_claim_of_a_prohibited_name_is_refused(rt: HostRuntime) {
+    let view = view_of(&rt, Some(NameRecord::Prohibited));
+    let call = call_by("abc", claim(&rt, "frob"));
     let refusal = refusal_of(rt.alloc(), call, &view);
     assert!(rt; refusal == Some(Refusal::NameProhibited));
-    Ok(())
 }
 
 /// Whether a decision is ann's claim of `frob`.
@@ -90,12 +81,11 @@ fn is_claim(decision: &Result<Decision, Stop>) -> bool {
 }
 
 #[test]
-fn a_claim_of_a_free_name_is_a_change(rt: HostRuntime) -> Result<(), Fail> {
-    let view = view_of(rt.alloc(), None)?;
-    let call = call_by("abc", claim(rt.alloc(), "Frob")?);
+fn a_claim_of_a_free_name_is_a_change(rt: HostRuntime) {
+    let view = view_of(&rt, None);
+    let call = call_by("abc", claim(&rt, "Frob"));
     let decision = decide(rt.alloc(), call, &view);
     let is_change = is_claim(&decision);
     drop(decision);
     assert!(rt; is_change);
-    Ok(())
 }

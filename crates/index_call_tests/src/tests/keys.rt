@@ -5,7 +5,6 @@ use index_digest::Digest256;
 use index_rules::{Fault, Keys, Request};
 use std::alloc::{AllocError, AllocGlobal, Global};
 use std::process::Abort;
-use std::test::Fail;
 
 /// The keys of a request, by the bearer of the token `office`.
 fn keys_of(alloc: Global, request: Request) -> Result<Keys, Fault> {
@@ -35,40 +34,35 @@ fn told(alloc: Global, keys: &Keys) -> Result<String, AllocError> {
     format!(in alloc; "{caller} {brought} {user} {name} {file}")
 }
 
-fn assert_keys(
-    rt: &(impl Abort + AllocGlobal),
-    keys: Result<Keys, Fault>,
-    want: &str,
-) -> Result<(), Fail> {
-    let keys = keys?;
-    let told = told(rt.alloc(), &keys)?;
+fn assert_keys(rt: &(impl Abort + AllocGlobal), keys: Result<Keys, Fault>, want: &str) {
+    let keys = keys.expect(rt, want);
+    let told = told(rt.alloc(), &keys).expect(rt, want);
     assert_eq!(rt; told.as_str(), want);
-    Ok(())
 }
 
 #[test]
-fn keys_are_what_can_be_read(rt: HostRuntime) -> Result<(), Fail> {
+fn keys_are_what_can_be_read(rt: HostRuntime) {
     let alloc = rt.alloc();
-    let keys = keys_of(alloc, add_user(alloc, "bob", true, OF_ABC)?);
-    assert_keys(&rt, keys, "office abc bob - -")?;
-    let keys = keys_of(alloc, set_token(alloc, "Bob", OF_NOTHING)?);
-    assert_keys(&rt, keys, "office - - - -")?;
-    let keys = keys_of(alloc, claim(alloc, "a.-_B")?);
-    assert_keys(&rt, keys, "office - - a-b -")?;
-    let keys = keys_of(alloc, remove_owner(alloc, "-a", "bob")?);
-    assert_keys(&rt, keys, "office - bob - -")
+    let keys = keys_of(alloc, add_user(&rt, "bob", true, OF_ABC));
+    assert_keys(&rt, keys, "office abc bob - -");
+    let keys = keys_of(alloc, set_token(&rt, "Bob", OF_NOTHING));
+    assert_keys(&rt, keys, "office - - - -");
+    let keys = keys_of(alloc, claim(&rt, "a.-_B"));
+    assert_keys(&rt, keys, "office - - a-b -");
+    let keys = keys_of(alloc, remove_owner(&rt, "-a", "bob"));
+    assert_keys(&rt, keys, "office - bob - -");
 }
 
 #[test]
-fn keys_of_an_upload(rt: HostRuntime) -> Result<(), Fail> {
-    let body = Vec::from_slice(rt.alloc(), b"abc")?;
-    let request = upload(rt.alloc(), "Flask-1.0.tar.gz", OF_ABC, body)?;
+fn keys_of_an_upload(rt: HostRuntime) {
+    let body = Vec::from_slice(rt.alloc(), b"abc").expect(&rt, "a body");
+    let request = upload(&rt, "Flask-1.0.tar.gz", OF_ABC, body);
     let want = "office - - flask Flask-1.0.tar.gz";
-    assert_keys(&rt, keys_of(rt.alloc(), request), want)
+    assert_keys(&rt, keys_of(rt.alloc(), request), want);
 }
 
 #[test]
-fn keys_of_a_name(rt: HostRuntime) -> Result<(), Fail> {
-    let name = name(rt.alloc(), "Zope.Interface")?;
-    assert_keys(&rt, Keys::of_name(&name), "- - - zope-interface -")
+fn keys_of_a_name(rt: HostRuntime) {
+    let name = name(&rt, "Zope.Interface");
+    assert_keys(&rt, Keys::of_name(&name), "- - - zope-interface -");
 }

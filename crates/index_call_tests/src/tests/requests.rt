@@ -1,10 +1,11 @@
 //! Requests from constants.
 use index_digest::Digest256;
 use index_rules::{Bytes, Call, Request};
-use std::alloc::{AllocError, Global};
+use std::alloc::AllocGlobal;
+use std::process::Abort;
 
-fn bytes(alloc: Global, text: &str) -> Result<Bytes, AllocError> {
-    Bytes::copy_of(alloc, text.as_bytes())
+fn bytes(rt: &(impl Abort + AllocGlobal), text: &[u8]) -> Bytes {
+    Bytes::copy_of(rt.alloc(), text).expect(rt, "bytes")
 }
 
 /// The call that the bearer of a token makes.
@@ -17,63 +18,57 @@ pub(super) fn call_by(token: &str, request: Request) -> Call {
 }
 
 pub(super) fn add_user(
-    alloc: Global,
+    rt: &(impl Abort + AllocGlobal),
     user: &str,
     office: bool,
     digest: &str,
-) -> Result<Request, AllocError> {
-    let user = bytes(alloc, user)?;
-    let token = bytes(alloc, digest)?;
-    Ok(Request::AddUser {
-        user,
+) -> Request {
+    Request::AddUser {
+        user: bytes(rt, user.as_bytes()),
         office,
-        token,
-    })
+        token: bytes(rt, digest.as_bytes()),
+    }
 }
 
-pub(super) fn set_token(alloc: Global, user: &str, digest: &str) -> Result<Request, AllocError> {
-    let user = bytes(alloc, user)?;
-    let token = bytes(alloc, digest)?;
-    Ok(Request::SetToken { user, token })
+pub(super) fn set_token(rt: &(impl Abort + AllocGlobal), user: &str, digest: &str) -> Request {
+    Request::SetToken {
+        user: bytes(rt, user.as_bytes()),
+        token: bytes(rt, digest.as_bytes()),
+    }
 }
 
-pub(super) fn claim(alloc: Global, name: &str) -> Result<Request, AllocError> {
-    let name = bytes(alloc, name)?;
-    Ok(Request::Claim { name })
+pub(super) fn claim(rt: &(impl Abort + AllocGlobal), name: &str) -> Request {
+    Request::Claim {
+        name: bytes(rt, name.as_bytes()),
+    }
 }
 
-pub(super) fn remove_owner(alloc: Global, name: &str, user: &str) -> Result<Request, AllocError> {
-    let name = bytes(alloc, name)?;
-    let user = bytes(alloc, user)?;
-    Ok(Request::RemoveOwner { name, user })
+pub(super) fn remove_owner(rt: &(impl Abort + AllocGlobal), name: &str, user: &str) -> Request {
+    Request::RemoveOwner {
+        name: bytes(rt, name.as_bytes()),
+        user: bytes(rt, user.as_bytes()),
+    }
 }
 
 pub(super) fn upload(
-    alloc: Global,
+    rt: &(impl Abort + AllocGlobal),
     file: &str,
     digest: &str,
     body: Vec<u8>,
-) -> Result<Request, AllocError> {
-    let body = Bytes::new(body);
-    let file = bytes(alloc, file)?;
-    let sha256 = bytes(alloc, digest)?;
-    let requires_python = bytes(alloc, "")?;
-    Ok(Request::Upload {
-        file,
-        sha256,
-        body,
-        requires_python,
-    })
+) -> Request {
+    Request::Upload {
+        file: bytes(rt, file.as_bytes()),
+        sha256: bytes(rt, digest.as_bytes()),
+        body: Bytes::new(body),
+        requires_python: bytes(rt, b""),
+    }
 }
 
 /// A yank of the release 1.0 of `frob`.
-pub(super) fn yank(alloc: Global, reason: &[u8]) -> Result<Request, AllocError> {
-    let name = bytes(alloc, "frob")?;
-    let release = bytes(alloc, "1.0")?;
-    let reason = Bytes::copy_of(alloc, reason)?;
-    Ok(Request::Yank {
-        name,
-        release,
-        reason,
-    })
+pub(super) fn yank(rt: &(impl Abort + AllocGlobal), reason: &[u8]) -> Request {
+    Request::Yank {
+        name: bytes(rt, b"frob"),
+        release: bytes(rt, b"1.0"),
+        reason: bytes(rt, reason),
+    }
 }

@@ -5,7 +5,6 @@ use index_rules::{
 };
 use std::alloc::{AllocError, AllocGlobal, Global};
 use std::process::Abort;
-use std::test::Fail;
 
 /// User ids, the last of 32 bytes.
 const USERS: &str = "\
@@ -30,31 +29,25 @@ a b
 :";
 
 /// Whether a text is read as a user id, which then has that text.
-fn is_user(alloc: Global, text: &str) -> Result<bool, Fail> {
-    match UserId::read(alloc, text.as_bytes()) {
-        Ok(user) => Ok(user.text() == text),
-        Err(UserFault::BadUser) => Ok(false),
-        Err(UserFault::OutOfMemory) => Err(Fail::from("out of memory")),
+fn is_user(rt: &(impl Abort + AllocGlobal), text: &str) -> bool {
+    match UserId::read(rt.alloc(), text.as_bytes()) {
+        Ok(user) => user.text() == text,
+        Err(UserFault::BadUser) => false,
+        Err(UserFault::OutOfMemory) => panic!(rt; "out of memory"),
     }
 }
 
-fn assert_users(rt: &(impl Abort + AllocGlobal), texts: &str, are_users: bool) -> Result<(), Fail> {
+fn assert_users(rt: &(impl Abort + AllocGlobal), texts: &str, are_users: bool) {
     for text in texts.lines() {
-        assert!(rt; is_user(rt.alloc(), text)? == are_users, "{text}");
+        assert!(rt; is_user(rt, text) == are_users, "{text}");
     }
-    Ok(())
 }
 
 #[test]
-fn user_ids_are_lower_case_letters_and_digits(rt: HostRuntime) -> Result<(), Fail> {
-    assert_users(&rt, USERS, true)?;
-    assert_users(&rt, NO_USERS, false)
-}
-
-#[test]
-fn a_user_id_has_no_line_feed(rt: HostRuntime) -> Result<(), Fail> {
-    assert!(rt; !is_user(rt.alloc(), "a\n")?);
-    Ok(())
+fn user_ids_are_lower_case_letters_and_digits(rt: HostRuntime) {
+    assert_users(&rt, USERS, true);
+    assert_users(&rt, NO_USERS, false);
+    assert!(rt; !is_user(&rt, "a\n"));
 }
 
 /// In each line a text that is no token's digest. The first is empty.
@@ -77,10 +70,10 @@ fn is_of_the_office(record: UserRecord) -> bool {
 }
 
 #[test]
-fn the_first_user_is_of_the_office(rt: HostRuntime) -> Result<(), Fail> {
-    let (user, record) = first_user(rt.alloc(), b"office", token("office"))?;
+fn the_first_user_is_of_the_office(rt: HostRuntime) {
+    let first = first_user(rt.alloc(), b"office", token("office"));
+    let (user, record) = first.expect(&rt, "the first user");
     assert!(rt; user.text() == "office" && is_of_the_office(record));
-    Ok(())
 }
 
 /// Whether this is no first user with this text for a token.
@@ -99,20 +92,11 @@ fn a_bad_first_user_is_refused(rt: HostRuntime) {
 }
 
 #[test]
-fn bytes_come_back_as_they_went_in(rt: HostRuntime) -> Result<(), Fail> {
-    let bytes = Bytes::copy_of(rt.alloc(), b"Flask\xff")?;
+fn bytes_come_back_as_they_went_in(rt: HostRuntime) {
+    let bytes = Bytes::copy_of(rt.alloc(), b"Flask\xff").expect(&rt, "bytes");
     assert!(rt; bytes.as_slice() == b"Flask\xff".as_slice());
     let vector = bytes.into_vec();
     assert!(rt; vector.as_slice() == b"Flask\xff".as_slice());
-    Ok(())
-}
-
-/// The owners bob and alice, in this order.
-fn owners(alloc: Global) -> Result<Owners, Fail> {
-    let mut users = Vec::new(alloc);
-    users.push(user(alloc, "bob")?)?;
-    users.push(user(alloc, "alice")?)?;
-    Ok(Owners::new(users))
 }
 
 /// Whether users have these texts.
@@ -124,30 +108,29 @@ fn are_users(users: &[UserId], first: &str, second: &str) -> bool {
 }
 
 #[test]
-fn owners_come_back_as_they_went_in(rt: HostRuntime) -> Result<(), Fail> {
-    let owners = owners(rt.alloc())?;
+fn owners_come_back_as_they_went_in(rt: HostRuntime) {
+    let mut users = Vec::new(rt.alloc());
+    for text in ["bob", "alice"] {
+        users.push(user(&rt, text)).expect(&rt, text);
+    }
+    let owners = Owners::new(users);
     assert!(rt; are_users(owners.as_slice(), "bob", "alice"));
-    Ok(())
 }
 
-fn assert_printed(
-    rt: &impl Abort,
-    printed: Result<String, AllocError>,
-    text: &str,
-) -> Result<(), Fail> {
-    assert_eq!(rt; printed?.as_str(), text);
-    Ok(())
+fn assert_printed(rt: &impl Abort, printed: Result<String, AllocError>, text: &str) {
+    let printed = printed.expect(rt, text);
+    assert_eq!(rt; printed.as_str(), text);
 }
 
 #[test]
-fn faults_print_their_names(rt: HostRuntime) -> Result<(), Fail> {
+fn faults_print_their_names(rt: HostRuntime) {
     let alloc = rt.alloc();
-    assert_printed(&rt, Fault::OutOfMemory.to_string(alloc), "OutOfMemory")?;
-    assert_printed(&rt, Fault::Store.to_string(alloc), "Store")?;
+    assert_printed(&rt, Fault::OutOfMemory.to_string(alloc), "OutOfMemory");
+    assert_printed(&rt, Fault::Store.to_string(alloc), "Store");
     assert_printed(
         &rt,
         OpenFault::BadFirstUser.to_string(alloc),
         "BadFirstUser",
-    )?;
-    assert_printed(&rt, OpenFault::OutOfMemory.to_string(alloc), "OutOfMemory")
+    );
+    assert_printed(&rt, OpenFault::OutOfMemory.to_string(alloc), "OutOfMemory");
 }

@@ -2,43 +2,42 @@
 use crate::tests::{name, text, user};
 use index_retention::{CaseKind, CaseState, Means, note};
 use index_rules::{CaseRecord, Change};
-use std::alloc::Global;
-use std::test::Fail;
+use std::alloc::AllocGlobal;
+use std::process::Abort;
 
 /// A case that bob opened.
-fn case(alloc: Global, state: CaseState) -> Result<CaseRecord, Fail> {
-    let candidate = user(alloc, "bob")?;
-    let contact = text(alloc, "three mails")?;
-    let work = text(alloc, "a fork")?;
-    let why = text(alloc, "its users")?;
-    Ok(CaseRecord {
+fn case(rt: &(impl Abort + AllocGlobal), state: CaseState) -> CaseRecord {
+    CaseRecord {
         kind: CaseKind::Continue,
-        candidate,
-        contact,
-        work,
-        why,
+        candidate: user(rt, "bob"),
+        contact: text(rt, "three mails"),
+        work: text(rt, "a fork"),
+        why: text(rt, "its users"),
         opened: 1,
         state,
-    })
+    }
 }
 
-pub(super) fn open_case(alloc: Global, text: &str) -> Result<Change, Fail> {
-    let name = name(alloc, text)?;
-    let case = case(alloc, CaseState::new())?;
-    Ok(Change::OpenCase { name, case })
+pub(super) fn open_case(rt: &(impl Abort + AllocGlobal), text: &str) -> Change {
+    Change::OpenCase {
+        name: name(rt, text),
+        case: case(rt, CaseState::new()),
+    }
 }
 
 /// The first attempt of a case.
-pub(super) fn record_attempt(alloc: Global, text: &str) -> Result<Change, Fail> {
+pub(super) fn record_attempt(rt: &(impl Abort + AllocGlobal), text: &str) -> Change {
     let mut state = CaseState::new();
-    note(&mut state, Means::Profile, true, 2)?;
-    let name = name(alloc, text)?;
-    let case = case(alloc, state)?;
-    Ok(Change::RecordAttempt { name, case })
+    note(&mut state, Means::Profile, true, 2).expect(rt, text);
+    Change::RecordAttempt {
+        name: name(rt, text),
+        case: case(rt, state),
+    }
 }
 
-pub(super) fn transfer(alloc: Global, text: &str, candidate: &str) -> Result<Change, Fail> {
-    let name = name(alloc, text)?;
-    let candidate = user(alloc, candidate)?;
-    Ok(Change::Transfer { name, candidate })
+pub(super) fn transfer(rt: &(impl Abort + AllocGlobal), text: &str, candidate: &str) -> Change {
+    Change::Transfer {
+        name: name(rt, text),
+        candidate: user(rt, candidate),
+    }
 }

@@ -3,46 +3,52 @@ use super::case_changes::{open_case, record_attempt, transfer};
 use super::file_changes::{delete, unyank, upload, yank};
 use crate::tests::{name, text, token, user};
 use index_rules::{Change, Project, UserRecord};
-use std::alloc::Global;
-use std::test::Fail;
+use std::alloc::AllocGlobal;
+use std::process::Abort;
 
 /// One gibibyte.
 pub(super) const QUOTA: u64 = 1_073_741_824;
 
 /// The change that a line writes: a word, and what it is about.
-pub(super) fn change_of(alloc: Global, line: &str) -> Result<Change, Fail> {
-    let (word, about) = line.split_once(' ').ok_or("one word")?;
+pub(super) fn change_of(rt: &(impl Abort + AllocGlobal), line: &str) -> Change {
+    let (word, about) = line.split_once(' ').expect(rt, line);
     match about.split_once(' ') {
-        Some((first, second)) => change_of_two(alloc, word, first, second),
-        None => change_of_one(alloc, word, about),
+        Some((first, second)) => change_of_two(rt, word, first, second),
+        None => change_of_one(rt, word, about),
     }
 }
 
-fn change_of_one(alloc: Global, word: &str, text: &str) -> Result<Change, Fail> {
+fn change_of_one(rt: &(impl Abort + AllocGlobal), word: &str, text: &str) -> Change {
     match word {
-        "delete" => delete(alloc, text),
-        "relinquish" => relinquish(alloc, text),
-        "prohibit" => prohibit(alloc, text),
-        "allow" => allow(alloc, text),
-        "open_case" => open_case(alloc, text),
-        "record_attempt" => record_attempt(alloc, text),
-        _ => Err(Fail::from("no change")),
+        "delete" => delete(rt, text),
+        "relinquish" => Change::Relinquish {
+            name: name(rt, text),
+        },
+        "prohibit" => Change::Prohibit {
+            name: name(rt, text),
+        },
+        "allow" => Change::Allow {
+            name: name(rt, text),
+        },
+        "open_case" => open_case(rt, text),
+        "record_attempt" => record_attempt(rt, text),
+        _ => panic!(rt; "{word} is no change"),
     }
 }
 
-fn change_of_two(alloc: Global, word: &str, first: &str, second: &str) -> Result<Change, Fail> {
+fn change_of_two(rt: &(impl Abort + AllocGlobal), word: &str, first: &str, second: &str) -> Change {
     match word {
-        "add_user" => add_user(alloc, first, second),
-        "set_token" => set_token(alloc, first, second),
-        "claim" => claim(alloc, first, second),
-        "set_quota" => set_quota(alloc, first, second),
-        "add_owner" => add_owner(alloc, first, second),
-        "remove_owner" => remove_owner(alloc, first, second),
-        "upload" => upload(alloc, first, second),
-        "yank" => yank(alloc, first, second),
-        "unyank" => unyank(alloc, first, second),
-        "transfer" => transfer(alloc, first, second),
-        _ => Err(Fail::from("no change")),
+        "add_user" => add_user(rt, first, second),
+        "set_token" => set_token(rt, first, second),
+        "claim" => claim(rt, first, second),
+        "set_quota" => set_quota(rt, first, second),
+        "add_owner" => add_owner(rt, first, second),
+        "remove_owner" => remove_owner(rt, first, second),
+        "upload" => upload(rt, first, second),
+        "yank" => yank(rt, first, second),
+        "unyank" => unyank(rt, first, second),
+        "transfer" => transfer(rt, first, second),
+        _ => panic!(rt; "{word} is no change"),
     }
 }
 
@@ -54,76 +60,63 @@ fn user_record(text: &str) -> UserRecord {
     }
 }
 
-fn add_user(alloc: Global, text: &str, token: &str) -> Result<Change, Fail> {
-    let user = user(alloc, text)?;
-    let record = user_record(token);
-    Ok(Change::AddUser { user, record })
+fn add_user(rt: &(impl Abort + AllocGlobal), text: &str, token: &str) -> Change {
+    Change::AddUser {
+        user: user(rt, text),
+        record: user_record(token),
+    }
 }
 
-fn set_token(alloc: Global, text: &str, token: &str) -> Result<Change, Fail> {
-    let user = user(alloc, text)?;
-    let record = user_record(token);
-    Ok(Change::SetToken { user, record })
+fn set_token(rt: &(impl Abort + AllocGlobal), text: &str, token: &str) -> Change {
+    Change::SetToken {
+        user: user(rt, text),
+        record: user_record(token),
+    }
 }
 
 /// A project without files.
-pub(super) fn project(alloc: Global, shown: &str) -> Result<Project, Fail> {
-    project_with(alloc, shown, QUOTA, 0, 0)
+pub(super) fn project(rt: &(impl Abort + AllocGlobal), shown: &str) -> Project {
+    project_with(rt, shown, QUOTA, 0, 0)
 }
 
 /// A project with this quota, charge and count of files.
 pub(super) fn project_with(
-    alloc: Global,
+    rt: &(impl Abort + AllocGlobal),
     shown: &str,
     quota: u64,
     charge: u64,
     undeleted: u64,
-) -> Result<Project, Fail> {
-    let shown = text(alloc, shown)?;
-    let made = Project::from_parts(shown, quota, charge, undeleted, None);
-    Ok(made.ok_or("no project")?)
+) -> Project {
+    let shown = text(rt, shown);
+    Project::from_parts(shown, quota, charge, undeleted, None).expect(rt, "a project")
 }
 
-fn claim(alloc: Global, shown: &str, owner: &str) -> Result<Change, Fail> {
-    let name = name(alloc, shown)?;
-    let project = project(alloc, shown)?;
-    let owner = user(alloc, owner)?;
-    Ok(Change::Claim {
-        name,
-        project,
-        owner,
-    })
+fn claim(rt: &(impl Abort + AllocGlobal), shown: &str, owner: &str) -> Change {
+    Change::Claim {
+        name: name(rt, shown),
+        project: project(rt, shown),
+        owner: user(rt, owner),
+    }
 }
 
-fn set_quota(alloc: Global, shown: &str, quota: &str) -> Result<Change, Fail> {
-    let name = name(alloc, shown)?;
-    let project = project_with(alloc, shown, quota.parse()?, 0, 0)?;
-    Ok(Change::SetQuota { name, project })
+fn set_quota(rt: &(impl Abort + AllocGlobal), shown: &str, quota: &str) -> Change {
+    let quota = quota.parse().expect(rt, quota);
+    Change::SetQuota {
+        name: name(rt, shown),
+        project: project_with(rt, shown, quota, 0, 0),
+    }
 }
 
-fn add_owner(alloc: Global, text: &str, owner: &str) -> Result<Change, Fail> {
-    let name = name(alloc, text)?;
-    let user = user(alloc, owner)?;
-    Ok(Change::AddOwner { name, user })
+fn add_owner(rt: &(impl Abort + AllocGlobal), text: &str, owner: &str) -> Change {
+    Change::AddOwner {
+        name: name(rt, text),
+        user: user(rt, owner),
+    }
 }
 
-fn remove_owner(alloc: Global, text: &str, owner: &str) -> Result<Change, Fail> {
-    let name = name(alloc, text)?;
-    let user = user(alloc, owner)?;
-    Ok(Change::RemoveOwner { name, user })
-}
-
-fn relinquish(alloc: Global, text: &str) -> Result<Change, Fail> {
-    let name = name(alloc, text)?;
-    Ok(Change::Relinquish { name })
-}
-
-fn prohibit(alloc: Global, text: &str) -> Result<Change, Fail> {
-    let name = name(alloc, text)?;
-    Ok(Change::Prohibit { name })
-}
-
-fn allow(alloc: Global, text: &str) -> Result<Change, Fail> {
-    let name = name(alloc, text)?;
-    Ok(Change::Allow { name })
+fn remove_owner(rt: &(impl Abort + AllocGlobal), text: &str, owner: &str) -> Change {
+    Change::RemoveOwner {
+        name: name(rt, text),
+        user: user(rt, owner),
+    }
 }

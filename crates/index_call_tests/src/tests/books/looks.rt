@@ -3,36 +3,40 @@ use crate::tests::{file_name, name, release, token};
 use index_digest::Digest256;
 use index_plain::PlainBooks;
 use index_rules::{Books, FileRecord, Keys, NameRecord, View};
-use std::alloc::{AllocError, Global};
-use std::test::Fail;
+use std::alloc::{AllocError, AllocGlobal, Global};
+use std::process::Abort;
 
 /// What a look finds: a word, and what it is about.
-pub(super) fn found_by(alloc: Global, books: &mut PlainBooks, look: &str) -> Result<String, Fail> {
-    let (word, about) = look.split_once(' ').ok_or("one word")?;
+pub(super) fn found_by(
+    rt: &(impl Abort + AllocGlobal),
+    books: &mut PlainBooks,
+    look: &str,
+) -> String {
+    let (word, about) = look.split_once(' ').expect(rt, look);
     match word {
-        "owners" => owners(alloc, books, about),
-        "body" => body(alloc, books, about),
-        _ => found_in_view(alloc, books, word, about),
+        "owners" => owners(rt, books, about),
+        "body" => body(rt, books, about),
+        _ => found_in_view(rt, books, word, about),
     }
 }
 
 fn found_in_view(
-    alloc: Global,
+    rt: &(impl Abort + AllocGlobal),
     books: &mut PlainBooks,
     word: &str,
     about: &str,
-) -> Result<String, Fail> {
-    let keys = keys_of(alloc, word, about)?;
-    let view = books.view(alloc, &keys)?;
-    Ok(told(alloc, word, &view)?)
+) -> String {
+    let keys = keys_of(rt, word, about);
+    let view = books.view(rt.alloc(), &keys).expect(rt, about);
+    told(rt.alloc(), word, &view).expect(rt, about)
 }
 
-fn keys_of(alloc: Global, word: &str, about: &str) -> Result<Keys, Fail> {
+fn keys_of(rt: &(impl Abort + AllocGlobal), word: &str, about: &str) -> Keys {
     match word {
-        "bearer" => Ok(keys_of_token(about)),
-        "file" => keys_of_file(alloc, about),
-        "release" => keys_of_release(alloc, about),
-        _ => keys_of_name(alloc, about),
+        "bearer" => keys_of_token(about),
+        "file" => keys_of_file(rt, about),
+        "release" => keys_of_release(rt, about),
+        _ => Keys::of_name(&name(rt, about)).expect(rt, about),
     }
 }
 
@@ -60,35 +64,27 @@ fn keys_of_token(text: &str) -> Keys {
     }
 }
 
-fn keys_of_name(alloc: Global, text: &str) -> Result<Keys, Fail> {
-    let name = name(alloc, text)?;
-    Ok(Keys::of_name(&name)?)
-}
-
-fn keys_of_file(alloc: Global, text: &str) -> Result<Keys, Fail> {
-    let file = file_name(alloc, text)?;
-    Ok(Keys {
+fn keys_of_file(rt: &(impl Abort + AllocGlobal), text: &str) -> Keys {
+    Keys {
         caller: None,
         user: None,
         token: None,
         name: None,
-        file: Some(file),
+        file: Some(file_name(rt, text)),
         release: None,
-    })
+    }
 }
 
-fn keys_of_release(alloc: Global, about: &str) -> Result<Keys, Fail> {
-    let (project, version) = about.split_once(' ').ok_or("no release")?;
-    let name = name(alloc, project)?;
-    let release = release(alloc, version)?;
-    Ok(Keys {
+fn keys_of_release(rt: &(impl Abort + AllocGlobal), about: &str) -> Keys {
+    let (project, version) = about.split_once(' ').expect(rt, about);
+    Keys {
         caller: None,
         user: None,
         token: None,
-        name: Some(name),
+        name: Some(name(rt, project)),
         file: None,
-        release: Some(release),
-    })
+        release: Some(release(rt, version)),
+    }
 }
 
 /// Who bears a token, as the caller and as the bearer.
@@ -154,17 +150,17 @@ fn told_case(alloc: Global, view: &View) -> Result<String, AllocError> {
 }
 
 /// The owners of a name, with spaces between them.
-fn owners(alloc: Global, books: &mut PlainBooks, text: &str) -> Result<String, Fail> {
-    let name = name(alloc, text)?;
-    let owners = books.owners_of(alloc, &name)?;
-    let mut found = String::new(alloc);
+fn owners(rt: &(impl Abort + AllocGlobal), books: &mut PlainBooks, text: &str) -> String {
+    let name = name(rt, text);
+    let owners = books.owners_of(rt.alloc(), &name).expect(rt, text);
+    let mut found = String::new(rt.alloc());
     for user in owners.as_slice() {
-        add_word(&mut found, user.text())?;
+        add_word(&mut found, user.text()).expect(rt, text);
     }
     if found.is_empty() {
-        found.push('-')?;
+        found.push('-').expect(rt, text);
     }
-    Ok(found)
+    found
 }
 
 fn add_word(words: &mut String, word: &str) -> Result<(), AllocError> {
@@ -175,13 +171,13 @@ fn add_word(words: &mut String, word: &str) -> Result<(), AllocError> {
 }
 
 /// The bytes of a file.
-fn body(alloc: Global, books: &mut PlainBooks, text: &str) -> Result<String, Fail> {
-    let file = file_name(alloc, text)?;
-    let body = books.bytes_of(alloc, &file)?;
-    let text = match &body {
+fn body(rt: &(impl Abort + AllocGlobal), books: &mut PlainBooks, text: &str) -> String {
+    let file = file_name(rt, text);
+    let body = books.bytes_of(rt.alloc(), &file).expect(rt, text);
+    let found = match &body {
         Some(body) if body.bytes() == b"abc".as_slice() => "abc",
         Some(_) => "other bytes",
         None => "-",
     };
-    Ok(String::from_str(alloc, text)?)
+    String::from_str(rt.alloc(), found).expect(rt, text)
 }

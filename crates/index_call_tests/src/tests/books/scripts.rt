@@ -1,6 +1,5 @@
 //! Scripts of changes and looks.
 use super::assert_script;
-use std::test::Fail;
 
 /// alice owns flask and bob django, each with a file of its release 1.0, which is yanked.
 const YANKS: &str = "\
@@ -16,8 +15,8 @@ bearer office = office office
 bearer  = - -";
 
 #[test]
-fn the_first_user_bears_the_token(rt: HostRuntime) -> Result<(), Fail> {
-    assert_script(&rt, &[FIRST_USER])
+fn the_first_user_bears_the_token(rt: HostRuntime) {
+    assert_script(&rt, &[FIRST_USER]);
 }
 
 const NEW_TOKEN: &str = "\
@@ -29,8 +28,8 @@ bearer second = alice alice
 bearer office = office office";
 
 #[test]
-fn a_new_token_replaces_the_old_one(rt: HostRuntime) -> Result<(), Fail> {
-    assert_script(&rt, &[NEW_TOKEN])
+fn a_new_token_replaces_the_old_one(rt: HostRuntime) {
+    assert_script(&rt, &[NEW_TOKEN]);
 }
 
 const CLAIMS: &str = "\
@@ -46,8 +45,8 @@ name numpy = -
 owners numpy = -";
 
 #[test]
-fn names_are_claimed_and_their_quotas_set(rt: HostRuntime) -> Result<(), Fail> {
-    assert_script(&rt, &[CLAIMS])
+fn names_are_claimed_and_their_quotas_set(rt: HostRuntime) {
+    assert_script(&rt, &[CLAIMS]);
 }
 
 const OWNERS: &str = "\
@@ -63,8 +62,8 @@ owners flask = 7up al bob
 owners django = alice";
 
 #[test]
-fn owners_are_in_byte_order(rt: HostRuntime) -> Result<(), Fail> {
-    assert_script(&rt, &[OWNERS])
+fn owners_are_in_byte_order(rt: HostRuntime) {
+    assert_script(&rt, &[OWNERS]);
 }
 
 const CLAIMED_AGAIN: &str = "\
@@ -79,8 +78,8 @@ release flask 1.0 = true -
 release django 1.0 = true broken";
 
 #[test]
-fn a_claim_after_a_relinquishment_has_no_yanks(rt: HostRuntime) -> Result<(), Fail> {
-    assert_script(&rt, &[YANKS, CLAIMED_AGAIN])
+fn a_claim_after_a_relinquishment_has_no_yanks(rt: HostRuntime) {
+    assert_script(&rt, &[YANKS, CLAIMED_AGAIN]);
 }
 
 const PROHIBITED: &str = "\
@@ -92,8 +91,8 @@ file flask-1.0.tar.gz = flask 1.0 >=3.9 3 false
 body flask-1.0.tar.gz = -";
 
 #[test]
-fn a_prohibited_name_has_nothing_but_deleted_files(rt: HostRuntime) -> Result<(), Fail> {
-    assert_script(&rt, &[YANKS, PROHIBITED])
+fn a_prohibited_name_has_nothing_but_deleted_files(rt: HostRuntime) {
+    assert_script(&rt, &[YANKS, PROHIBITED]);
 }
 
 const NOT_PROHIBITED: &str = "\
@@ -105,8 +104,8 @@ file django-1.0.tar.gz = django 1.0 >=3.9 3 true
 body django-1.0.tar.gz = abc";
 
 #[test]
-fn a_prohibition_leaves_the_other_names(rt: HostRuntime) -> Result<(), Fail> {
-    assert_script(&rt, &[YANKS, NOT_PROHIBITED])
+fn a_prohibition_leaves_the_other_names(rt: HostRuntime) {
+    assert_script(&rt, &[YANKS, NOT_PROHIBITED]);
 }
 
 const ALLOWED: &str = "\
@@ -117,8 +116,8 @@ name flask = -
 name numpy = prohibited";
 
 #[test]
-fn an_allowed_name_is_free(rt: HostRuntime) -> Result<(), Fail> {
-    assert_script(&rt, &[ALLOWED])
+fn an_allowed_name_is_free(rt: HostRuntime) {
+    assert_script(&rt, &[ALLOWED]);
 }
 
 const RECORD: &str = "\
@@ -126,8 +125,8 @@ upload Flask Flask-1.0.tar.gz
 file Flask-1.0.tar.gz = flask 1.0 >=3.9 3 true";
 
 #[test]
-fn an_upload_keeps_the_record(rt: HostRuntime) -> Result<(), Fail> {
-    assert_script(&rt, &[RECORD])
+fn an_upload_keeps_the_record(rt: HostRuntime) {
+    assert_script(&rt, &[RECORD]);
 }
 
 const BYTES: &str = "\
@@ -138,8 +137,8 @@ body Flask-1.0.tar.gz = abc
 body flask-1.0.tar.gz = -";
 
 #[test]
-fn an_upload_keeps_the_bytes(rt: HostRuntime) -> Result<(), Fail> {
-    assert_script(&rt, &[BYTES])
+fn an_upload_keeps_the_bytes(rt: HostRuntime) {
+    assert_script(&rt, &[BYTES]);
 }
 
 const DELETED: &str = "\
@@ -151,8 +150,8 @@ body django-1.0.tar.gz = abc
 release flask 1.0 = false broken";
 
 #[test]
-fn a_deleted_file_stays_bound_to_its_bytes(rt: HostRuntime) -> Result<(), Fail> {
-    assert_script(&rt, &[YANKS, DELETED])
+fn a_deleted_file_stays_bound_to_its_bytes(rt: HostRuntime) {
+    assert_script(&rt, &[YANKS, DELETED]);
 }
 
 const CHARGE: &str = "\
@@ -160,8 +159,8 @@ delete flask-1.0.tar.gz
 charge flask = 3 1";
 
 #[test]
-fn a_deletion_writes_the_charge(rt: HostRuntime) -> Result<(), Fail> {
-    assert_script(&rt, &[YANKS, CHARGE])
+fn a_deletion_writes_the_charge(rt: HostRuntime) {
+    assert_script(&rt, &[YANKS, CHARGE]);
 }
 
 const REASONS: &str = "\
@@ -174,8 +173,8 @@ release django 1.0 = true broken
 release django 1.00 = false -";
 
 #[test]
-fn a_yank_keeps_the_last_reason(rt: HostRuntime) -> Result<(), Fail> {
-    assert_script(&rt, &[YANKS, REASONS])
+fn a_yank_keeps_the_last_reason(rt: HostRuntime) {
+    assert_script(&rt, &[YANKS, REASONS]);
 }
 
 const UNYANKED: &str = "\
@@ -186,8 +185,8 @@ release flask 2.0 = false typo
 release django 1.0 = true broken";
 
 #[test]
-fn an_unyanked_release_has_no_reason(rt: HostRuntime) -> Result<(), Fail> {
-    assert_script(&rt, &[YANKS, UNYANKED])
+fn an_unyanked_release_has_no_reason(rt: HostRuntime) {
+    assert_script(&rt, &[YANKS, UNYANKED]);
 }
 
 const CLEARED: &str = "\
@@ -196,8 +195,8 @@ release flask 1.0 = true -
 release django 1.0 = true broken";
 
 #[test]
-fn a_claim_clears_the_yanks(rt: HostRuntime) -> Result<(), Fail> {
-    assert_script(&rt, &[YANKS, CLEARED])
+fn a_claim_clears_the_yanks(rt: HostRuntime) {
+    assert_script(&rt, &[YANKS, CLEARED]);
 }
 
 const TRANSFERRED: &str = "\
@@ -211,6 +210,6 @@ case flask = -
 owners flask = bob";
 
 #[test]
-fn a_transfer_ends_the_case(rt: HostRuntime) -> Result<(), Fail> {
-    assert_script(&rt, &[TRANSFERRED])
+fn a_transfer_ends_the_case(rt: HostRuntime) {
+    assert_script(&rt, &[TRANSFERRED]);
 }
