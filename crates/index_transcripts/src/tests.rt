@@ -5,8 +5,8 @@ use index_desk::Desk;
 use index_digest::Digest256;
 use index_plain::PlainBooks;
 use std::alloc::AllocGlobal;
+use std::fmt;
 use std::process::Abort;
-use std::test::Fail;
 
 mod cases;
 mod deletes;
@@ -49,19 +49,18 @@ const CASE: &str = r#"
 
 /// Asks the requests of these texts in one run, at a desk whose one user is `office`, of the office, with the token
 /// `office`. Each is answered as the texts have it.
-fn assert_transcript(rt: &(impl Abort + AllocGlobal), texts: &[&str]) -> Result<(), Fail> {
+fn assert_transcript(rt: &(impl Abort + AllocGlobal), texts: &[&str]) {
     let mut requests = String::new(rt.alloc());
     let mut answers = String::new(rt.alloc());
     for text in texts {
-        split(text, &mut requests, &mut answers)?;
+        split(text, &mut requests, &mut answers).expect(rt, "a transcript");
     }
-    let told = answers_to(rt, requests.as_str())?;
+    let told = answers_to(rt, requests.as_str());
     assert_lines(rt, requests.as_str(), told.as_str(), answers.as_str());
-    Ok(())
 }
 
 /// Adds the requests and the answers of a transcript to others, a line each.
-fn split(text: &str, requests: &mut String, answers: &mut String) -> Result<(), Fail> {
+fn split(text: &str, requests: &mut String, answers: &mut String) -> fmt::Result {
     for line in text.lines() {
         match line.strip_prefix("= ") {
             Some(answer) => writeln!(answers, "{answer}")?,
@@ -82,21 +81,22 @@ fn assert_lines(rt: &impl Abort, requests: &str, told: &str, answers: &str) {
 }
 
 /// What a new desk writes for these lines.
-fn answers_to(rt: &impl AllocGlobal, lines: &str) -> Result<String, Fail> {
+fn answers_to(rt: &(impl Abort + AllocGlobal), lines: &str) -> String {
     let token = Digest256::of(b"office");
-    let mut desk = Desk::new(PlainBooks::new(rt.alloc(), b"office", token)?);
+    let books = PlainBooks::new(rt.alloc(), b"office", token);
+    let mut desk = Desk::new(books.expect(rt, "books"));
     let mut reader = lines.as_bytes();
     let mut written = Vec::new(rt.alloc());
-    apply_lines(rt.alloc(), &mut reader, &mut written, &mut desk)?;
-    let text = String::from_utf8(written).ok().ok_or("not UTF-8")?;
-    Ok(text)
+    let ended = apply_lines(rt.alloc(), &mut reader, &mut written, &mut desk);
+    ended.expect(rt, "a run to its end");
+    String::from_utf8(written).expect(rt, "UTF-8")
 }
 
 /// A text so many times.
-fn repeated(rt: &impl AllocGlobal, text: &str, times: u64) -> Result<String, Fail> {
+fn repeated(rt: &(impl Abort + AllocGlobal), text: &str, times: u64) -> String {
     let mut whole = String::new(rt.alloc());
     for _ in 0..times {
-        whole.push_str(text)?;
+        whole.push_str(text).expect(rt, "room");
     }
-    Ok(whole)
+    whole
 }

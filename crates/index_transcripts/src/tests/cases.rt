@@ -1,6 +1,5 @@
 //! Retention cases, and what ends them.
 use super::{CASE, FROB, USERS, assert_transcript};
-use std::test::Fail;
 
 const QUIET: &str = r#"
 {"at":40000000,"token":"office","do":"record_attempt","name":"frob","means":"profile","sent":true}
@@ -30,8 +29,8 @@ const QUIET: &str = r#"
 "#;
 
 #[test]
-fn a_quiet_name_goes_to_its_candidate(rt: HostRuntime) -> Result<(), Fail> {
-    assert_transcript(&rt, &[USERS, FROB, CASE, QUIET])
+fn a_quiet_name_goes_to_its_candidate(rt: HostRuntime) {
+    assert_transcript(&rt, &[USERS, FROB, CASE, QUIET]);
 }
 
 /// An upload at an earlier moment than the one before it does not count.
@@ -55,8 +54,8 @@ const GREATEST_MOMENT: &str = r#"
 "#;
 
 #[test]
-fn the_year_runs_from_the_greatest_moment(rt: HostRuntime) -> Result<(), Fail> {
-    assert_transcript(&rt, &[USERS, FROB, GREATEST_MOMENT])
+fn the_year_runs_from_the_greatest_moment(rt: HostRuntime) {
+    assert_transcript(&rt, &[USERS, FROB, GREATEST_MOMENT]);
 }
 
 const YANKED: &str = r#"
@@ -77,8 +76,8 @@ const YANKED: &str = r#"
 "#;
 
 #[test]
-fn a_yank_by_the_owner_ends_the_case(rt: HostRuntime) -> Result<(), Fail> {
-    assert_transcript(&rt, &[USERS, FROB, CASE, YANKED])
+fn a_yank_by_the_owner_ends_the_case(rt: HostRuntime) {
+    assert_transcript(&rt, &[USERS, FROB, CASE, YANKED]);
 }
 
 const OPENED_AND_CLOSED: &str = r#"
@@ -105,8 +104,8 @@ const OPENED_AND_CLOSED: &str = r#"
 "#;
 
 #[test]
-fn cases_are_opened_and_closed(rt: HostRuntime) -> Result<(), Fail> {
-    assert_transcript(&rt, &[USERS, FROB, OPENED_AND_CLOSED])
+fn cases_are_opened_and_closed(rt: HostRuntime) {
+    assert_transcript(&rt, &[USERS, FROB, OPENED_AND_CLOSED]);
 }
 
 /// A request that is answered as already so ends no case.
@@ -122,8 +121,8 @@ const ANSWERED: &str = r#"
 "#;
 
 #[test]
-fn the_owner_answers_the_case(rt: HostRuntime) -> Result<(), Fail> {
-    assert_transcript(&rt, &[USERS, FROB, CASE, ANSWERED])
+fn the_owner_answers_the_case(rt: HostRuntime) {
+    assert_transcript(&rt, &[USERS, FROB, CASE, ANSWERED]);
 }
 
 const REPEATED: &str = r#"
@@ -136,6 +135,6 @@ const REPEATED: &str = r#"
 "#;
 
 #[test]
-fn a_repeated_attempt_is_a_second_one(rt: HostRuntime) -> Result<(), Fail> {
-    assert_transcript(&rt, &[USERS, FROB, CASE, REPEATED])
+fn a_repeated_attempt_is_a_second_one(rt: HostRuntime) {
+    assert_transcript(&rt, &[USERS, FROB, CASE, REPEATED]);
 }

@@ -1,6 +1,5 @@
 //! Deletes, and what is left of a deleted file.
 use super::{FILE, FROB, USERS, assert_transcript};
-use std::test::Fail;
 
 /// A file without bytes is deleted, and its name is bound to no bytes.
 const BOUND: &str = r#"
@@ -17,8 +16,8 @@ const BOUND: &str = r#"
 "#;
 
 #[test]
-fn a_deleted_file_name_stays_bound(rt: HostRuntime) -> Result<(), Fail> {
-    assert_transcript(&rt, &[USERS, FROB, FILE, BOUND])
+fn a_deleted_file_name_stays_bound(rt: HostRuntime) {
+    assert_transcript(&rt, &[USERS, FROB, FILE, BOUND]);
 }
 
 const COMES_BACK: &str = r#"
@@ -39,8 +38,8 @@ const COMES_BACK: &str = r#"
 "#;
 
 #[test]
-fn a_deleted_file_comes_back_with_its_bytes_alone(rt: HostRuntime) -> Result<(), Fail> {
-    assert_transcript(&rt, &[USERS, FROB, FILE, COMES_BACK])
+fn a_deleted_file_comes_back_with_its_bytes_alone(rt: HostRuntime) {
+    assert_transcript(&rt, &[USERS, FROB, FILE, COMES_BACK]);
 }
 
 const REFUSED: &str = r#"
@@ -59,8 +58,8 @@ const REFUSED: &str = r#"
 "#;
 
 #[test]
-fn deletes_are_refused(rt: HostRuntime) -> Result<(), Fail> {
-    assert_transcript(&rt, &[USERS, FROB, FILE, REFUSED])
+fn deletes_are_refused(rt: HostRuntime) {
+    assert_transcript(&rt, &[USERS, FROB, FILE, REFUSED]);
 }
 
 /// The files of a name are bound to their bytes for its next owners too.
@@ -88,6 +87,6 @@ const RELINQUISHED: &str = r#"
 "#;
 
 #[test]
-fn a_relinquished_name_is_free(rt: HostRuntime) -> Result<(), Fail> {
-    assert_transcript(&rt, &[USERS, FROB, FILE, RELINQUISHED])
+fn a_relinquished_name_is_free(rt: HostRuntime) {
+    assert_transcript(&rt, &[USERS, FROB, FILE, RELINQUISHED]);
 }

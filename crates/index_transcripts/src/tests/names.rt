@@ -1,6 +1,5 @@
 //! Claims of names, and each request once.
 use super::{USERS, assert_transcript};
-use std::test::Fail;
 
 const CLAIMS: &str = r#"
 {"at":1,"token":"office","do":"add_user","user":"ann","office":false,"token_sha256":"ba7816bf8f01cfea414140de5dae2223b00361a396177a9cb410ff61f20015ad"}
@@ -18,8 +17,8 @@ const CLAIMS: &str = r#"
 "#;
 
 #[test]
-fn a_name_stays_with_its_first_claim(rt: HostRuntime) -> Result<(), Fail> {
-    assert_transcript(&rt, &[CLAIMS])
+fn a_name_stays_with_its_first_claim(rt: HostRuntime) {
+    assert_transcript(&rt, &[CLAIMS]);
 }
 
 /// Each request is accepted once.
@@ -75,6 +74,6 @@ const EACH_REQUEST: &str = r#"
 "#;
 
 #[test]
-fn books_do_not_give_up(rt: HostRuntime) -> Result<(), Fail> {
-    assert_transcript(&rt, &[USERS, EACH_REQUEST])
+fn books_do_not_give_up(rt: HostRuntime) {
+    assert_transcript(&rt, &[USERS, EACH_REQUEST]);
 }

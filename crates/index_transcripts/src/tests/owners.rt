@@ -1,6 +1,5 @@
 //! Owners of names.
 use super::{FROB, USERS, assert_transcript};
-use std::test::Fail;
 
 /// The office does not own a name by being the office.
 const STRANGERS: &str = r#"
@@ -25,8 +24,8 @@ const STRANGERS: &str = r#"
 "#;
 
 #[test]
-fn owners_alone_add_and_remove_owners(rt: HostRuntime) -> Result<(), Fail> {
-    assert_transcript(&rt, &[USERS, FROB, STRANGERS])
+fn owners_alone_add_and_remove_owners(rt: HostRuntime) {
+    assert_transcript(&rt, &[USERS, FROB, STRANGERS]);
 }
 
 const HANDED_ON: &str = r#"
@@ -45,8 +44,8 @@ const HANDED_ON: &str = r#"
 "#;
 
 #[test]
-fn an_owner_hands_a_name_on(rt: HostRuntime) -> Result<(), Fail> {
-    assert_transcript(&rt, &[USERS, FROB, HANDED_ON])
+fn an_owner_hands_a_name_on(rt: HostRuntime) {
+    assert_transcript(&rt, &[USERS, FROB, HANDED_ON]);
 }
 
 const BYTE_ORDER: &str = r#"
@@ -61,6 +60,6 @@ const BYTE_ORDER: &str = r#"
 "#;
 
 #[test]
-fn owners_stand_in_byte_order(rt: HostRuntime) -> Result<(), Fail> {
-    assert_transcript(&rt, &[USERS, FROB, BYTE_ORDER])
+fn owners_stand_in_byte_order(rt: HostRuntime) {
+    assert_transcript(&rt, &[USERS, FROB, BYTE_ORDER]);
 }

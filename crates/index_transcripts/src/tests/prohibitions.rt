@@ -1,6 +1,5 @@
 //! Prohibited names.
 use super::{FILE, FROB, USERS, assert_transcript};
-use std::test::Fail;
 
 /// Its files are deleted, and stay bound to their bytes when the name is allowed and claimed again.
 const LOST_FILES: &str = r#"
@@ -33,8 +32,8 @@ const LOST_FILES: &str = r#"
 "#;
 
 #[test]
-fn a_prohibited_name_loses_its_files(rt: HostRuntime) -> Result<(), Fail> {
-    assert_transcript(&rt, &[USERS, FROB, FILE, LOST_FILES])
+fn a_prohibited_name_loses_its_files(rt: HostRuntime) {
+    assert_transcript(&rt, &[USERS, FROB, FILE, LOST_FILES]);
 }
 
 const FREE_NAME: &str = r#"
@@ -55,8 +54,8 @@ const FREE_NAME: &str = r#"
 "#;
 
 #[test]
-fn a_free_name_is_prohibited(rt: HostRuntime) -> Result<(), Fail> {
-    assert_transcript(&rt, &[USERS, FREE_NAME])
+fn a_free_name_is_prohibited(rt: HostRuntime) {
+    assert_transcript(&rt, &[USERS, FREE_NAME]);
 }
 
 const HELD_NAME: &str = r#"
@@ -69,6 +68,6 @@ const HELD_NAME: &str = r#"
 "#;
 
 #[test]
-fn a_held_name_is_allowed_already(rt: HostRuntime) -> Result<(), Fail> {
-    assert_transcript(&rt, &[USERS, FROB, FILE, HELD_NAME])
+fn a_held_name_is_allowed_already(rt: HostRuntime) {
+    assert_transcript(&rt, &[USERS, FROB, FILE, HELD_NAME]);
 }

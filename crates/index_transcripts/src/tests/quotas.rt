@@ -1,6 +1,5 @@
 //! Quotas of names.
 use super::{FROB, USERS, assert_transcript};
-use std::test::Fail;
 
 const QUOTAS: &str = r#"
 {"at":10,"token":"office","do":"set_quota","name":"frob","quota":1099511627777}
@@ -26,8 +25,8 @@ const QUOTAS: &str = r#"
 "#;
 
 #[test]
-fn the_office_sets_quotas(rt: HostRuntime) -> Result<(), Fail> {
-    assert_transcript(&rt, &[USERS, FROB, QUOTAS])
+fn the_office_sets_quotas(rt: HostRuntime) {
+    assert_transcript(&rt, &[USERS, FROB, QUOTAS]);
 }
 
 const FULL: &str = r#"
@@ -52,6 +51,6 @@ const FULL: &str = r#"
 "#;
 
 #[test]
-fn files_keep_below_the_quota(rt: HostRuntime) -> Result<(), Fail> {
-    assert_transcript(&rt, &[USERS, FROB, FULL])
+fn files_keep_below_the_quota(rt: HostRuntime) {
+    assert_transcript(&rt, &[USERS, FROB, FULL]);
 }

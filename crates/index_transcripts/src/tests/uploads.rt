@@ -1,7 +1,7 @@
 //! Uploads.
 use super::{FILE, FROB, USERS, assert_transcript, repeated};
 use std::alloc::AllocGlobal;
-use std::test::Fail;
+use std::process::Abort;
 
 /// What is declared of a file. Of several refusals the one with the least number is answered.
 const DECLARED: &str = r#"
@@ -23,8 +23,8 @@ const DECLARED: &str = r#"
 "#;
 
 #[test]
-fn a_first_upload_is_as_declared(rt: HostRuntime) -> Result<(), Fail> {
-    assert_transcript(&rt, &[USERS, FROB, DECLARED])
+fn a_first_upload_is_as_declared(rt: HostRuntime) {
+    assert_transcript(&rt, &[USERS, FROB, DECLARED]);
 }
 
 /// The office does not own a name by being the office.
@@ -46,8 +46,8 @@ const STRANGERS: &str = r#"
 "#;
 
 #[test]
-fn owners_alone_upload(rt: HostRuntime) -> Result<(), Fail> {
-    assert_transcript(&rt, &[USERS, FROB, STRANGERS])
+fn owners_alone_upload(rt: HostRuntime) {
+    assert_transcript(&rt, &[USERS, FROB, STRANGERS]);
 }
 
 /// Uploads of a file that is there.
@@ -73,8 +73,8 @@ const BOUND: &str = r#"
 "#;
 
 #[test]
-fn a_file_name_is_bound_to_its_bytes(rt: HostRuntime) -> Result<(), Fail> {
-    assert_transcript(&rt, &[USERS, FROB, FILE, BOUND])
+fn a_file_name_is_bound_to_its_bytes(rt: HostRuntime) {
+    assert_transcript(&rt, &[USERS, FROB, FILE, BOUND]);
 }
 
 const CHARGED: &str = r#"
@@ -90,8 +90,8 @@ const CHARGED: &str = r#"
 "#;
 
 #[test]
-fn each_file_is_charged(rt: HostRuntime) -> Result<(), Fail> {
-    assert_transcript(&rt, &[USERS, FROB, FILE, CHARGED])
+fn each_file_is_charged(rt: HostRuntime) {
+    assert_transcript(&rt, &[USERS, FROB, FILE, CHARGED]);
 }
 
 const HEX_DIGITS: &str = r#"
@@ -107,8 +107,8 @@ const HEX_DIGITS: &str = r#"
 "#;
 
 #[test]
-fn bytes_are_hex_digits_of_either_case(rt: HostRuntime) -> Result<(), Fail> {
-    assert_transcript(&rt, &[USERS, FROB, HEX_DIGITS])
+fn bytes_are_hex_digits_of_either_case(rt: HostRuntime) {
+    assert_transcript(&rt, &[USERS, FROB, HEX_DIGITS]);
 }
 
 /// Control characters, and characters beside them, as JSON writes them.
@@ -128,21 +128,22 @@ const PLAIN_TEXTS: &str = r#"
 "#;
 
 #[test]
-fn a_requires_text_has_no_controls(rt: HostRuntime) -> Result<(), Fail> {
-    assert_transcript(&rt, &[USERS, FROB, PLAIN_TEXTS])
+fn a_requires_text_has_no_controls(rt: HostRuntime) {
+    assert_transcript(&rt, &[USERS, FROB, PLAIN_TEXTS]);
 }
 
 /// The upload of a file whose requirement on Python is a text so many times, and its answer.
 fn with_requires_python(
-    rt: &impl AllocGlobal,
+    rt: &(impl Abort + AllocGlobal),
     text: &str,
     times: u64,
     answer: &str,
-) -> Result<String, Fail> {
-    let text = repeated(rt, text, times)?;
-    Ok(format!(in rt.alloc();
+) -> String {
+    let text = repeated(rt, text, times);
+    let line = format!(in rt.alloc();
         "{{\"at\":11,\"token\":\"abc\",\"do\":\"upload\",\"file\":\"frob-1.0.tar.gz\",\"sha256\":\"ba7816bf8f01cfea414140de5dae2223b00361a396177a9cb410ff61f20015ad\",\"hex\":\"616263\",\"requires_python\":\"{text}\"}}\n= {answer}\n"
-    )?)
+    );
+    line.expect(rt, answer)
 }
 
 const ACCEPTED: &str = r#"{"answer":"accepted"}"#;
@@ -151,15 +152,14 @@ const BAD_TEXT: &str = r#"{"answer":"refused","code":8,"name":"BadText"}"#;
 
 /// It has at most 512 bytes.
 #[test]
-fn a_requires_text_is_short(rt: HostRuntime) -> Result<(), Fail> {
+fn a_requires_text_is_short(rt: HostRuntime) {
     for (text, times, answer) in [
         (">", 0, ACCEPTED),
         (">", 512, ACCEPTED),
         (">", 513, BAD_TEXT),
         ("é", 257, BAD_TEXT),
     ] {
-        let text = with_requires_python(&rt, text, times, answer)?;
-        assert_transcript(&rt, &[USERS, FROB, text.as_str()])?;
+        let text = with_requires_python(&rt, text, times, answer);
+        assert_transcript(&rt, &[USERS, FROB, text.as_str()]);
     }
-    Ok(())
 }

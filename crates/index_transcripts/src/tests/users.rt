@@ -1,6 +1,5 @@
 //! Users, their tokens, and the moment of a call.
 use super::{USERS, assert_transcript};
-use std::test::Fail;
 
 /// A user, and a token that somebody bears, are added once.
 const ADDED_TWICE: &str = r#"
@@ -21,8 +20,8 @@ const ADDED_TWICE: &str = r#"
 "#;
 
 #[test]
-fn users_are_added_once(rt: HostRuntime) -> Result<(), Fail> {
-    assert_transcript(&rt, &[USERS, ADDED_TWICE])
+fn users_are_added_once(rt: HostRuntime) {
+    assert_transcript(&rt, &[USERS, ADDED_TWICE]);
 }
 
 const ADDED: &str = r#"
@@ -46,8 +45,8 @@ const ADDED: &str = r#"
 "#;
 
 #[test]
-fn the_office_adds_users(rt: HostRuntime) -> Result<(), Fail> {
-    assert_transcript(&rt, &[USERS, ADDED])
+fn the_office_adds_users(rt: HostRuntime) {
+    assert_transcript(&rt, &[USERS, ADDED]);
 }
 
 const TOKENS: &str = r#"
@@ -73,8 +72,8 @@ const TOKENS: &str = r#"
 "#;
 
 #[test]
-fn the_office_replaces_tokens(rt: HostRuntime) -> Result<(), Fail> {
-    assert_transcript(&rt, &[USERS, TOKENS])
+fn the_office_replaces_tokens(rt: HostRuntime) {
+    assert_transcript(&rt, &[USERS, TOKENS]);
 }
 
 /// The last moment is the last second of the year 9999.
@@ -95,6 +94,6 @@ const MOMENTS: &str = r#"
 "#;
 
 #[test]
-fn the_moment_comes_before_the_token(rt: HostRuntime) -> Result<(), Fail> {
-    assert_transcript(&rt, &[MOMENTS])
+fn the_moment_comes_before_the_token(rt: HostRuntime) {
+    assert_transcript(&rt, &[MOMENTS]);
 }

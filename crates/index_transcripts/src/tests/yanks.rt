@@ -1,6 +1,5 @@
 //! Yanked releases.
 use super::{FILE, FROB, USERS, assert_transcript};
-use std::test::Fail;
 
 const REASONS: &str = r#"
 {"at":12,"token":"abc","do":"yank","name":"frob","release":"1.0","reason":"<3 & \"x\""}
@@ -22,8 +21,8 @@ const REASONS: &str = r#"
 "#;
 
 #[test]
-fn a_release_is_yanked_for_a_reason(rt: HostRuntime) -> Result<(), Fail> {
-    assert_transcript(&rt, &[USERS, FROB, FILE, REASONS])
+fn a_release_is_yanked_for_a_reason(rt: HostRuntime) {
+    assert_transcript(&rt, &[USERS, FROB, FILE, REASONS]);
 }
 
 const REFUSED: &str = r#"
@@ -48,6 +47,6 @@ const REFUSED: &str = r#"
 "#;
 
 #[test]
-fn yanks_are_refused(rt: HostRuntime) -> Result<(), Fail> {
-    assert_transcript(&rt, &[USERS, FROB, FILE, REFUSED])
+fn yanks_are_refused(rt: HostRuntime) {
+    assert_transcript(&rt, &[USERS, FROB, FILE, REFUSED]);
 }
