@@ -10,6 +10,7 @@ ghost use Rattle.index_rules.specs.Opened.{opened};
 use index_cli::apply_lines;
 use index_desk::Desk;
 use index_digest::Digest256;
+use index_io::{Input, Output};
 use index_plain::PlainBooks;
 use index_rules::OpenFault;
 use index_words::{Job, WordsEnd, read_words};
@@ -45,16 +46,17 @@ fn run(rt: &HostRuntime, words: &[String]) -> ExitCode {
 
 /// Answers the lines of standard input, on tables whose one user is `office`, with the token `office`.
 fn apply(rt: &HostRuntime) -> ExitCode {
-    let Ok(mut reader) = BufReader::new(rt.alloc(), rt.stdin()) else {
+    let Ok(reader) = BufReader::new(rt.alloc(), rt.stdin()) else {
         return failed(rt, "OutOfMemory");
     };
     let books = match office_books(rt) {
         Ok(books) => books,
         Err(fault) => return failed(rt, fault),
     };
-    let mut writer = io::writer(rt);
+    let mut source = Input::new(reader);
+    let mut sink = Output::new(io::writer(rt));
     let mut desk = Desk::new(books);
-    match apply_lines(rt.alloc(), &mut reader, &mut writer, &mut desk) {
+    match apply_lines(rt.alloc(), &mut source, &mut sink, &mut desk) {
         Ok(_) => ExitCode::SUCCESS,
         Err(end) => failed(rt, end),
     }

@@ -7,53 +7,133 @@ use Rattle.index_rules.specs.History.{History}
 use Rattle.index_rules.specs.StandsFor.{StandsFor}
 use Rattle.index_rules.specs.Legal.{history_after, IsLegal}
 use Rattle.index_rules.proofs.StandsOn.{CarriesOn-answer}
-use Rattle.index_desk.specs.Standings.{standing_in}
+use Rattle.index_desk.specs.Standings.{IsStandingAfter}
 use Rattle.index_desk.proofs.StandingLemmas.{IsStandingAfter-standing_in}
 use Rattle.index_json.specs.Line.{line_of}
-use Rattle.index_cli.specs.Told.{Tells, TellsLine, TellsStanding, Told}
-use Rattle.index_cli.specs.ToldAfter.{TellsAfter, TellsLineAfter, TellsStandingAfter, TellsHistory}
 use Rattle.index_json.specs.declared.line.Line.{Line}
 use Rattle.index_json.specs.declared.line.Line.TheVariants as line
+use Rattle.index_cli.specs.Ends.{TellsAll, TellsBefore, TellsDuring}
+use Rattle.index_cli.specs.Lines.{longest_line}
+use Rattle.index_cli.specs.Telling.{by_history, by_tables, TellsAsked, TellsLine, TellsLines, TellsStanding}
+use Rattle.index_cli.specs.TellsHistory.{TellsHistory}
 
-standing_after : (h : History) (T : Tables) → StandsFor T h → (name : Option (List ℕ)) (text : List ℕ) → TellsStanding T name text → TellsStandingAfter h name text
+standing_after : (h : History) (T : Tables) → StandsFor T h → (name : Option (List ℕ)) (text : List ℕ)
+    → TellsStanding by_tables T name text → TellsStanding by_history h name text
 standing_after h T stands None text tells = tells
-standing_after h T stands (Some name) text (inl is) = inl (standing_in T name, IsStandingAfter-standing_in h T stands name, is)
+standing_after h T stands (Some name) text (inl (standing, is, told)) =
+    inl (standing, subst (λ s. IsStandingAfter h name s) (sym is) (IsStandingAfter-standing_in h T stands name), told)
 standing_after h T stands (Some name) text (inr fault) = inr fault
 
 -- one line: what was told, and the history for which the tables stand then
-record LineAfter (asked : Option Line) (h : History) (text : List ℕ) (T' : Tables) : Type 0 where
+record AfterAsked (asked : Option Line) (h : History) (text : List ℕ) (T' : Tables) : Type 0 where
   after : History
-  told : TellsLineAfter asked h text after
+  told : TellsAsked by_history asked h text after
   legal : IsLegal after
   stands : StandsFor T' after
 
-line_after : (h : History) → IsLegal h → (T : Tables) → StandsFor T h → (asked : Option Line) (text : List ℕ) (T' : Tables) → TellsLine asked T text T' → LineAfter asked h text T'
-line_after h legal T stands None text T' (is, same) = record { after = h; told = (is, refl); legal = legal; stands = subst (λ x. StandsFor x h) (sym same) stands }
-line_after h legal T stands (Some (line.Call call)) text T' (answer, is, answers, next) =
+asked_after : (h : History) → IsLegal h → (T : Tables) → StandsFor T h → (asked : Option Line) (text : List ℕ) (T' : Tables)
+    → TellsAsked by_tables asked T text T' → AfterAsked asked h text T'
+asked_after h legal T stands None text T' (is, same) =
+    record { after = h; told = (is, refl); legal = legal; stands = subst (λ x. StandsFor x h) (sym same) stands }
+asked_after h legal T stands (Some (line.Call call)) text T' (answer, is, answers, next) =
     let on = CarriesOn-answer h legal T stands call answer T' (λ _. answers) (λ _. next) in
-    record { after = history_after h call answer; told = (answer, is, on.verdict, refl); legal = on.legal; stands = on.stands }
-line_after h legal T stands (Some (line.Standing name)) text T' (tells, same) =
-    record { after = h; told = (standing_after h T stands (read_name name) text tells, refl); legal = legal; stands = subst (λ x. StandsFor x h) (sym same) stands }
+    record {
+      after = history_after h call answer;
+      told = (answer, is, on.verdict, refl);
+      legal = on.legal;
+      stands = on.stands;
+    }
+asked_after h legal T stands (Some (line.Standing name)) text T' (tells, same) = record {
+  after = h;
+  told = (standing_after h T stands (read_name name) text tells, refl);
+  legal = legal;
+  stands = subst (λ x. StandsFor x h) (sym same) stands;
+}
 
-record OneAfter (line : List ℕ) (h : History) (text : List ℕ) (T' : Tables) : Type 0 where
+record AfterLine (line : List ℕ) (h : History) (text : List ℕ) (T' : Tables) : Type 0 where
   after : History
-  told : TellsAfter line h text after
+  told : TellsLine by_history line h text after
   legal : IsLegal after
   stands : StandsFor T' after
 
-one_after : (h : History) → IsLegal h → (T : Tables) → StandsFor T h → (line text : List ℕ) (T' : Tables) → Tells line T text T' → OneAfter line h text T'
-one_after h legal T stands line text T' tells = elim (cases_lt 65536 (length line)) [
+line_after : (h : History) → IsLegal h → (T : Tables) → StandsFor T h → (line text : List ℕ) (T' : Tables)
+    → TellsLine by_tables line T text T' → AfterLine line h text T'
+line_after h legal T stands line text T' tells = elim (cases_lt longest_line (length line)) [
   | inr short ↦
-      let one = line_after h legal T stands (line_of line) text T' (tells.0 short) in
-      record { after = one.after; told = (λ _. one.told, λ long. absurd (omega (arith, short, long))); legal = one.legal; stands = one.stands }
+      let one = asked_after h legal T stands (line_of line) text T' (tells.0 short) in
+      record {
+        after = one.after;
+        told = (λ _. one.told, λ long. absurd (omega (arith, short, long)));
+        legal = one.legal;
+        stands = one.stands;
+      }
   | inl long ↦
-      let one = line_after h legal T stands None text T' (tells.1 long) in
-      record { after = one.after; told = (λ short. absurd (omega (arith, short, long)), λ _. one.told); legal = one.legal; stands = one.stands }
+      let one = asked_after h legal T stands None text T' (tells.1 long) in
+      record {
+        after = one.after;
+        told = (λ short. absurd (omega (arith, short, long)), λ _. one.told);
+        legal = one.legal;
+        stands = one.stands;
+      }
 ]
 
-pub TellsHistory-Told : (h : History) → IsLegal h → (T : Tables) → StandsFor T h → (lines : List (List ℕ)) (text : List ℕ) (T' : Tables) → Told T lines text T' → TellsHistory h lines text T'
-TellsHistory-Told h legal T stands [] text T' (is, same) = record { after = h; told = (is, refl); legal = legal; stands = subst (λ x. StandsFor x h) (sym same) stands }
-TellsHistory-Told h legal T stands (line ∷ lines) text T' (first, more, between, tells, told, is) =
-    let one = one_after h legal T stands line first between tells in
-    let rest = TellsHistory-Told one.after one.legal between one.stands lines more T' told in
-    record { after = rest.after; told = (first, more, one.after, one.told, rest.told, is); legal = rest.legal; stands = rest.stands }
+TellsHistory-TellsLines : (h : History) → IsLegal h → (T : Tables) → StandsFor T h
+    → (lines : List (List ℕ)) (text : List ℕ) (T' : Tables)
+    → TellsLines by_tables T lines text T' → TellsHistory h lines text T'
+TellsHistory-TellsLines h legal T stands [] text T' (is, same) =
+    record { after = h; told = (is, refl); legal = legal; stands = subst (λ x. StandsFor x h) (sym same) stands }
+TellsHistory-TellsLines h legal T stands (line ∷ lines) text T' (first, more, between, tells, told, is) =
+    let one = line_after h legal T stands line first between tells in
+    let rest = TellsHistory-TellsLines one.after one.legal between one.stands lines more T' told in
+    record {
+      after = rest.after;
+      told = (first, more, one.after, one.told, rest.told, is);
+      legal = rest.legal;
+      stands = rest.stands;
+    }
+
+-- ---- the ends of a run by the tables are those by a history for which they stood
+
+pub TellsAll-history : (h : History) → IsLegal h → (S : Tables) → StandsFor S h → (T : Tables) (a b w0 w1 : Option (List ℕ)) (count : ℕ)
+    → TellsAll (TellsLines by_tables S) T a b w0 w1 count → TellsAll (TellsHistory h) T a b w0 w1 count
+TellsAll-history h legal S stands T a b w0 w1 count e = record {
+  input = e.input;
+  text = e.text;
+  is_input = e.is_input;
+  taken = e.taken;
+  at_end = e.at_end;
+  told = TellsHistory-TellsLines h legal S stands _ _ T e.told;
+  wrote = e.wrote;
+  counted = e.counted;
+}
+
+pub TellsBefore-history : (h : History) → IsLegal h → (S : Tables) → StandsFor S h → (T : Tables) (a b w0 w1 : Option (List ℕ))
+    → TellsBefore (TellsLines by_tables S) T a b w0 w1 → TellsBefore (TellsHistory h) T a b w0 w1
+TellsBefore-history h legal S stands T a b w0 w1 e = record {
+  input = e.input;
+  done = e.done;
+  more = e.more;
+  text = e.text;
+  is_input = e.is_input;
+  lines = e.lines;
+  taken = e.taken;
+  told = TellsHistory-TellsLines h legal S stands _ _ T e.told;
+  wrote = e.wrote;
+}
+
+pub TellsDuring-history : (h : History) → IsLegal h → (S : Tables) → StandsFor S h → (T : Tables) (a b w0 w1 : Option (List ℕ))
+    → TellsDuring (TellsLines by_tables S) T a b w0 w1 → TellsDuring (TellsHistory h) T a b w0 w1
+TellsDuring-history h legal S stands T a b w0 w1 e = record {
+  input = e.input;
+  done = e.done;
+  line = e.line;
+  more = e.more;
+  text = e.text;
+  count = e.count;
+  is_input = e.is_input;
+  lines = e.lines;
+  taken = e.taken;
+  told = TellsHistory-TellsLines h legal S stands _ _ T e.told;
+  less = e.less;
+  wrote = e.wrote;
+}

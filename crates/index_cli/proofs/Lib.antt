@@ -1,3 +1,4 @@
 pub mod Cuts
-pub mod Runs
+pub mod Progress
+pub mod RunEnds
 pub mod Histories

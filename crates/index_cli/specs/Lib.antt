@@ -1,4 +1,7 @@
+-- Lines in and lines out.
 pub mod Lines
-pub mod Told
+pub mod Telling
+pub mod TellsHistory
+pub mod Replies
+pub mod Ends
 pub mod Printed
-pub mod ToldAfter

@@ -1,7 +1,15 @@
--- The lines of an input, and what is known of them from a reader.
-use Rattle.std.specs.Prelude.{◌≡◌, ◌≢◌, ℕ, ◌<◌, ◌==◌, ◌⊎◌, List, [], ◌∷◌, ◌++◌, length, take, Option, Some, None, if◌then◌else◌, ⊤}
+-- The lines of an input, and what a reader has left once some were taken.
+use Rattle.std.specs.Prelude.{◌≡◌, ◌≢◌, ℕ, ◌+◌, ◌<◌, ◌==◌, ◌⊎◌, List, [], ◌∷◌, ◌++◌, length, take, Option, Some, None, if◌then◌else◌, ⊤}
 use Rattle.std.specs.List.{All}
 use Rattle.std.specs.Io.KnownBytes.{Consumes, IsAtEnd}
+
+-- the byte of a line feed
+abbrev pub line_feed : ℕ
+line_feed = 10
+
+-- the most bytes of a line that is read
+abbrev pub longest_line : ℕ
+longest_line = 65536
 
 -- a byte stands before the first line of what follows it
 abbrev pub onto_first : ℕ → List (List ℕ) → List (List ℕ)
@@ -11,7 +19,8 @@ onto_first byte (line ∷ lines) = (byte ∷ line) ∷ lines
 -- the lines, each without its line feed; the last one may have none
 abbrev pub lines_of : List ℕ → List (List ℕ)
 lines_of [] = []
-lines_of (byte ∷ input) = if byte == 10 then [] ∷ lines_of input else onto_first byte (lines_of input)
+lines_of (byte ∷ input) =
+    if byte == line_feed then [] ∷ lines_of input else onto_first byte (lines_of input)
 
 -- the input agrees with what a reader tells of the bytes that it has left
 abbrev pub IsInput : Option (List ℕ) → List ℕ → Type 0
@@ -20,26 +29,42 @@ IsInput (Some bytes) input = input ≡ bytes
 
 -- no byte of the line is a line feed
 abbrev pub HasNoFeed : List ℕ → Type 0
-HasNoFeed line = All (λ byte. byte ≢ 10) line
+HasNoFeed line = All (λ byte. byte ≢ line_feed) line
 
 -- ---- what a reader has left, before and after
 
--- a byte was taken, or the input was at its end
-abbrev pub TakesByte : Option ℕ → Option (List ℕ) → Option (List ℕ) → Type 0
-TakesByte None old new = Consumes old new [] × IsAtEnd new
-TakesByte (Some byte) old new = Consumes old new (byte ∷ [])
-
 -- a line was taken, with its line feed or up to the end of the input
 abbrev pub Passes : List ℕ → Option (List ℕ) → Option (List ℕ) → Type 0
-Passes line old new = Consumes old new (line ++ 10 ∷ []) ⊎ ((0 < length line) × Consumes old new line × IsAtEnd new)
+Passes line old new =
+    Consumes old new (line ++ line_feed ∷ [])
+    ⊎ ((0 < length line) × Consumes old new line × IsAtEnd new)
 
 -- this is a line of this size, and `kept` has its first 65,536 bytes
 pub record IsKept (size : ℕ) (kept line : List ℕ) : Type 0 where
   pub plain : HasNoFeed line
   pub sized : length line ≡ size
-  pub front : kept ≡ take 65536 line
+  pub front : kept ≡ take longest_line line
 
 -- a line of some size was taken, or the input was at its end
 abbrev pub TakesLine : Option ℕ → List ℕ → Option (List ℕ) → Option (List ℕ) → Type 0
 TakesLine None kept old new = Consumes old new [] × IsAtEnd new
-TakesLine (Some size) kept old new = (line : List ℕ) × IsKept size kept line × Passes line old new
+TakesLine (Some size) kept old new =
+    (line : List ℕ) × IsKept size kept line × Passes line old new
+
+-- a part of one line was taken, and not its line feed
+abbrev pub TakesPart : Option (List ℕ) → Option (List ℕ) → Type 0
+TakesPart old new = (part : List ℕ) × HasNoFeed part × Consumes old new part
+
+-- the bytes that were taken were charged to those that may be read
+abbrev pub Charges : ℕ → ℕ → Option (List ℕ) → Option (List ℕ) → Type 0
+Charges before now old new =
+    (taken : List ℕ) × Consumes old new taken × (now + length taken ≡ before)
+
+-- just these lines were taken
+abbrev pub TakesLines : List (List ℕ) → Option (List ℕ) → Option (List ℕ) → Type 0
+TakesLines lines old new = (taken : List ℕ) × Consumes old new taken × (lines_of taken ≡ lines)
+
+-- just these lines were taken, and at most a part of the next one or all of it
+abbrev pub TakesWithin : List (List ℕ) → Option (List ℕ) → Option (List ℕ) → Type 0
+TakesWithin lines old new =
+    TakesLines lines old new ⊎ ((part : List ℕ) × TakesLines (lines ++ part ∷ []) old new)

@@ -1,18 +1,23 @@
-//! Lines to any writer.
-ghost use Rattle.std.specs.Prelude.{◌≡◌, ◌<◌, [], ◌∷◌, ◌++◌, length, take, IfErr, OnOk};
+//! Lines to any sink.
+ghost use Rattle.std.specs.Prelude.{◌≡◌, ◌<◌, [], ◌∷◌, ◌++◌, length, take, IfErr, OnErr, OnOk};
 ghost use Rattle.std.specs.Io.KnownBytes.{Appends};
+ghost use Rattle.index_io.specs.Counts.{HasFailed};
+ghost use Rattle.index_cli.specs.Lines.{line_feed};
 
-use index_desk::write_bytes;
-use std::io::Write;
+use index_io::{Sink, write_bytes};
 
 /// Writes a text and a line feed. An error tells how many of these bytes went out.
-pub fn write_line<W: Write>(writer: &mut W, text: &[u8]) -> Result<(), usize>
-    ensures whole { OnOk result (Appends (W.contents writer.old) (W.contents writer.new) (text.now ++ 10 ∷ [])) }
-    ensures front { IfErr result (λ count. (count < length (text.now ++ 10 ∷ []))
-        × Appends (W.contents writer.old) (W.contents writer.new) (take count (text.now ++ 10 ∷ []))) }
+pub fn write_line<K: Sink>(sink: &mut K, text: &[u8]) -> Result<(), usize>
+    ensures whole { OnOk result
+        (Appends (K.contents sink.old) (K.contents sink.new) (text.now ++ line_feed ∷ [])) }
+    ensures front { IfErr result (λ count. (count < length (text.now ++ line_feed ∷ []))
+        × Appends (K.contents sink.old) (K.contents sink.new)
+        (take count (text.now ++ line_feed ∷ []))) }
+    ensures kept { OnOk result (K.failures sink.new ≡ K.failures sink.old) }
+    ensures failed { OnErr result (HasFailed (K.failures sink.old) (K.failures sink.new)) }
 {
-    write_bytes(writer, text)?;
-    if write_bytes(writer, b"\n".as_slice()).is_err() {
+    write_bytes(sink, text)?;
+    if write_bytes(sink, b"\n".as_slice()).is_err() {
         return Err(text.len());
     }
     Ok(())

@@ -1,20 +1,22 @@
 //! The reply to one line.
-ghost use Rattle.std.specs.Prelude.{◌≡◌, ℕ, List, Some, length, take, IfErr, IfOk, OnErr};
+ghost use Rattle.std.specs.Prelude.{◌≡◌, Some, IfErr, IfOk, OnErr};
+ghost use Rattle.index_names.specs.Project.{read_name};
 ghost use Rattle.index_rules.specs.Facts.{HasOneBearer};
 ghost use Rattle.index_rules.specs.Sound.{IsSound};
 ghost use Rattle.index_json.specs.Line.{line_of};
-ghost use Rattle.index_cli.specs.Told.{Tells, TellsLine, reply_text};
+ghost use Rattle.index_cli.specs.Replies.{reply_text, TellsKept};
+ghost use Rattle.index_cli.specs.Telling.{by_tables, TellsAsked, TellsStanding};
 
 use crate::end::LineEnd;
 use crate::input::LONGEST_LINE;
 use index_desk::Desk;
 use index_json::{Line, answer_text, bad_body, read_line, standing_text};
-use index_names::{NameFault, normal};
-use index_rules::{Answer, Books, Fault, Refusal};
+use index_names::{NameFault, NormalName, normal};
+use index_rules::{Answer, Books, Refusal};
 use std::alloc::Global;
 
-/// The reply to a line, without a line feed. That to a call is fixed, so that it takes no memory once the call was
-/// applied.
+/// The reply to a line, without a line feed. That to a call is fixed, so that it takes no memory once the
+/// call was applied.
 #[derive(Debug, Drop)]
 pub enum Reply {
     Fixed(&'static str),
@@ -33,7 +35,8 @@ impl Reply {
     }
 }
 
-/// The reply to a line of this size, of which `front` has the first 65,536 bytes. A longer one asks nothing.
+/// The reply to a line of this size, of which `front` has the first 65,536 bytes. A longer one asks
+/// nothing.
 /// After `OutOfMemory`, its one error, the tables are what they were.
 pub fn reply_to<B: Books>(
     alloc: Global,
@@ -41,12 +44,15 @@ pub fn reply_to<B: Books>(
     front: &[u8],
     size: u64,
 ) -> Result<Reply, LineEnd>
-    ensures reply { B.IsHonest desk.new → HasOneBearer (B.tables desk.old) → IfOk result (λ reply. (line : List ℕ) → length line ≡ size → front.now ≡ take 65536 line
-        → Tells line (B.tables desk.old) (reply_text reply) (B.tables desk.new)) }
+    ensures reply { B.IsHonest desk.new → HasOneBearer (B.tables desk.old) → IfOk result (λ reply.
+        TellsKept size front.now (B.tables desk.old) (reply_text reply) (B.tables desk.new)) }
     ensures unchanged { B.IsHonest desk.new → OnErr result (B.tables desk.new ≡ B.tables desk.old) }
+    ensures kept { OnErr result (B.failures desk.new ≡ B.failures desk.old) }
     ensures memory { IfErr result (λ end. end ≡ LineEnd.OutOfMemory) }
-    ensures one_bearer { B.IsHonest desk.new → HasOneBearer (B.tables desk.old) → HasOneBearer (B.tables desk.new) }
-    ensures sound { B.IsHonest desk.new → IsSound (B.tables desk.old) → IsSound (B.tables desk.new) }
+    ensures one_bearer { B.IsHonest desk.new
+        → HasOneBearer (B.tables desk.old) → HasOneBearer (B.tables desk.new) }
+    ensures sound { B.IsHonest desk.new
+        → IsSound (B.tables desk.old) → IsSound (B.tables desk.new) }
     ensures honest { B.IsHonest desk.new → B.IsHonest desk.old }
 {
     if size > LONGEST_LINE {
@@ -57,11 +63,16 @@ pub fn reply_to<B: Books>(
 
 /// The reply to a line that is not too long.
 fn reply_to_read<B: Books>(alloc: Global, desk: &mut Desk<B>, line: &[u8]) -> Result<Reply, LineEnd>
-    ensures reply { B.IsHonest desk.new → HasOneBearer (B.tables desk.old) → IfOk result (λ reply. TellsLine (line_of line.now) (B.tables desk.old) (reply_text reply) (B.tables desk.new)) }
+    ensures reply { B.IsHonest desk.new → HasOneBearer (B.tables desk.old) → IfOk result (λ reply.
+        TellsAsked by_tables (line_of line.now)
+        (B.tables desk.old) (reply_text reply) (B.tables desk.new)) }
     ensures unchanged { B.IsHonest desk.new → OnErr result (B.tables desk.new ≡ B.tables desk.old) }
+    ensures kept { OnErr result (B.failures desk.new ≡ B.failures desk.old) }
     ensures memory { IfErr result (λ end. end ≡ LineEnd.OutOfMemory) }
-    ensures one_bearer { B.IsHonest desk.new → HasOneBearer (B.tables desk.old) → HasOneBearer (B.tables desk.new) }
-    ensures sound { B.IsHonest desk.new → IsSound (B.tables desk.old) → IsSound (B.tables desk.new) }
+    ensures one_bearer { B.IsHonest desk.new
+        → HasOneBearer (B.tables desk.old) → HasOneBearer (B.tables desk.new) }
+    ensures sound { B.IsHonest desk.new
+        → IsSound (B.tables desk.old) → IsSound (B.tables desk.new) }
     ensures honest { B.IsHonest desk.new → B.IsHonest desk.old }
 {
     let Ok(asked) = read_line(alloc, line) else {
@@ -74,29 +85,46 @@ fn reply_to_read<B: Books>(alloc: Global, desk: &mut Desk<B>, line: &[u8]) -> Re
     }
 }
 
-/// The reply to the question for a standing.
+/// The reply to the question for a standing. It changes no table.
 fn standing_reply<B: Books>(
     alloc: Global,
     desk: &mut Desk<B>,
     name: &[u8],
 ) -> Result<Reply, LineEnd>
-    ensures reply { B.IsHonest desk.new → HasOneBearer (B.tables desk.old) → IfOk result (λ reply. TellsLine (Some (Line.Standing name.now)) (B.tables desk.old) (reply_text reply) (B.tables desk.new)) }
-    ensures unchanged { B.IsHonest desk.new → OnErr result (B.tables desk.new ≡ B.tables desk.old) }
+    ensures reply { B.IsHonest desk.new → IfOk result (λ reply.
+        TellsStanding by_tables (B.tables desk.old) (read_name name.now) (reply_text reply)) }
+    ensures unchanged { B.IsHonest desk.new → B.tables desk.new ≡ B.tables desk.old }
+    ensures kept { OnErr result (B.failures desk.new ≡ B.failures desk.old) }
     ensures memory { IfErr result (λ end. end ≡ LineEnd.OutOfMemory) }
-    ensures one_bearer { B.IsHonest desk.new → HasOneBearer (B.tables desk.old) → HasOneBearer (B.tables desk.new) }
-    ensures sound { B.IsHonest desk.new → IsSound (B.tables desk.old) → IsSound (B.tables desk.new) }
     ensures honest { B.IsHonest desk.new → B.IsHonest desk.old }
 {
-    let name = match normal(alloc, name) {
-        Ok(name) => name,
-        Err(NameFault::OutOfMemory) => return Err(LineEnd::OutOfMemory),
-        Err(_) => return Ok(Reply::Fixed(answer_text(&Answer::Refused(Refusal::BadName)))),
-    };
-    let standing = match desk.standing(alloc, &name) {
+    match normal(alloc, name) {
+        Ok(name) => known_reply(alloc, desk, &name),
+        Err(NameFault::OutOfMemory) => Err(LineEnd::OutOfMemory),
+        Err(_) => Ok(Reply::Fixed(answer_text(&Answer::Refused(Refusal::BadName)))),
+    }
+}
+
+/// The same for a name that was read.
+fn known_reply<B: Books>(
+    alloc: Global,
+    desk: &mut Desk<B>,
+    name: &NormalName,
+) -> Result<Reply, LineEnd>
+    ensures reply { B.IsHonest desk.new → IfOk result (λ reply.
+        TellsStanding by_tables (B.tables desk.old) (Some name.now) (reply_text reply)) }
+    ensures unchanged { B.IsHonest desk.new → B.tables desk.new ≡ B.tables desk.old }
+    ensures kept { OnErr result (B.failures desk.new ≡ B.failures desk.old) }
+    ensures memory { IfErr result (λ end. end ≡ LineEnd.OutOfMemory) }
+    ensures honest { B.IsHonest desk.new → B.IsHonest desk.old }
+{
+    let standing = match desk.standing(alloc, name) {
         Ok(standing) => standing,
         Err(fault) => return Ok(Reply::Fixed(answer_text(&Answer::Fault(fault)))),
     };
-    match standing_text(alloc, &standing) {
+    let text = standing_text(alloc, &standing);
+    drop(standing);
+    match text {
         Ok(text) => Ok(Reply::Made(text)),
         Err(_) => Err(LineEnd::OutOfMemory),
     }

@@ -2,9 +2,7 @@
 #![tactic(auto)]
 
 mod desk;
-mod output;
 mod standing;
 
 pub use desk::Desk;
-pub use output::write_bytes;
 pub use standing::{HeldName, Standing};

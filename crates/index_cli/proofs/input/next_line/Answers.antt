@@ -1,17 +1,35 @@
-use Rattle.std.proofs.Common.{arith}
-use Rattle.index_cli.proofs.Cuts.{Grows-end, Grows-feed, Grows-push}
+use Rattle.std.proofs.Common.{◌∙◌, ℕ, Option, Result, Ok, Err, OnErr, arith}
+use Rattle.index_cli.specs.declared.end.LineEnd.{LineEnd}
+use Rattle.index_cli.proofs.Cuts.{Grows-byte, Grows-feed, Grows-part, Grows-push}
 use Rattle.index_cli.proofs.input.next_line.Goals as goal
 
-pub returns-in-None-2-clause-line : goal.returns-in-None-2-clause-line
-returns-in-None-2-clause-line g c =
-    let end = rw c.in-None.is at c.in_ok-next_byte.ensures.byte in
-    Grows-end _ _ _ _ _ c.loop-size.invariant (omega arith) end.0 end.1
+whatever_the_end : (r : Result (Option ℕ) LineEnd) (P : Type 0) → P → OnErr r P
+whatever_the_end (Ok size) P p = tt
+whatever_the_end (Err end) P p = p
 
-pub returns-in-Some-eq10-clause-line : goal.returns-in-Some-eq10-clause-line
-returns-in-Some-eq10-clause-line g c =
-    Grows-feed _ _ _ _ _ c.loop-size.invariant (rw (c.in-Some-eq10.is, c.in-Some-eq10.field-0-test) at c.in_ok-next_byte.ensures.byte)
+pub returns-then-byte-eq10-clause-line : goal.returns-then-byte-eq10-clause-line
+returns-then-byte-eq10-clause-line g c =
+    Grows-feed _ _ _ _ _ c.loop-size.invariant.grows (rw (c.in-Some.is, c.if-byte-eq10.true) at c.in-Ok.ensures.byte)
+
+pub returns-then-byte-eq10-clause-charged : goal.returns-then-byte-eq10-clause-charged
+returns-then-byte-eq10-clause-charged g c =
+    let (taken, consumed, long) = Grows-byte _ _ _ _ _ _ c.loop-size.invariant.grows (rw c.in-Some.is at c.in-Ok.ensures.byte) in
+    (taken, consumed, omega (arith, long, c.loop-size.invariant.counted, c.loop-size-test.true))
+
+pub returns-in_err-keep_front-in-Some-clause-part : goal.returns-in_err-keep_front-in-Some-clause-part
+returns-in_err-keep_front-in-Some-clause-part g c =
+    whatever_the_end c.from_residual.result _
+    (Grows-part _ _ _ _ _ _ c.loop-size.invariant.grows (rw c.in-Some.is at c.in-Ok.ensures.byte) c.if-byte-eq10.false)
+
+pub returns-in_err-keep_front-in-Some-clause-charged : goal.returns-in_err-keep_front-in-Some-clause-charged
+returns-in_err-keep_front-in-Some-clause-charged g c =
+    let (taken, consumed, long) = Grows-byte _ _ _ _ _ _ c.loop-size.invariant.grows (rw c.in-Some.is at c.in-Ok.ensures.byte) in
+    (taken, consumed, omega (arith, long, c.loop-size.invariant.counted, c.loop-size-test.true))
 
 pub loop-size-preserved : goal.loop-size-preserved
-loop-size-preserved g c =
-    Grows-push _ _ _ _ _ _ _ c.loop-size.invariant (rw c.in-Some.is at c.in_ok-next_byte.ensures.byte) c.in-Some.byte-test.1
-    c.in_ok-keep_front-in-Some.ensures.near c.in_ok-keep_front-in-Some.ensures.far
+loop-size-preserved g c = record {
+  grows = Grows-push _ _ _ _ _ _ _ c.loop-size.invariant.grows (rw c.in-Some.is at c.in-Ok.ensures.byte) c.if-byte-eq10.false
+      c.in_ok-keep_front-in-Some.ensures.near c.in_ok-keep_front-in-Some.ensures.far;
+  counted = omega (arith, c.loop-size.invariant.counted, c.loop-size-test.true);
+  kept = c.in-Ok.ensures.failures ∙ c.loop-size.invariant.kept;
+}

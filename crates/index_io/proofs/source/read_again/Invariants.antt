@@ -1,5 +1,5 @@
 use Rattle.std.specs.Io.KnownBytes.{Keeps}
-use Rattle.index_cli.proofs.input.next_byte.Given as goal
+use Rattle.index_io.proofs.source.read_again.Given as goal
 
 abbrev pub invariant-loop : goal.invariant-loop
 invariant-loop g l = Keeps (g.R.Read.remaining l.fn.reader) (g.R.Read.remaining l.reader)

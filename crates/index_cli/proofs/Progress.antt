@@ -1,0 +1,159 @@
+-- A run over the lines of an input.
+use Rattle.std.proofs.Common.{◌≡◌, ℕ, ◌+◌, ◌<◌, ◌≤◌, inr, List, [], ◌∷◌, ◌++◌, length, take, take_all, Option, Some, refl, sym, ap, ◌∙◌, subst, arith, append_assoc, append-nil, length-append}
+use Rattle.std.specs.Io.KnownBytes.{Appends, Consumes, IsAtEnd}
+use Rattle.std.proofs.KnownBytes.{Appends-trans, Appends-nil}
+use Rattle.std.proofs.Math.Seq.{take-append-add}
+use Rattle.index_rules.specs.Tables.{Tables}
+use Rattle.index_json.specs.AnswerText.{bad_body_text}
+use Rattle.index_json.specs.Line.{line_of}
+use Rattle.index_cli.specs.Ends.{TellsAll, TellsBefore, TellsDuring}
+use Rattle.index_cli.specs.Lines.{line_feed, longest_line, TakesLine, TakesPart}
+use Rattle.index_cli.specs.Replies.{TellsKept}
+use Rattle.index_cli.specs.Telling.{by_tables, TellsAsked, TellsLine, TellsLines}
+use Rattle.index_cli.proofs.Cuts.{Cuts, Cuts-input, Cuts-nil, Cuts-part, Cuts-push, Cuts-taken, Cuts-whole}
+
+-- ---- one line
+
+-- a line that is not too long is its own front
+pub TellsKept-read : (front : List ℕ) (T T' : Tables) (size : ℕ) (text : List ℕ) → size ≤ longest_line
+    → TellsAsked by_tables (line_of front) T text T' → TellsKept size front T text T'
+TellsKept-read front T T' size text short told line long is =
+    let whole : front ≡ line = is ∙ take_all longest_line line (omega (arith, short, long)) in (
+      λ _. subst (λ (l : List ℕ). TellsAsked by_tables (line_of l) T text T') whole told,
+      λ far. absurd (omega (arith, short, long, far)),
+    )
+
+pub TellsKept-long : (front : List ℕ) (T : Tables) (size : ℕ) (text : List ℕ) → longest_line < size
+    → text ≡ bad_body_text → TellsKept size front T text T
+TellsKept-long front T size text far is line long _ = (λ near. absurd (omega (arith, far, long, near)), λ _. (is, refl))
+
+-- ---- lines
+
+TellsLines-push : (S T U : Tables) (done : List (List ℕ)) (text line first : List ℕ)
+    → TellsLines by_tables S done text T → TellsLine by_tables line T first U
+    → TellsLines by_tables S (done ++ line ∷ []) (text ++ (first ++ line_feed ∷ [])) U
+TellsLines-push S T U [] text line first told tells = (
+  first,
+  [],
+  U,
+  subst (λ T. TellsLine by_tables line T first U) told.1 tells,
+  (refl, refl),
+  ap (λ l. l ++ (first ++ line_feed ∷ [])) told.0 ∙ sym (append-nil (first ++ line_feed ∷ [])),
+)
+TellsLines-push S T U (before ∷ done) text line first (earlier, more, between, tells_before, others, is) tells = (
+  earlier,
+  more ++ (first ++ line_feed ∷ []),
+  between,
+  tells_before,
+  TellsLines-push between T U done more line first others tells,
+  ap (λ l. l ++ (first ++ line_feed ∷ [])) is ∙ append_assoc (earlier ++ line_feed ∷ []) more (first ++ line_feed ∷ []),
+)
+
+-- the lines so far were told of: of a reader (a to b), of the tables (S to T), of a writer (w0 to w1)
+pub record Progress (a b : Option (List ℕ)) (S T : Tables) (w0 w1 : Option (List ℕ)) (count : ℕ) : Type 0 where
+  pub done : List (List ℕ)
+  pub text : List ℕ
+  pub cuts : Cuts a b done
+  pub told : TellsLines by_tables S done text T
+  pub sent : Appends w0 w1 text
+  pub counted : length done ≡ count
+
+pub Progress-none : (a : Option (List ℕ)) (T : Tables) (w : Option (List ℕ)) → Progress a a T T w w 0
+Progress-none a T w = record {
+  done = [];
+  text = [];
+  cuts = Cuts-nil a;
+  told = (refl, refl);
+  sent = Appends-nil w;
+  counted = refl;
+}
+
+-- a line was taken and told of
+pub Progress-push : (a b c : Option (List ℕ)) (S T U : Tables) (w0 w1 w2 : Option (List ℕ)) (count size : ℕ) (kept first : List ℕ)
+    → Progress a b S T w0 w1 count → TakesLine (Some size) kept b c → TellsKept size kept T first U
+    → Appends w1 w2 (first ++ line_feed ∷ []) → Progress a c S U w0 w2 (count + 1)
+Progress-push a b c S T U w0 w1 w2 count size kept first before (line, is, passes) tells sent = record {
+  done = before.done ++ line ∷ [];
+  text = before.text ++ (first ++ line_feed ∷ []);
+  cuts = Cuts-push a b c before.done line before.cuts is.plain passes;
+  told = TellsLines-push S T U before.done before.text line first before.told (tells line is.sized is.front);
+  sent = Appends-trans w0 w1 w2 before.text (first ++ line_feed ∷ []) before.sent sent;
+  counted = omega (arith, length-append before.done (line ∷ []), before.counted);
+}
+
+-- ---- the ends
+
+-- no line is left
+pub Progress-whole : (a b c : Option (List ℕ)) (S T : Tables) (w0 w1 : Option (List ℕ)) (count : ℕ)
+    → Progress a b S T w0 w1 count → Consumes b c [] → IsAtEnd c
+    → TellsAll (TellsLines by_tables S) T a c w0 w1 count
+Progress-whole a b c S T w0 w1 count before taken end =
+    let (input, is_input, whole, lines) = Cuts-whole a b c before.done before.cuts taken end in
+    record {
+      input = input;
+      text = before.text;
+      is_input = is_input;
+      taken = whole;
+      at_end = end;
+      told = rw lines before.told;
+      wrote = before.sent;
+      counted = rw lines (sym before.counted);
+    }
+
+-- a part of the next line was taken
+pub Progress-part : (a b c : Option (List ℕ)) (S T : Tables) (w0 w1 : Option (List ℕ)) (count : ℕ)
+    → Progress a b S T w0 w1 count → TakesPart b c → TellsBefore (TellsLines by_tables S) T a c w0 w1
+Progress-part a b c S T w0 w1 count before part =
+    let (input, left, is_input, lines) = Cuts-input a b before.done before.cuts in
+    record {
+      input = input;
+      done = before.done;
+      more = left;
+      text = before.text;
+      is_input = is_input;
+      lines = lines;
+      taken = Cuts-part a b c before.done before.cuts part;
+      told = before.told;
+      wrote = before.sent;
+    }
+
+-- the next line was taken, and not told of
+pub Progress-taken : (a b c : Option (List ℕ)) (S T : Tables) (w0 w1 : Option (List ℕ)) (count size : ℕ) (kept : List ℕ)
+    → Progress a b S T w0 w1 count → TakesLine (Some size) kept b c → TellsBefore (TellsLines by_tables S) T a c w0 w1
+Progress-taken a b c S T w0 w1 count size kept before (line, is, passes) =
+    let (input, left, is_input, lines) = Cuts-input a b before.done before.cuts in
+    record {
+      input = input;
+      done = before.done;
+      more = left;
+      text = before.text;
+      is_input = is_input;
+      lines = lines;
+      taken = inr (line, Cuts-taken a c (before.done ++ line ∷ []) (Cuts-push a b c before.done line before.cuts is.plain passes));
+      told = before.told;
+      wrote = before.sent;
+    }
+
+-- the next line was told of, and a front of the text went out
+pub Progress-during : (a b c : Option (List ℕ)) (S T U : Tables) (w0 w1 w2 : Option (List ℕ)) (count size n : ℕ) (kept first : List ℕ)
+    → Progress a b S T w0 w1 count → TakesLine (Some size) kept b c → TellsKept size kept T first U
+    → n < length (first ++ line_feed ∷ []) → Appends w1 w2 (take n (first ++ line_feed ∷ []))
+    → TellsDuring (TellsLines by_tables S) U a c w0 w2
+Progress-during a b c S T U w0 w1 w2 count size n kept first before (line, is, passes) tells less sent =
+    let cuts = Cuts-push a b c before.done line before.cuts is.plain passes in
+    let (input, left, is_input, lines) = Cuts-input a c (before.done ++ line ∷ []) cuts in
+    record {
+      input = input;
+      done = before.done;
+      line = line;
+      more = left;
+      text = before.text ++ (first ++ line_feed ∷ []);
+      count = length before.text + n;
+      is_input = is_input;
+      lines = lines;
+      taken = Cuts-taken a c (before.done ++ line ∷ []) cuts;
+      told = TellsLines-push S T U before.done before.text line first before.told (tells line is.sized is.front);
+      less = omega (arith, length-append before.text (first ++ line_feed ∷ []), less);
+      wrote = rw (take-append-add before.text (first ++ line_feed ∷ []) n)
+          (Appends-trans w0 w1 w2 before.text (take n (first ++ line_feed ∷ [])) before.sent sent);
+    }

@@ -1,0 +1,25 @@
+use Rattle.std.proofs.Common.{◌≡◌, ◌≤◌, ◌+◌}
+use Rattle.index_rules.specs.Facts.{HasOneBearer}
+use Rattle.index_rules.specs.Sound.{IsSound}
+use Rattle.index_cli.specs.Lines.{Charges}
+use Rattle.index_cli.proofs.Progress.{Progress}
+use Rattle.index_cli.proofs.apply.apply_lines.Given as goal
+
+abbrev pub invariant-loop-count : goal.invariant-loop-count
+invariant-loop-count g l =
+    let before = g.B.Books.tables l.fn.desk in
+    let now = g.B.Books.tables l.desk in
+    let honest = g.B.Books.IsHonest l.desk in
+    let given = g.S.Source.remaining l.fn.source in
+    let left = g.S.Source.remaining l.source in
+    record {
+      progress : honest → HasOneBearer before
+          → Progress given left before now (g.K.Sink.contents l.fn.sink) (g.K.Sink.contents l.sink) l.count;
+      charged : Charges 1099511627776 l.left given left;
+      spent : l.left + l.count ≤ 1099511627776;
+      reads : g.S.Source.failures l.source ≡ g.S.Source.failures l.fn.source;
+      writes : g.K.Sink.failures l.sink ≡ g.K.Sink.failures l.fn.sink;
+      one_bearer : honest → HasOneBearer before → HasOneBearer now;
+      sound : honest → IsSound before → IsSound now;
+      honest : honest → g.B.Books.IsHonest l.fn.desk;
+    }

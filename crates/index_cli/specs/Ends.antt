@@ -1,0 +1,60 @@
+-- What is known at each end of a run over lines.
+use Rattle.std.specs.Prelude.{◌≡◌, ℕ, ◌<◌, List, [], ◌∷◌, ◌++◌, length, take, Option, Result, Ok, Err}
+use Rattle.std.specs.Io.KnownBytes.{Appends, Consumes, IsAtEnd}
+use Rattle.index_rules.specs.Tables.{Tables}
+use Rattle.index_cli.specs.Lines.{lines_of, IsInput, TakesLines, TakesWithin}
+use Rattle.index_cli.specs.declared.end.LineEnd.{LineEnd}
+use Rattle.index_cli.specs.declared.end.LineEnd.TheVariants.{ReadFault, WriteFault, OutOfMemory}
+
+-- how lines, what is told of them and the tables after them belong together
+abbrev pub Telling : Type 1
+Telling = List (List ℕ) → List ℕ → Tables → Type 0
+
+-- every line was told of, and the reader is at its end
+pub record TellsAll (tells : Telling) (T : Tables)
+    (given left had has : Option (List ℕ)) (count : ℕ) : Type 0 where
+  pub input : List ℕ
+  pub text : List ℕ
+  pub is_input : IsInput given input
+  pub taken : Consumes given left input
+  pub at_end : IsAtEnd left
+  pub told : tells (lines_of input) text T
+  pub wrote : Appends had has text
+  pub counted : count ≡ length (lines_of input)
+
+-- just the lines before the one in hand were, of which the reader may have lost some bytes or all
+pub record TellsBefore (tells : Telling) (T : Tables)
+    (given left had has : Option (List ℕ)) : Type 0 where
+  pub input : List ℕ
+  pub done : List (List ℕ)
+  pub more : List (List ℕ)
+  pub text : List ℕ
+  pub is_input : IsInput given input
+  pub lines : lines_of input ≡ done ++ more
+  pub taken : TakesWithin done given left
+  pub told : tells done text T
+  pub wrote : Appends had has text
+
+-- the one in hand was too, and a front of the text went out
+pub record TellsDuring (tells : Telling) (T : Tables)
+    (given left had has : Option (List ℕ)) : Type 0 where
+  pub input : List ℕ
+  pub done : List (List ℕ)
+  pub line : List ℕ
+  pub more : List (List ℕ)
+  pub text : List ℕ
+  pub count : ℕ
+  pub is_input : IsInput given input
+  pub lines : lines_of input ≡ (done ++ line ∷ []) ++ more
+  pub taken : TakesLines (done ++ line ∷ []) given left
+  pub told : tells (done ++ line ∷ []) text T
+  pub less : count < length text
+  pub wrote : Appends had has (take count text)
+
+-- the end of a run, by what a reader had and has left and what a writer had and has
+abbrev pub Ends : Telling → Tables → (given left had has : Option (List ℕ))
+    → Result ℕ LineEnd → Type 0
+Ends tells T given left had has (Ok count) = TellsAll tells T given left had has count
+Ends tells T given left had has (Err ReadFault) = TellsBefore tells T given left had has
+Ends tells T given left had has (Err WriteFault) = TellsDuring tells T given left had has
+Ends tells T given left had has (Err OutOfMemory) = TellsBefore tells T given left had has

@@ -1,0 +1,18 @@
+-- The reply to a line.
+use Rattle.std.specs.Prelude.{◌≡◌, ℕ, List, length, take, string_bytes}
+use Rattle.index_rules.specs.Tables.{Tables}
+use Rattle.index_cli.specs.Lines.{longest_line}
+use Rattle.index_cli.specs.Telling.{by_tables, TellsLine}
+use Rattle.index_cli.specs.declared.reply.Reply.{Reply}
+use Rattle.index_cli.specs.declared.reply.Reply.TheVariants.{Fixed, Made}
+
+-- the text of a reply
+abbrev pub reply_text : Reply → List ℕ
+reply_text (Fixed text) = text.now
+reply_text (Made text) = string_bytes text
+
+-- the text is told of each line of this size of which this front was kept
+abbrev pub TellsKept : ℕ → List ℕ → Tables → List ℕ → Tables → Type 0
+TellsKept size kept T text T' =
+    (line : List ℕ) → length line ≡ size → kept ≡ take longest_line line
+    → TellsLine by_tables line T text T'

@@ -1,0 +1,3 @@
+-- Bytes in and bytes out.
+pub mod Counts
+pub mod Bytes

@@ -1,0 +1,8 @@
+//! Bytes in and bytes out, with a count of what failed.
+#![tactic(auto)]
+
+mod sink;
+mod source;
+
+pub use sink::{Output, Sink, write_bytes};
+pub use source::{Failed, Input, Source, next_byte};

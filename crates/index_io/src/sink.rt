@@ -1,0 +1,94 @@
+//! What takes bytes.
+ghost use Rattle.std.specs.Prelude.{◌≡◌, ◌<◌, ℕ, List, Option, length, take, is_ok, IfErr, IfOk, OnErr, OnOk};
+ghost use Rattle.std.specs.Io.KnownBytes.{Appends, Keeps};
+ghost use Rattle.index_io.specs.Bytes.{AppendsFront};
+ghost use Rattle.index_io.specs.Counts.{counted, HasFailed};
+
+use crate::source::Failed;
+use std::io::{ErrorKind, Write};
+
+/// What takes bytes, and counts the writes that failed or took no byte.
+pub trait Sink {
+    /// The bytes that it has, where they are known.
+    ghost contents: { Self → Option (List ℕ) };
+
+    /// How many writes failed or took no byte.
+    ghost failures: { Self → ℕ };
+
+    /// Takes a front of the bytes and answers its length, at least 1.
+    fn take(&mut self, bytes: &[u8]) -> Result<usize, Failed>
+        ensures front { IfOk result
+            (AppendsFront bytes.now (contents self.old) (contents self.new)) }
+        ensures kept { OnErr result (Keeps (contents self.old) (contents self.new)) }
+        ensures failures { failures self.new ≡ counted (failures self.old) (is_ok result) };
+}
+
+/// The bytes that a writer takes. An interrupted write is tried again.
+#[derive(Debug, Drop)]
+pub struct Output<W> {
+    pub writer: W,
+    pub failures: u64,
+}
+
+impl<W> Output<W> {
+    /// What a writer takes of which no write failed yet.
+    pub fn new(writer: W) -> Output<W>
+        ensures { result ≡ record { writer = writer; failures = 0 } }
+    {
+        Output {
+            writer,
+            failures: 0,
+        }
+    }
+}
+
+impl<W: Write> Sink for Output<W> {
+    ghost contents = { λ output. W.contents output.writer };
+
+    ghost failures = { λ output. output.failures };
+
+    fn take(&mut self, bytes: &[u8]) -> Result<usize, Failed> {
+        match write_again(&mut self.writer, bytes) {
+            Ok(count) => Ok(count),
+            Err(failed) => {
+                self.failures = self.failures.saturating_add(1);
+                Err(failed)
+            }
+        }
+    }
+}
+
+/// Writes a front of the bytes, again where that was interrupted.
+fn write_again<W: Write>(writer: &mut W, bytes: &[u8]) -> Result<usize, Failed>
+    ensures front { IfOk result
+        (AppendsFront bytes.now (W.contents writer.old) (W.contents writer.new)) }
+    ensures kept { OnErr result (Keeps (W.contents writer.old) (W.contents writer.new)) }
+{
+    for _ in 0..u64::MAX {
+        match writer.write(bytes) {
+            Ok(0) => return Err(Failed),
+            Ok(count) => return Ok(count),
+            Err(error) if error.kind() == ErrorKind::Interrupted => {}
+            Err(_) => return Err(Failed),
+        }
+    }
+    Err(Failed)
+}
+
+/// Writes bytes. An error tells how many of them went out, before a write failed or took no byte.
+pub fn write_bytes<K: Sink>(sink: &mut K, bytes: &[u8]) -> Result<(), usize>
+    ensures whole { OnOk result (Appends (K.contents sink.old) (K.contents sink.new) bytes.now) }
+    ensures front { IfErr result (λ count. (count < length bytes.now)
+        × Appends (K.contents sink.old) (K.contents sink.new) (take count bytes.now)) }
+    ensures kept { OnOk result (K.failures sink.new ≡ K.failures sink.old) }
+    ensures failed { OnErr result (HasFailed (K.failures sink.old) (K.failures sink.new)) }
+{
+    let mut written = 0;
+    while written < bytes.len() {
+        let Ok(count) = sink.take(&bytes[written..]) else {
+            return Err(written);
+        };
+        written += count;
+    }
+    Ok(())
+}
