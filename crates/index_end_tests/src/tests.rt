@@ -7,7 +7,6 @@ use index_rules::Books;
 use std::alloc::AllocGlobal;
 use std::io::Read;
 use std::process::Abort;
-use std::test::Fail;
 
 mod answers;
 mod ends;
@@ -50,16 +49,16 @@ const STANDING_OF_NEST: &str = r#"{"do":"standing","name":"nest"}"#;
 const NEST_IS_FREE: &str = "{\"name\":\"nest\",\"state\":\"free\"}\n";
 
 /// Tables whose one user is `office`, of the office, with the token `office`.
-fn new_books(rt: &impl AllocGlobal) -> Result<PlainBooks, Fail> {
+fn new_books(rt: &(impl Abort + AllocGlobal)) -> PlainBooks {
     let token = Digest256::of(b"office");
-    Ok(PlainBooks::new(rt.alloc(), b"office", token)?)
+    PlainBooks::new(rt.alloc(), b"office", token).expect(rt, "books")
 }
 
 /// A desk with the users ann and bob.
-fn desk_with_users(rt: &(impl Abort + AllocGlobal)) -> Result<Desk<PlainBooks>, Fail> {
-    let mut desk = Desk::new(new_books(rt)?);
+fn desk_with_users(rt: &(impl Abort + AllocGlobal)) -> Desk<PlainBooks> {
+    let mut desk = Desk::new(new_books(rt));
     assert_answers(rt, &mut desk, USERS, TWICE_ACCEPTED);
-    Ok(desk)
+    desk
 }
 
 /// A run over what a reader gives ends so, and writes these answers.

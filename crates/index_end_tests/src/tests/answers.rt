@@ -1,11 +1,10 @@
 //! The texts of answers and standings.
-use index_desk::Standing;
 use index_json::{answer_text, standing_text};
-use index_names::normal;
+use index_desk::Standing;
+use index_names::{NormalName, normal};
 use index_rules::{Answer, Fault, Refusal};
 use std::alloc::AllocGlobal;
 use std::process::Abort;
-use std::test::Fail;
 
 #[test]
 fn writes_answers(rt: HostRuntime) {
@@ -120,23 +119,22 @@ fn writes_refusals(rt: HostRuntime) {
 }
 
 /// The standing of `x` has this text.
-fn assert_standing(
-    rt: &(impl Abort + AllocGlobal),
-    standing: Standing,
-    text: &str,
-) -> Result<(), Fail> {
-    let found = standing_text(rt.alloc(), &standing);
+fn assert_standing(rt: &(impl Abort + AllocGlobal), standing: Standing, want: &str) {
+    let text = standing_text(rt.alloc(), &standing);
     drop(standing);
-    assert_eq!(rt; found?.as_str(), text);
-    Ok(())
+    let text = text.expect(rt, want);
+    assert_eq!(rt; text.as_str(), want);
+}
+
+/// The name `x`.
+fn name(rt: &(impl Abort + AllocGlobal)) -> NormalName {
+    normal(rt.alloc(), b"x").expect(rt, "x")
 }
 
 #[test]
-fn writes_the_standing_of_a_name_that_is_not_held(rt: HostRuntime) -> Result<(), Fail> {
-    let name = normal(rt.alloc(), b"x")?;
-    let free = r#"{"name":"x","state":"free"}"#;
-    assert_standing(&rt, Standing::Free { name }, free)?;
-    let name = normal(rt.alloc(), b"x")?;
-    let prohibited = r#"{"name":"x","state":"prohibited"}"#;
-    assert_standing(&rt, Standing::Prohibited { name }, prohibited)
+fn writes_the_standing_of_a_name_that_is_not_held(rt: HostRuntime) {
+    let free = Standing::Free { name: name(&rt) };
+    assert_standing(&rt, free, r#"{"name":"x","state":"free"}"#);
+    let prohibited = Standing::Prohibited { name: name(&rt) };
+    assert_standing(&rt, prohibited, r#"{"name":"x","state":"prohibited"}"#);
 }

@@ -9,19 +9,12 @@ use index_desk::Desk;
 use index_plain::PlainBooks;
 use std::alloc::AllocGlobal;
 use std::process::Abort;
-use std::test::Fail;
 
 /// Asks these lines of a desk with users, which are so many and answered so.
-fn assert_count(
-    rt: &(impl Abort + AllocGlobal),
-    input: &[u8],
-    lines: u64,
-    output: &str,
-) -> Result<(), Fail> {
-    let mut desk = desk_with_users(rt)?;
+fn assert_count(rt: &(impl Abort + AllocGlobal), input: &[u8], lines: u64, output: &str) {
+    let mut desk = desk_with_users(rt);
     let mut reader = input;
     assert_run(rt, &mut desk, &mut reader, Ok(lines), output);
-    Ok(())
 }
 
 const BAD_BODY_AND_ACCEPTED: &str =
@@ -30,37 +23,37 @@ const BAD_BODY_AND_ACCEPTED: &str =
 const BAD_NAME: &str = "{\"answer\":\"refused\",\"code\":5,\"name\":\"BadName\"}\n";
 
 #[test]
-fn counts_lines(rt: HostRuntime) -> Result<(), Fail> {
-    assert_count(&rt, b"", 0, "")?;
-    assert_count(&rt, b"\n", 1, BAD_BODY)?;
-    assert_count(&rt, b"{}", 1, BAD_BODY)?;
-    assert_count(&rt, CLAIM.as_bytes(), 1, ACCEPTED)?;
-    assert_count(&rt, BOTH_CLAIMS.as_bytes(), 2, TWICE_ACCEPTED)?;
+fn counts_lines(rt: HostRuntime) {
+    assert_count(&rt, b"", 0, "");
+    assert_count(&rt, b"\n", 1, BAD_BODY);
+    assert_count(&rt, b"{}", 1, BAD_BODY);
+    assert_count(&rt, CLAIM.as_bytes(), 1, ACCEPTED);
+    assert_count(&rt, BOTH_CLAIMS.as_bytes(), 2, TWICE_ACCEPTED);
     let after_an_empty_line =
         b"\n{\"at\":2,\"token\":\"abc\",\"do\":\"claim\",\"name\":\"frob\"}\n";
-    assert_count(&rt, after_an_empty_line, 2, BAD_BODY_AND_ACCEPTED)?;
-    assert_count(&rt, br#"{"do":"standing","name":"-a"}"#, 1, BAD_NAME)
+    assert_count(&rt, after_an_empty_line, 2, BAD_BODY_AND_ACCEPTED);
+    assert_count(&rt, br#"{"do":"standing","name":"-a"}"#, 1, BAD_NAME);
 }
 
 /// A claim in a line of so many bytes, and another claim in the next line.
-fn with_long_line(rt: &impl AllocGlobal, size: usize) -> Result<Vec<u8>, Fail> {
-    let mut input = Vec::from_slice(rt.alloc(), CLAIM.as_bytes())?;
-    input.resize(size, b' ')?;
-    input.push(b'\n')?;
-    input.extend_from_slice(OTHER_CLAIM.as_bytes())?;
-    Ok(input)
+fn with_long_line(rt: &(impl Abort + AllocGlobal), size: usize) -> Vec<u8> {
+    let mut input = Vec::from_slice(rt.alloc(), CLAIM.as_bytes()).expect(rt, "a claim");
+    input.resize(size, b' ').expect(rt, "spaces");
+    input.push(b'\n').expect(rt, "a line feed");
+    let other = input.extend_from_slice(OTHER_CLAIM.as_bytes());
+    other.expect(rt, "another claim");
+    input
 }
 
 /// A line of 65,536 bytes is read, and a longer one is skipped up to its line feed.
 #[test]
-fn skips_a_line_that_is_too_long(rt: HostRuntime) -> Result<(), Fail> {
-    let input = with_long_line(&rt, 65_536)?;
-    assert_count(&rt, input.as_slice(), 2, TWICE_ACCEPTED)?;
+fn skips_a_line_that_is_too_long(rt: HostRuntime) {
+    let input = with_long_line(&rt, 65_536);
+    assert_count(&rt, input.as_slice(), 2, TWICE_ACCEPTED);
     for size in [65_537, 70_000] {
-        let input = with_long_line(&rt, size)?;
-        assert_count(&rt, input.as_slice(), 2, BAD_BODY_AND_ACCEPTED)?;
+        let input = with_long_line(&rt, size);
+        assert_count(&rt, input.as_slice(), 2, BAD_BODY_AND_ACCEPTED);
     }
-    Ok(())
 }
 
 /// ann has claimed `frob`, and nobody `nest`.
@@ -71,21 +64,20 @@ fn assert_first_claim_alone(rt: &(impl Abort + AllocGlobal), desk: &mut Desk<Pla
 
 /// The line before the failure was applied, and the one that it cut was not.
 #[test]
-fn ends_where_a_read_fails(rt: HostRuntime) -> Result<(), Fail> {
-    let mut desk = desk_with_users(&rt)?;
+fn ends_where_a_read_fails(rt: HostRuntime) {
+    let mut desk = desk_with_users(&rt);
     let mut reader = FailingReader {
         rest: BOTH_CLAIMS.as_bytes(),
     };
     let ended = Err(LineEnd::ReadFault);
     assert_run(&rt, &mut desk, &mut reader, ended, ACCEPTED);
     assert_first_claim_alone(&rt, &mut desk);
-    Ok(())
 }
 
 /// A writer takes these bytes of the first answer. The line whose answer was cut was applied, and the one after it was
 /// not.
-fn assert_cut(rt: &(impl Abort + AllocGlobal), taken: &str, fails: bool) -> Result<(), Fail> {
-    let mut desk = desk_with_users(rt)?;
+fn assert_cut(rt: &(impl Abort + AllocGlobal), taken: &str, fails: bool) {
+    let mut desk = desk_with_users(rt);
     let mut reader = BOTH_CLAIMS.as_bytes();
     let mut writer = FullWriter {
         taken: Vec::new(rt.alloc()),
@@ -96,36 +88,32 @@ fn assert_cut(rt: &(impl Abort + AllocGlobal), taken: &str, fails: bool) -> Resu
     assert!(rt; ended == Err(LineEnd::WriteFault));
     assert!(rt; writer.taken.as_slice() == taken.as_bytes());
     assert_first_claim_alone(rt, &mut desk);
-    Ok(())
 }
 
 /// In the middle of an answer, before it, and before its line feed.
 #[test]
-fn ends_where_a_write_takes_no_byte(rt: HostRuntime) -> Result<(), Fail> {
+fn ends_where_a_write_takes_no_byte(rt: HostRuntime) {
     for taken in ["{\"ans", "", "{\"answer\":\"accepted\"}"] {
-        assert_cut(&rt, taken, false)?;
+        assert_cut(&rt, taken, false);
     }
-    Ok(())
 }
 
 #[test]
-fn ends_where_a_write_fails(rt: HostRuntime) -> Result<(), Fail> {
+fn ends_where_a_write_fails(rt: HostRuntime) {
     for taken in ["{\"ans", "", "{\"answer\":\"accepted\"}"] {
-        assert_cut(&rt, taken, true)?;
+        assert_cut(&rt, taken, true);
     }
-    Ok(())
 }
 
 /// Whether this is the name of an end.
-fn is_name(rt: &impl AllocGlobal, end: LineEnd, name: &str) -> Result<bool, Fail> {
-    let text = format!(in rt.alloc(); "{end}")?;
-    Ok(text.as_str() == name)
+fn is_name(rt: &(impl Abort + AllocGlobal), end: LineEnd, name: &str) -> bool {
+    let text = format!(in rt.alloc(); "{end}").expect(rt, name);
+    text.as_str() == name
 }
 
 #[test]
-fn names_the_ends(rt: HostRuntime) -> Result<(), Fail> {
-    assert!(rt; is_name(&rt, LineEnd::ReadFault, "ReadFault")?);
-    assert!(rt; is_name(&rt, LineEnd::WriteFault, "WriteFault")?);
-    assert!(rt; is_name(&rt, LineEnd::OutOfMemory, "OutOfMemory")?);
-    Ok(())
+fn names_the_ends(rt: HostRuntime) {
+    assert!(rt; is_name(&rt, LineEnd::ReadFault, "ReadFault"));
+    assert!(rt; is_name(&rt, LineEnd::WriteFault, "WriteFault"));
+    assert!(rt; is_name(&rt, LineEnd::OutOfMemory, "OutOfMemory"));
 }

@@ -10,16 +10,15 @@ use index_names::{FileName, normal};
 use index_rules::{Answer, Bytes, Call, Fault, Request};
 use std::alloc::AllocGlobal;
 use std::process::Abort;
-use std::test::Fail;
 
 /// A desk with the users ann and bob, where ann has claimed `frob`, over books of which this call fails from now on.
 fn failing_desk(
     rt: &(impl Abort + AllocGlobal),
     call: BooksCall,
     fault: Fault,
-) -> Result<Desk<FailingBooks>, Fail> {
+) -> Desk<FailingBooks> {
     let mut desk = Desk::new(FailingBooks {
-        books: new_books(rt)?,
+        books: new_books(rt),
         failing: None,
         fault,
     });
@@ -27,7 +26,7 @@ fn failing_desk(
     assert_answers(rt, &mut desk, CLAIM, ACCEPTED);
     let mut books = desk.into_books();
     books.failing = Some(call);
-    Ok(Desk::new(books))
+    Desk::new(books)
 }
 
 /// The answer by a fault, and its line feed.
@@ -69,102 +68,89 @@ fn assert_told(
     fault: Fault,
     answers: [&str; 4],
     nest: &str,
-) -> Result<(), Fail> {
-    let mut desk = failing_desk(rt, call, fault)?;
+) {
+    let mut desk = failing_desk(rt, call, fault);
     let mut told = String::new(rt.alloc());
     for answer in answers {
-        told.push_str(answer)?;
+        told.push_str(answer).expect(rt, answer);
     }
     assert_answers(rt, &mut desk, ASKED, told.as_str());
     assert_after(rt, desk, nest);
-    Ok(())
 }
 
 /// A fault is the answer to its line, and the next one is read.
 #[test]
-fn a_look_that_fails_is_a_fault(rt: HostRuntime) -> Result<(), Fail> {
+fn a_look_that_fails_is_a_fault(rt: HostRuntime) {
     for fault in [Fault::Store, Fault::OutOfMemory] {
         let answers = [fault_line(fault); 4];
-        assert_told(&rt, BooksCall::View, fault, answers, NEST_IS_FREE)?;
+        assert_told(&rt, BooksCall::View, fault, answers, NEST_IS_FREE);
     }
-    Ok(())
 }
 
 /// What needs no write is answered as ever.
 #[test]
-fn a_write_that_fails_is_a_fault(rt: HostRuntime) -> Result<(), Fail> {
+fn a_write_that_fails_is_a_fault(rt: HostRuntime) {
     for fault in [Fault::Store, Fault::OutOfMemory] {
         let answers = [fault_line(fault), ALREADY, FROB_IS_HELD, NEST_IS_FREE];
-        assert_told(&rt, BooksCall::Write, fault, answers, NEST_IS_FREE)?;
+        assert_told(&rt, BooksCall::Write, fault, answers, NEST_IS_FREE);
     }
-    Ok(())
 }
 
 /// bob's claim needs no owners. It was applied.
 #[test]
-fn owners_that_fail_are_a_fault(rt: HostRuntime) -> Result<(), Fail> {
+fn owners_that_fail_are_a_fault(rt: HostRuntime) {
     for fault in [Fault::Store, Fault::OutOfMemory] {
         let line = fault_line(fault);
         let answers = [ACCEPTED, ALREADY, line, line];
-        assert_told(&rt, BooksCall::OwnersOf, fault, answers, NEST_IS_HELD)?;
+        assert_told(&rt, BooksCall::OwnersOf, fault, answers, NEST_IS_HELD);
     }
-    Ok(())
 }
 
 /// A claim of `nest` by bob.
-fn claim(rt: &impl AllocGlobal) -> Result<Call, Fail> {
-    let name = Bytes::copy_of(rt.alloc(), b"nest")?;
-    Ok(Call {
+fn claim(rt: &(impl Abort + AllocGlobal)) -> Call {
+    let name = Bytes::copy_of(rt.alloc(), b"nest").expect(rt, "nest");
+    Call {
         at: 12,
         token: Digest256::of(b"hello"),
         request: Request::Claim { name },
-    })
+    }
 }
 
 /// A claim is answered by the fault of this call of the books.
-fn assert_answer(
-    rt: &(impl Abort + AllocGlobal),
-    call: BooksCall,
-    fault: Fault,
-) -> Result<(), Fail> {
-    let mut desk = failing_desk(rt, call, fault)?;
-    let answer = desk.apply(rt.alloc(), claim(rt)?);
+fn assert_answer(rt: &(impl Abort + AllocGlobal), call: BooksCall, fault: Fault) {
+    let mut desk = failing_desk(rt, call, fault);
+    let answer = desk.apply(rt.alloc(), claim(rt));
     assert!(rt; answer == Answer::Fault(fault), "{fault}");
     assert_after(rt, desk, NEST_IS_FREE);
-    Ok(())
 }
 
 #[test]
-fn a_claim_is_answered_by_the_fault(rt: HostRuntime) -> Result<(), Fail> {
+fn a_claim_is_answered_by_the_fault(rt: HostRuntime) {
     for fault in [Fault::Store, Fault::OutOfMemory] {
-        assert_answer(&rt, BooksCall::View, fault)?;
-        assert_answer(&rt, BooksCall::Write, fault)?;
+        assert_answer(&rt, BooksCall::View, fault);
+        assert_answer(&rt, BooksCall::Write, fault);
     }
-    Ok(())
 }
 
 /// The fault in place of the standing of `frob`.
 fn fault_of_standing(
-    rt: &impl AllocGlobal,
+    rt: &(impl Abort + AllocGlobal),
     desk: &mut Desk<FailingBooks>,
-) -> Result<Option<Fault>, Fail> {
-    let name = normal(rt.alloc(), b"frob")?;
+) -> Option<Fault> {
+    let name = normal(rt.alloc(), b"frob").expect(rt, "frob");
     let standing = desk.standing(rt.alloc(), &name);
     let fault = standing.as_ref().err().copied();
     drop(standing);
-    Ok(fault)
+    fault
 }
 
 /// The fault in place of the bytes of a file.
-fn fault_of_body(
-    rt: &impl AllocGlobal,
-    desk: &mut Desk<FailingBooks>,
-) -> Result<Option<Fault>, Fail> {
-    let file = FileName::read(rt.alloc(), b"frob-1.0.tar.gz")?;
+fn fault_of_body(rt: &(impl Abort + AllocGlobal), desk: &mut Desk<FailingBooks>) -> Option<Fault> {
+    let file = FileName::read(rt.alloc(), b"frob-1.0.tar.gz").expect(rt, "a file name");
     let body = desk.body(rt.alloc(), &file);
     let fault = body.as_ref().err().copied();
     drop(body);
-    Ok(fault)
+    fault
 }
 
 /// Where this call of the books fails, these are the faults in place of a standing and of bytes.
@@ -174,21 +160,19 @@ fn assert_faults(
     fault: Fault,
     standing: Option<Fault>,
     body: Option<Fault>,
-) -> Result<(), Fail> {
-    let mut desk = failing_desk(rt, call, fault)?;
-    let of_standing = fault_of_standing(rt, &mut desk)?;
-    let of_body = fault_of_body(rt, &mut desk)?;
+) {
+    let mut desk = failing_desk(rt, call, fault);
+    let of_standing = fault_of_standing(rt, &mut desk);
+    let of_body = fault_of_body(rt, &mut desk);
     assert!(rt; of_standing == standing && of_body == body, "{fault}");
-    Ok(())
 }
 
 #[test]
-fn a_question_is_answered_by_the_fault(rt: HostRuntime) -> Result<(), Fail> {
+fn a_question_is_answered_by_the_fault(rt: HostRuntime) {
     for fault in [Fault::Store, Fault::OutOfMemory] {
-        assert_faults(&rt, BooksCall::View, fault, Some(fault), None)?;
-        assert_faults(&rt, BooksCall::Write, fault, None, None)?;
-        assert_faults(&rt, BooksCall::OwnersOf, fault, Some(fault), None)?;
-        assert_faults(&rt, BooksCall::BytesOf, fault, None, Some(fault))?;
+        assert_faults(&rt, BooksCall::View, fault, Some(fault), None);
+        assert_faults(&rt, BooksCall::Write, fault, None, None);
+        assert_faults(&rt, BooksCall::OwnersOf, fault, Some(fault), None);
+        assert_faults(&rt, BooksCall::BytesOf, fault, None, Some(fault));
     }
-    Ok(())
 }

@@ -5,14 +5,13 @@ use index_json::{Line, read_line};
 use index_rules::{Call, Request};
 use std::alloc::AllocGlobal;
 use std::process::Abort;
-use std::test::Fail;
 
 /// Whether a line asks something.
-fn asks(rt: &impl AllocGlobal, line: &[u8]) -> Result<bool, Fail> {
-    let found = read_line(rt.alloc(), line)?;
+fn asks(rt: &(impl Abort + AllocGlobal), line: &[u8]) -> bool {
+    let found = read_line(rt.alloc(), line).expect(rt, "a line");
     let is_there = found.is_some();
     drop(found);
-    Ok(is_there)
+    is_there
 }
 
 /// Whether this is the claim of a name at a moment by the bearer of a token.
@@ -32,24 +31,22 @@ fn assert_claim(
     moment: u64,
     digest: Digest256,
     name: &str,
-) -> Result<(), Fail> {
-    let found = read_line(rt.alloc(), line.as_bytes())?;
+) {
+    let found = read_line(rt.alloc(), line.as_bytes()).expect(rt, line);
     let is_claim = is_claim(&found, moment, digest, name);
     drop(found);
     assert!(rt; is_claim, "{line}");
-    Ok(())
 }
 
 #[test]
-fn reads_a_claim_in_any_order(rt: HostRuntime) -> Result<(), Fail> {
-    let digest = Digest256::read_hex(OF_ABC.as_bytes()).ok_or("no digest")?;
+fn reads_a_claim_in_any_order(rt: HostRuntime) {
+    let digest = Digest256::read_hex(OF_ABC.as_bytes()).expect(&rt, "a digest");
     for line in [
         r#"{"at":2,"token":"abc","do":"claim","name":"Frob._-Nest"}"#,
         r#"{ "name":"Frob._-Nest","do":"claim", "token":"abc","at":2}"#,
     ] {
-        assert_claim(&rt, line, 2, digest, "Frob._-Nest")?;
+        assert_claim(&rt, line, 2, digest, "Frob._-Nest");
     }
-    Ok(())
 }
 
 /// Lines that ask nothing, the first of them empty, with the least numbers past a `u64`.
@@ -71,19 +68,18 @@ claim
 {"do":"standing"}"#;
 
 #[test]
-fn refuses_what_is_no_line(rt: HostRuntime) -> Result<(), Fail> {
+fn refuses_what_is_no_line(rt: HostRuntime) {
     for line in NO_LINES.lines() {
-        assert!(rt; !asks(&rt, line.as_bytes())?, "{line}");
+        assert!(rt; !asks(&rt, line.as_bytes()), "{line}");
     }
-    assert!(rt; !asks(&rt, b"{\"do\":\"standing\",\"name\":\"\xff\"}")?);
-    Ok(())
+    assert!(rt; !asks(&rt, b"{\"do\":\"standing\",\"name\":\"\xff\"}"));
 }
 
 #[test]
-fn reads_the_greatest_number(rt: HostRuntime) -> Result<(), Fail> {
+fn reads_the_greatest_number(rt: HostRuntime) {
     let line = r#"{"at":18446744073709551615,"token":"t","do":"claim","name":"a"}"#;
     let digest = Digest256::of(b"t");
-    assert_claim(&rt, line, 18_446_744_073_709_551_615, digest, "a")
+    assert_claim(&rt, line, 18_446_744_073_709_551_615, digest, "a");
 }
 
 /// Rows with their own keys.
@@ -156,18 +152,18 @@ const NO_ROWS: &str = r#""do":"add_user","user":"u","token_sha256":"t"
 "do":"answer_case","name":"a","x":1"#;
 
 /// Each of these rows, with a moment and a token, asks something, or none does.
-fn assert_rows(rt: &(impl Abort + AllocGlobal), rows: &str, are_calls: bool) -> Result<(), Fail> {
+fn assert_rows(rt: &(impl Abort + AllocGlobal), rows: &str, are_calls: bool) {
     for members in rows.lines() {
-        let line = format!(in rt.alloc(); "{{\"at\":1,\"token\":\"t\",{members}}}")?;
-        assert!(rt; asks(rt, line.as_bytes())? == are_calls, "{line}");
+        let line = format!(in rt.alloc(); "{{\"at\":1,\"token\":\"t\",{members}}}");
+        let line = line.expect(rt, members);
+        assert!(rt; asks(rt, line.as_bytes()) == are_calls, "{members}");
     }
-    Ok(())
 }
 
 #[test]
-fn reads_the_keys_of_each_row(rt: HostRuntime) -> Result<(), Fail> {
-    assert_rows(&rt, ROWS, true)?;
-    assert_rows(&rt, NO_ROWS, false)
+fn reads_the_keys_of_each_row(rt: HostRuntime) {
+    assert_rows(&rt, ROWS, true);
+    assert_rows(&rt, NO_ROWS, false);
 }
 
 /// Whether this is an upload of the file `f` with the digest of `a`, the bytes `JZ`, 0 and 255, and `é` of Python.
@@ -191,14 +187,13 @@ fn is_upload(line: &Option<Line>) -> bool {
     }
 }
 
+const UPLOAD: &str =
+    r#"{"at":1,"token":"t","do":"upload","file":"f","sha256":"ca978112ca1bbdcafac231b39a23dc4da786eff8147c4e72b9807785afee48bb","hex":"4a5A00fF","requires_python":"é"}"#;
+
 #[test]
-fn an_upload_brings_its_bytes(rt: HostRuntime) -> Result<(), Fail> {
-    let line = format!(in rt.alloc();
-        "{{\"at\":1,\"token\":\"t\",\"do\":\"upload\",\"file\":\"f\",\"sha256\":\"{OF_A}\",\"hex\":\"4a5A00fF\",\"requires_python\":\"é\"}}"
-    )?;
-    let found = read_line(rt.alloc(), line.as_bytes())?;
+fn an_upload_brings_its_bytes(rt: HostRuntime) {
+    let found = read_line(rt.alloc(), UPLOAD.as_bytes()).expect(&rt, UPLOAD);
     let is_upload = is_upload(&found);
     drop(found);
     assert!(rt; is_upload);
-    Ok(())
 }
