@@ -3,8 +3,6 @@
 
 mod digest;
 mod sealed;
-#[cfg(test)]
-mod tests;
 
 pub use digest::Digest256;
 pub use sealed::Sealed;

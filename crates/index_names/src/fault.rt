@@ -44,28 +44,3 @@ impl From<AllocError> for NameFault {
         NameFault::OutOfMemory
     }
 }
-
-#[cfg(test)]
-mod tests {
-    use super::*;
-    use std::test::Fail;
-
-    #[test]
-    fn printed_faults(rt: HostRuntime) -> Result<(), Fail> {
-        let faults = [
-            NameFault::BadName,
-            NameFault::BadFileName,
-            NameFault::BadRelease,
-            NameFault::OutOfMemory,
-        ];
-        let printed = format!(in rt.alloc();
-            "{}, {}, {}, {}",
-            faults[0], faults[1], faults[2], faults[3]
-        )?;
-        assert_eq!(rt;
-            printed.as_str(),
-            "not a project name, not a file name of a wheel or a source archive, not a version text, out of memory"
-        );
-        Ok(())
-    }
-}

@@ -176,6 +176,3 @@ impl Ord for FileName {
         self.text.cmp(&other.text)
     }
 }
-
-#[cfg(test)]
-mod tests;

@@ -121,19 +121,3 @@ pub fn ascii(bytes: &[u8]) -> &str
         Err(_) => unreachable!(),
     }
 }
-
-#[cfg(test)]
-mod tests {
-    use super::*;
-    use std::test::Fail;
-
-    #[test]
-    fn texts_of_bytes(rt: HostRuntime) -> Result<(), Fail> {
-        let text = Text::from_utf8("é-1".as_bytes().to_vec(rt.alloc())?).ok_or("text")?;
-        assert_eq!(rt; text.as_str(), "é-1");
-        let copy = Text::new(String::from_str(rt.alloc(), "é-1")?);
-        assert!(rt; copy == text);
-        assert!(rt; Text::from_utf8([0xc3].to_vec(rt.alloc())?).is_none());
-        Ok(())
-    }
-}

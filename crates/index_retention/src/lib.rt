@@ -5,8 +5,6 @@
 mod attempts;
 mod fault;
 mod laws;
-#[cfg(test)]
-mod tests;
 mod transfer;
 
 pub use attempts::{CaseKind, CaseState, Means, note};

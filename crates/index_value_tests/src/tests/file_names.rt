@@ -1,9 +1,10 @@
-use super::*;
+//! Names of wheels and source archives.
+use index_names::{FileKind, FileName, NameFault};
+use std::alloc::AllocGlobal;
 use std::process::Abort;
-use std::test::Fail;
 
-// In each line a wheel's name, its project and its release: files of the Python Package Index and of
-// download.pytorch.org, the example of PEP 427, "File name convention", and the shortest name.
+/// In each line a wheel's name, its project and its release: files of the Python Package Index and of
+/// download.pytorch.org, the example of PEP 427, "File name convention", and the shortest name.
 const WHEELS: &str = "\
 distribution-1.0-1-py27-none-any.whl distribution 1.0
 a-1-a-a-a.whl a 1
@@ -30,8 +31,8 @@ PySide2-5.15.2.1-5.15.2-cp35.cp36.cp37.cp38.cp39.cp310-abi3-win_amd64.whl pyside
 torch-2.5.1+cu121-cp311-cp311-linux_x86_64.whl torch 2.5.1+cu121
 jaraco.functools-4.1.0-py3-none-any.whl jaraco-functools 4.1.0";
 
-// In each line a source archive's name, its project and its release: files of the Python Package Index, the form of
-// PEP 625, "Specification", and the shortest name. Archives older than PEP 625 have hyphens and dots in the name.
+/// In each line a source archive's name, its project and its release: files of the Python Package Index, the form of
+/// PEP 625, "Specification", and the shortest name. Archives older than PEP 625 have hyphens and dots in the name.
 const SOURCE_ARCHIVES: &str = "\
 distribution-version.tar.gz distribution version
 a-1.tar.gz a 1
@@ -56,7 +57,7 @@ uWSGI-2.0.22.tar.gz uwsgi 2.0.22
 pytest-8.0.0rc1.tar.gz pytest 8.0.0rc1
 pytz-2024.2.tar.gz pytz 2024.2";
 
-// In each line a text that is no file name. The first is empty.
+/// In each line a text that is no file name. The first is empty.
 const NO_FILE_NAMES: &str = "
 a
 .whl
@@ -82,68 +83,79 @@ foo-1.0-py3--any.whl
 foo_-1.0-py3-none-any.whl
 foo-1.0-py3-none-any+.whl";
 
-fn assert_reads(rt: &impl Abort, alloc: Global, line: &str, want: FileKind) -> Result<(), Fail> {
-    let (text, names) = line.split_once(' ').ok_or("no project")?;
-    let (project, release) = names.split_once(' ').ok_or("no release")?;
-    let name = FileName::read(alloc, text.as_bytes())?;
-    assert_eq!(rt; name.text(), text, "{line}");
-    assert_eq!(rt; name.project().text(), project, "{line}");
-    assert_eq!(rt; name.release().text(), release, "{line}");
-    assert_eq!(rt; name.kind(), want, "{line}");
-    Ok(())
+/// Whether a name has this text, and decides these of its project and its release.
+fn has_texts(name: &FileName, text: &str, project: &str, release: &str) -> bool {
+    name.text() == text && name.project().text() == project && name.release().text() == release
+}
+
+fn read(rt: &(impl Abort + AllocGlobal), text: &str) -> FileName {
+    FileName::read(rt.alloc(), text.as_bytes()).expect(rt, text)
+}
+
+fn assert_reads(rt: &(impl Abort + AllocGlobal), line: &str, kind: FileKind) {
+    let (text, names) = line.split_once(' ').expect(rt, line);
+    let (project, release) = names.split_once(' ').expect(rt, line);
+    let name = read(rt, text);
+    let is_read = has_texts(&name, text, project, release) && name.kind() == kind;
+    assert!(rt; is_read, "{line}");
 }
 
 #[test]
-fn file_names(rt: HostRuntime) -> Result<(), Fail> {
+fn file_names(rt: HostRuntime) {
     for line in WHEELS.lines() {
-        assert_reads(&rt, rt.alloc(), line, FileKind::Wheel)?;
+        assert_reads(&rt, line, FileKind::Wheel);
     }
     for line in SOURCE_ARCHIVES.lines() {
-        assert_reads(&rt, rt.alloc(), line, FileKind::Source)?;
+        assert_reads(&rt, line, FileKind::Source);
     }
-    Ok(())
+}
+
+fn is_bad(rt: &impl AllocGlobal, bytes: &[u8]) -> bool {
+    matches!(
+        FileName::read(rt.alloc(), bytes),
+        Err(NameFault::BadFileName)
+    )
 }
 
 #[test]
 fn no_file_names(rt: HostRuntime) {
     for line in NO_FILE_NAMES.lines() {
-        let read = FileName::read(rt.alloc(), line.as_bytes());
-        assert!(rt; matches!(read, Err(NameFault::BadFileName)), "{line}");
+        assert!(rt; is_bad(&rt, line.as_bytes()), "{line}");
     }
 }
 
-#[test]
-fn longest_file_name(rt: HostRuntime) -> Result<(), Fail> {
-    let mut bytes = b"a-1-py3-none-".to_vec(rt.alloc())?;
+/// The name of a wheel, of 255 bytes.
+fn longest(rt: &(impl Abort + AllocGlobal)) -> Vec<u8> {
+    let mut bytes = b"a-1-py3-none-".to_vec(rt.alloc()).expect(rt, "bytes");
     for _ in 0..238 {
-        bytes.push(b'x')?;
+        bytes.push(b'x').expect(rt, "bytes");
     }
-    bytes.extend_from_slice(b".whl")?;
-    let longest = FileName::read(rt.alloc(), bytes.as_slice())?;
-    assert_eq!(rt; longest.text().len(), 255);
-    bytes.insert(0, b'a')?;
-    let read = FileName::read(rt.alloc(), bytes.as_slice());
-    assert!(rt; matches!(read, Err(NameFault::BadFileName)));
-    Ok(())
+    bytes.extend_from_slice(b".whl").expect(rt, "bytes");
+    bytes
 }
 
-// Letter case makes two file names of one project.
 #[test]
-fn two_file_names(rt: HostRuntime) -> Result<(), Fail> {
-    let upper = FileName::read(rt.alloc(), b"Frob-1.0.tar.gz")?;
-    let lower = FileName::read(rt.alloc(), b"frob-1.0.tar.gz")?;
-    assert!(rt; upper != lower);
-    assert!(rt; upper < lower);
+fn longest_file_name(rt: HostRuntime) {
+    let mut bytes = longest(&rt);
+    let name = FileName::read(rt.alloc(), bytes.as_slice()).expect(&rt, "a file name");
+    assert_eq!(rt; name.text().len(), 255);
+    bytes.insert(0, b'a').expect(&rt, "bytes");
+    assert!(rt; is_bad(&rt, bytes.as_slice()));
+}
+
+/// Letter case makes two file names of one project.
+#[test]
+fn two_file_names(rt: HostRuntime) {
+    let upper = read(&rt, "Frob-1.0.tar.gz");
+    let lower = read(&rt, "frob-1.0.tar.gz");
+    assert!(rt; upper != lower && upper < lower);
     assert!(rt; upper.project() == lower.project());
     assert!(rt; upper.release() == lower.release());
-    Ok(())
 }
 
 #[test]
-fn a_copy_is_equal(rt: HostRuntime) -> Result<(), Fail> {
-    let name = FileName::read(rt.alloc(), b"frob-1.0.tar.gz")?;
-    let copy = name.clone()?;
-    assert!(rt; copy == name);
-    assert!(rt; copy.kind() == FileKind::Source);
-    Ok(())
+fn a_copy_is_equal(rt: HostRuntime) {
+    let name = read(&rt, "frob-1.0.tar.gz");
+    let copy = name.clone().expect(&rt, "a copy");
+    assert!(rt; copy == name && copy.kind() == FileKind::Source);
 }

@@ -1,0 +1,72 @@
+//! The attempts of a case, and the texts of its faults.
+use index_retention::{CaseFault, CaseState, Means, note};
+use std::alloc::AllocGlobal;
+use std::process::Abort;
+
+/// A case with an attempt that was not sent and 999 that were, the first of them at 90 in the order of recording.
+fn full_case(rt: &impl Abort) -> CaseState {
+    let mut case = CaseState::new();
+    note(&mut case, Means::Author, false, 5).expect(rt, "an attempt");
+    assert!(rt; case.first().is_none());
+    assert!(rt; case.author() && !case.profile() && !case.pages());
+    note(&mut case, Means::Pages, true, 90).expect(rt, "an attempt");
+    note(&mut case, Means::Pages, true, 70).expect(rt, "an attempt");
+    assert!(rt; case.first() == Some(90));
+    for _ in 3..1_000 {
+        note(&mut case, Means::Profile, true, 100).expect(rt, "an attempt");
+    }
+    case
+}
+
+#[test]
+fn attempts_of_a_case(rt: HostRuntime) {
+    let full = full_case(&rt);
+    let mut case = full;
+    let answer = note(&mut case, Means::Profile, true, 100);
+    assert!(rt; answer == Err(CaseFault::AttemptsFull));
+    assert!(rt; case == full);
+    assert!(rt; case.attempts() == 1_000 && case.sent() == 999);
+}
+
+/// Parts that fit make the case that has them.
+fn assert_parts(rt: &impl Abort, attempts: u64, sent: u64, first: Option<u64>) {
+    let found = CaseState::from_parts(attempts, sent, true, false, true, first);
+    let case = found.expect(rt, "a case");
+    assert!(rt; case.attempts() == attempts && case.sent() == sent);
+    assert!(rt; case.first() == first);
+    assert!(rt; case.profile() && !case.author() && case.pages());
+}
+
+/// Whether parts fit no case.
+fn fit_none(attempts: u64, sent: u64, first: Option<u64>) -> bool {
+    CaseState::from_parts(attempts, sent, true, false, true, first).is_none()
+}
+
+#[test]
+fn cases_from_parts(rt: HostRuntime) {
+    assert_parts(&rt, 0, 0, None);
+    assert_parts(&rt, 1_000, 1_000, Some(0));
+    assert_parts(&rt, 1_000, 0, None);
+    assert!(rt; fit_none(1_001, 1, Some(0)));
+    assert!(rt; fit_none(2, 3, Some(0)));
+    assert!(rt; fit_none(2, 1, None));
+    assert!(rt; fit_none(2, 0, Some(0)));
+}
+
+fn assert_printed(rt: &(impl Abort + AllocGlobal), fault: CaseFault, want: &str) {
+    let printed = format!(in rt.alloc(); "{fault}").expect(rt, want);
+    assert_eq!(rt; printed.as_str(), want);
+}
+
+#[test]
+fn texts_of_the_faults(rt: HostRuntime) {
+    assert_printed(&rt, CaseFault::AttemptsFull, "the case has 1,000 attempts");
+    let too_few = "too few attempts to reach the owner";
+    assert_printed(&rt, CaseFault::TooFewAttempts, too_few);
+    let too_early = "less than six weeks since the first attempt";
+    assert_printed(&rt, CaseFault::TooEarly, too_early);
+    let recent = "an upload in the last twelve months";
+    assert_printed(&rt, CaseFault::RecentRelease, recent);
+    let active = "the owner's home page may show activity";
+    assert_printed(&rt, CaseFault::HomePageActive, active);
+}
