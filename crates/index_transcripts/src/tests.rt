@@ -77,7 +77,7 @@ fn assert_lines(rt: &impl Abort, requests: &str, told: &str, answers: &str) {
     for ((request, told), answer) in asked_and_told.zip(answers.lines()) {
         assert_eq!(rt; told, answer, "{request}");
     }
-    assert_eq!(rt; told, answers);
+    assert!(rt; told == answers, "{told}");
 }
 
 /// What a new desk writes for these lines.
