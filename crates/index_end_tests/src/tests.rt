@@ -2,6 +2,7 @@
 use index_cli::{LineEnd, apply_lines};
 use index_desk::Desk;
 use index_digest::Digest256;
+use index_io::{Input, Output};
 use index_plain::PlainBooks;
 use index_rules::Books;
 use std::alloc::AllocGlobal;
@@ -62,16 +63,17 @@ fn desk_with_users(rt: &(impl Abort + AllocGlobal)) -> Desk<PlainBooks> {
 }
 
 /// A run over what a reader gives ends so, and writes these answers.
-fn assert_run<R: Read, B: Books>(
+fn assert_run<R: Read + Drop, B: Books>(
     rt: &(impl Abort + AllocGlobal),
     desk: &mut Desk<B>,
-    reader: &mut R,
+    reader: R,
     ended: Result<u64, LineEnd>,
     answers: &str,
 ) {
-    let mut written = Vec::new(rt.alloc());
-    let found = apply_lines(rt.alloc(), reader, &mut written, desk);
-    assert_eq!(rt; written.as_slice(), answers.as_bytes());
+    let mut input = Input::new(reader);
+    let mut output = Output::new(Vec::new(rt.alloc()));
+    let found = apply_lines(rt.alloc(), &mut input, &mut output, desk);
+    assert_eq!(rt; output.writer.as_slice(), answers.as_bytes());
     assert_eq!(rt; found, ended);
 }
 
@@ -82,7 +84,6 @@ fn assert_answers<B: Books>(
     lines: &str,
     answers: &str,
 ) {
-    let mut reader = lines.as_bytes();
     let count = answers.lines().count() as u64;
-    assert_run(rt, desk, &mut reader, Ok(count), answers);
+    assert_run(rt, desk, lines.as_bytes(), Ok(count), answers);
 }

@@ -3,6 +3,7 @@
 use index_cli::apply_lines;
 use index_desk::Desk;
 use index_digest::Digest256;
+use index_io::{Input, Output};
 use index_plain::PlainBooks;
 use std::alloc::AllocGlobal;
 use std::fmt;
@@ -85,11 +86,11 @@ fn answers_to(rt: &(impl Abort + AllocGlobal), lines: &str) -> String {
     let token = Digest256::of(b"office");
     let books = PlainBooks::new(rt.alloc(), b"office", token);
     let mut desk = Desk::new(books.expect(rt, "books"));
-    let mut reader = lines.as_bytes();
-    let mut written = Vec::new(rt.alloc());
-    let ended = apply_lines(rt.alloc(), &mut reader, &mut written, &mut desk);
+    let mut input = Input::new(lines.as_bytes());
+    let mut output = Output::new(Vec::new(rt.alloc()));
+    let ended = apply_lines(rt.alloc(), &mut input, &mut output, &mut desk);
     ended.expect(rt, "a run to its end");
-    String::from_utf8(written).expect(rt, "UTF-8")
+    String::from_utf8(output.writer).expect(rt, "UTF-8")
 }
 
 /// A text so many times.

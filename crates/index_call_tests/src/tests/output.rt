@@ -1,5 +1,5 @@
 //! What no clause says of `write_bytes`: which ends come.
-use index_desk::write_bytes;
+use index_io::{Output, write_bytes};
 use std::alloc::AllocGlobal;
 use std::io;
 use std::io::{Error, ErrorKind, Write};
@@ -49,19 +49,19 @@ fn assert_taken(
     fails: bool,
     taken: &str,
 ) {
-    let mut writer = Short {
+    let mut output = Output::new(Short {
         taken: Vec::new(rt.alloc()),
         room,
         at_a_time,
         fails,
-    };
-    let ended = write_bytes(&mut writer, text.as_bytes());
+    });
+    let ended = write_bytes(&mut output, text.as_bytes());
     let want = if taken == text {
         Ok(())
     } else {
         Err(taken.len())
     };
-    let is_taken = writer.taken.as_slice() == taken.as_bytes();
+    let is_taken = output.writer.taken.as_slice() == taken.as_bytes();
     assert!(rt; ended == want && is_taken, "room {room}");
 }
 

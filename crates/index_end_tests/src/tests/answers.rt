@@ -1,6 +1,6 @@
 //! The texts of answers and standings.
-use index_json::{answer_text, standing_text};
 use index_desk::Standing;
+use index_json::{answer_text, standing_text};
 use index_names::{NormalName, normal};
 use index_rules::{Answer, Fault, Refusal};
 use std::alloc::AllocGlobal;

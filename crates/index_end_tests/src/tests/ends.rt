@@ -6,6 +6,7 @@ use super::{
 };
 use index_cli::{LineEnd, apply_lines};
 use index_desk::Desk;
+use index_io::{Input, Output};
 use index_plain::PlainBooks;
 use std::alloc::AllocGlobal;
 use std::process::Abort;
@@ -13,8 +14,7 @@ use std::process::Abort;
 /// Asks these lines of a desk with users, which are so many and answered so.
 fn assert_count(rt: &(impl Abort + AllocGlobal), input: &[u8], lines: u64, output: &str) {
     let mut desk = desk_with_users(rt);
-    let mut reader = input;
-    assert_run(rt, &mut desk, &mut reader, Ok(lines), output);
+    assert_run(rt, &mut desk, input, Ok(lines), output);
 }
 
 const BAD_BODY_AND_ACCEPTED: &str =
@@ -66,11 +66,11 @@ fn assert_first_claim_alone(rt: &(impl Abort + AllocGlobal), desk: &mut Desk<Pla
 #[test]
 fn ends_where_a_read_fails(rt: HostRuntime) {
     let mut desk = desk_with_users(&rt);
-    let mut reader = FailingReader {
+    let reader = FailingReader {
         rest: BOTH_CLAIMS.as_bytes(),
     };
     let ended = Err(LineEnd::ReadFault);
-    assert_run(&rt, &mut desk, &mut reader, ended, ACCEPTED);
+    assert_run(&rt, &mut desk, reader, ended, ACCEPTED);
     assert_first_claim_alone(&rt, &mut desk);
 }
 
@@ -78,15 +78,15 @@ fn ends_where_a_read_fails(rt: HostRuntime) {
 /// not.
 fn assert_cut(rt: &(impl Abort + AllocGlobal), taken: &str, fails: bool) {
     let mut desk = desk_with_users(rt);
-    let mut reader = BOTH_CLAIMS.as_bytes();
-    let mut writer = FullWriter {
+    let mut input = Input::new(BOTH_CLAIMS.as_bytes());
+    let mut output = Output::new(FullWriter {
         taken: Vec::new(rt.alloc()),
         room: taken.len(),
         fails,
-    };
-    let ended = apply_lines(rt.alloc(), &mut reader, &mut writer, &mut desk);
+    });
+    let ended = apply_lines(rt.alloc(), &mut input, &mut output, &mut desk);
     assert!(rt; ended == Err(LineEnd::WriteFault));
-    assert!(rt; writer.taken.as_slice() == taken.as_bytes());
+    assert!(rt; output.writer.taken.as_slice() == taken.as_bytes());
     assert_first_claim_alone(rt, &mut desk);
 }
 
