@@ -24,11 +24,12 @@ is_same_means Author Author = true
 is_same_means Pages Pages = true
 is_same_means a b = false
 
+-- the attempt is by this means
 abbrev pub is_by : Means → Attempt → Bool
 is_by means attempt = is_same_means means attempt.means
 
--- what a case keeps of its attempts: how many there are, how many were sent, which means occur, and
--- the moment of the first that was sent
+-- what a case keeps of its attempts: how many there are, how many were sent, which of the three means occur, sent or
+-- not, and the moment of the first that was sent
 pub record Tally : Type 0 where
   pub attempts : ℕ
   pub sent : ℕ
@@ -52,7 +53,7 @@ pub record IsTally (attempts sent : ℕ) (first : Option ℕ) : Type 0 where
 abbrev pub first_sent : List Attempt → Option Attempt
 first_sent attempts = find (λ attempt. attempt.sent) (reverse attempts)
 
--- the tally of attempts of which the newest stands first
+-- the tally of attempts of which the newest stands first, counted anew from all of them
 unfoldable pub tally_of : List Attempt → Tally
 tally_of attempts = record {
   attempts = length attempts;

@@ -13,6 +13,7 @@ six_weeks = 3628800
 abbrev pub twelve_months : ℕ
 twelve_months = 31536000
 
+-- how many attempts have to be sent
 abbrev pub fewest_sent : ℕ
 fewest_sent = 3
 
@@ -36,6 +37,7 @@ home_page_active quiet = not quiet
 abbrev pub transfer_faults : List CaseFault
 transfer_faults = TooFewAttempts ∷ TooEarly ∷ RecentRelease ∷ HomePageActive ∷ []
 
+-- whether this stands against a transfer
 abbrev pub stands_against : Tally → Option ℕ → Bool → ℕ → CaseFault → Bool
 stands_against tally last_upload quiet at AttemptsFull = false
 stands_against tally last_upload quiet at TooFewAttempts = too_few_attempts tally
@@ -47,7 +49,9 @@ stands_against tally last_upload quiet at HomePageActive = home_page_active quie
 abbrev pub transfer_fault : Tally → Option ℕ → Bool → ℕ → Option CaseFault
 transfer_fault tally last_upload quiet at = find (stands_against tally last_upload quiet at) transfer_faults
 
--- a case is ready for a transfer
+-- a case is ready for a transfer: three attempts or more were sent, each of the three means has an attempt, six weeks
+-- or more have passed since the first that was sent, twelve months or more since the latest upload, where there is one,
+-- and the office states that the home page is quiet; these are the opposites of what may stand against it
 pub record IsReady (tally : Tally) (last_upload : Option ℕ) (quiet : Bool) (at : ℕ) : Type 0 where
   pub sent : fewest_sent ≤ tally.sent
   pub profile : tally.profile ≡ true

@@ -1,4 +1,4 @@
--- What holds of every legal history.
+-- What holds of every legal history. These words speak of no tables.
 use Rattle.std.specs.Prelude.{◌≡◌, ◌⊎◌, ℕ, ◌+◌, Bool, true, false, if◌then◌else◌, length, Some, option_map}
 use Rattle.index_names.specs.Project.{read_name}
 use Rattle.index_names.specs.FileName.{project_of}
@@ -27,24 +27,26 @@ HasOneBearerOfEach h = (u v : Bytes) (x y : UserRecord) → user_of h u ≡ Some
 
 -- ---- a file name is bound for good
 
--- an upload of the file with this digest and this size
+-- the request is an upload of the file with this digest and this size
 abbrev pub IsUploadOf : Request → Bytes → Bytes × ℕ → Type 0
 IsUploadOf (Upload file sha256 body requires) f first = (read_file file ≡ Some f) × (first ≡ (key (digest_in sha256), length body))
 IsUploadOf request f first = ⊥
 
--- some entry is one
+-- some entry of the history is one
 abbrev pub HasUpload : History → Bytes → Bytes × ℕ → Type 0
 HasUpload (begins user token) f first = ⊥
 HasUpload (more h e) f first = IsUploadOf e.call.request f first ⊎ HasUpload h f first
 
--- any two uploads of one file name have the same digest and size
+-- a file name is bound for good: any two uploads of it have the same digest and the same size, whatever stands between
+-- them
 abbrev pub BindsFiles : History → Type 0
 BindsFiles h = (f : Bytes) (first second : Bytes × ℕ) → HasUpload h f first → HasUpload h f second → first ≡ second
 
 -- ---- what moves a charge, a state, the owners
 
--- what an entry with this request does to the charge of a name, in bytes: an upload adds the file's size, a delete takes
--- it away, a prohibition brings it to 0, each for its own name, and nothing else changes it
+-- what a request does to the charge of a name `n`, in bytes, which is `before` ahead of its entry and `after` behind
+-- it: an upload adds the size of its body to its own project, a delete takes the file's size away, a prohibit brings
+-- its own name to 0, and nothing else changes a charge
 abbrev pub MovesCharge : Request → History → Bytes → ℕ → ℕ → Type 0
 MovesCharge (Upload file sha256 body requires) h n before after = after ≡ before + (if is_read_as (option_map project_of (read_file file)) n then length body else 0)
 MovesCharge (Delete file) h n before after = after + (if is_read_as (option_map project_of (read_file file)) n then size_of h (key (read_file file)) else 0) ≡ before
@@ -56,7 +58,8 @@ abbrev pub UploadsAnew : Request → History → Type 0
 UploadsAnew (Upload file sha256 body requires) h = undeleted h (key (read_file file)) ≡ false
 UploadsAnew request h = Unit {0}
 
--- whether a request may change the state of a name
+-- whether a request may change the state of a name: a claim, a relinquish, a prohibit and an allow may, of their own
+-- name
 abbrev pub may_move_state : Request → Bytes → Bool
 may_move_state (Claim name) n = is_read_as (read_name name) n
 may_move_state (Relinquish name) n = is_read_as (read_name name) n
@@ -64,7 +67,7 @@ may_move_state (Prohibit name) n = is_read_as (read_name name) n
 may_move_state (Allow name) n = is_read_as (read_name name) n
 may_move_state request n = false
 
--- whether it may change the owners of a name
+-- whether it may change the owners of a name: these may, and an add_owner, a remove_owner and a transfer
 abbrev pub may_move_owners : Request → Bytes → Bool
 may_move_owners (AddOwner name user) n = is_read_as (read_name name) n
 may_move_owners (RemoveOwner name user) n = is_read_as (read_name name) n
@@ -98,28 +101,31 @@ pub record WasReady (h : History) (e : Entry) (name : Bytes) (quiet : Bool) : Ty
   pub quota : quota_of (more h e) name ≡ quota_of h name
   pub yanks : (r : Bytes) → yank_of (more h e) name r ≡ yank_of h name r
 
+-- an entry that is a transfer was
 abbrev pub TransferWasReady : Request → History → Entry → Type 0
 TransferWasReady (Transfer name quiet) h e = (n : Bytes) → read_name name ≡ Some n → WasReady h e n quiet
 TransferWasReady request h e = Unit {0}
 
--- each transfer was
+-- every transfer was ready; that the charge and the state of the name are as they were too is said by `Moves`
 abbrev pub TransfersWereReady : History → Type 0
 TransfersWereReady (begins user token) = Unit {0}
 TransfersWereReady (more h e) = TransfersWereReady h × TransferWasReady e.call.request h e
 
 -- ---- names don't touch one another
 
--- whether a request is on users, or speaks of the name (of a file: of its project)
+-- whether a request is on users, or speaks of the name; an upload and a delete speak of the project that the file name
+-- decides
 abbrev pub is_kept : Request → Bytes → Bool
 is_kept (AddUser user office token) n = true
 is_kept (SetToken user token) n = true
 is_kept request n = is_read_as (name_key request) n
 
--- the opening, the entries on users and those of one name, in order
+-- the opening, the entries on users, and the entries of the name, in their order
 abbrev pub only : Bytes → History → History
 only n (begins user token) = begins user token
 only n (more h e) = if is_kept e.call.request n then more (only n h) e else only n h
 
--- they are a legal history, and a call of the name has the same verdict in it
+-- that is a legal history, and a call of the name has the same verdict in it: so for one name it makes no difference
+-- what was accepted of others
 abbrev pub StandsAlone : History → Type 0
 StandsAlone h = (n : Bytes) → IsLegal (only n h) × ((c : Call) → name_key c.request ≡ Some n → verdict_after (only n h) c ≡ verdict_after h c)

@@ -18,11 +18,11 @@ use Rattle.index_rules.specs.PastNames.{owns, alone_owns, yank_of}
 use Rattle.index_rules.specs.PastFiles.{has_file_of}
 use Rattle.index_rules.specs.StandsFor.{StandsFor, name_at, file_at, case_at}
 
--- the user as the caller of a call
+-- the user as the caller of a call, with his office flag
 abbrev pub caller_at : History → Bytes → Caller
 caller_at h user = record { user = user; office = option_map_or (λ account. account.office) (user_of h user) false }
 
--- what a history says of a call
+-- what a history says of a call, whose caller is the bearer of its token
 abbrev pub facts_after : History → Call → Facts
 facts_after h c = record {
   caller = option_map (caller_at h) (bearer h c.token);
@@ -38,7 +38,8 @@ facts_after h c = record {
   case = option_and_then (case_at h) (name_key c.request);
 }
 
--- the verdict on a call after a history
+-- the verdict on a call after a history: the rules are those of the verdict on tables, and only the facts are read off
+-- the history
 abbrev pub verdict_after : History → Call → Verdict
 verdict_after h c = verdict_on c (facts_after h c)
 
@@ -46,14 +47,14 @@ verdict_after h c = verdict_on c (facts_after h c)
 abbrev pub with_call : History → Call → History
 with_call h c = more h (record { actor = key (bearer h c.token); call = c })
 
--- each entry after the opening is accepted in the part before it, and its actor bears its token there
+-- each entry was accepted after the entries before it, and its actor bore its token there; the opening alone is legal
 abbrev pub IsLegal : History → Type 0
 IsLegal (begins user token) = Unit {0}
 IsLegal (more h e) = IsLegal h × (verdict_after h e.call ≡ Accept) × (bearer h e.call.token ≡ Some e.actor)
 
 -- ---- calls in a row
 
--- the history after a call that was answered so
+-- an accepted call is appended, and no other
 abbrev pub history_after : History → Call → Answer → History
 history_after h c answer.Accepted = with_call h c
 history_after h c answer.Already = h
@@ -67,13 +68,14 @@ Extends h [] (answer ∷ answers) h' = ⊥
 Extends h (call ∷ calls) [] h' = ⊥
 Extends h (call ∷ calls) (answer ∷ answers) h' = Answers (verdict_after h call) answer × Extends (history_after h call answer) calls answers h'
 
--- after a call that was answered so the tables stand for the history with it, where it was accepted
+-- what is proved of one call: the answer is right, and the tables stand for the history that it leads to, which is
+-- legal
 pub record CarriesOn (h : History) (call : Call) (answer : Answer) (T' : Tables) : Type 0 where
   pub verdict : Answers (verdict_after h call) answer
   pub legal : IsLegal (history_after h call answer)
   pub stands : StandsFor T' (history_after h call answer)
 
--- after calls in a row the tables stand for a history with the accepted ones
+-- the same of calls in a row
 pub record CarriesOnBy (h : History) (calls : List Call) (answers : List Answer) (T' : Tables) : Type 0 where
   pub after : History
   pub extends : Extends h calls answers after

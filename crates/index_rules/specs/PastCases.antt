@@ -1,4 +1,5 @@
--- What a history makes of a retention case: which is open, and its attempts (PEP 541).
+-- What a history makes of a retention case: which is open, and its attempts. A name has at most one open case (PEP 541
+-- has the outline).
 use Rattle.std.specs.Prelude.{ℕ, Bool, false, not, ◌&&◌, ◌||◌, if◌then◌else◌, List, [], ◌∷◌, Option, Some, None, option_map}
 use Rattle.index_names.specs.Project.{read_name}
 use Rattle.index_names.specs.FileName.{project_of}
@@ -10,7 +11,8 @@ use Rattle.index_rules.specs.Maps.{Bytes}
 use Rattle.index_rules.specs.Requests.{read_file}
 use Rattle.index_rules.specs.History.{History, begins, more, is_read_as}
 
--- an open case, with its attempts, the newest first
+-- an open case: its kind, its candidate and his three texts, the moment of its opening, and all its attempts, the
+-- newest first
 pub record Case : Type 0 where
   pub kind : CaseKind
   pub candidate : Bytes
@@ -20,10 +22,11 @@ pub record Case : Type 0 where
   pub opened : ℕ
   pub attempts : List Attempt
 
+-- the case with one attempt more
 abbrev pub with_attempt : Attempt → Case → Case
 with_attempt attempt case = record case { attempts = attempt ∷ case.attempts }
 
--- a request of an owner on a name
+-- the requests that only an owner may make, of the name
 abbrev pub is_owners_request : Request → Bytes → Bool
 is_owners_request (AddUser user office token) n = false
 is_owners_request (SetToken user token) n = false
@@ -44,6 +47,8 @@ is_owners_request (Transfer name quiet) n = false
 is_owners_request (CloseCase name) n = false
 is_owners_request (AnswerCase name) n = is_read_as (read_name name) n
 
+-- the open case, after one request more; a claim has no line: where one is accepted the name is free, and a free name
+-- has no open case, since a relinquish and a prohibit end it
 abbrev pub case_by : Request → Bytes → ℕ → Bytes → Option Case → Option Case
 case_by (OpenCase name kind contact work why) actor at n before =
     if is_read_as (read_name name) n then Some (record { kind = kind; candidate = actor; contact = contact; work = work; why = why; opened = at; attempts = [] }) else before
@@ -53,12 +58,13 @@ case_by (Transfer name quiet) actor at n before = if is_read_as (read_name name)
 case_by (Prohibit name) actor at n before = if is_read_as (read_name name) n then None else before
 case_by request actor at n before = if is_owners_request request n then None else before
 
--- the last case that was opened on the name, where no closing, transfer or prohibition of the name and no owner's request stands after it
+-- the open case is the last that was opened, as long as it was not closed, the name was not transferred or prohibited,
+-- and no owner's request of the name was accepted since; its attempts are those recorded since
 abbrev pub case_of : History → Bytes → Option Case
 case_of (begins user token) n = None
 case_of (more h e) n = case_by e.call.request e.actor e.call.at n (case_of h n)
 
--- its candidate
+-- its candidate is the user who opened it
 abbrev pub candidate_of : History → Bytes → Option Bytes
 candidate_of h n = option_map (λ case. case.candidate) (case_of h n)
 
@@ -67,7 +73,8 @@ abbrev pub opens_case : Request → Bytes → Bool
 opens_case (OpenCase name kind contact work why) n = is_read_as (read_name name) n
 opens_case request n = false
 
--- since the last case was opened on the name, no owner's request of it was accepted
+-- no owner's request of the name stands after the last opening of a case on it; no table keeps this, and
+-- `TransfersWereReady` speaks of it
 abbrev pub is_unanswered : History → Bytes → Bool
 is_unanswered (begins user token) n = false
 is_unanswered (more h e) n = opens_case e.call.request n || (not (is_owners_request e.call.request n) && is_unanswered h n)

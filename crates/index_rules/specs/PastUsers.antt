@@ -15,29 +15,33 @@ use Rattle.index_rules.specs.History.{History, begins, more, is_read_as}
 abbrev pub with_token : Bytes → UserRecord → UserRecord
 with_token token user = record { office = user.office; token = token }
 
+-- what one request makes of a user's record
 abbrev pub user_by : Request → Bytes → Option UserRecord → Option UserRecord
 user_by (AddUser user office token) u before = if is_read_as (read_user user) u then Some (record { office = office; token = key (read_token token) }) else before
 user_by (SetToken user token) u before = if is_read_as (read_user user) u then option_map (with_token (key (read_token token))) before else before
 user_by request u before = before
 
--- a user is one who was added; the flag is that of the addition, the digest that of the last addition or replacement
+-- a user is there from the opening or from his add_user on; the office flag is that of this entry, and the digest that
+-- of the user's last add_user or set_token
 abbrev pub user_of : History → Bytes → Option UserRecord
 user_of (begins user token) u = if same u user then Some (first_record token) else None
 user_of (more h e) u = user_by e.call.request u (user_of h u)
 
+-- one more, where a user id was read
 abbrev pub with_read : Option Bytes → List Bytes → List Bytes
 with_read None users = users
 with_read (Some user) users = user ∷ users
 
+-- those who were added, after one request more
 abbrev pub added_by : Request → List Bytes → List Bytes
 added_by (AddUser user office token) users = with_read (read_user user) users
 added_by request users = users
 
--- the users that were added
+-- the users who were added, the first one too
 abbrev pub added : History → List Bytes
 added (begins user token) = user ∷ []
 added (more h e) = added_by e.call.request (added h)
 
--- the user who bears the digest of a token
+-- the one of them who bears the digest of a token; the refusal TokenTaken keeps it to one
 abbrev pub bearer : History → Bytes → Option Bytes
 bearer h token = find (λ user. bears (Some token) (user_of h user)) (added h)

@@ -17,19 +17,21 @@ use Rattle.index_rules.specs.PastNames.{State, Free, Held, Prohibited, state_of,
 use Rattle.index_rules.specs.PastCases.{Case, case_of}
 use Rattle.index_rules.specs.PastFiles.{known, undeleted, requires_of, body_of, charge, undeleted_count}
 
--- a held name with its numbers, and a prohibited one without any; nothing is kept of a free name
+-- nothing is kept of a free name, its values of a held one, and no values of a prohibited one
 abbrev pub name_by : State → Project → Option NameRecord
 name_by Free project = None
 name_by Held project = Some (name_record.Held project)
 name_by Prohibited project = Some name_record.Prohibited
 
+-- the record of a held name: its shown name, quota, charge, count and latest upload
 abbrev pub project_at : History → Bytes → Project
 project_at h n = record { shown = shown_of h n; quota = quota_of h n; charge = charge h n; undeleted = undeleted_count h n; last_upload = last_upload_of h n }
 
+-- the record of a name
 abbrev pub name_at : History → Bytes → Option NameRecord
 name_at h n = name_by (state_of h n) (project_at h n)
 
--- the record of a known file
+-- the record of a known file, with the digest and the size of its first upload
 abbrev pub file_by : Bytes → Bytes → Bool → Bytes × ℕ → FileRecord
 file_by f requires is_undeleted first = record {
   project = project_of f;
@@ -40,13 +42,15 @@ file_by f requires is_undeleted first = record {
   is_undeleted = is_undeleted;
 }
 
+-- the record of a file is there where the file is known
 abbrev pub file_at : History → Bytes → Option FileRecord
 file_at h f = option_map (file_by f (requires_of h f) (undeleted h f)) (known h f)
 
+-- the bytes of a file are there where it is undeleted
 abbrev pub body_at : History → Bytes → Option Bytes
 body_at h f = if undeleted h f then Some (body_of h f) else None
 
--- the record of an open case, with what its attempts give when they are counted
+-- the record of an open case, which has the tally of its attempts in place of them
 abbrev pub case_by_attempts : Case → CaseRecord
 case_by_attempts case = record {
   kind = case.kind;
@@ -58,10 +62,12 @@ case_by_attempts case = record {
   state = tally_of case.attempts;
 }
 
+-- the record of a case is there where one is open
 abbrev pub case_at : History → Bytes → Option CaseRecord
 case_at h n = option_map case_by_attempts (case_of h n)
 
--- each list of the tables has exactly the records of the history, each key once since the lists are maps
+-- the tables hold exactly these records; each key stands once, since the tables are maps, so this says all there is to
+-- say of them: tables that stand for one history are equal
 pub record StandsFor (T : Tables) (h : History) : Type 0 where
   pub users : (user : Bytes) → get T.users user ≡ user_of h user
   pub names : (name : Bytes) → get T.names name ≡ name_at h name
