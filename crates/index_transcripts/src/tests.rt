@@ -76,9 +76,13 @@ fn split(text: &str, requests: &mut String, answers: &mut String) -> fmt::Result
 fn assert_lines(rt: &impl Abort, requests: &str, told: &str, answers: &str) {
     let asked_and_told = requests.lines().zip(told.lines());
     for ((request, told), answer) in asked_and_told.zip(answers.lines()) {
-        assert_eq!(rt; told, answer, "{request}");
+        assert_line(rt, request, told, answer);
     }
     assert!(rt; told == answers, "{told}");
+}
+
+fn assert_line(rt: &impl Abort, request: &str, told: &str, answer: &str) {
+    assert_eq!(rt; told, answer, "{request}");
 }
 
 /// What a new desk writes for these lines.

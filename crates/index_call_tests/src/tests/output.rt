@@ -56,13 +56,17 @@ fn assert_taken(
         fails,
     });
     let ended = write_bytes(&mut output, text.as_bytes());
-    let want = if taken == text {
+    let is_taken = output.writer.taken.as_slice() == taken.as_bytes();
+    assert!(rt; is_taken && ended == end_of(text, taken));
+}
+
+/// How a write of a text ends of which these bytes were taken.
+fn end_of(text: &str, taken: &str) -> Result<(), usize> {
+    if taken == text {
         Ok(())
     } else {
         Err(taken.len())
-    };
-    let is_taken = output.writer.taken.as_slice() == taken.as_bytes();
-    assert!(rt; ended == want && is_taken, "room {room}");
+    }
 }
 
 #[test]

@@ -3,12 +3,18 @@ use index_retention::{CaseFault, CaseState, Means, note};
 use std::alloc::AllocGlobal;
 use std::process::Abort;
 
-/// A case with an attempt that was not sent and 999 that were, the first of them at 90 in the order of recording.
-fn full_case(rt: &impl Abort) -> CaseState {
+/// A case with an attempt that was not sent.
+fn case_with_attempt(rt: &impl Abort) -> CaseState {
     let mut case = CaseState::new();
     note(&mut case, Means::Author, false, 5).expect(rt, "an attempt");
     assert!(rt; case.first().is_none());
     assert!(rt; case.author() && !case.profile() && !case.pages());
+    case
+}
+
+/// The same case with 999 attempts that were sent, the first of them at 90 in the order of recording.
+fn full_case(rt: &impl Abort) -> CaseState {
+    let mut case = case_with_attempt(rt);
     note(&mut case, Means::Pages, true, 90).expect(rt, "an attempt");
     note(&mut case, Means::Pages, true, 70).expect(rt, "an attempt");
     assert!(rt; case.first() == Some(90));

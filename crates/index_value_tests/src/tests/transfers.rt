@@ -20,19 +20,24 @@ fn assert_answer(
     assert!(rt; answer == want, "at {at}");
 }
 
-/// The name's one upload is of 12,092,801; three attempts are sent, and the third means is missing, until an attempt by
-/// it is recorded that couldn't be sent.
+/// The case of a name whose last upload is given. Three attempts are sent, and the third means is missing, until an attempt
+/// by it is recorded that couldn't be sent.
+fn case_with_each_means(rt: &impl Abort, last: Option<u64>) -> CaseState {
+    let mut case = CaseState::new();
+    let too_few = Err(CaseFault::TooFewAttempts);
+    attempt(rt, &mut case, Means::Profile, true, 40_000_000);
+    attempt(rt, &mut case, Means::Author, true, 40_000_100);
+    assert_answer(rt, &case, last, true, 43_628_800, too_few);
+    attempt(rt, &mut case, Means::Profile, true, 40_000_200);
+    assert_answer(rt, &case, last, true, 43_628_800, too_few);
+    attempt(rt, &mut case, Means::Pages, false, 40_000_300);
+    case
+}
+
 #[test]
 fn way_of_a_case(rt: HostRuntime) {
     let last = Some(12_092_801);
-    let mut case = CaseState::new();
-    let too_few = Err(CaseFault::TooFewAttempts);
-    attempt(&rt, &mut case, Means::Profile, true, 40_000_000);
-    attempt(&rt, &mut case, Means::Author, true, 40_000_100);
-    assert_answer(&rt, &case, last, true, 43_628_800, too_few);
-    attempt(&rt, &mut case, Means::Profile, true, 40_000_200);
-    assert_answer(&rt, &case, last, true, 43_628_800, too_few);
-    attempt(&rt, &mut case, Means::Pages, false, 40_000_300);
+    let case = case_with_each_means(&rt, last);
     let too_early = Err(CaseFault::TooEarly);
     assert_answer(&rt, &case, last, true, 43_628_799, too_early);
     let recent = Err(CaseFault::RecentRelease);

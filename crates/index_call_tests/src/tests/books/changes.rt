@@ -44,6 +44,17 @@ fn change_of_two(rt: &(impl Abort + AllocGlobal), word: &str, first: &str, secon
         "set_quota" => set_quota(rt, first, second),
         "add_owner" => add_owner(rt, first, second),
         "remove_owner" => remove_owner(rt, first, second),
+        _ => change_of_file_or_case(rt, word, first, second),
+    }
+}
+
+fn change_of_file_or_case(
+    rt: &(impl Abort + AllocGlobal),
+    word: &str,
+    first: &str,
+    second: &str,
+) -> Change {
+    match word {
         "upload" => upload(rt, first, second),
         "yank" => yank(rt, first, second),
         "unyank" => unyank(rt, first, second),
