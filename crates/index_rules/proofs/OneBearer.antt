@@ -31,22 +31,7 @@ module _ (T : Tables) (one : HasOneBearer T) (at : ℕ) (token : Bytes) where
       let all = accepted (of (SetToken user digest)) (facts_in T (of (SetToken user digest))) accepts in
       HasOneBearer-put T one (key (read_user user)) (record { office = (user_in (facts_in T (of (SetToken user digest)))).office; token = key (read_token digest) })
       (not_taken T one (read_token digest) (read_user user) (all.not_refused BadDigest refl) (all.not_refused BadUser refl) (all.not_refused TokenTaken refl))
-  each_request (SetQuota name quota) accepts = one
-  each_request (Claim name) accepts = one
-  each_request (AddOwner name user) accepts = one
-  each_request (RemoveOwner name user) accepts = one
-  each_request (Upload file digest body requires) accepts = one
-  each_request (Delete file) accepts = one
-  each_request (Yank name release reason) accepts = one
-  each_request (Unyank name release) accepts = one
-  each_request (Relinquish name) accepts = one
-  each_request (Prohibit name) accepts = one
-  each_request (Allow name) accepts = one
-  each_request (OpenCase name kind contact work why) accepts = one
-  each_request (RecordAttempt name means sent) accepts = one
-  each_request (Transfer name quiet) accepts = one
-  each_request (CloseCase name) accepts = one
-  each_request (AnswerCase name) accepts = one
+  each_request request accepts = one
 
 pub HasOneBearer-tables_after : (T : Tables) → HasOneBearer T → (c : Call) (answer : Answer) → Answers (verdict_now T c) answer → HasOneBearer (tables_after T c answer)
 HasOneBearer-tables_after T one c Accepted answers = each_request T one c.at c.token c.request answers

@@ -83,9 +83,6 @@ module _ (T : Tables) (h : History) (sound : IsSound T) (names : (name : Bytes) 
       by attempt (Some case) missing = λ i. Some (record (case_by_attempts case) { state = sym (attempts_are_counted attempt case.attempts) i })
 
   pub cases_after : (request : Request) → verdict_now T (of request) ≡ Accept → (q : Bytes) → get (after T (of request)).cases q ≡ case_at (then request) q
-  cases_after (AddUser user office digest) accepts = stands
-  cases_after (SetToken user digest) accepts = stands
-  cases_after (SetQuota name quota) accepts = stands
   cases_after (Claim name) accepts =
       let all = accepted (of (Claim name)) (facts_in T (of (Claim name))) accepts in
       let n : Bytes = key (read_name name) in
@@ -114,3 +111,4 @@ module _ (T : Tables) (h : History) (sound : IsSound T) (names : (name : Bytes) 
   cases_after (Transfer name quiet) accepts = ended_by (read_name name) ((accepted (of (Transfer name quiet)) (facts_in T (of (Transfer name quiet))) accepts).not_refused BadName refl)
   cases_after (CloseCase name) accepts = ended_by (read_name name) ((accepted (of (CloseCase name)) (facts_in T (of (CloseCase name))) accepts).not_refused BadName refl)
   cases_after (AnswerCase name) accepts = ended_by (read_name name) ((accepted (of (AnswerCase name)) (facts_in T (of (AnswerCase name))) accepts).not_refused BadName refl)
+  cases_after request accepts = stands

@@ -149,12 +149,6 @@ module _ (T : Tables) (h : History) (files : (file : Bytes) → get T.files file
         by (Some k) u is_known = left (same n (project_of q)) u (Some (body_of h q))
 
   pub files_after : (request : Request) → verdict_now T (of request) ≡ Accept → (q : Bytes) → get (after T (of request)).files q ≡ file_at (then request) q
-  files_after (AddUser user office digest) accepts = files
-  files_after (SetToken user digest) accepts = files
-  files_after (SetQuota name quota) accepts = files
-  files_after (Claim name) accepts = files
-  files_after (AddOwner name user) accepts = files
-  files_after (RemoveOwner name user) accepts = files
   files_after (Upload file digest body requires) accepts =
       let all = accepted (of (Upload file digest body requires)) (facts_in T (of (Upload file digest body requires))) accepts in
       let reads : read_file file ≡ Some file = read_itself file (all.not_refused BadFileName refl) in
@@ -162,34 +156,12 @@ module _ (T : Tables) (h : History) (files : (file : Bytes) → get T.files file
   files_after (Delete file) accepts =
       let all = accepted (of (Delete file)) (facts_in T (of (Delete file))) accepts in
       file_deleted file (read_itself file (all.not_refused BadFileName refl)) (all.not_refused NoFile refl)
-  files_after (Yank name release reason) accepts = files
-  files_after (Unyank name release) accepts = files
-  files_after (Relinquish name) accepts = files
   files_after (Prohibit name) accepts = files_prohibited name ((accepted (of (Prohibit name)) (facts_in T (of (Prohibit name))) accepts).not_refused BadName refl)
-  files_after (Allow name) accepts = files
-  files_after (OpenCase name kind contact work why) accepts = files
-  files_after (RecordAttempt name means sent) accepts = files
-  files_after (Transfer name quiet) accepts = files
-  files_after (CloseCase name) accepts = files
-  files_after (AnswerCase name) accepts = files
+  files_after request accepts = files
 
   pub bodies_after : ((q : Bytes) → get T.bodies q ≡ body_at h q) → (request : Request) → verdict_now T (of request) ≡ Accept → (q : Bytes) → get (after T (of request)).bodies q ≡ body_at (then request) q
-  bodies_after bodies (AddUser user office digest) accepts = bodies
-  bodies_after bodies (SetToken user digest) accepts = bodies
-  bodies_after bodies (SetQuota name quota) accepts = bodies
-  bodies_after bodies (Claim name) accepts = bodies
-  bodies_after bodies (AddOwner name user) accepts = bodies
-  bodies_after bodies (RemoveOwner name user) accepts = bodies
   bodies_after bodies (Upload file digest body requires) accepts =
       body_uploaded file digest body requires (read_itself file ((accepted (of (Upload file digest body requires)) (facts_in T (of (Upload file digest body requires))) accepts).not_refused BadFileName refl)) bodies
   bodies_after bodies (Delete file) accepts = body_deleted file (read_itself file ((accepted (of (Delete file)) (facts_in T (of (Delete file))) accepts).not_refused BadFileName refl)) bodies
-  bodies_after bodies (Yank name release reason) accepts = bodies
-  bodies_after bodies (Unyank name release) accepts = bodies
-  bodies_after bodies (Relinquish name) accepts = bodies
   bodies_after bodies (Prohibit name) accepts = bodies_prohibited name ((accepted (of (Prohibit name)) (facts_in T (of (Prohibit name))) accepts).not_refused BadName refl) bodies
-  bodies_after bodies (Allow name) accepts = bodies
-  bodies_after bodies (OpenCase name kind contact work why) accepts = bodies
-  bodies_after bodies (RecordAttempt name means sent) accepts = bodies
-  bodies_after bodies (Transfer name quiet) accepts = bodies
-  bodies_after bodies (CloseCase name) accepts = bodies
-  bodies_after bodies (AnswerCase name) accepts = bodies
+  bodies_after bodies request accepts = bodies

@@ -154,12 +154,8 @@ module _ (T : Tables) (h : History) (stands : (name : Bytes) → get T.names nam
       (λ q other. IsShaped-same (get T.names q) _ _ _ _ _ _ _ _ refl refl refl (sym (ap greatest (at_other read n reads (at ∷ uploads_of h q) (uploads_of h q) q other))) (before q))
 
   pub names_after : (request : Request) → verdict_now T (of request) ≡ Accept → (q : Bytes) → IsNamed (then request) q (get (after T (of request)).names q)
-  names_after (AddUser user office digest) accepts = before
-  names_after (SetToken user digest) accepts = before
   names_after (SetQuota name quota) accepts = quota_set name quota accepts
   names_after (Claim name) accepts = claimed name ((accepted (of (Claim name)) (facts_in T (of (Claim name))) accepts).not_refused BadName refl)
-  names_after (AddOwner name user) accepts = before
-  names_after (RemoveOwner name user) accepts = before
   names_after (Upload file digest body requires) accepts =
       let all = accepted (of (Upload file digest body requires)) (facts_in T (of (Upload file digest body requires))) accepts in
       uploaded file digest body requires (read_itself file (all.not_refused BadFileName refl)) (all.not_refused NoProject refl)
@@ -168,13 +164,7 @@ module _ (T : Tables) (h : History) (stands : (name : Bytes) → get T.names nam
       let held = held_by (option_map project_of (read_file file)) (project_of file) (ap (option_map project_of) (read_itself file (all.not_refused BadFileName refl))) (all.not_refused NoProject refl) in
       let size : ℕ = (file_of (facts_in T (of (Delete file)))).size in
       numbered (project_of file) _ held.0.state (λ i. (without_file size (held.1 i)).shown) (λ i. (without_file size (held.1 i)).quota) (λ i. (held.1 i).last_upload)
-  names_after (Yank name release reason) accepts = before
-  names_after (Unyank name release) accepts = before
   names_after (Relinquish name) accepts = freed (read_name name) ((accepted (of (Relinquish name)) (facts_in T (of (Relinquish name))) accepts).not_refused BadName refl)
   names_after (Prohibit name) accepts = prohibited name ((accepted (of (Prohibit name)) (facts_in T (of (Prohibit name))) accepts).not_refused BadName refl)
   names_after (Allow name) accepts = freed (read_name name) ((accepted (of (Allow name)) (facts_in T (of (Allow name))) accepts).not_refused BadName refl)
-  names_after (OpenCase name kind contact work why) accepts = before
-  names_after (RecordAttempt name means sent) accepts = before
-  names_after (Transfer name quiet) accepts = before
-  names_after (CloseCase name) accepts = before
-  names_after (AnswerCase name) accepts = before
+  names_after request accepts = before

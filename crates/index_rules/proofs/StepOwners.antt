@@ -153,9 +153,6 @@ module _ (T : Tables) (h : History) (names : (name : Bytes) → get T.names name
         ∙ (λ i. is_held_now (cond (is_read_as (sym (read_key read unread) i) m) end (state_of h m)) && is_given h m u)
 
     pub owners_after : (request : Request) → verdict_now T (of request) ≡ Accept → (name user : Bytes) → owns_in (after T (of request)) name user ≡ owns (then request) name user
-    owners_after (AddUser user office digest) accepts = stands
-    owners_after (SetToken user digest) accepts = stands
-    owners_after (SetQuota name quota) accepts = stands
     owners_after (Claim name) accepts = owners_claimed name ((accepted (of (Claim name)) (facts_in T (of (Claim name))) accepts).not_refused BadName refl)
     owners_after (AddOwner name user) accepts =
         let all = accepted (of (AddOwner name user)) (facts_in T (of (AddOwner name user))) accepts in
@@ -163,23 +160,16 @@ module _ (T : Tables) (h : History) (names : (name : Bytes) → get T.names name
     owners_after (RemoveOwner name user) accepts =
         let all = accepted (of (RemoveOwner name user)) (facts_in T (of (RemoveOwner name user))) accepts in
         owner_removed name user (all.not_refused BadName refl) (all.not_refused BadUser refl)
-    owners_after (Upload file digest body requires) accepts = stands
-    owners_after (Delete file) accepts = stands
-    owners_after (Yank name release reason) accepts = stands
-    owners_after (Unyank name release) accepts = stands
     owners_after (Relinquish name) accepts = λ m u.
         has-cleared T.owners (key (read_name name)) m u ∙ owners_ended Free refl (read_name name) ((accepted (of (Relinquish name)) (facts_in T (of (Relinquish name))) accepts).not_refused BadName refl) m u
     owners_after (Prohibit name) accepts = λ m u.
         has-cleared T.owners (key (read_name name)) m u ∙ owners_ended Prohibited refl (read_name name) ((accepted (of (Prohibit name)) (facts_in T (of (Prohibit name))) accepts).not_refused BadName refl) m u
     owners_after (Allow name) accepts = λ m u.
         has-cleared T.owners (key (read_name name)) m u ∙ owners_ended Free refl (read_name name) ((accepted (of (Allow name)) (facts_in T (of (Allow name))) accepts).not_refused BadName refl) m u
-    owners_after (OpenCase name kind contact work why) accepts = stands
-    owners_after (RecordAttempt name means sent) accepts = stands
     owners_after (Transfer name quiet) accepts =
         let all = accepted (of (Transfer name quiet)) (facts_in T (of (Transfer name quiet))) accepts in
         owners_transferred name quiet (all.not_refused BadName refl) (all.not_refused NoProject refl) (all.not_refused NoCase refl)
-    owners_after (CloseCase name) accepts = stands
-    owners_after (AnswerCase name) accepts = stands
+    owners_after request accepts = stands
 
   module _ (stands : (name release : Bytes) → yank_in T name release ≡ yank_of h name release) where
     yanks_claimed : (name : Bytes) → is_none (read_name name) ≡ false → (m r : Bytes) → yank_in (after T (of (Claim name))) m r ≡ yank_of (then (Claim name)) m r
@@ -220,14 +210,7 @@ module _ (T : Tables) (h : History) (names : (name : Bytes) → get T.names name
         ∙ (λ i. cond (is_held_now (cond (is_read_as (sym (read_key read unread) i) m) end (state_of h m))) (yanked_for h m r) None)
 
     pub yanks_after : (request : Request) → verdict_now T (of request) ≡ Accept → (name release : Bytes) → yank_in (after T (of request)) name release ≡ yank_of (then request) name release
-    yanks_after (AddUser user office digest) accepts = stands
-    yanks_after (SetToken user digest) accepts = stands
-    yanks_after (SetQuota name quota) accepts = stands
     yanks_after (Claim name) accepts = yanks_claimed name ((accepted (of (Claim name)) (facts_in T (of (Claim name))) accepts).not_refused BadName refl)
-    yanks_after (AddOwner name user) accepts = stands
-    yanks_after (RemoveOwner name user) accepts = stands
-    yanks_after (Upload file digest body requires) accepts = stands
-    yanks_after (Delete file) accepts = stands
     yanks_after (Yank name release reason) accepts =
         let all = accepted (of (Yank name release reason)) (facts_in T (of (Yank name release reason))) accepts in
         yanked name release reason (all.not_refused BadName refl) (all.not_refused BadRelease refl) (all.not_refused NoProject refl)
@@ -237,8 +220,4 @@ module _ (T : Tables) (h : History) (names : (name : Bytes) → get T.names name
     yanks_after (Relinquish name) accepts = yanks_ended Free refl (read_name name) ((accepted (of (Relinquish name)) (facts_in T (of (Relinquish name))) accepts).not_refused BadName refl)
     yanks_after (Prohibit name) accepts = yanks_ended Prohibited refl (read_name name) ((accepted (of (Prohibit name)) (facts_in T (of (Prohibit name))) accepts).not_refused BadName refl)
     yanks_after (Allow name) accepts = yanks_ended Free refl (read_name name) ((accepted (of (Allow name)) (facts_in T (of (Allow name))) accepts).not_refused BadName refl)
-    yanks_after (OpenCase name kind contact work why) accepts = stands
-    yanks_after (RecordAttempt name means sent) accepts = stands
-    yanks_after (Transfer name quiet) accepts = stands
-    yanks_after (CloseCase name) accepts = stands
-    yanks_after (AnswerCase name) accepts = stands
+    yanks_after request accepts = stands

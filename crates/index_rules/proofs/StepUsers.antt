@@ -57,19 +57,4 @@ module _ (T : Tables) (h : History) (stands : (user : Bytes) → get T.users use
   users_after (SetToken user digest) accepts =
       let all = accepted (of (SetToken user digest)) (facts_in T (of (SetToken user digest))) accepts in
       token_set user digest (all.not_refused BadUser refl) (all.not_refused NoUser refl)
-  users_after (SetQuota name quota) accepts = stands
-  users_after (Claim name) accepts = stands
-  users_after (AddOwner name user) accepts = stands
-  users_after (RemoveOwner name user) accepts = stands
-  users_after (Upload file digest body requires) accepts = stands
-  users_after (Delete file) accepts = stands
-  users_after (Yank name release reason) accepts = stands
-  users_after (Unyank name release) accepts = stands
-  users_after (Relinquish name) accepts = stands
-  users_after (Prohibit name) accepts = stands
-  users_after (Allow name) accepts = stands
-  users_after (OpenCase name kind contact work why) accepts = stands
-  users_after (RecordAttempt name means sent) accepts = stands
-  users_after (Transfer name quiet) accepts = stands
-  users_after (CloseCase name) accepts = stands
-  users_after (AnswerCase name) accepts = stands
+  users_after request accepts = stands
