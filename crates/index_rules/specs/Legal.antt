@@ -11,7 +11,7 @@ use Rattle.index_rules.specs.Requests.{user_key, token_key, name_key, file_key, 
 use Rattle.index_rules.specs.Facts.{Facts, of_both, at_both}
 use Rattle.index_rules.specs.Verdict.{Verdict, Accept, verdict_on}
 use Rattle.index_rules.specs.Effect.{key}
-use Rattle.index_rules.specs.Runs.{Answers}
+use Rattle.index_rules.specs.Runs.{Answers, RunsBy}
 use Rattle.index_rules.specs.History.{History, begins, more}
 use Rattle.index_rules.specs.PastUsers.{user_of, bearer}
 use Rattle.index_rules.specs.PastNames.{owns, alone_owns, yank_of}
@@ -63,10 +63,7 @@ history_after h c (answer.Fault fault) = h
 
 -- each answer is the verdict in the history so far or a fault, and exactly the accepted calls are appended, in order
 abbrev pub Extends : History → List Call → List Answer → History → Type 0
-Extends h [] [] h' = h' ≡ h
-Extends h [] (answer ∷ answers) h' = ⊥
-Extends h (call ∷ calls) [] h' = ⊥
-Extends h (call ∷ calls) (answer ∷ answers) h' = Answers (verdict_after h call) answer × Extends (history_after h call answer) calls answers h'
+Extends = RunsBy verdict_after history_after
 
 -- what is proved of one call: the answer is right, and the tables stand for the history that it leads to, which is
 -- legal

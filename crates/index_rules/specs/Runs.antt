@@ -27,9 +27,15 @@ tables_by T change (Fault fault) = T
 abbrev pub tables_after : Tables → Call → Answer → Tables
 tables_after T c answer = tables_by T (effect c.at c.request (facts_in T c)) answer
 
--- each answer is the verdict at its point or a fault, and the accepted calls were applied in order
+-- calls in a row, over what a verdict is read off and what is next after an answer: each answer is the verdict at its
+-- point or a fault
+abbrev pub RunsBy : {S : Type 0} → (S → Call → Verdict) → (S → Call → Answer → S) → S → List Call → List Answer → S → Type 0
+RunsBy verdict next s [] [] s' = s' ≡ s
+RunsBy verdict next s [] (answer ∷ answers) s' = ⊥
+RunsBy verdict next s (call ∷ calls) [] s' = ⊥
+RunsBy verdict next s (call ∷ calls) (answer ∷ answers) s' =
+    Answers (verdict s call) answer × RunsBy verdict next (next s call answer) calls answers s'
+
+-- on the tables: the accepted calls were applied in order
 abbrev pub Runs : Tables → List Call → List Answer → Tables → Type 0
-Runs T [] [] T' = T' ≡ T
-Runs T [] (answer ∷ answers) T' = ⊥
-Runs T (call ∷ calls) [] T' = ⊥
-Runs T (call ∷ calls) (answer ∷ answers) T' = Answers (verdict_now T call) answer × Runs (tables_after T call answer) calls answers T'
+Runs = RunsBy verdict_now tables_after
