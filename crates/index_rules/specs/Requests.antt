@@ -68,12 +68,21 @@ abbrev pub declared_digest : Request → Option Bytes
 declared_digest (Upload file sha256 body requires) = digest_in sha256
 declared_digest r = token_key r
 
-abbrev pub keys_of : Call → Keys
-keys_of c = record {
-  caller = Some c.token;
-  user = user_key c.request;
-  token = token_key c.request;
-  name = name_key c.request;
-  file = file_key c.request;
-  release = release_key c.request;
+-- what is looked up for a request, and for the bearer of a token where there is one
+abbrev pub keys_by : Option Bytes → Request → Keys
+keys_by caller request = record {
+  caller = caller;
+  user = user_key request;
+  token = token_key request;
+  name = name_key request;
+  file = file_key request;
+  release = release_key request;
 }
+
+-- what is looked up for a call
+abbrev pub keys_of : Call → Keys
+keys_of c = keys_by (Some c.token) c.request
+
+-- a name alone
+abbrev pub keys_of_name : Bytes → Keys
+keys_of_name name = record { caller = None; user = None; token = None; name = Some name; file = None; release = None }

@@ -1,14 +1,18 @@
 -- Texts and token digests that requests bring.
-use Rattle.std.specs.Prelude.{Bool, not, ◌&&◌, nat_le, [], length, Option, Some, None, option_and_then, if◌then◌else◌}
+use Rattle.std.specs.Prelude.{ℕ, Bool, not, ◌&&◌, nat_le, [], length, Option, Some, None, option_and_then, if◌then◌else◌}
 use Rattle.std.specs.Char.{is_control}
 use Rattle.std.specs.List.{list_all}
 use Rattle.std.specs.Str.{is_utf8, chars}
 use Rattle.index_digest.specs.Digest.{digest_in, sha256}
 use Rattle.index_rules.specs.Maps.{Bytes, same}
 
+-- the most bytes of a text
+abbrev pub longest_text : ℕ
+longest_text = 512
+
 -- 0 to 512 bytes of UTF-8 without control characters (the code points 0 to 31 and 127 to 159)
 unfoldable pub is_text : Bytes → Bool
-is_text x = nat_le (length x) 512 && is_utf8 x && list_all (λ c. not (is_control c)) (chars x)
+is_text x = nat_le (length x) longest_text && is_utf8 x && list_all (λ c. not (is_control c)) (chars x)
 
 -- a text of one byte or more, as the three texts of a case are
 abbrev pub is_evidence : Bytes → Bool

@@ -1,15 +1,20 @@
 -- User ids.
 use Rattle.std.specs.Prelude.{◌≡◌, ℕ, Bool, ◌&&◌, ◌||◌, nat_le, length, Option, Some, None, if◌then◌else◌}
 use Rattle.std.specs.List.{list_all}
+use Rattle.std.specs.Str.{byte}
 use Rattle.index_rules.specs.Maps.{Bytes}
 
 -- a letter of `a-z`, or a digit
 abbrev pub is_user_letter : ℕ → Bool
-is_user_letter c = (nat_le 97 c && nat_le c 122) || (nat_le 48 c && nat_le c 57)
+is_user_letter c = (nat_le (byte "a") c && nat_le c (byte "z")) || (nat_le (byte "0") c && nat_le c (byte "9"))
+
+-- the most bytes of a user id
+abbrev pub longest_user_id : ℕ
+longest_user_id = 32
 
 -- 1 to 32 of these
 abbrev pub is_user_id : Bytes → Bool
-is_user_id x = nat_le 1 (length x) && nat_le (length x) 32 && list_all is_user_letter x
+is_user_id x = nat_le 1 (length x) && nat_le (length x) longest_user_id && list_all is_user_letter x
 
 -- the user id that bytes are
 unfoldable pub read_user : Bytes → Option Bytes

@@ -1,7 +1,7 @@
 -- The verdict on a call: the least refusal that applies, else that it is so already, else that it is accepted.
 use Rattle.std.specs.Prelude.{ℕ, ◌+◌, Bool, true, false, not, ◌&&◌, ◌==◌, nat_lt, List, [], ◌∷◌, length, Option, Some, None, is_some, is_none, find}
 use Rattle.std.specs.Option.{option_map_or}
-use Rattle.index_digest.specs.Digest.{sha256}
+use Rattle.index_digest.specs.Digest.{digest_in, sha256}
 use Rattle.index_rules.specs.declared.call.Call.{Call}
 use Rattle.index_rules.specs.declared.call.Request.{Request}
 use Rattle.index_rules.specs.declared.call.Request.TheVariants.{AddUser, SetToken, SetQuota, Claim, AddOwner, RemoveOwner, Upload, Delete, Yank, Unyank, Relinquish, Prohibit, Allow, OpenCase, RecordAttempt, Transfer, CloseCase, AnswerCase}
@@ -17,7 +17,7 @@ use Rattle.index_retention.specs.declared.fault.CaseFault.TheVariants as case_fa
 use Rattle.index_retention.specs.Attempts.{is_full}
 use Rattle.index_retention.specs.Transfer.{stands_against}
 use Rattle.index_rules.specs.Maps.{Bytes, same}
-use Rattle.index_rules.specs.Texts.{is_evidence, is_text}
+use Rattle.index_rules.specs.Texts.{is_evidence, is_text, read_token}
 use Rattle.index_rules.specs.Tables.{Tables}
 use Rattle.index_rules.specs.Requests.{user_key, name_key, file_key, release_key, declared_digest}
 use Rattle.index_rules.specs.Facts.{Facts, facts_in}
@@ -62,6 +62,7 @@ is_user_with office None user = false
 is_user_with true (Some token) user = user.office && same token user.token
 is_user_with false (Some token) user = not user.office && same token user.token
 
+-- the user is there and bears this digest
 abbrev pub bears : Option Bytes → Option UserRecord → Bool
 bears None user = false
 bears (Some token) None = false
@@ -104,7 +105,7 @@ is_too_large r = false
 
 -- the body has not the digest that is declared
 abbrev pub is_mismatched : Request → Bool
-is_mismatched (Upload file declared body requires) = option_map_or (λ digest. not (same digest (sha256 body))) (declared_digest (Upload file declared body requires)) false
+is_mismatched (Upload file declared body requires) = option_map_or (λ digest. not (same digest (sha256 body))) (digest_in declared) false
 is_mismatched r = false
 
 abbrev pub is_quota_too_large : Request → Bool
@@ -116,7 +117,7 @@ is_quota_below_charge (SetQuota name quota) f = option_map_or (λ project. nat_l
 is_quota_below_charge r f = false
 
 abbrev pub uploads_other_file : Request → Facts → Bool
-uploads_other_file (Upload file sha256 body requires) f = is_other_file (declared_digest (Upload file sha256 body requires)) (length body) f.file
+uploads_other_file (Upload file declared body requires) f = is_other_file (digest_in declared) (length body) f.file
 uploads_other_file r f = false
 
 abbrev pub uploads_over_quota : Request → Facts → Bool
@@ -145,8 +146,8 @@ refusal_of case_fault.HomePageActive = HomePageActive
 
 -- where a request that nothing refuses changes nothing
 abbrev pub is_already : Request → Facts → Bool
-is_already (AddUser user office token) f = option_map_or (is_user_with office (declared_digest (AddUser user office token))) f.user false
-is_already (SetToken user token) f = bears (declared_digest (SetToken user token)) f.user
+is_already (AddUser user office token) f = option_map_or (is_user_with office (read_token token)) f.user false
+is_already (SetToken user token) f = bears (read_token token) f.user
 is_already (SetQuota name quota) f = option_map_or (λ project. quota == project.quota) (project_in f.name) false
 is_already (Claim name) f = f.owns
 is_already (AddOwner name user) f = f.named_owns
@@ -226,11 +227,13 @@ refusals_of (Transfer name quiet) = NotOffice ∷ BadName ∷ NoProject ∷ NoCa
 refusals_of (CloseCase name) = NotOffice ∷ BadName ∷ NoProject ∷ NoCase ∷ []
 refusals_of (AnswerCase name) = BadName ∷ NoProject ∷ NotOwner ∷ NoCase ∷ []
 
+-- the verdict by the least refusal that applies, and by whether it is so already
 abbrev pub decided : Option Refusal → Bool → Verdict
 decided (Some r) already = Refuse r
 decided None true = AlreadySo
 decided None false = Accept
 
+-- the verdict on a call by the facts
 abbrev pub verdict_on : Call → Facts → Verdict
 verdict_on c f = decided (find (applies c.at c.request f) (BadMoment ∷ BadToken ∷ refusals_of c.request)) (is_already c.request f)
 

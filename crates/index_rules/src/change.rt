@@ -5,8 +5,8 @@ use crate::user::UserId;
 use index_digest::Sealed;
 use index_names::{FileName, NormalName, Release, Text};
 
-/// What an accepted call writes, with the new records whole. A change that an owner or a prohibition makes also ends
-/// the name's open case.
+/// What an accepted call writes, with the new records whole. All but those on users and quotas, `OpenCase` and
+/// `RecordAttempt` also end the name's open case.
 #[derive(Drop)]
 pub enum Change {
     /// The user has this record.
@@ -23,7 +23,7 @@ pub enum Change {
         name: NormalName,
         project: Project,
     },
-    /// The name is held, the user alone owns it, no release of it is yanked, and it has no case.
+    /// The name is held, the user alone owns it, and no release of it is yanked.
     Claim {
         name: NormalName,
         project: Project,

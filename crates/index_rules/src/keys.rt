@@ -1,11 +1,8 @@
 //! The readable parts of a call.
-ghost use Rattle.std.specs.Prelude.{◌≡◌, Some, None, IfOk, IfErr, option_map};
+ghost use Rattle.std.specs.Prelude.{◌≡◌, IfOk, IfErr, option_map};
 ghost use Rattle.index_names.specs.FileName.{project_of};
-ghost use Rattle.index_names.specs.Project.{read_name};
-ghost use Rattle.index_names.specs.Release.{read_release};
-ghost use Rattle.index_rules.specs.Requests.{keys_of, read_file};
-ghost use Rattle.index_rules.specs.Texts.{read_token as read_token_lem};
-ghost use Rattle.index_rules.specs.Users.{read_user};
+ghost use Rattle.index_rules.specs.declared.call.Request.TheVariants.{AddOwner, Claim, Delete, SetToken, Unyank};
+ghost use Rattle.index_rules.specs.Requests.{keys_by, keys_of, keys_of_name};
 
 use crate::answer::Fault;
 use crate::bytes::Bytes;
@@ -47,7 +44,7 @@ impl Drop for Keys {
 impl Keys {
     /// This name alone.
     pub fn of_name(name: &NormalName) -> Result<Keys, Fault>
-        ensures keys { IfOk result (λ keys. keys ≡ record { caller = None; user = None; token = None; name = Some name.now; file = None; release = None }) }
+        ensures keys { IfOk result (λ keys. keys ≡ keys_of_name name.now) }
         ensures memory { IfErr result (λ fault. fault ≡ Fault.OutOfMemory) }
     {
         let name = name.clone()?;
@@ -104,7 +101,7 @@ fn user_keys(
     user: &Bytes,
     token: &Bytes,
 ) -> Result<Keys, AllocError>
-    ensures { IfOk result (λ keys. keys ≡ record { caller = caller; user = read_user user.now; token = read_token_lem token.now; name = None; file = None; release = None }) }
+    ensures { IfOk result (λ keys. keys ≡ keys_by caller (SetToken user.now token.now)) }
 {
     Ok(Keys {
         caller,
@@ -117,7 +114,7 @@ fn user_keys(
 }
 
 fn name_keys(alloc: Global, caller: Option<Digest256>, name: &Bytes) -> Result<Keys, AllocError>
-    ensures { IfOk result (λ keys. keys ≡ record { caller = caller; user = None; token = None; name = read_name name.now; file = None; release = None }) }
+    ensures { IfOk result (λ keys. keys ≡ keys_by caller (Claim name.now)) }
 {
     Ok(Keys {
         caller,
@@ -135,7 +132,7 @@ fn owner_keys(
     name: &Bytes,
     user: &Bytes,
 ) -> Result<Keys, AllocError>
-    ensures { IfOk result (λ keys. keys ≡ record { caller = caller; user = read_user user.now; token = None; name = read_name name.now; file = None; release = None }) }
+    ensures { IfOk result (λ keys. keys ≡ keys_by caller (AddOwner name.now user.now)) }
 {
     Ok(Keys {
         caller,
@@ -153,7 +150,7 @@ fn release_keys(
     name: &Bytes,
     release: &Bytes,
 ) -> Result<Keys, AllocError>
-    ensures { IfOk result (λ keys. keys ≡ record { caller = caller; user = None; token = None; name = read_name name.now; file = None; release = read_release release.now }) }
+    ensures { IfOk result (λ keys. keys ≡ keys_by caller (Unyank name.now release.now)) }
 {
     Ok(Keys {
         caller,
@@ -167,7 +164,7 @@ fn release_keys(
 
 /// The file and the project that its name decides.
 fn file_keys(alloc: Global, caller: Option<Digest256>, file: &Bytes) -> Result<Keys, AllocError>
-    ensures { IfOk result (λ keys. keys ≡ record { caller = caller; user = None; token = None; name = option_map project_of (read_file file.now); file = read_file file.now; release = None }) }
+    ensures { IfOk result (λ keys. keys ≡ keys_by caller (Delete file.now)) }
 {
     let file = readable_file(alloc, file)?;
     let name = project_of_file(&file)?;
