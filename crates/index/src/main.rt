@@ -1,13 +1,13 @@
 //! The program `index`: a Python package index, one command at a time.
 #![tactic(auto)]
 
-ghost use Rattle.std.specs.Prelude.{◌≡◌, IfOk, codes};
+ghost use Rattle.std.specs.Prelude.{◌≡◌, IfOk, IsErr, IsOk, codes};
 ghost use Rattle.std.specs.Process.{exit_status};
 ghost use Rattle.index_digest.specs.Digest.{sha256};
 ghost use Rattle.index_plain.specs.Plain.{tables_of};
 ghost use Rattle.index_rules.specs.Opened.{opened};
 
-use index_cli::apply_lines;
+use index_cli::{LineEnd, apply_lines};
 use index_desk::Desk;
 use index_digest::Digest256;
 use index_io::{Input, Output};
@@ -56,7 +56,18 @@ fn apply(rt: &HostRuntime) -> ExitCode {
     let mut source = Input::new(reader);
     let mut sink = Output::new(io::writer(rt));
     let mut desk = Desk::new(books);
-    match apply_lines(rt.alloc(), &mut source, &mut sink, &mut desk) {
+    ended(
+        rt,
+        apply_lines(rt.alloc(), &mut source, &mut sink, &mut desk),
+    )
+}
+
+/// The status of a run over lines. A fault that ended it is named on standard error.
+fn ended(rt: &HostRuntime, end: Result<u64, LineEnd>) -> ExitCode
+    ensures ok { IsOk end → exit_status result ≡ 0 }
+    ensures fault { IsErr end → exit_status result ≡ 1 }
+{
+    match end {
         Ok(_) => ExitCode::SUCCESS,
         Err(end) => failed(rt, end),
     }
@@ -64,7 +75,8 @@ fn apply(rt: &HostRuntime) -> ExitCode {
 
 /// Tables whose one user is `office`, of the office, with the token `office`.
 fn office_books(rt: &HostRuntime) -> Result<PlainBooks, OpenFault>
-    ensures tables { IfOk result (λ books. tables_of books ≡ opened (codes "office") (sha256 (codes "office"))) }
+    ensures tables { let token = sha256 (codes "office") in
+        IfOk result (λ books. tables_of books ≡ opened (codes "office") token) }
 {
     PlainBooks::new(rt.alloc(), b"office", Digest256::of(b"office"))
 }

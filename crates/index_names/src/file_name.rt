@@ -78,9 +78,12 @@ impl FileName {
     pub fn read(alloc: Global, bytes: &[u8]) -> Result<FileName, NameFault>
         ensures text { IfOk result (λ name. name ≡ bytes.now) }
         ensures read { OnOk result (IsSome (read_file_name bytes.now)) }
-        ensures spells { let f = bytes.now in OnOk result (Spells f (project_of f) (release_of f) (kind_of f)) }
-        ensures bad_file_name { IsErrOf result NameFault.BadFileName ↔ (read_file_name bytes.now ≡ None) }
-        ensures fault { IfErr result (λ fault. (fault ≡ NameFault.BadFileName) ⊎ (fault ≡ NameFault.OutOfMemory)) }
+        ensures spells { let f = bytes.now in
+            OnOk result (Spells f (project_of f) (release_of f) (kind_of f)) }
+        ensures bad_file_name { IsErrOf result NameFault.BadFileName
+            ↔ (read_file_name bytes.now ≡ None) }
+        ensures fault { IfErr result (λ fault.
+            (fault ≡ NameFault.BadFileName) ⊎ (fault ≡ NameFault.OutOfMemory)) }
     {
         let Some(cut) = cut_of(bytes) else {
             return Err(NameFault::BadFileName);
@@ -104,7 +107,8 @@ impl FileName {
     /// The project that the file belongs to.
     pub fn project(&self) -> &NormalName
         ensures project { result.now ≡ project_of self.now }
-        ensures spelled { option_map (λ spelled. spelled.project) (read_file_name self.now) ≡ Some result.now }
+        ensures spelled { option_map (λ spelled. spelled.project) (read_file_name self.now)
+            ≡ Some result.now }
     {
         &self.project
     }
@@ -112,7 +116,8 @@ impl FileName {
     /// The release that the file belongs to.
     pub fn release(&self) -> &Release
         ensures release { result.now ≡ release_of self.now }
-        ensures spelled { option_map (λ spelled. spelled.release) (read_file_name self.now) ≡ Some result.now }
+        ensures spelled { option_map (λ spelled. spelled.release) (read_file_name self.now)
+            ≡ Some result.now }
     {
         &self.release
     }
@@ -120,7 +125,8 @@ impl FileName {
     /// Whether the file is a wheel or a source archive.
     pub fn kind(&self) -> FileKind
         ensures kind { result ≡ kind_of self.now }
-        ensures spelled { option_map (λ spelled. spelled.kind) (read_file_name self.now) ≡ Some result }
+        ensures spelled { option_map (λ spelled. spelled.kind) (read_file_name self.now)
+            ≡ Some result }
     {
         self.kind
     }

@@ -83,7 +83,8 @@ pub fn is_name(bytes: &[u8]) -> bool
 pub fn normal(alloc: Global, bytes: &[u8]) -> Result<NormalName, NameFault>
     ensures normal { IfOk result (λ name. read_name bytes.now ≡ Some name) }
     ensures bad_name { IsErrOf result NameFault.BadName ↔ (read_name bytes.now ≡ None) }
-    ensures fault { IfErr result (λ fault. (fault ≡ NameFault.BadName) ⊎ (fault ≡ NameFault.OutOfMemory)) }
+    ensures fault { IfErr result (λ fault.
+        (fault ≡ NameFault.BadName) ⊎ (fault ≡ NameFault.OutOfMemory)) }
 {
     if !is_name(bytes) {
         return Err(NameFault::BadName);
@@ -121,7 +122,8 @@ fn normalized(alloc: Global, bytes: &[u8]) -> Result<String, AllocError>
 
 // Adds a letter or digit, behind a hyphen where separators stand before it.
 fn push(normal: &mut String, is_apart: bool, byte: u8) -> Result<(), AllocError>
-    ensures { OnOk result (string_bytes normal.new ≡ string_bytes normal.old ++ added is_apart byte) }
+    ensures { OnOk result
+        (string_bytes normal.new ≡ string_bytes normal.old ++ added is_apart byte) }
 {
     if byte.is_ascii_alphanumeric() {
         if is_apart {

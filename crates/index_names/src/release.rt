@@ -71,7 +71,8 @@ impl Release {
 pub fn release_key(alloc: Global, bytes: &[u8]) -> Result<Release, NameFault>
     ensures release { IfOk result (λ release. read_release bytes.now ≡ Some release) }
     ensures bad_release { IsErrOf result NameFault.BadRelease ↔ (read_release bytes.now ≡ None) }
-    ensures fault { IfErr result (λ fault. (fault ≡ NameFault.BadRelease) ⊎ (fault ≡ NameFault.OutOfMemory)) }
+    ensures fault { IfErr result (λ fault.
+        (fault ≡ NameFault.BadRelease) ⊎ (fault ≡ NameFault.OutOfMemory)) }
 {
     if !is_version(bytes) {
         return Err(NameFault::BadRelease);

@@ -34,14 +34,16 @@ pub trait Books {
 
     /// Writes a change. After a fault the tables are what they were.
     fn write(&mut self, alloc: Global, change: Change) -> Result<(), Fault>
-        ensures written { IsHonest self.new → OnOk result (tables self.new ≡ means change (tables self.old)) }
+        ensures written { IsHonest self.new
+            → OnOk result (tables self.new ≡ means change (tables self.old)) }
         ensures unchanged { IsHonest self.new → OnErr result (tables self.new ≡ tables self.old) }
         ensures honest { IsHonest self.new → IsHonest self.old }
         ensures failures { failures self.new ≡ counted (failures self.old) (is_ok result) };
 
     /// The owners of a name in byte order. It changes no table.
     fn owners_of(&mut self, alloc: Global, name: &NormalName) -> Result<Owners, Fault>
-        ensures found { IsHonest self.new → IfOk result (λ owners. owners ≡ owners_in (tables self.old) name.now) }
+        ensures found { IsHonest self.new
+            → IfOk result (λ owners. owners ≡ owners_in (tables self.old) name.now) }
         ensures unchanged { IsHonest self.new → tables self.new ≡ tables self.old }
         ensures honest { IsHonest self.new → IsHonest self.old }
         ensures failures { failures self.new ≡ counted (failures self.old) (is_ok result) };
@@ -49,7 +51,8 @@ pub trait Books {
     /// The bytes that are kept of a file, or `None` where none are: in sound tables, where it is not undeleted. It changes
     /// no table.
     fn bytes_of(&mut self, alloc: Global, file: &FileName) -> Result<Option<Sealed>, Fault>
-        ensures found { IsHonest self.new → IfOk result (λ body. body ≡ get (tables self.old).bodies file.now) }
+        ensures found { IsHonest self.new
+            → IfOk result (λ body. body ≡ get (tables self.old).bodies file.now) }
         ensures unchanged { IsHonest self.new → tables self.new ≡ tables self.old }
         ensures honest { IsHonest self.new → IsHonest self.old }
         ensures failures { failures self.new ≡ counted (failures self.old) (is_ok result) };

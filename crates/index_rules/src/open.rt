@@ -55,7 +55,8 @@ pub fn first_user(
 ) -> Result<(UserId, UserRecord), OpenFault>
     ensures first { IfOk result (λ first. first ≡ (user.now, first_record token)) }
     ensures bad_first_user { IsErrOf result OpenFault.BadFirstUser ↔ IsBadFirstUser user.now token }
-    ensures fault { IfErr result (λ fault. (fault ≡ OpenFault.BadFirstUser) ⊎ (fault ≡ OpenFault.OutOfMemory)) }
+    ensures fault { IfErr result (λ fault.
+        (fault ≡ OpenFault.BadFirstUser) ⊎ (fault ≡ OpenFault.OutOfMemory)) }
 {
     if token == Digest256::of(b"") {
         return Err(OpenFault::BadFirstUser);

@@ -55,7 +55,8 @@ pub fn read_words(alloc: Global, words: &[String]) -> Result<Job, WordsEnd>
     ensures job { IfOk result (IsJob (subcommand_of index_app (map string_bytes words.now))) }
 
     // Where clap takes the words and they ask for a job, it is read, as long as there is memory.
-    ensures read { takes index_app (map string_bytes words.now) ≡ true → (job : Job) → IsJob (subcommand_of index_app (map string_bytes words.now)) job
+    ensures read { let said = map string_bytes words.now in
+        takes index_app said ≡ true → (job : Job) → IsJob (subcommand_of index_app said) job
         → IfErr result (λ end. end ≡ WordsEnd.OutOfMemory) }
 {
     let mut command = command::index(alloc)?;
@@ -78,7 +79,8 @@ fn job_of(matches: &ArgMatches<'_>) -> Option<Job>
 
 /// The subcommand that was entered, and its options.
 fn entered<'m, 'a>(matches: &'m ArgMatches<'a>) -> Option<(&'a str, &'m ArgMatches<'a>)>
-    ensures { option_map (λ found. (found.0.now, rows_of (found_of found.1.now))) result ≡ subcommand_rows_of matches.now }
+    ensures { option_map (λ found. (found.0.now, rows_of (found_of found.1.now))) result
+        ≡ subcommand_rows_of matches.now }
 {
     matches.subcommand()
 }
