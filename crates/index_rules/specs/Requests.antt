@@ -1,5 +1,5 @@
 -- The readable parts of a request.
-use Rattle.std.specs.Prelude.{Option, Some, None, option_map}
+use Rattle.std.specs.Prelude.{Bool, true, false, Option, Some, None, option_map}
 use Rattle.index_names.specs.Project.{read_name}
 use Rattle.index_names.specs.FileName.{read_file_name, project_of}
 use Rattle.index_names.specs.Release.{read_release}
@@ -67,6 +67,10 @@ release_key r = None
 abbrev pub declared_digest : Request → Option Bytes
 declared_digest (Upload file sha256 body requires) = digest_in sha256
 declared_digest r = token_key r
+
+abbrev pub is_upload : Request → Bool
+is_upload (Upload file sha256 body requires) = true
+is_upload request = false
 
 -- what is looked up for a request, and for the bearer of a token where there is one
 abbrev pub keys_by : Option Bytes → Request → Keys

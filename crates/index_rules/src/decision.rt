@@ -1,7 +1,7 @@
 //! The decision on a call.
-ghost use Rattle.std.specs.Prelude.{◌≡◌};
+ghost use Rattle.std.specs.Prelude.{◌≡◌, false};
 ghost use Rattle.index_rules.specs.Tables.{Tables};
-ghost use Rattle.index_rules.specs.Requests.{keys_of};
+ghost use Rattle.index_rules.specs.Requests.{is_upload, keys_of};
 ghost use Rattle.index_rules.specs.Facts.{HasOneBearer, Sees, facts_in, facts_seen};
 ghost use Rattle.index_rules.specs.Verdict.{verdict_now, verdict_on};
 ghost use Rattle.index_rules.specs.Effect.{effect};
@@ -90,50 +90,66 @@ fn judge(alloc: Global, call: Call, view: &View) -> Result<Decision, Stop>
     decide_in(&context, call.request)
 }
 
-/// The decision on a request whose moment and token are in order.
+/// The decision on a request whose moment and token are in order. An upload's body moves on into its change.
 fn decide_in(context: &Context<'_>, request: Request) -> Result<Decision, Stop>
     requires { IsOfCaller context.now }
     ensures { DecidesIn context.now request result }
 {
     match request {
-        Request::AddUser {
-            user,
-            office,
-            token,
-        } => add_user(context, &user, office, &token),
-        Request::SetToken { user, token } => set_token(context, &user, &token),
-        Request::SetQuota { name, quota } => set_quota(context, &name, quota),
-        Request::Claim { name } => claim(context, &name),
-        Request::AddOwner { name, user } => add_owner(context, &name, &user),
-        Request::RemoveOwner { name, user } => remove_owner(context, &name, &user),
         Request::Upload {
             file,
             sha256,
             body,
             requires_python,
         } => upload(context, &file, &sha256, body, &requires_python),
-        Request::Delete { file } => delete(context, &file),
+        request => {
+            let decision = decide_on(context, &request);
+            drop(request);
+            decision
+        }
+    }
+}
+
+/// The decision on a request that is no upload.
+fn decide_on(context: &Context<'_>, request: &Request) -> Result<Decision, Stop>
+    requires caller { IsOfCaller context.now }
+    requires no_upload { is_upload request.now ≡ false }
+    ensures { DecidesIn context.now request.now result }
+{
+    match request {
+        Request::AddUser {
+            user,
+            office,
+            token,
+        } => add_user(context, user, *office, token),
+        Request::SetToken { user, token } => set_token(context, user, token),
+        Request::SetQuota { name, quota } => set_quota(context, name, *quota),
+        Request::Claim { name } => claim(context, name),
+        Request::AddOwner { name, user } => add_owner(context, name, user),
+        Request::RemoveOwner { name, user } => remove_owner(context, name, user),
+        Request::Upload { .. } => unreachable!(),
+        Request::Delete { file } => delete(context, file),
         Request::Yank {
             name,
             release,
             reason,
-        } => yank(context, &name, &release, &reason),
-        Request::Unyank { name, release } => unyank(context, &name, &release),
-        Request::Relinquish { name } => relinquish(context, &name),
-        Request::Prohibit { name } => prohibit(context, &name),
-        Request::Allow { name } => allow(context, &name),
+        } => yank(context, name, release, reason),
+        Request::Unyank { name, release } => unyank(context, name, release),
+        Request::Relinquish { name } => relinquish(context, name),
+        Request::Prohibit { name } => prohibit(context, name),
+        Request::Allow { name } => allow(context, name),
         Request::OpenCase {
             name,
             kind,
             contact,
             work,
             why,
-        } => open_case(context, &name, kind, &contact, &work, &why),
+        } => open_case(context, name, *kind, contact, work, why),
         Request::RecordAttempt { name, means, sent } => {
-            record_attempt(context, &name, means, sent)
+            record_attempt(context, name, *means, *sent)
         }
-        Request::Transfer { name, quiet } => transfer(context, &name, quiet),
-        Request::CloseCase { name } => close_case(context, &name),
-        Request::AnswerCase { name } => answer_case(context, &name),
+        Request::Transfer { name, quiet } => transfer(context, name, *quiet),
+        Request::CloseCase { name } => close_case(context, name),
+        Request::AnswerCase { name } => answer_case(context, name),
     }
 }
