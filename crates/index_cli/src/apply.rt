@@ -75,7 +75,9 @@ pub fn apply_lines<S: Source, K: Sink, B: Books>(
             return Ok(count);
         };
         let reply = reply_to(alloc, desk, line.as_slice(), size)?;
-        let Ok(()) = write_line(sink, reply.as_bytes()) else {
+        let told = write_line(sink, reply.as_bytes());
+        drop(reply);
+        let Ok(()) = told else {
             return Err(LineEnd::WriteFault);
         };
     }

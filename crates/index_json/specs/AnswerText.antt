@@ -51,21 +51,23 @@ fault_name OutOfMemory = codes "OutOfMemory"
 fault_name Store = codes "Store"
 
 -- an answer of this kind, with more members
-abbrev pub answered : List ℕ → Members → Data
-answered kind more = object (member (codes "answer") (string kind) more)
+abbrev pub kind_value : List ℕ → Members → Data
+kind_value kind more = object (member (codes "answer") (string kind) more)
 
-abbrev pub named : List ℕ → Members
-named name = member (codes "name") (string name) no_members
+abbrev pub name_member : List ℕ → Members
+name_member name = member (codes "name") (string name) no_members
 
 abbrev pub answer_value : Answer → Data
-answer_value answer.Accepted = answered (codes "accepted") no_members
-answer_value answer.Already = answered (codes "already") no_members
-answer_value (answer.Refused refusal) = answered (codes "refused") (member (codes "code") (number (unsigned (number_of refusal))) (named (refusal_name refusal)))
-answer_value (answer.Fault fault) = answered (codes "fault") (named (fault_name fault))
+answer_value answer.Accepted = kind_value (codes "accepted") no_members
+answer_value answer.Already = kind_value (codes "already") no_members
+answer_value (answer.Refused refusal) = kind_value (codes "refused")
+    (member (codes "code") (number (unsigned (number_of refusal)))
+    (name_member (refusal_name refusal)))
+answer_value (answer.Fault fault) = kind_value (codes "fault") (name_member (fault_name fault))
 
 unfoldable pub answer_text_of : Answer → List ℕ
 answer_text_of answer = compact_text (answer_value answer)
 
 -- the answer to what asks nothing
 unfoldable pub bad_body_text : List ℕ
-bad_body_text = compact_text (answered (codes "message") (named (codes "BadBody")))
+bad_body_text = compact_text (kind_value (codes "message") (name_member (codes "BadBody")))

@@ -10,12 +10,16 @@ pub record Object : Type 0 where
   pub value : Data
 
 -- a row stands alone
-abbrev pub alone : Data → Object
-alone value = record { others = 0; value = value }
+abbrev pub object_alone : Data → Object
+object_alone value = record { others = 0; value = value }
 
--- a row has a moment and a token beside it
-abbrev pub in_call : Data → Object
-in_call value = record { others = 2; value = value }
+-- a call's moment and its token
+abbrev pub call_keys : ℕ
+call_keys = 2
+
+-- a row has those beside it
+abbrev pub object_in_call : Data → Object
+object_in_call value = record { others = call_keys; value = value }
 
 -- the object of which a row is read
 abbrev pub object_of : Row → Object

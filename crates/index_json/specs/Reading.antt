@@ -14,9 +14,13 @@ infixl 10 ◌>>=◌
 abbrev pub ◌>>=◌ : {A B : Type 0} → Reading A → (A → Reading B) → Reading B
 reading >>= next = λ object. option_and_then (λ found. next found object) (reading object)
 
--- what is there, whatever the object
-abbrev pub given : {A : Type 0} → Option A → Reading A
-given found = λ object. found
+-- this, whatever the object
+abbrev pub always : {A : Type 0} → A → Reading A
+always this = λ object. Some this
+
+-- this where it is something, whatever the object
+abbrev pub maybe : {A : Type 0} → Option A → Reading A
+maybe this = λ object. this
 
 abbrev pub text : List ℕ → Reading (List ℕ)
 text key = λ object. text_at key object.value
@@ -32,7 +36,7 @@ abbrev pub texts : List ℕ → List ℕ → Reading (List ℕ × List ℕ)
 texts first second = do
   one ← text first
   other ← text second
-  given (Some (one, other))
+  always (one, other)
 
 -- the object has so many keys of the row's, and the others alone
 abbrev pub has_keys : ℕ → Reading ⊤

@@ -1,4 +1,5 @@
--- The rows of requests: a key `do` with the row's name, the row's own keys, and no key beside these and the others.
+-- The rows of requests: a key `do` with the row's name, the row's own keys, and no key beside these and
+-- the others.
 use Rattle.std.specs.Prelude.{ℕ, List, if◌then◌else◌, Option, Some, None, bytes_eq, codes, option_and_then}
 use Rattle.index_retention.specs.declared.attempts.CaseKind.{CaseKind}
 use Rattle.index_retention.specs.declared.attempts.CaseKind.TheVariants.{Continue, Reuse}
@@ -7,8 +8,8 @@ use Rattle.index_retention.specs.declared.attempts.Means.TheVariants.{Profile, A
 use Rattle.index_rules.specs.declared.call.Request.{Request}
 use Rattle.index_rules.specs.declared.call.Request.TheVariants.{AddUser, SetToken, SetQuota, Claim, AddOwner, RemoveOwner, Upload, Delete, Yank, Unyank, Relinquish, Prohibit, Allow, OpenCase, RecordAttempt, Transfer, CloseCase, AnswerCase}
 use Rattle.index_json.specs.Json.{hex_bytes, json_of}
-use Rattle.index_json.specs.Object.{alone}
-use Rattle.index_json.specs.Reading.{Reading, ◌>>=◌, flag, given, has_keys, number, text, texts}
+use Rattle.index_json.specs.Object.{object_alone}
+use Rattle.index_json.specs.Reading.{Reading, ◌>>=◌, always, flag, has_keys, maybe, number, text, texts}
 
 -- a row of one text
 abbrev pub one_text : List ℕ → Reading (List ℕ)
@@ -29,33 +30,33 @@ add_user_row = do
   _ ← has_keys 4
   office ← flag (codes "office")
   found ← texts (codes "user") (codes "token_sha256")
-  given (Some (AddUser found.0 office found.1))
+  always (AddUser found.0 office found.1)
 
 abbrev pub set_token_row : Reading Request
 set_token_row = do
   found ← two_texts (codes "user") (codes "token_sha256")
-  given (Some (SetToken found.0 found.1))
+  always (SetToken found.0 found.1)
 
 -- ---- rows on names
 
 -- a row of a name alone
-abbrev pub named : (List ℕ → Request) → Reading Request
-named request = do
+abbrev pub name_request : (List ℕ → Request) → Reading Request
+name_request request = do
   name ← one_text (codes "name")
-  given (Some (request name))
+  always (request name)
 
 -- a row of a name and a user
-abbrev pub owned : (List ℕ → List ℕ → Request) → Reading Request
-owned request = do
+abbrev pub owner_request : (List ℕ → List ℕ → Request) → Reading Request
+owner_request request = do
   found ← two_texts (codes "name") (codes "user")
-  given (Some (request found.0 found.1))
+  always (request found.0 found.1)
 
 abbrev pub set_quota_row : Reading Request
 set_quota_row = do
   _ ← has_keys 3
   quota ← number (codes "quota")
   name ← text (codes "name")
-  given (Some (SetQuota name quota))
+  always (SetQuota name quota)
 
 -- ---- rows on files
 
@@ -63,7 +64,7 @@ set_quota_row = do
 abbrev pub body : Reading (List ℕ)
 body = do
   digits ← text (codes "hex")
-  given (hex_bytes digits)
+  maybe (hex_bytes digits)
 
 abbrev pub upload_row : Reading Request
 upload_row = do
@@ -71,35 +72,35 @@ upload_row = do
   body ← body
   requires ← text (codes "requires_python")
   found ← texts (codes "file") (codes "sha256")
-  given (Some (Upload found.0 found.1 body requires))
+  always (Upload found.0 found.1 body requires)
 
 abbrev pub delete_row : Reading Request
 delete_row = do
   file ← one_text (codes "file")
-  given (Some (Delete file))
+  always (Delete file)
 
 abbrev pub yank_row : Reading Request
 yank_row = do
   _ ← has_keys 4
   reason ← text (codes "reason")
   found ← texts (codes "name") (codes "release")
-  given (Some (Yank found.0 found.1 reason))
+  always (Yank found.0 found.1 reason)
 
 abbrev pub unyank_row : Reading Request
 unyank_row = do
   found ← two_texts (codes "name") (codes "release")
-  given (Some (Unyank found.0 found.1))
+  always (Unyank found.0 found.1)
 
 -- ---- rows on retention cases
 
-abbrev pub kind_named : List ℕ → Option CaseKind
-kind_named word =
+abbrev pub kind_of : List ℕ → Option CaseKind
+kind_of word =
     if bytes_eq word (codes "continue") then Some Continue
     else if bytes_eq word (codes "reuse") then Some Reuse
     else None
 
-abbrev pub means_named : List ℕ → Option Means
-means_named word =
+abbrev pub means_of : List ℕ → Option Means
+means_of word =
     if bytes_eq word (codes "profile") then Some Profile
     else if bytes_eq word (codes "author") then Some Author
     else if bytes_eq word (codes "pages") then Some Pages
@@ -108,12 +109,12 @@ means_named word =
 abbrev pub case_kind : Reading CaseKind
 case_kind = do
   word ← text (codes "kind")
-  given (kind_named word)
+  maybe (kind_of word)
 
 abbrev pub attempt_means : Reading Means
 attempt_means = do
   word ← text (codes "means")
-  given (means_named word)
+  maybe (means_of word)
 
 abbrev pub open_case_row : Reading Request
 open_case_row = do
@@ -121,7 +122,7 @@ open_case_row = do
   kind ← case_kind
   found ← texts (codes "name") (codes "contact")
   more ← texts (codes "work") (codes "why")
-  given (Some (OpenCase found.0 kind found.1 more.0 more.1))
+  always (OpenCase found.0 kind found.1 more.0 more.1)
 
 abbrev pub record_attempt_row : Reading Request
 record_attempt_row = do
@@ -129,14 +130,14 @@ record_attempt_row = do
   means ← attempt_means
   sent ← flag (codes "sent")
   name ← text (codes "name")
-  given (Some (RecordAttempt name means sent))
+  always (RecordAttempt name means sent)
 
 abbrev pub transfer_row : Reading Request
 transfer_row = do
   _ ← has_keys 3
   quiet ← flag (codes "quiet")
   name ← text (codes "name")
-  given (Some (Transfer name quiet))
+  always (Transfer name quiet)
 
 -- ---- the row that a word names
 
@@ -145,8 +146,8 @@ case_row word = λ object.
     if bytes_eq word (codes "open_case") then open_case_row object
     else if bytes_eq word (codes "record_attempt") then record_attempt_row object
     else if bytes_eq word (codes "transfer") then transfer_row object
-    else if bytes_eq word (codes "close_case") then named CloseCase object
-    else if bytes_eq word (codes "answer_case") then named AnswerCase object
+    else if bytes_eq word (codes "close_case") then name_request CloseCase object
+    else if bytes_eq word (codes "answer_case") then name_request AnswerCase object
     else None
 
 abbrev pub file_row : List ℕ → Reading Request
@@ -159,17 +160,17 @@ file_row word = λ object.
 
 abbrev pub owner_row : List ℕ → Reading Request
 owner_row word = λ object.
-    if bytes_eq word (codes "claim") then named Claim object
-    else if bytes_eq word (codes "relinquish") then named Relinquish object
-    else if bytes_eq word (codes "add_owner") then owned AddOwner object
-    else if bytes_eq word (codes "remove_owner") then owned RemoveOwner object
+    if bytes_eq word (codes "claim") then name_request Claim object
+    else if bytes_eq word (codes "relinquish") then name_request Relinquish object
+    else if bytes_eq word (codes "add_owner") then owner_request AddOwner object
+    else if bytes_eq word (codes "remove_owner") then owner_request RemoveOwner object
     else file_row word object
 
 abbrev pub name_row : List ℕ → Reading Request
 name_row word = λ object.
     if bytes_eq word (codes "set_quota") then set_quota_row object
-    else if bytes_eq word (codes "prohibit") then named Prohibit object
-    else if bytes_eq word (codes "allow") then named Allow object
+    else if bytes_eq word (codes "prohibit") then name_request Prohibit object
+    else if bytes_eq word (codes "allow") then name_request Allow object
     else owner_row word object
 
 abbrev pub user_row : List ℕ → Reading Request
@@ -185,4 +186,4 @@ request_row = do
 
 -- the request that bytes of JSON are, with the keys of its row alone
 unfoldable pub request_of : List ℕ → Option Request
-request_of bytes = option_and_then (λ value. request_row (alone value)) (json_of bytes)
+request_of bytes = option_and_then (λ value. request_row (object_alone value)) (json_of bytes)

@@ -20,7 +20,10 @@ texts list = array (items_of (map string list))
 
 -- a name that is not held
 abbrev pub unheld_value : List ℕ → List ℕ → Data
-unheld_value name state = object (member (codes "name") (string name) (member (codes "state") (string state) no_members))
+unheld_value name state = object
+    (member (codes "name") (string name)
+    (member (codes "state") (string state)
+    no_members))
 
 -- a moment, or that there is none
 abbrev pub moment_value : Option ℕ → Data
@@ -74,15 +77,22 @@ standing_text_of standing = compact_text (standing_value standing)
 -- ---- the same by what is put into an object, whatever the order
 
 abbrev pub name_put : List ℕ → List ℕ → Members → Members
-name_put name state members = put (codes "state") (string state) (put (codes "name") (string name) members)
+name_put name state members =
+    put (codes "state") (string state)
+    (put (codes "name") (string name) members)
 
 abbrev pub project_put : Project → Members → Members
 project_put project members =
-    put (codes "shown") (string project.shown) (put (codes "quota") (whole project.quota) (put (codes "charge") (whole project.charge) members))
+    put (codes "shown") (string project.shown)
+    (put (codes "quota") (whole project.quota)
+    (put (codes "charge") (whole project.charge) members))
 
 abbrev pub held_put : HeldName → Members → Members
 held_put held members =
-    name_put held.name (codes "held") (project_put held.project (put (codes "owners") (texts held.owners) (put (codes "case") (case_value held.case) members)))
+    name_put held.name (codes "held")
+    (project_put held.project
+    (put (codes "owners") (texts held.owners)
+    (put (codes "case") (case_value held.case) members)))
 
 abbrev pub standing_put : Standing → Members → Members
 standing_put (standing.Free name) members = name_put name (codes "free") members
@@ -91,7 +101,9 @@ standing_put (standing.Held held) members = held_put held members
 
 abbrev pub means_put : CaseState → Members → Members
 means_put state members =
-    put (codes "profile") (boolean state.profile) (put (codes "pages") (boolean state.pages) (put (codes "author") (boolean state.author) members))
+    put (codes "profile") (boolean state.profile)
+    (put (codes "pages") (boolean state.pages)
+    (put (codes "author") (boolean state.author) members))
 
 abbrev pub times_put : CaseRecord → Members → Members
 times_put opened members =

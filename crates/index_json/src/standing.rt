@@ -1,7 +1,7 @@
 //! The text of a standing.
 //!
-//! The members of an object are put into a map by functions that own nothing, and an object is made of it at one place:
-//! so no exit has a map to drop.
+//! The members of an object are put into a map by functions that own nothing, and an object is made of it
+//! at one place: so no exit has a map to drop.
 ghost use Rattle.std.specs.Prelude.{◌≡◌, IfErr, IfOk, Ok, OnOk, string_bytes};
 ghost use Rattle.serde_json.specs.Data.{object, put as put_lem, string};
 ghost use Rattle.serde_json.specs.View.{members_view, view};

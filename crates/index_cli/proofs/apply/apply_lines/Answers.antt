@@ -75,30 +75,30 @@ returns-in_err-reply-clause-limit g c =
 
 -- ---- a write failed
 
-pub returns-in_default-write_line-clause-tables : goal.returns-in_default-write_line-clause-tables
-returns-in_default-write_line-clause-tables g c = λ honest one.
+pub returns-in_default-told-clause-tables : goal.returns-in_default-told-clause-tables
+returns-in_default-told-clause-tables g c = λ honest one.
     let honest_then = c.reply_to.ensures.honest honest in
-    let front = rw c.as_bytes.ensures at c.in_default-write_line.ensures.front in
+    let front = rw c.as_bytes.ensures at c.in_default-told.ensures.front in
     Progress-during _ _ _ _ _ _ _ _ _ _ c.in-Some.size _ _ _ (c.loop-count.invariant.progress honest_then one)
     (rw c.in-Some.is at c.in_ok-size.ensures.line)
     (rw c.as_slice.ensures.value at (c.in_ok-reply.ensures.reply honest (c.loop-count.invariant.one_bearer honest_then one)))
     front.0 front.1
 
-pub returns-in_default-write_line-clause-history : goal.returns-in_default-write_line-clause-history
-returns-in_default-write_line-clause-history g c = λ honest h legal stands.
+pub returns-in_default-told-clause-history : goal.returns-in_default-told-clause-history
+returns-in_default-told-clause-history g c = λ honest h legal stands.
     TellsDuring-history h legal _ stands _ _ _ _ _
-    (returns-in_default-write_line-clause-tables g c honest (sound_when_legal h legal _ stands).one_bearer)
+    (returns-in_default-told-clause-tables g c honest (sound_when_legal h legal _ stands).one_bearer)
 
-pub returns-in_default-write_line-clause-limit : goal.returns-in_default-write_line-clause-limit
-returns-in_default-write_line-clause-limit g c =
+pub returns-in_default-told-clause-limit : goal.returns-in_default-told-clause-limit
+returns-in_default-told-clause-limit g c =
     (c.next_line.new.left, Charges-trans _ _ _ _ _ _ c.loop-count.invariant.charged c.next_line.ensures.charged)
 
-pub returns-in_default-write_line-clause-one_bearer : goal.returns-in_default-write_line-clause-one_bearer
-returns-in_default-write_line-clause-one_bearer g c = λ honest one.
+pub returns-in_default-told-clause-one_bearer : goal.returns-in_default-told-clause-one_bearer
+returns-in_default-told-clause-one_bearer g c = λ honest one.
     c.reply_to.ensures.one_bearer honest (c.loop-count.invariant.one_bearer (c.reply_to.ensures.honest honest) one)
 
-pub returns-in_default-write_line-clause-honest : goal.returns-in_default-write_line-clause-honest
-returns-in_default-write_line-clause-honest g c = λ honest. c.loop-count.invariant.honest (c.reply_to.ensures.honest honest)
+pub returns-in_default-told-clause-honest : goal.returns-in_default-told-clause-honest
+returns-in_default-told-clause-honest g c = λ honest. c.loop-count.invariant.honest (c.reply_to.ensures.honest honest)
 
 -- ---- a line was answered
 

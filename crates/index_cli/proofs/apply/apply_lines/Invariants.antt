@@ -1,6 +1,7 @@
 use Rattle.std.proofs.Common.{◌≡◌, ◌≤◌, ◌+◌}
 use Rattle.index_rules.specs.Facts.{HasOneBearer}
 use Rattle.index_rules.specs.Sound.{IsSound}
+use Rattle.index_cli.specs.declared.apply.TheConstants.{MOST_BYTES}
 use Rattle.index_cli.specs.Lines.{Charges}
 use Rattle.index_cli.proofs.Progress.{Progress}
 use Rattle.index_cli.proofs.apply.apply_lines.Given as goal
@@ -15,8 +16,8 @@ invariant-loop-count g l =
     record {
       progress : honest → HasOneBearer before
           → Progress given left before now (g.K.Sink.contents l.fn.sink) (g.K.Sink.contents l.sink) l.count;
-      charged : Charges 1099511627776 l.left given left;
-      spent : l.left + l.count ≤ 1099511627776;
+      charged : Charges MOST_BYTES l.left given left;
+      spent : l.left + l.count ≤ MOST_BYTES;
       reads : g.S.Source.failures l.source ≡ g.S.Source.failures l.fn.source;
       writes : g.K.Sink.failures l.sink ≡ g.K.Sink.failures l.fn.sink;
       one_bearer : honest → HasOneBearer before → HasOneBearer now;
