@@ -5,7 +5,7 @@ ghost use Rattle.std.specs.Prelude.{◌≡◌, IfOk, IsErr, IsOk, codes};
 ghost use Rattle.std.specs.Process.{exit_status};
 ghost use Rattle.index_digest.specs.Digest.{sha256};
 ghost use Rattle.index_plain.specs.Plain.{tables_of};
-ghost use Rattle.index_rules.specs.Opened.{opened};
+ghost use Rattle.index_rules.specs.FirstTables.{first_tables};
 
 use index_cli::{LineEnd, apply_lines};
 use index_desk::Desk;
@@ -76,7 +76,7 @@ fn ended(rt: &HostRuntime, end: Result<u64, LineEnd>) -> ExitCode
 /// Tables whose one user is `office`, of the office, with the token `office`.
 fn office_books(rt: &HostRuntime) -> Result<PlainBooks, OpenFault>
     ensures tables { let token = sha256 (codes "office") in
-        IfOk result (λ books. tables_of books ≡ opened (codes "office") token) }
+        IfOk result (λ books. tables_of books ≡ first_tables (codes "office") token) }
 {
     PlainBooks::new(rt.alloc(), b"office", Digest256::of(b"office"))
 }

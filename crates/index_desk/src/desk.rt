@@ -1,7 +1,7 @@
 //! Calls in order, over any books.
 ghost use Rattle.std.specs.Prelude.{◌≡◌, ◌≢◌, [], IfOk, IfErr, OnOk, OnErr, Contains, length, vec_len, vec_capacity};
 ghost use Rattle.std.specs.FinMap.{get};
-ghost use Rattle.index_rules.specs.Runs.{Answers, Runs, tables_after, tables_by};
+ghost use Rattle.index_rules.specs.Runs.{Answers, Runs, tables_after, tables_after_change};
 ghost use Rattle.index_rules.specs.Decided.{Decides};
 ghost use Rattle.index_rules.specs.Effect.{effect};
 ghost use Rattle.index_rules.specs.Verdict.{Verdict, verdict_now};
@@ -11,8 +11,8 @@ ghost use Rattle.index_rules.specs.Sound.{IsSound};
 ghost use Rattle.index_rules.specs.Tables.{owners_in};
 ghost use Rattle.index_rules.specs.Failures.{FailsAtMostOnce, HasFailed};
 ghost use Rattle.index_rules.specs.History.{History};
-ghost use Rattle.index_rules.specs.StandsFor.{StandsFor, body_at};
-ghost use Rattle.index_rules.specs.Legal.{CarriesOn, CarriesOnBy, IsLegal};
+ghost use Rattle.index_rules.specs.StandsFor.{StandsFor, body_after};
+ghost use Rattle.index_rules.specs.Legal.{CarriesOn, CarriesOnAll, IsLegal};
 ghost use Rattle.index_desk.specs.Looks.{Looks};
 ghost use Rattle.index_desk.specs.Standings.{IsStandingAfter, held_with, standing_in};
 
@@ -107,7 +107,7 @@ impl<B: Books> Desk<B> {
         // Tables that stood for a legal history stand for it with exactly the accepted calls, in order.
         ensures history { B.IsHonest self.new →
             IfOk result (λ answers. (h : History) → IsLegal h → StandsFor (B.tables self.old) h →
-            CarriesOnBy h calls.items answers.items (B.tables self.new)) }
+            CarriesOnAll h calls.items answers.items (B.tables self.new)) }
         ensures store { IfOk result (λ answers.
             Contains answers.items (Answer.Fault Fault.Store) →
             HasFailed (B.failures self.old) (B.failures self.new)) }
@@ -171,7 +171,7 @@ impl<B: Books> Desk<B> {
         // After a history it is the body of the file's last upload, where the file is undeleted.
         ensures history { B.IsHonest self.new →
             IfOk result (λ body. (h : History) → StandsFor (B.tables self.old) h →
-            body ≡ body_at h file.now) }
+            body ≡ body_after h file.now) }
         ensures unchanged { B.IsHonest self.new → B.tables self.new ≡ B.tables self.old }
         ensures kept { OnOk result (B.failures self.new ≡ B.failures self.old) }
         ensures store { IfErr result (λ fault. fault ≡ Fault.Store →
@@ -224,7 +224,7 @@ fn settle<B: Books>(books: &mut B, alloc: Global, decision: Result<Decision, Sto
         Decides decision verdict change → Answers verdict result }
     ensures tables { B.IsHonest books.new → (verdict : Verdict) (change : Change) →
         Decides decision verdict change →
-        B.tables books.new ≡ tables_by (B.tables books.old) change result }
+        B.tables books.new ≡ tables_after_change (B.tables books.old) change result }
     ensures unchanged { B.IsHonest books.new → result ≢ Answer.Accepted →
         B.tables books.new ≡ B.tables books.old }
     ensures store { result ≡ Answer.Fault Fault.Store →

@@ -6,7 +6,7 @@ use Rattle.std.proofs.lemmas.Bool.{and_parts, or_cases, eqb-true}
 use Rattle.std.proofs.lemmas.List.Folds.{list_any_at}
 use Rattle.hex.specs.Hex.{IsBytes, decode_of, decode_sized, encode_lower, encode_with, lower_digits}
 use Rattle.hex.proofs.HexLemmas.{decode_of-encode_lower, decode_sized-encode_lower, length-encode_with}
-use Rattle.index_digest.specs.Digest.{IsDigest, digest_in, is_digest_text, is_text_digit, text_digits, text_of}
+use Rattle.index_digest.specs.Digest.{IsDigest, read_digest, is_digest_text, is_text_digit, text_digits, text_of}
 
 -- the place of a byte in a list that has it
 place : (c : ℕ) (digits : List ℕ) → list_any (λ digit. digit == c) digits ≡ true
@@ -71,7 +71,7 @@ pub record Reads (text digest : List ℕ) : Type 0 where
   pub is_digest : IsDigest digest
   pub same : text_of digest ≡ text
   pub sized : decode_sized text 32 ≡ Ok digest
-  pub found : digest_in text ≡ Some digest
+  pub found : read_digest text ≡ Some digest
 
 -- each digit that is written is one
 is_text_digit-at : (k : ℕ) → k < 16 → is_text_digit (slice_index lower_digits k) ≡ true
@@ -85,14 +85,14 @@ list_all-encode_lower (b ∷ bytes) fits =
     let byte : b < 256 = fits 0 in
     rw (is_text_digit-at (b / 16) (omega arith), is_text_digit-at (b % 16) (omega arith)) (list_all-encode_lower bytes (λ i. fits (suc i)))
 
-digest_in-digits : (text : List ℕ) → is_digest_text text ≡ true → digest_in text ≡ result_ok (decode_of text)
-unfolding digest_in
-digest_in-digits text h = rw h refl
+read_digest-digits : (text : List ℕ) → is_digest_text text ≡ true → read_digest text ≡ result_ok (decode_of text)
+unfolding read_digest
+read_digest-digits text h = rw h refl
 
 -- what is no digest's text has none
-pub digest_in-other : (text : List ℕ) → is_digest_text text ≡ false → digest_in text ≡ None
-unfolding digest_in
-digest_in-other text h = rw h refl
+pub read_digest-other : (text : List ℕ) → is_digest_text text ≡ false → read_digest text ≡ None
+unfolding read_digest
+read_digest-other text h = rw h refl
 
 -- 32 bytes read from their text
 pub reads_back : (digest : List ℕ) → IsDigest digest → Reads (text_of digest) digest
@@ -106,7 +106,7 @@ reads_back digest h =
       is_digest = h;
       same = refl;
       sized = decode_sized-encode_lower digest 32 h.size h.bytes;
-      found = digest_in-digits (encode_lower digest) found ∙ ap result_ok (decode_of-encode_lower digest h.bytes);
+      found = read_digest-digits (encode_lower digest) found ∙ ap result_ok (decode_of-encode_lower digest h.bytes);
     }
 
 -- each digest's text reads

@@ -30,5 +30,5 @@ unfoldable pub text_of : List ℕ → List ℕ
 text_of digest = encode_lower digest
 
 -- the digest that a text is of, if it is of one
-unfoldable pub digest_in : List ℕ → Option (List ℕ)
-digest_in text = if is_digest_text text then result_ok (decode_of text) else None
+unfoldable pub read_digest : List ℕ → Option (List ℕ)
+read_digest text = if is_digest_text text then result_ok (decode_of text) else None

@@ -1,7 +1,7 @@
 //! The value of a SHA-256 digest.
 ghost use Rattle.std.specs.Prelude.{◌≡◌, ◌↔◌, Some, IsTrue, IsSome, IfSome};
 ghost use Rattle.std.specs.List.{list_all};
-ghost use Rattle.index_digest.specs.Digest.{IsDigest, is_digest_text, is_text_digit, digest_in, sha256, text_of};
+ghost use Rattle.index_digest.specs.Digest.{IsDigest, is_digest_text, is_text_digit, read_digest, sha256, text_of};
 
 use hex::FromHex;
 use sha2::{Digest, Sha256};
@@ -77,7 +77,7 @@ impl Digest256 {
     /// The digest that `text` is of: 64 digits of `0-9a-f`, two for each byte. An upper case digit
     /// is refused.
     pub fn read_hex(text: &[u8]) -> Option<Digest256>
-        ensures value { result ≡ digest_in text.now }
+        ensures value { result ≡ read_digest text.now }
         ensures found { IsSome result ↔ IsTrue (is_digest_text text.now) }
         ensures text { IfSome result (λ digest. text_of digest ≡ text.now) }
     {
@@ -91,7 +91,7 @@ impl Digest256 {
     /// Writes the digest's text: 64 digits of `0-9a-f`, two for each byte.
     pub fn hex_into(&self, text: &mut [u8; 64])
         ensures written { text.new ≡ text_of self.now }
-        ensures reads_back { digest_in text.new ≡ Some self.now }
+        ensures reads_back { read_digest text.new ≡ Some self.now }
     {
         hex::encode_to_slice(&self.bytes, text).unwrap();
     }

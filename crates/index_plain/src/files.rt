@@ -2,8 +2,8 @@
 ghost use Rattle.std.specs.Prelude.{◌≡◌, not};
 ghost use Rattle.std.specs.List.{list_any};
 ghost use Rattle.std.specs.FinMap.{entries as entries_in, from_entries, retain_keys};
-ghost use Rattle.index_rules.specs.Effect.{deleted_of, is_file_of};
-ghost use Rattle.index_rules.specs.Facts.{is_undeleted_in};
+ghost use Rattle.index_rules.specs.Effect.{as_deleted_of, is_file_of};
+ghost use Rattle.index_rules.specs.Facts.{is_undeleted_of_release};
 ghost use Rattle.index_rules.specs.Maps.{bytes_cmp, change_values};
 
 use crate::entries;
@@ -14,7 +14,7 @@ use index_rules::FileRecord;
 /// Whether a release has an undeleted file. An entry counts where it is the first with its key.
 pub fn has_undeleted(files: &[(FileName, FileRecord)], name: &NormalName, release: &Release) -> bool
     ensures { let known = entries_in (from_entries {R = bytes_cmp} files.now) in
-        result ≡ list_any (λ file. is_undeleted_in name.now release.now file.1) known }
+        result ≡ list_any (λ file. is_undeleted_of_release name.now release.now file.1) known }
 {
     for entry in files {
         if is_undeleted(&entry.1, name, release) {
@@ -28,7 +28,7 @@ pub fn has_undeleted(files: &[(FileName, FileRecord)], name: &NormalName, releas
 }
 
 fn is_undeleted(known: &FileRecord, name: &NormalName, release: &Release) -> bool
-    ensures { result ≡ is_undeleted_in name.now release.now known.now }
+    ensures { result ≡ is_undeleted_of_release name.now release.now known.now }
 {
     known.is_undeleted && *name == known.project && *release == known.release
 }
@@ -36,7 +36,7 @@ fn is_undeleted(known: &FileRecord, name: &NormalName, release: &Release) -> boo
 /// Marks the files of a name as deleted.
 pub fn mark_deleted(files: &mut [(FileName, FileRecord)], name: &NormalName)
     ensures { let before = from_entries {R = bytes_cmp} files.old in
-        from_entries {R = bytes_cmp} files.new ≡ change_values (deleted_of name.now) before }
+        from_entries {R = bytes_cmp} files.new ≡ change_values (as_deleted_of name.now) before }
 {
     for entry in files.iter_mut() {
         if *name == entry.1.project {

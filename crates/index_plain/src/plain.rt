@@ -49,7 +49,7 @@ impl Drop for PlainBooks {
 }
 
 impl PlainBooks {
-    ghost use Rattle.index_rules.specs.Opened.{IsBadFirstUser, opened};
+    ghost use Rattle.index_rules.specs.FirstTables.{IsBadFirstUser, first_tables};
     ghost use Rattle.index_rules.specs.Sound.{IsSound};
     ghost use Rattle.index_rules.specs.History.{begins};
     ghost use Rattle.index_rules.specs.StandsFor.{StandsFor};
@@ -60,7 +60,7 @@ impl PlainBooks {
     /// `BadFirstUser` exactly where the bytes are no user id, or the digest is that of the empty text; else
     /// `OutOfMemory` is the one error.
     pub fn new(alloc: Global, user: &[u8], token: Digest256) -> Result<PlainBooks, OpenFault>
-        ensures tables { IfOk result (λ books. tables_of books ≡ opened user.now token) }
+        ensures tables { IfOk result (λ books. tables_of books ≡ first_tables user.now token) }
         ensures sound { IfOk result (λ books. IsSound (tables_of books)) }
         ensures history { let h = begins user.now token in
             IfOk result (λ books. StandsFor (tables_of books) h) }
@@ -74,7 +74,7 @@ impl PlainBooks {
     }
 
     fn opened(alloc: Global, user: &[u8], token: Digest256) -> Result<PlainBooks, OpenFault>
-        ensures tables { IfOk result (λ books. tables_of books ≡ opened user.now token) }
+        ensures tables { IfOk result (λ books. tables_of books ≡ first_tables user.now token) }
         ensures failures { IfOk result (λ books. failures_of books ≡ 0) }
         ensures bad_first_user { let bad = IsErrOf result OpenFault.BadFirstUser in
             bad ↔ IsBadFirstUser user.now token }

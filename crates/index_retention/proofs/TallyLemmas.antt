@@ -6,7 +6,7 @@ use Rattle.std.specs.Option.{option_map, option_or}
 use Rattle.std.proofs.lemmas.List.{reverse-append}
 use Rattle.std.proofs.lemmas.List.Folds.{find-append}
 use Rattle.std.proofs.lemmas.List.Sums.{sum_by-cons}
-use Rattle.index_retention.specs.Attempts.{Attempt, first_sent, is_by, noted, tally_of}
+use Rattle.index_retention.specs.Attempts.{Attempt, first_sent, is_of_means, tally_with, tally_of}
 use Rattle.index_retention.specs.declared.attempts.Means.TheVariants.{Profile, Author, Pages}
 
 -- the first sent stays, unless there was none
@@ -26,7 +26,7 @@ moment None attempt false = refl
 
 -- one more attempt
 pub attempts_are_counted : (attempt : Attempt) (attempts : List Attempt)
-    → tally_of (attempt ∷ attempts) ≡ noted (tally_of attempts) attempt
+    → tally_of (attempt ∷ attempts) ≡ tally_with (tally_of attempts) attempt
 unfolding tally_of
 attempts_are_counted attempt attempts =
     let number : length (attempt ∷ attempts) ≡ length attempts + 1 = omega arith in
@@ -38,8 +38,8 @@ attempts_are_counted attempt attempts =
     λ i. record {
       attempts = number i;
       sent = sent i;
-      profile = is_by Profile attempt || list_any (is_by Profile) attempts;
-      author = is_by Author attempt || list_any (is_by Author) attempts;
-      pages = is_by Pages attempt || list_any (is_by Pages) attempts;
+      profile = is_of_means Profile attempt || list_any (is_of_means Profile) attempts;
+      author = is_of_means Author attempt || list_any (is_of_means Author) attempts;
+      pages = is_of_means Pages attempt || list_any (is_of_means Pages) attempts;
       first = first i;
     }

@@ -25,8 +25,8 @@ is_same_means Pages Pages = true
 is_same_means a b = false
 
 -- the attempt is by this means
-abbrev pub is_by : Means → Attempt → Bool
-is_by means attempt = is_same_means means attempt.means
+abbrev pub is_of_means : Means → Attempt → Bool
+is_of_means means attempt = is_same_means means attempt.means
 
 -- what a case keeps of its attempts: how many there are, how many were sent, which of the three means occur, sent or
 -- not, and the moment of the first that was sent
@@ -58,19 +58,19 @@ unfoldable pub tally_of : List Attempt → Tally
 tally_of attempts = record {
   attempts = length attempts;
   sent = count_by (λ attempt. attempt.sent) attempts;
-  profile = list_any (is_by Profile) attempts;
-  author = list_any (is_by Author) attempts;
-  pages = list_any (is_by Pages) attempts;
+  profile = list_any (is_of_means Profile) attempts;
+  author = list_any (is_of_means Author) attempts;
+  pages = list_any (is_of_means Pages) attempts;
   first = option_map (λ attempt. attempt.at) (first_sent attempts);
 }
 
 -- a tally with one attempt more
-abbrev pub noted : Tally → Attempt → Tally
-noted tally attempt = record {
+abbrev pub tally_with : Tally → Attempt → Tally
+tally_with tally attempt = record {
   attempts = tally.attempts + 1;
   sent = tally.sent + (if attempt.sent then 1 else 0);
-  profile = is_by Profile attempt || tally.profile;
-  author = is_by Author attempt || tally.author;
-  pages = is_by Pages attempt || tally.pages;
+  profile = is_of_means Profile attempt || tally.profile;
+  author = is_of_means Author attempt || tally.author;
+  pages = is_of_means Pages attempt || tally.pages;
   first = option_or tally.first (if attempt.sent then Some attempt.at else None);
 }

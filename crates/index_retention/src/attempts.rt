@@ -1,6 +1,6 @@
 //! What a case keeps of the attempts to reach a name's owner.
 ghost use Rattle.std.specs.Prelude.{◌≡◌, ◌≤◌, ◌<◌, ◌↔◌, ℕ, List, [], ◌∷◌, IsTrue, IsSome, IfErr, OnOk, OnErr, SomeIff};
-ghost use Rattle.index_retention.specs.Attempts.{Attempt, IsTally, attempt_of, is_full, most_attempts, noted, tally_of};
+ghost use Rattle.index_retention.specs.Attempts.{Attempt, IsTally, attempt_of, is_full, most_attempts, tally_with, tally_of};
 
 use crate::fault::CaseFault;
 use std::marker::Model;
@@ -169,7 +169,7 @@ impl CaseState {
 pub fn note(case: &mut CaseState, means: Means, sent: bool, at: u64) -> Result<(), CaseFault>
     ensures full { (result ≡ Err CaseFault.AttemptsFull) ↔ IsTrue (is_full case.old) }
     ensures only_full { IfErr result (λ fault. fault ≡ CaseFault.AttemptsFull) }
-    ensures noted { OnOk result (case.new ≡ noted case.old (attempt_of means sent at)) }
+    ensures noted { OnOk result (case.new ≡ tally_with case.old (attempt_of means sent at)) }
     ensures recorded { (earlier : List Attempt) → case.old ≡ tally_of earlier
         → OnOk result (case.new ≡ tally_of (attempt_of means sent at ∷ earlier)) }
     ensures unchanged { OnErr result (case.new ≡ case.old) }

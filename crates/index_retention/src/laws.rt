@@ -1,11 +1,11 @@
 //! What holds of every case.
 ghost use Rattle.std.specs.Prelude.{◌≡◌, List, ◌∷◌};
-ghost use Rattle.index_retention.specs.Attempts.{Attempt, noted, tally_of};
+ghost use Rattle.index_retention.specs.Attempts.{Attempt, tally_with, tally_of};
 
 /// One attempt more is noted in the tally of the earlier ones: what a case keeps is what its
 /// attempts, counted anew, give.
 #[tactic(auto, using(crate::proofs::TallyLemmas::attempts_are_counted))]
 pub fn attempts_are_counted()
     ensures { (attempt : Attempt) (earlier : List Attempt)
-        → tally_of (attempt ∷ earlier) ≡ noted (tally_of earlier) attempt }
+        → tally_of (attempt ∷ earlier) ≡ tally_with (tally_of earlier) attempt }
 {}

@@ -7,7 +7,7 @@ use Rattle.index_rules.specs.declared.answer.Refusal.TheVariants.{BadMoment, Bad
 use Rattle.index_rules.specs.Refusals.{number_of}
 use Rattle.index_rules.specs.Facts.{Facts}
 use Rattle.index_rules.proofs.RefusalNumbers.{number_of-is}
-use Rattle.index_rules.specs.Verdict.{Accept, applies, refusals_of, is_already, decided, verdict_on}
+use Rattle.index_rules.specs.Verdict.{Accept, applies, refusals_of, is_already, verdict_of, verdict_on}
 
 -- none of these passes the test
 abbrev pub NonePasses : {A : Type 0} → (A → Bool) → List A → Type 0
@@ -33,7 +33,7 @@ NonePasses-among p (x ∷ xs) none refusal there = elim (cases_Bool (number_of r
   | inr e ↦ NonePasses-among p xs none.1 refusal (sym (ap (λ b. b || is_among refusal xs) e) ∙ there)
 ]
 
-decided-accept : (refusal : Option Refusal) (already : Bool) → decided refusal already ≡ Accept → (refusal ≡ None) × (already ≡ false)
+decided-accept : (refusal : Option Refusal) (already : Bool) → verdict_of refusal already ≡ Accept → (refusal ≡ None) × (already ≡ false)
 decided-accept (Some r) already e = cc
 decided-accept None true e = cc
 decided-accept None false e = (refl, refl)

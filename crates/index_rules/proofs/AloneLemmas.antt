@@ -11,16 +11,16 @@ use Rattle.index_rules.specs.declared.call.Request.TheVariants.{AddUser, SetToke
 use Rattle.index_rules.specs.declared.records.FileRecord.{FileRecord}
 use Rattle.index_rules.specs.Maps.{Bytes, Map, same}
 use Rattle.index_rules.specs.Requests.{read_file, user_key, token_key, name_key, file_key, release_key}
-use Rattle.index_rules.specs.Facts.{is_undeleted_in, of_both, at_both}
+use Rattle.index_rules.specs.Facts.{is_undeleted_of_release, of_both, at_both}
 use Rattle.index_rules.specs.Verdict.{verdict_on}
 use Rattle.index_rules.specs.Sound.{charged_size}
 use Rattle.index_rules.specs.History.{History, begins, more, is_read_as}
-use Rattle.index_rules.specs.PastUsers.{user_of, bearer}
-use Rattle.index_rules.specs.PastNames.{greatest, is_held_now, owns, receivers, alone_owns, yank_of}
-use Rattle.index_rules.specs.PastFiles.{uploaded, is_there, size_of, charge, undeleted_count, has_file_of}
-use Rattle.index_rules.specs.StandsFor.{name_by, name_at, file_by, file_at, case_by_attempts, case_at}
+use Rattle.index_rules.specs.PastUsers.{user_after, bearer_after}
+use Rattle.index_rules.specs.PastNames.{greatest, is_held_now, owns_after, receivers_after, owns_alone_after, yank_after}
+use Rattle.index_rules.specs.PastFiles.{uploaded_files_after, is_charged_after, size_after, charge_after, undeleted_count_after, has_release_after}
+use Rattle.index_rules.specs.StandsFor.{record_of_state, name_after, file_of_upload, file_after, record_of_case, case_record_after}
 use Rattle.index_rules.specs.Legal.{IsLegal, facts_after}
-use Rattle.index_rules.specs.Laws.{is_kept, only, StandsAlone}
+use Rattle.index_rules.specs.Laws.{is_kept, history_of_name, StandsAlone}
 use Rattle.index_rules.proofs.OwnerLists.{same-is}
 use Rattle.index_rules.proofs.KeyLemmas.{same-refl, cases_same, same_truth, get-kept}
 use Rattle.index_rules.proofs.EntryLemmas.{list_all-at, list_all-from}
@@ -38,7 +38,7 @@ module _ (n : Bytes) (h : History) (legal : IsLegal h) where
   abbrev files_of_name : Map FileRecord
   files_of_name = retain_keys (tables_of h).files (λ f. same n (project_of f))
 
-  file_of_name : (f : Bytes) → n ≡ project_of f → get files_of_name f ≡ file_at h f
+  file_of_name : (f : Bytes) → n ≡ project_of f → get files_of_name f ≡ file_after h f
   file_of_name f is = get-kept (tables_of h).files (λ f. same n (project_of f)) f
       ∙ ap (λ b. cond b (get (tables_of h).files f) None) (ap (same n) (sym is) ∙ same-refl n)
       ∙ (legal_made h legal).stands.files f
@@ -47,51 +47,51 @@ module _ (n : Bytes) (h : History) (legal : IsLegal h) where
   no_other_file f other = get-kept (tables_of h).files (λ f. same n (project_of f)) f ∙ ap (λ b. cond b (get (tables_of h).files f) None) other
 
   -- a history that makes the same of these files counts and finds the same of them
-  module _ (g : History) (agrees : (f : Bytes) → n ≡ project_of f → file_at g f ≡ file_at h f) where
-    has_keys : HasKeys files_of_name (uploaded g)
+  module _ (g : History) (agrees : (f : Bytes) → n ≡ project_of f → file_after g f ≡ file_after h f) where
+    has_keys : HasKeys files_of_name (uploaded_files_after g)
     has_keys f there = elim (cases_same n (project_of f)) [
       | inl is ↦ sym (known_is_uploaded g f) ∙ sym (is_some-map _ _) ∙ ap is_some (agrees f is ∙ sym (file_of_name f is)) ∙ there
       | inr other ↦ absurd (false≢true (sym (ap is_some (no_other_file f other)) ∙ there))
     ]
 
-    part_at : {A : Type 0} (part : FileRecord → A) (none : A) (found : Bytes → A) → ((f : Bytes) → option_map_or part (file_at g f) none ≡ found f)
+    part_at : {A : Type 0} (part : FileRecord → A) (none : A) (found : Bytes → A) → ((f : Bytes) → option_map_or part (file_after g f) none ≡ found f)
         → ((f : Bytes) → same n (project_of f) ≡ false → found f ≡ none) → (f : Bytes) → found f ≡ option_map_or part (get files_of_name f) none
     part_at part none found here elsewhere f = elim (cases_same n (project_of f)) [
       | inl is ↦ sym (here f) ∙ ap (λ o. option_map_or part o none) (agrees f is ∙ sym (file_of_name f is))
       | inr other ↦ elsewhere f other ∙ sym (ap (λ o. option_map_or part o none) (no_other_file f other))
     ]
 
-    charge_of_name : charge g n ≡ total_of (charged_size n) (entries files_of_name)
+    charge_of_name : charge_after g n ≡ total_of (charged_size n) (entries files_of_name)
     charge_of_name =
-        (λ i. sum_by (λ f. part_at (charged_size n) 0 (λ f. cond (is_there g n f) (size_of g f) 0) (charged_at g n) (λ f other. ap (λ b. cond b (size_of g f) 0) (and_right _ _ other)) f i) (uploaded g))
-        ∙ total-listed (charged_size n) files_of_name (uploaded g) (Apart-uploaded g) has_keys
+        (λ i. sum_by (λ f. part_at (charged_size n) 0 (λ f. cond (is_charged_after g n f) (size_after g f) 0) (charged_at g n) (λ f other. ap (λ b. cond b (size_after g f) 0) (and_right _ _ other)) f i) (uploaded_files_after g))
+        ∙ total-listed (charged_size n) files_of_name (uploaded_files_after g) (Apart-uploaded g) has_keys
 
-    count_of_name : undeleted_count g n ≡ total_of (counted n) (entries files_of_name)
+    count_of_name : undeleted_count_after g n ≡ total_of (counted n) (entries files_of_name)
     count_of_name =
-        (λ i. sum_by (λ f. part_at (counted n) 0 (λ f. cond (is_there g n f) 1 0) (counted_at g n) (λ f other. ap (λ b. cond b 1 0) (and_right _ _ other)) f i) (uploaded g))
-        ∙ total-listed (counted n) files_of_name (uploaded g) (Apart-uploaded g) has_keys
+        (λ i. sum_by (λ f. part_at (counted n) 0 (λ f. cond (is_charged_after g n f) 1 0) (counted_at g n) (λ f other. ap (λ b. cond b 1 0) (and_right _ _ other)) f i) (uploaded_files_after g))
+        ∙ total-listed (counted n) files_of_name (uploaded_files_after g) (Apart-uploaded g) has_keys
 
-    release_of_name : (r : Bytes) → has_file_of g n r ≡ list_any (λ e. is_undeleted_in n r e.1) (entries files_of_name)
+    release_of_name : (r : Bytes) → has_release_after g n r ≡ list_any (λ e. is_undeleted_of_release n r e.1) (entries files_of_name)
     release_of_name r =
-        (λ i. list_any (λ f. part_at (is_undeleted_in n r) false (λ f. is_there g n f && same r (release_of f)) (λ f. released_at g n f r) (λ f other. ap (λ b. b && same r (release_of f)) (and_right _ _ other)) f i) (uploaded g))
-        ∙ sym (any-listed (is_undeleted_in n r) files_of_name (uploaded g) has_keys)
+        (λ i. list_any (λ f. part_at (is_undeleted_of_release n r) false (λ f. is_charged_after g n f && same r (release_of f)) (λ f. released_at g n f r) (λ f other. ap (λ b. b && same r (release_of f)) (and_right _ _ other)) f i) (uploaded_files_after g))
+        ∙ sym (any-listed (is_undeleted_of_release n r) files_of_name (uploaded_files_after g) has_keys)
 
-  file-only : (f : Bytes) → n ≡ project_of f → file_at (only n h) f ≡ file_at h f
-  file-only f is = λ i. option_map (file_by f (requires-only n h f (sym is) i) (undeleted-only n h f (sym is) i)) (known-only n h f (sym is) i)
+  file-only : (f : Bytes) → n ≡ project_of f → file_after (history_of_name n h) f ≡ file_after h f
+  file-only f is = λ i. option_map (file_of_upload f (requires-only n h f (sym is) i) (undeleted-only n h f (sym is) i)) (known-only n h f (sym is) i)
 
-  charge-only : charge (only n h) n ≡ charge h n
-  charge-only = charge_of_name (only n h) file-only ∙ sym (charge_of_name h (λ f is. refl))
+  charge-only : charge_after (history_of_name n h) n ≡ charge_after h n
+  charge-only = charge_of_name (history_of_name n h) file-only ∙ sym (charge_of_name h (λ f is. refl))
 
-  count-only : undeleted_count (only n h) n ≡ undeleted_count h n
-  count-only = count_of_name (only n h) file-only ∙ sym (count_of_name h (λ f is. refl))
+  count-only : undeleted_count_after (history_of_name n h) n ≡ undeleted_count_after h n
+  count-only = count_of_name (history_of_name n h) file-only ∙ sym (count_of_name h (λ f is. refl))
 
-  release-only : (r : Bytes) → has_file_of (only n h) n r ≡ has_file_of h n r
-  release-only r = release_of_name (only n h) file-only r ∙ sym (release_of_name h (λ f is. refl) r)
+  release-only : (r : Bytes) → has_release_after (history_of_name n h) n r ≡ has_release_after h n r
+  release-only r = release_of_name (history_of_name n h) file-only r ∙ sym (release_of_name h (λ f is. refl) r)
 
   -- ---- the name
 
-  name-only : name_at (only n h) n ≡ name_at h n
-  name-only = λ i. name_by (state-only n h i) (record {
+  name-only : name_after (history_of_name n h) n ≡ name_after h n
+  name-only = λ i. record_of_state (state-only n h i) (record {
     shown = shown-only n h i;
     quota = quota-only n h i;
     charge = charge-only i;
@@ -99,27 +99,27 @@ module _ (n : Bytes) (h : History) (legal : IsLegal h) where
     last_upload = greatest (uploads-only n h i);
   })
 
-  owns-only : (u : Bytes) → owns (only n h) n u ≡ owns h n u
+  owns-only : (u : Bytes) → owns_after (history_of_name n h) n u ≡ owns_after h n u
   owns-only u = λ i. is_held_now (state-only n h i) && given-only n h u i
 
-  yank-only : (r : Bytes) → yank_of (only n h) n r ≡ yank_of h n r
+  yank-only : (r : Bytes) → yank_after (history_of_name n h) n r ≡ yank_after h n r
   yank-only r = λ i. cond (is_held_now (state-only n h i)) (yanked-only n h r i) None
 
   -- among those who own the name all are this user, wherever the owners are looked for
-  alone-only : (u : Bytes) → alone_owns (only n h) n u ≡ alone_owns h n u
-  alone-only u = (λ i. owns-only u i && list_all (λ v. not (owns-only v i) || same u v) (receivers (only n h))) ∙ ap (λ b. owns h n u && b) everyone
+  alone-only : (u : Bytes) → owns_alone_after (history_of_name n h) n u ≡ owns_alone_after h n u
+  alone-only u = (λ i. owns-only u i && list_all (λ v. not (owns-only v i) || same u v) (receivers_after (history_of_name n h))) ∙ ap (λ b. owns_after h n u && b) everyone
     where
       is_user : Bytes → Bool
-      is_user v = not (owns h n v) || same u v
+      is_user v = not (owns_after h n v) || same u v
 
-      among : (g : History) → ((v : Bytes) → owns g n v ≡ owns h n v) → (users : List Bytes) → list_all is_user (receivers g) ≡ true → list_all is_user users ≡ true
-      among g agrees users all = list_all-from is_user users (λ v _. elim (cases_Bool (owns h n v)) [
-        | inl owner ↦ list_all-at is_user (receivers g) v all (received g n v (and_parts _ _ (agrees v ∙ owner)).1)
+      among : (g : History) → ((v : Bytes) → owns_after g n v ≡ owns_after h n v) → (users : List Bytes) → list_all is_user (receivers_after g) ≡ true → list_all is_user users ≡ true
+      among g agrees users all = list_all-from is_user users (λ v _. elim (cases_Bool (owns_after h n v)) [
+        | inl owner ↦ list_all-at is_user (receivers_after g) v all (received g n v (and_parts _ _ (agrees v ∙ owner)).1)
         | inr other ↦ or_left _ _ (ap not other)
       ])
 
-      everyone : list_all is_user (receivers (only n h)) ≡ list_all is_user (receivers h)
-      everyone = same_truth _ _ (among (only n h) owns-only (receivers h)) (among h (λ v. refl) (receivers (only n h)))
+      everyone : list_all is_user (receivers_after (history_of_name n h)) ≡ list_all is_user (receivers_after h)
+      everyone = same_truth _ _ (among (history_of_name n h) owns-only (receivers_after h)) (among h (λ v. refl) (receivers_after (history_of_name n h)))
 
 -- ---- a call that is kept
 
@@ -172,31 +172,31 @@ module _ (n : Bytes) where
       by None = refl
       by (Some release) = each release
 
-  file_at_name : (h : History) (legal : IsLegal h) (read : Option Bytes) → IsOfFile read → option_and_then (file_at (only n h)) read ≡ option_and_then (file_at h) read
-  file_at_name h legal read (inl is) = ap (option_and_then (file_at (only n h))) is ∙ sym (ap (option_and_then (file_at h)) is)
-  file_at_name h legal read (inr is) = ap (option_and_then (file_at (only n h))) is.2 ∙ file-only n h legal is.0 is.1 ∙ sym (ap (option_and_then (file_at h)) is.2)
+  file_at_name : (h : History) (legal : IsLegal h) (read : Option Bytes) → IsOfFile read → option_and_then (file_after (history_of_name n h)) read ≡ option_and_then (file_after h) read
+  file_at_name h legal read (inl is) = ap (option_and_then (file_after (history_of_name n h))) is ∙ sym (ap (option_and_then (file_after h)) is)
+  file_at_name h legal read (inr is) = ap (option_and_then (file_after (history_of_name n h))) is.2 ∙ file-only n h legal is.0 is.1 ∙ sym (ap (option_and_then (file_after h)) is.2)
 
-  facts-only : (h : History) → IsLegal h → (c : Call) → is_kept c.request n ≡ true → facts_after (only n h) c ≡ facts_after h c
+  facts-only : (h : History) → IsLegal h → (c : Call) → is_kept c.request n ≡ true → facts_after (history_of_name n h) c ≡ facts_after h c
   facts-only h legal c kept =
-      let g : History = only n h in
+      let g : History = history_of_name n h in
       let name : IsOfName (name_key c.request) = name_of_kept c.request kept in
       λ i. record {
         caller = option_map (λ user. record { user = user; office = option_map_or (λ account. account.office) (user-only n h user i) false }) (bearer-only n h c.token i);
-        user = agree_at (user_of g) (user_of h) (user-only n h) (user_key c.request) i;
-        bearer = agree_at (bearer g) (bearer h) (bearer-only n h) (token_key c.request) i;
-        name = at_name (option_and_then (name_at g)) (option_and_then (name_at h)) refl (name-only n h legal) (name_key c.request) name i;
-        owns = (ap (of_both (owns g) (name_key c.request)) (bearer-only n h c.token) ∙ both_at_name (owns g) (owns h) (owns-only n h legal) (name_key c.request) (bearer h c.token) name) i;
-        named_owns = both_at_name (owns g) (owns h) (owns-only n h legal) (name_key c.request) (user_key c.request) name i;
-        sole = both_at_name (alone_owns g) (alone_owns h) (alone-only n h legal) (name_key c.request) (user_key c.request) name i;
+        user = agree_at (user_after g) (user_after h) (user-only n h) (user_key c.request) i;
+        bearer = agree_at (bearer_after g) (bearer_after h) (bearer-only n h) (token_key c.request) i;
+        name = at_name (option_and_then (name_after g)) (option_and_then (name_after h)) refl (name-only n h legal) (name_key c.request) name i;
+        owns = (ap (of_both (owns_after g) (name_key c.request)) (bearer-only n h c.token) ∙ both_at_name (owns_after g) (owns_after h) (owns-only n h legal) (name_key c.request) (bearer_after h c.token) name) i;
+        named_owns = both_at_name (owns_after g) (owns_after h) (owns-only n h legal) (name_key c.request) (user_key c.request) name i;
+        sole = both_at_name (owns_alone_after g) (owns_alone_after h) (alone-only n h legal) (name_key c.request) (user_key c.request) name i;
         file = file_at_name h legal (file_key c.request) (file_of_kept c.request kept) i;
-        yank = yank_at_name (yank_of g) (yank_of h) (yank-only n h legal) (name_key c.request) (release_key c.request) name i;
-        has_release = both_at_name (has_file_of g) (has_file_of h) (release-only n h legal) (name_key c.request) (release_key c.request) name i;
-        case = at_name (option_and_then (case_at g)) (option_and_then (case_at h)) refl (ap (option_map case_by_attempts) (case-only n h)) (name_key c.request) name i;
+        yank = yank_at_name (yank_after g) (yank_after h) (yank-only n h legal) (name_key c.request) (release_key c.request) name i;
+        has_release = both_at_name (has_release_after g) (has_release_after h) (release-only n h legal) (name_key c.request) (release_key c.request) name i;
+        case = at_name (option_and_then (case_record_after g)) (option_and_then (case_record_after h)) refl (ap (option_map record_of_case) (case-only n h)) (name_key c.request) name i;
       }
 
-  legal-only : (h : History) → IsLegal h → IsLegal (only n h)
+  legal-only : (h : History) → IsLegal h → IsLegal (history_of_name n h)
   legal-only (begins user token) legal = tt
-  legal-only (more h e) legal = elim (is_kept e.call.request n) as (λ b. is_kept e.call.request n ≡ b → IsLegal (cond b (more (only n h) e) (only n h))) [
+  legal-only (more h e) legal = elim (is_kept e.call.request n) as (λ b. is_kept e.call.request n ≡ b → IsLegal (cond b (more (history_of_name n h) e) (history_of_name n h))) [
     | true ↦ λ kept. (legal-only h legal.0, ap (verdict_on e.call) (facts-only h legal.0 e.call kept) ∙ legal.1, bearer-only n h e.call.token ∙ legal.2)
     | false ↦ λ other. legal-only h legal.0
   ] refl

@@ -5,7 +5,7 @@ use Rattle.std.proofs.lemmas.Bool.{false≢true}
 use Rattle.index_names.specs.Project.{read_name}
 use Rattle.index_names.specs.FileName.{project_of}
 use Rattle.index_names.specs.Release.{read_release}
-use Rattle.index_digest.specs.Digest.{digest_in}
+use Rattle.index_digest.specs.Digest.{read_digest}
 use Rattle.index_retention.specs.Attempts.{attempt_of}
 use Rattle.index_rules.specs.declared.call.Request.{Request}
 use Rattle.index_rules.specs.declared.call.Request.TheVariants.{AddUser, SetToken, SetQuota, Claim, AddOwner, RemoveOwner, Upload, Delete, Yank, Unyank, Relinquish, Prohibit, Allow, OpenCase, RecordAttempt, Transfer, CloseCase}
@@ -14,14 +14,14 @@ use Rattle.index_rules.specs.Maps.{Bytes, same}
 use Rattle.index_rules.specs.Users.{read_user}
 use Rattle.index_rules.specs.Requests.{read_file}
 use Rattle.index_rules.specs.Verdict.{bears}
-use Rattle.index_rules.specs.Effect.{key}
+use Rattle.index_rules.specs.Effect.{or_empty}
 use Rattle.index_rules.specs.Projects.{first_quota}
 use Rattle.index_rules.specs.History.{History, Entry, begins, more, is_read_as}
-use Rattle.index_rules.specs.PastUsers.{user_of, user_by, added, added_by, bearer}
-use Rattle.index_rules.specs.PastNames.{State, Free, Held, Prohibited, state_of, state_by, shown_of, shown_by, quota_of, quota_by, uploads_of, uploads_by, is_given, given_by, yanked_for, yanked_by}
-use Rattle.index_rules.specs.PastCases.{Case, case_of, case_by, with_attempt, is_owners_request}
-use Rattle.index_rules.specs.PastFiles.{known, known_by, undeleted, undeleted_by, requires_of, requires_by}
-use Rattle.index_rules.specs.Laws.{is_kept, only}
+use Rattle.index_rules.specs.PastUsers.{user_after, user_by, users_after, users_by, bearer_after}
+use Rattle.index_rules.specs.PastNames.{State, Free, Held, Prohibited, state_after, state_by, shown_after, shown_by, quota_after, quota_by, uploads_after, uploads_by, is_given_after, is_given_by, reason_after, reason_by}
+use Rattle.index_rules.specs.PastCases.{Case, case_after, case_by, with_attempt, is_owners_request}
+use Rattle.index_rules.specs.PastFiles.{first_upload_after, first_upload_by, is_undeleted_after, is_undeleted_by, requires_after, requires_by}
+use Rattle.index_rules.specs.Laws.{is_kept, history_of_name}
 use Rattle.index_rules.proofs.KeyLemmas.{same-refl, cases_same}
 
 -- ---- what an entry that is left out leaves alone
@@ -32,7 +32,7 @@ module _ (n : Bytes) where
   user_left (SetToken user token) u other before = absurd (false≢true (sym other))
   user_left r u other before = refl
 
-  added_left : (r : Request) → is_kept r n ≡ false → (before : List Bytes) → added_by r before ≡ before
+  added_left : (r : Request) → is_kept r n ≡ false → (before : List Bytes) → users_by r before ≡ before
   added_left (AddUser user office token) other before = absurd (false≢true (sym other))
   added_left r other before = refl
 
@@ -80,14 +80,14 @@ module _ (n : Bytes) where
   case_left (Prohibit name) actor at other before = ap (λ b. cond b None before) other
   case_left r actor at other before = ap (λ b. cond b None before) (owners_left r other)
 
-  given_left : (r : Request) (actor : Bytes) (candidate : Option Bytes) (u : Bytes) → is_kept r n ≡ false → (before : Bool) → given_by r actor candidate n u before ≡ before
+  given_left : (r : Request) (actor : Bytes) (candidate : Option Bytes) (u : Bytes) → is_kept r n ≡ false → (before : Bool) → is_given_by r actor candidate n u before ≡ before
   given_left (Claim name) actor candidate u other before = ap (λ b. cond b (same u actor) before) other
   given_left (AddOwner name user) actor candidate u other before = ap (λ b. cond (b && is_read_as (read_user user) u) true before) other
   given_left (RemoveOwner name user) actor candidate u other before = ap (λ b. cond (b && is_read_as (read_user user) u) false before) other
   given_left (Transfer name quiet) actor candidate u other before = ap (λ b. cond b (is_read_as candidate u) before) other
   given_left r actor candidate u other before = refl
 
-  yanked_left : (r : Request) (release : Bytes) → is_kept r n ≡ false → (before : Option Bytes) → yanked_by r n release before ≡ before
+  yanked_left : (r : Request) (release : Bytes) → is_kept r n ≡ false → (before : Option Bytes) → reason_by r n release before ≡ before
   yanked_left (Claim name) release other before = ap (λ b. cond b None before) other
   yanked_left (Yank name yanked reason) release other before = ap (λ b. cond (b && is_read_as (read_release yanked) release) (Some reason) before) other
   yanked_left (Unyank name yanked) release other before = ap (λ b. cond (b && is_read_as (read_release yanked) release) None before) other
@@ -102,16 +102,16 @@ module _ (n : Bytes) where
       | inr apart ↦ apart
     ]
 
-    known_left : (r : Request) → is_kept r n ≡ false → (before : Option (Bytes × ℕ)) → known_by r f before ≡ before
+    known_left : (r : Request) → is_kept r n ≡ false → (before : Option (Bytes × ℕ)) → first_upload_by r f before ≡ before
     known_left (Upload file sha256 body requires) other before =
-        ap (λ b. option_or before (cond b (Some (key (digest_in sha256), length body)) None)) (other_file (read_file file) other) ∙ or_none before
+        ap (λ b. option_or before (cond b (Some (or_empty (read_digest sha256), length body)) None)) (other_file (read_file file) other) ∙ or_none before
       where
         or_none : (o : Option (Bytes × ℕ)) → option_or o None ≡ o
         or_none None = refl
         or_none (Some first) = refl
     known_left r other before = refl
 
-    undeleted_left : (r : Request) → is_kept r n ≡ false → (before : Bool) → undeleted_by r f before ≡ before
+    undeleted_left : (r : Request) → is_kept r n ≡ false → (before : Bool) → is_undeleted_by r f before ≡ before
     undeleted_left (Upload file sha256 body requires) other before = ap (λ b. cond b true before) (other_file (read_file file) other)
     undeleted_left (Delete file) other before = ap (λ b. cond b false before) (other_file (read_file file) other)
     undeleted_left (Prohibit name) other before = ap (λ b. cond b false before) (ap (is_read_as (read_name name)) project ∙ other)
@@ -127,56 +127,56 @@ module _ (n : Bytes) where
 word-only : {A : Type 0} (n : Bytes) (word : History → A) (by : Entry → A → A)
     → ((h : History) (e : Entry) → word (more h e) ≡ by e (word h))
     → ((e : Entry) → is_kept e.call.request n ≡ false → (before : A) → by e before ≡ before)
-    → (h : History) → word (only n h) ≡ word h
+    → (h : History) → word (history_of_name n h) ≡ word h
 word-only n word by step left (begins user token) = refl
 word-only n word by step left (more h e) =
-    elim (is_kept e.call.request n) as (λ b. is_kept e.call.request n ≡ b → word (cond b (more (only n h) e) (only n h)) ≡ word (more h e)) [
-      | true ↦ λ _. step (only n h) e ∙ ap (by e) (word-only n word by step left h) ∙ sym (step h e)
+    elim (is_kept e.call.request n) as (λ b. is_kept e.call.request n ≡ b → word (cond b (more (history_of_name n h) e) (history_of_name n h)) ≡ word (more h e)) [
+      | true ↦ λ _. step (history_of_name n h) e ∙ ap (by e) (word-only n word by step left h) ∙ sym (step h e)
       | false ↦ λ other. word-only n word by step left h ∙ sym (step h e ∙ left e other (word h))
     ] refl
 
 module _ (n : Bytes) where
-  pub user-only : (h : History) (u : Bytes) → user_of (only n h) u ≡ user_of h u
-  user-only h u = word-only n (λ g. user_of g u) (λ e. user_by e.call.request u) (λ g e. refl) (λ e. user_left n e.call.request u) h
+  pub user-only : (h : History) (u : Bytes) → user_after (history_of_name n h) u ≡ user_after h u
+  user-only h u = word-only n (λ g. user_after g u) (λ e. user_by e.call.request u) (λ g e. refl) (λ e. user_left n e.call.request u) h
 
-  added-only : (h : History) → added (only n h) ≡ added h
-  added-only = word-only n added (λ e. added_by e.call.request) (λ g e. refl) (λ e. added_left n e.call.request)
+  added-only : (h : History) → users_after (history_of_name n h) ≡ users_after h
+  added-only = word-only n users_after (λ e. users_by e.call.request) (λ g e. refl) (λ e. added_left n e.call.request)
 
-  pub bearer-only : (h : History) (token : Bytes) → bearer (only n h) token ≡ bearer h token
+  pub bearer-only : (h : History) (token : Bytes) → bearer_after (history_of_name n h) token ≡ bearer_after h token
   bearer-only h token = λ i. find (λ u. bears (Some token) (user-only h u i)) (added-only h i)
 
-  pub state-only : (h : History) → state_of (only n h) n ≡ state_of h n
-  state-only = word-only n (λ g. state_of g n) (λ e. state_by e.call.request n) (λ g e. refl) (λ e. state_left n e.call.request)
+  pub state-only : (h : History) → state_after (history_of_name n h) n ≡ state_after h n
+  state-only = word-only n (λ g. state_after g n) (λ e. state_by e.call.request n) (λ g e. refl) (λ e. state_left n e.call.request)
 
-  pub shown-only : (h : History) → shown_of (only n h) n ≡ shown_of h n
-  shown-only = word-only n (λ g. shown_of g n) (λ e. shown_by e.call.request n) (λ g e. refl) (λ e. shown_left n e.call.request)
+  pub shown-only : (h : History) → shown_after (history_of_name n h) n ≡ shown_after h n
+  shown-only = word-only n (λ g. shown_after g n) (λ e. shown_by e.call.request n) (λ g e. refl) (λ e. shown_left n e.call.request)
 
-  pub quota-only : (h : History) → quota_of (only n h) n ≡ quota_of h n
-  quota-only = word-only n (λ g. quota_of g n) (λ e. quota_by e.call.request n) (λ g e. refl) (λ e. quota_left n e.call.request)
+  pub quota-only : (h : History) → quota_after (history_of_name n h) n ≡ quota_after h n
+  quota-only = word-only n (λ g. quota_after g n) (λ e. quota_by e.call.request n) (λ g e. refl) (λ e. quota_left n e.call.request)
 
-  pub uploads-only : (h : History) → uploads_of (only n h) n ≡ uploads_of h n
-  uploads-only = word-only n (λ g. uploads_of g n) (λ e. uploads_by e.call.request e.call.at n) (λ g e. refl) (λ e. uploads_left n e.call.request e.call.at)
+  pub uploads-only : (h : History) → uploads_after (history_of_name n h) n ≡ uploads_after h n
+  uploads-only = word-only n (λ g. uploads_after g n) (λ e. uploads_by e.call.request e.call.at n) (λ g e. refl) (λ e. uploads_left n e.call.request e.call.at)
 
-  pub case-only : (h : History) → case_of (only n h) n ≡ case_of h n
-  case-only = word-only n (λ g. case_of g n) (λ e. case_by e.call.request e.actor e.call.at n) (λ g e. refl) (λ e. case_left n e.call.request e.actor e.call.at)
+  pub case-only : (h : History) → case_after (history_of_name n h) n ≡ case_after h n
+  case-only = word-only n (λ g. case_after g n) (λ e. case_by e.call.request e.actor e.call.at n) (λ g e. refl) (λ e. case_left n e.call.request e.actor e.call.at)
 
   -- a transfer gives the name to the candidate of its case, so the case goes along
-  pub given-only : (h : History) (u : Bytes) → is_given (only n h) n u ≡ is_given h n u
+  pub given-only : (h : History) (u : Bytes) → is_given_after (history_of_name n h) n u ≡ is_given_after h n u
   given-only h u =
       let by : Entry → Option Case × Bool → Option Case × Bool = λ e before.
-      (case_by e.call.request e.actor e.call.at n before.0, given_by e.call.request e.actor (option_map (λ case. case.candidate) before.0) n u before.1) in
-      ap (λ both. both.1) (word-only n (λ g. (case_of g n, is_given g n u)) by (λ g e. refl) (λ e other before.
+      (case_by e.call.request e.actor e.call.at n before.0, is_given_by e.call.request e.actor (option_map (λ case. case.candidate) before.0) n u before.1) in
+      ap (λ both. both.1) (word-only n (λ g. (case_after g n, is_given_after g n u)) by (λ g e. refl) (λ e other before.
       λ i. (case_left n e.call.request e.actor e.call.at other before.0 i, given_left n e.call.request e.actor (option_map (λ case. case.candidate) before.0) u other before.1 i)) h)
 
-  pub yanked-only : (h : History) (r : Bytes) → yanked_for (only n h) n r ≡ yanked_for h n r
-  yanked-only h r = word-only n (λ g. yanked_for g n r) (λ e. yanked_by e.call.request n r) (λ g e. refl) (λ e. yanked_left n e.call.request r) h
+  pub yanked-only : (h : History) (r : Bytes) → reason_after (history_of_name n h) n r ≡ reason_after h n r
+  yanked-only h r = word-only n (λ g. reason_after g n r) (λ e. reason_by e.call.request n r) (λ g e. refl) (λ e. yanked_left n e.call.request r) h
 
   module _ (h : History) (f : Bytes) (project : project_of f ≡ n) where
-    pub known-only : known (only n h) f ≡ known h f
-    known-only = word-only n (λ g. known g f) (λ e. known_by e.call.request f) (λ g e. refl) (λ e. known_left n f project e.call.request) h
+    pub known-only : first_upload_after (history_of_name n h) f ≡ first_upload_after h f
+    known-only = word-only n (λ g. first_upload_after g f) (λ e. first_upload_by e.call.request f) (λ g e. refl) (λ e. known_left n f project e.call.request) h
 
-    pub undeleted-only : undeleted (only n h) f ≡ undeleted h f
-    undeleted-only = word-only n (λ g. undeleted g f) (λ e. undeleted_by e.call.request f) (λ g e. refl) (λ e. undeleted_left n f project e.call.request) h
+    pub undeleted-only : is_undeleted_after (history_of_name n h) f ≡ is_undeleted_after h f
+    undeleted-only = word-only n (λ g. is_undeleted_after g f) (λ e. is_undeleted_by e.call.request f) (λ g e. refl) (λ e. undeleted_left n f project e.call.request) h
 
-    pub requires-only : requires_of (only n h) f ≡ requires_of h f
-    requires-only = word-only n (λ g. requires_of g f) (λ e. requires_by e.call.request f) (λ g e. refl) (λ e. requires_left n f project e.call.request) h
+    pub requires-only : requires_after (history_of_name n h) f ≡ requires_after h f
+    requires-only = word-only n (λ g. requires_after g f) (λ e. requires_by e.call.request f) (λ g e. refl) (λ e. requires_left n f project e.call.request) h

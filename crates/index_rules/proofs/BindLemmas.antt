@@ -2,7 +2,7 @@
 use Rattle.std.proofs.Common.{◌≡◌, ℕ, cond, inl, inr, sym, ap, ◌∙◌, [], Option, Some, None, length, refl}
 use Rattle.std.specs.Option.{option_or}
 use Rattle.std.specs.FinMap.{get}
-use Rattle.index_digest.specs.Digest.{digest_in}
+use Rattle.index_digest.specs.Digest.{read_digest}
 use Rattle.index_rules.specs.declared.answer.Refusal.TheVariants.{BadDigest, BadFileName, FileNameTaken}
 use Rattle.index_rules.specs.declared.call.Call.{Call}
 use Rattle.index_rules.specs.declared.call.Request.{Request}
@@ -12,10 +12,10 @@ use Rattle.index_rules.specs.Tables.{Tables}
 use Rattle.index_rules.specs.Requests.{read_file}
 use Rattle.index_rules.specs.Facts.{facts_in}
 use Rattle.index_rules.specs.Verdict.{Accept, verdict_now}
-use Rattle.index_rules.specs.Effect.{key}
+use Rattle.index_rules.specs.Effect.{or_empty}
 use Rattle.index_rules.specs.History.{History, begins, more, is_read_as}
-use Rattle.index_rules.specs.PastFiles.{known, known_by}
-use Rattle.index_rules.specs.StandsFor.{file_at}
+use Rattle.index_rules.specs.PastFiles.{first_upload_after, first_upload_by}
+use Rattle.index_rules.specs.StandsFor.{file_after}
 use Rattle.index_rules.specs.Legal.{IsLegal}
 use Rattle.index_rules.specs.Laws.{IsUploadOf, HasUpload, BindsFiles}
 use Rattle.index_rules.proofs.Accepted.{accepted}
@@ -24,32 +24,32 @@ use Rattle.index_rules.proofs.StepFiles.{known-here}
 use Rattle.index_rules.proofs.StandsOn.{tables_of, verdict_agrees, legal_made}
 
 -- what was known stays so
-known_before : (r : Request) (f : Bytes) (before : Option (Bytes × ℕ)) (first : Bytes × ℕ) → before ≡ Some first → known_by r f before ≡ Some first
+known_before : (r : Request) (f : Bytes) (before : Option (Bytes × ℕ)) (first : Bytes × ℕ) → before ≡ Some first → first_upload_by r f before ≡ Some first
 known_before (Upload file sha256 body requires) f before first is =
-    ap (λ o. option_or o (cond (is_read_as (read_file file) f) (Some (key (digest_in sha256), length body)) None)) is
+    ap (λ o. option_or o (cond (is_read_as (read_file file) f) (Some (or_empty (read_digest sha256), length body)) None)) is
 known_before r f before first is = is
 
 -- an accepted upload has the digest and the size that are known after it
-known_now : (T : Tables) (h : History) → ((file : Bytes) → get T.files file ≡ file_at h file) → (at : ℕ) (token : Bytes) (r : Request) (f : Bytes) (first : Bytes × ℕ)
-    → verdict_now T (record { at = at; token = token; request = r }) ≡ Accept → IsUploadOf r f first → known_by r f (known h f) ≡ Some first
+known_now : (T : Tables) (h : History) → ((file : Bytes) → get T.files file ≡ file_after h file) → (at : ℕ) (token : Bytes) (r : Request) (f : Bytes) (first : Bytes × ℕ)
+    → verdict_now T (record { at = at; token = token; request = r }) ≡ Accept → IsUploadOf r f first → first_upload_by r f (first_upload_after h f) ≡ Some first
 known_now T h files at token (Upload file sha256 body requires) f first accepts is =
     let c : Call = record { at = at; token = token; request = Upload file sha256 body requires } in
     let all = accepted c (facts_in T c) accepts in
     let reads : read_file file ≡ Some file = read_itself file (all.not_refused BadFileName refl) in
     let both : Some f ≡ Some file = sym is.0 ∙ reads in
     let here : f ≡ file = cc in
-    (λ i. known_by (Upload file sha256 body requires) (here i) (known h (here i)))
+    (λ i. first_upload_by (Upload file sha256 body requires) (here i) (first_upload_after h (here i)))
     ∙ known-here T h files at token [] file sha256 body requires reads (all.not_refused BadDigest refl) (all.not_refused FileNameTaken refl)
     ∙ ap Some (sym is.1)
 known_now T h files at token r f first accepts is = absurd is
 
 -- each upload has the digest and the size that are known
-known_upload : (h : History) → IsLegal h → (f : Bytes) (first : Bytes × ℕ) → HasUpload h f first → known h f ≡ Some first
+known_upload : (h : History) → IsLegal h → (f : Bytes) (first : Bytes × ℕ) → HasUpload h f first → first_upload_after h f ≡ Some first
 known_upload (begins user token) legal f first is = absurd is
 known_upload (more h e) legal f first (inl is) =
     let made = legal_made h legal.0 in
     known_now (tables_of h) h made.stands.files e.call.at e.call.token e.call.request f first (verdict_agrees (tables_of h) h made.sound made.stands e.call ∙ legal.1) is
-known_upload (more h e) legal f first (inr is) = known_before e.call.request f (known h f) first (known_upload h legal.0 f first is)
+known_upload (more h e) legal f first (inr is) = known_before e.call.request f (first_upload_after h f) first (known_upload h legal.0 f first is)
 
 pub binds_files : (h : History) → IsLegal h → BindsFiles h
 binds_files h legal f first second one other =

@@ -6,7 +6,7 @@ use Rattle.std.proofs.Math.Bool.{and-false}
 use Rattle.std.proofs.lemmas.Bool.{not-false}
 use Rattle.index_names.specs.Project.{read_name}
 use Rattle.index_names.specs.FileName.{project_of, release_of}
-use Rattle.index_digest.specs.Digest.{digest_in}
+use Rattle.index_digest.specs.Digest.{read_digest}
 use Rattle.index_rules.specs.declared.answer.Refusal.TheVariants.{BadFileName, BadName}
 use Rattle.index_rules.specs.declared.call.Call.{Call}
 use Rattle.index_rules.specs.declared.call.Request.{Request}
@@ -18,13 +18,13 @@ use Rattle.index_rules.specs.Tables.{Tables}
 use Rattle.index_rules.specs.Requests.{read_file}
 use Rattle.index_rules.specs.Facts.{facts_in}
 use Rattle.index_rules.specs.Verdict.{Accept, verdict_now, is_undeleted}
-use Rattle.index_rules.specs.Effect.{key, no_file, deleted, deleted_of, after}
+use Rattle.index_rules.specs.Effect.{or_empty, no_file, as_deleted, as_deleted_of, tables_with_call}
 use Rattle.index_rules.specs.Sound.{IsSound, charged_size, charge_in}
 use Rattle.index_rules.specs.History.{History, Entry, begins, more, is_read_as}
-use Rattle.index_rules.specs.PastNames.{State, Free, Held, Prohibited, state_by, state_of, is_held_now, given_by, is_given}
-use Rattle.index_rules.specs.PastCases.{candidate_of}
-use Rattle.index_rules.specs.PastFiles.{known, undeleted, requires_of, size_of}
-use Rattle.index_rules.specs.StandsFor.{StandsFor, file_by, file_at}
+use Rattle.index_rules.specs.PastNames.{State, Free, Held, Prohibited, state_by, state_after, is_held_now, is_given_by, is_given_after}
+use Rattle.index_rules.specs.PastCases.{candidate_after}
+use Rattle.index_rules.specs.PastFiles.{first_upload_after, is_undeleted_after, requires_after, size_after}
+use Rattle.index_rules.specs.StandsFor.{StandsFor, file_of_upload, file_after}
 use Rattle.index_rules.specs.Legal.{IsLegal}
 use Rattle.index_rules.specs.Laws.{MovesCharge, UploadsAnew, may_move_state, may_move_owners, Moves, MovesAsRecorded}
 use Rattle.index_rules.proofs.KeyLemmas.{cases_same}
@@ -41,18 +41,18 @@ use Rattle.index_rules.proofs.StandsOn.{tables_of, verdict_agrees, legal_made}
 -- ---- the charge
 
 -- where all files of a name are deleted, they weigh nothing for it
-none-charged : (T : Tables) (name : Bytes) → total_of (charged_size name) (entries (change_values (deleted_of name) T.files)) ≡ 0
-none-charged T name = total-zero (charged_size name) _ (each_changed (deleted_of name) T.files (λ _ known. charged_size name known ≡ 0) (λ _ known _.
-    elim (same name known.project) as (λ b. same name known.project ≡ b → charged_size name (cond b (deleted known) known) ≡ 0) [
+none-charged : (T : Tables) (name : Bytes) → total_of (charged_size name) (entries (change_values (as_deleted_of name) T.files)) ≡ 0
+none-charged T name = total-zero (charged_size name) _ (each_changed (as_deleted_of name) T.files (λ _ known. charged_size name known ≡ 0) (λ _ known _.
+    elim (same name known.project) as (λ b. same name known.project ≡ b → charged_size name (cond b (as_deleted known) known) ≡ 0) [
       | true ↦ λ _. refl
       | false ↦ λ other. ap (λ b. cond (known.is_undeleted && b) known.size 0) other ∙ ap (λ b. cond b known.size 0) (and-false known.is_undeleted)
     ] refl))
 
 -- the size in the record of a file is the one of the history
-size-file_at : (h : History) (f : Bytes) → (unwrap_or (file_at h f) no_file).size ≡ size_of h f
-size-file_at h f = by (known h f)
+size-file_at : (h : History) (f : Bytes) → (unwrap_or (file_after h f) no_file).size ≡ size_after h f
+size-file_at h f = by (first_upload_after h f)
   where
-    by : (k : Option (Bytes × ℕ)) → (unwrap_or (option_map (file_by f (requires_of h f) (undeleted h f)) k) no_file).size ≡ option_map_or (λ first. first.1) k 0
+    by : (k : Option (Bytes × ℕ)) → (unwrap_or (option_map (file_of_upload f (requires_after h f) (is_undeleted_after h f)) k) no_file).size ≡ option_map_or (λ first. first.1) k 0
     by None = refl
     by (Some first) = refl
 
@@ -61,16 +61,16 @@ module _ (T : Tables) (h : History) (sound : IsSound T) (stands : StandsFor T h)
   of request = record { at = at; token = token; request = request }
 
   charge-upload : (file digest body requires : Bytes) → verdict_now T (of (Upload file digest body requires)) ≡ Accept → (n : Bytes)
-      → MovesCharge (Upload file digest body requires) h n (charge_in T n) (charge_in (after T (of (Upload file digest body requires))) n)
+      → MovesCharge (Upload file digest body requires) h n (charge_in T n) (charge_in (tables_with_call T (of (Upload file digest body requires))) n)
   charge-upload file digest body requires accepts n =
       let all = accepted (of (Upload file digest body requires)) (facts_in T (of (Upload file digest body requires))) accepts in
       let reads : read_file file ≡ Some file = read_itself file (all.not_refused BadFileName refl) in
       total-upload (λ known. known.size) T file
-      (record { project = project_of file; release = release_of file; digest = key (digest_in digest); size = length body; requires_python = requires; is_undeleted = true })
+      (record { project = project_of file; release = release_of file; digest = or_empty (read_digest digest); size = length body; requires_python = requires; is_undeleted = true })
       refl (sym (ap (λ read. is_undeleted (option_and_then (get T.files) read)) reads) ∙ all.not_already) n
       ∙ ap (λ read. charge_in T n + cond (is_read_as (option_map project_of read) n) (length body) 0) (sym reads)
 
-  charge-delete : (file : Bytes) → verdict_now T (of (Delete file)) ≡ Accept → (n : Bytes) → MovesCharge (Delete file) h n (charge_in T n) (charge_in (after T (of (Delete file))) n)
+  charge-delete : (file : Bytes) → verdict_now T (of (Delete file)) ≡ Accept → (n : Bytes) → MovesCharge (Delete file) h n (charge_in T n) (charge_in (tables_with_call T (of (Delete file))) n)
   charge-delete file accepts n =
       let all = accepted (of (Delete file)) (facts_in T (of (Delete file))) accepts in
       let reads : read_file file ≡ Some file = read_itself file (all.not_refused BadFileName refl) in
@@ -79,24 +79,24 @@ module _ (T : Tables) (h : History) (sound : IsSound T) (stands : StandsFor T h)
       let undeleted = undeleted_there (option_and_then (get T.files) (read_file file)) (not-false _ all.not_already) in
       let there : get T.files file ≡ Some known = sym found ∙ undeleted.0 in
       let project : known.project ≡ project_of file = (sound.spelled file known there).project in
-      let size : known.size ≡ size_of h file = ap (λ o. (unwrap_or o no_file).size) (found ∙ stands.files file) ∙ size-file_at h file in
-      let left : ℕ = charge_in (after T (of (Delete file))) n in
-      (λ i. left + cond (is_read_as (option_map project_of (reads i)) n) (size_of h (key (reads i))) 0)
+      let size : known.size ≡ size_after h file = ap (λ o. (unwrap_or o no_file).size) (found ∙ stands.files file) ∙ size-file_at h file in
+      let left : ℕ = charge_in (tables_with_call T (of (Delete file))) n in
+      (λ i. left + cond (is_read_as (option_map project_of (reads i)) n) (size_after h (or_empty (reads i))) 0)
       ∙ (λ i. left + cond (same n (sym project i)) (sym size i) 0)
       ∙ total-delete (λ known. known.size) T file known undeleted.1 there n
 
-  charge-prohibit : (name : Bytes) → verdict_now T (of (Prohibit name)) ≡ Accept → (n : Bytes) → MovesCharge (Prohibit name) h n (charge_in T n) (charge_in (after T (of (Prohibit name))) n)
+  charge-prohibit : (name : Bytes) → verdict_now T (of (Prohibit name)) ≡ Accept → (n : Bytes) → MovesCharge (Prohibit name) h n (charge_in T n) (charge_in (tables_with_call T (of (Prohibit name))) n)
   charge-prohibit name accepts n =
       let read : Option Bytes = read_name name in
-      let reads : read ≡ Some (key read) = read_key read ((accepted (of (Prohibit name)) (facts_in T (of (Prohibit name))) accepts).not_refused BadName refl) in
-      elim (cases_same n (key read)) [
+      let reads : read ≡ Some (or_empty read) = read_key read ((accepted (of (Prohibit name)) (facts_in T (of (Prohibit name))) accepts).not_refused BadName refl) in
+      elim (cases_same n (or_empty read)) [
         | inl is ↦
-            ap (charge_in (after T (of (Prohibit name)))) is ∙ none-charged T (key read)
-            ∙ sym (ap (λ q. cond (is_read_as read q) 0 (charge_in T n)) is ∙ at_key read (key read) reads 0 (charge_in T n))
-        | inr other ↦ total-delete_all (λ known. known.size) T (key read) n other ∙ sym (at_other read (key read) reads 0 (charge_in T n) n other)
+            ap (charge_in (tables_with_call T (of (Prohibit name)))) is ∙ none-charged T (or_empty read)
+            ∙ sym (ap (λ q. cond (is_read_as read q) 0 (charge_in T n)) is ∙ at_key read (or_empty read) reads 0 (charge_in T n))
+        | inr other ↦ total-delete_all (λ known. known.size) T (or_empty read) n other ∙ sym (at_other read (or_empty read) reads 0 (charge_in T n) n other)
       ]
 
-  charge-moves : (r : Request) → verdict_now T (of r) ≡ Accept → (n : Bytes) → MovesCharge r h n (charge_in T n) (charge_in (after T (of r)) n)
+  charge-moves : (r : Request) → verdict_now T (of r) ≡ Accept → (n : Bytes) → MovesCharge r h n (charge_in T n) (charge_in (tables_with_call T (of r)) n)
   charge-moves (Upload file digest body requires) accepts n = charge-upload file digest body requires accepts n
   charge-moves (Delete file) accepts n = charge-delete file accepts n
   charge-moves (Prohibit name) accepts n = charge-prohibit name accepts n
@@ -106,7 +106,7 @@ module _ (T : Tables) (h : History) (sound : IsSound T) (stands : StandsFor T h)
   uploads_anew (Upload file digest body requires) accepts =
       let all = accepted (of (Upload file digest body requires)) (facts_in T (of (Upload file digest body requires))) accepts in
       let reads : read_file file ≡ Some file = read_itself file (all.not_refused BadFileName refl) in
-      ap (λ read. undeleted h (key read)) reads ∙ sym (is_undeleted-file_at h file) ∙ sym (ap is_undeleted (ap (option_and_then (get T.files)) reads ∙ stands.files file)) ∙ all.not_already
+      ap (λ read. is_undeleted_after h (or_empty read)) reads ∙ sym (is_undeleted-file_at h file) ∙ sym (ap is_undeleted (ap (option_and_then (get T.files)) reads ∙ stands.files file)) ∙ all.not_already
   uploads_anew r accepts = tt
 
 -- ---- the state and the owners
@@ -118,7 +118,7 @@ state_kept (Prohibit name) n before other = ap (λ b. cond b Prohibited before) 
 state_kept (Allow name) n before other = ap (λ b. cond b Free before) other
 state_kept r n before other = refl
 
-given_kept : (r : Request) (actor : Bytes) (candidate : Option Bytes) (n u : Bytes) (before : Bool) → may_move_owners r n ≡ false → given_by r actor candidate n u before ≡ before
+given_kept : (r : Request) (actor : Bytes) (candidate : Option Bytes) (n u : Bytes) (before : Bool) → may_move_owners r n ≡ false → is_given_by r actor candidate n u before ≡ before
 given_kept (Claim name) actor candidate n u before other = ap (λ b. cond b (same u actor) before) other
 given_kept (AddOwner name user) actor candidate n u before other = ap (λ b. cond (b && is_read_as (read_user user) u) true before) other
 given_kept (RemoveOwner name user) actor candidate n u before other = ap (λ b. cond (b && is_read_as (read_user user) u) false before) other
@@ -133,7 +133,7 @@ state_with_owners (Transfer name quiet) n other = refl
 state_with_owners r n other = other
 
 owners_kept : (r : Request) (actor : Bytes) (candidate : Option Bytes) (n u : Bytes) (state : State) (given : Bool) → may_move_owners r n ≡ false
-    → (is_held_now (state_by r n state) && given_by r actor candidate n u given) ≡ (is_held_now state && given)
+    → (is_held_now (state_by r n state) && is_given_by r actor candidate n u given) ≡ (is_held_now state && given)
 owners_kept r actor candidate n u state given other = λ i. is_held_now (state_kept r n state (state_with_owners r n other) i) && given_kept r actor candidate n u given other i
 
 -- ---- each entry
@@ -146,11 +146,11 @@ moves h e legal =
     let accepts : verdict_now T e.call ≡ Accept = verdict_agrees T h made.sound made.stands e.call ∙ legal.1 in
     record {
       charge = λ n. subst (λ (charges : ℕ × ℕ). MovesCharge e.call.request h n charges.0 charges.1)
-          (λ i. (charge_agrees T h made.stands.files n i, charge_agrees (after T e.call) (more h e) made_then.stands.files n i))
+          (λ i. (charge_agrees T h made.stands.files n i, charge_agrees (tables_with_call T e.call) (more h e) made_then.stands.files n i))
           (charge-moves T h made.sound made.stands e.call.at e.call.token e.call.request accepts n);
       anew = uploads_anew T h made.sound made.stands e.call.at e.call.token e.call.request accepts;
-      state = λ n other. state_kept e.call.request n (state_of h n) other;
-      owners = λ n u other. owners_kept e.call.request e.actor (candidate_of h n) n u (state_of h n) (is_given h n u) other;
+      state = λ n other. state_kept e.call.request n (state_after h n) other;
+      owners = λ n u other. owners_kept e.call.request e.actor (candidate_after h n) n u (state_after h n) (is_given_after h n u) other;
     }
 
 pub moves_as_recorded : (h : History) → IsLegal h → MovesAsRecorded h

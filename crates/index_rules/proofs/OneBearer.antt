@@ -13,7 +13,7 @@ use Rattle.index_rules.specs.Tables.{Tables}
 use Rattle.std.specs.Prelude.{ℕ}
 use Rattle.index_rules.specs.Facts.{HasOneBearer, facts_in}
 use Rattle.index_rules.specs.Verdict.{Accept, verdict_now}
-use Rattle.index_rules.specs.Effect.{key, user_in, after}
+use Rattle.index_rules.specs.Effect.{or_empty, the_user, tables_with_call}
 use Rattle.index_rules.specs.Runs.{Answers, Runs, tables_after}
 use Rattle.index_rules.proofs.Accepted.{accepted}
 use Rattle.index_rules.proofs.SoundUsers.{HasOneBearer-put, not_taken}
@@ -22,14 +22,14 @@ module _ (T : Tables) (one : HasOneBearer T) (at : ℕ) (token : Bytes) where
   abbrev of : Request → Call
   of request = record { at = at; token = token; request = request }
 
-  each_request : (request : Request) → verdict_now T (of request) ≡ Accept → HasOneBearer (after T (of request))
+  each_request : (request : Request) → verdict_now T (of request) ≡ Accept → HasOneBearer (tables_with_call T (of request))
   each_request (AddUser user office digest) accepts =
       let all = accepted (of (AddUser user office digest)) (facts_in T (of (AddUser user office digest))) accepts in
-      HasOneBearer-put T one (key (read_user user)) (record { office = office; token = key (read_token digest) })
+      HasOneBearer-put T one (or_empty (read_user user)) (record { office = office; token = or_empty (read_token digest) })
       (not_taken T one (read_token digest) (read_user user) (all.not_refused BadDigest refl) (all.not_refused BadUser refl) (all.not_refused TokenTaken refl))
   each_request (SetToken user digest) accepts =
       let all = accepted (of (SetToken user digest)) (facts_in T (of (SetToken user digest))) accepts in
-      HasOneBearer-put T one (key (read_user user)) (record { office = (user_in (facts_in T (of (SetToken user digest)))).office; token = key (read_token digest) })
+      HasOneBearer-put T one (or_empty (read_user user)) (record { office = (the_user (facts_in T (of (SetToken user digest)))).office; token = or_empty (read_token digest) })
       (not_taken T one (read_token digest) (read_user user) (all.not_refused BadDigest refl) (all.not_refused BadUser refl) (all.not_refused TokenTaken refl))
   each_request request accepts = one
 

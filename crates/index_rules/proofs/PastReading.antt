@@ -4,12 +4,12 @@ use Rattle.std.proofs.lemmas.Bool.{true≢false}
 use Rattle.index_names.specs.FileName.{Spelled, read_file_name}
 use Rattle.index_rules.specs.Maps.{Bytes, same}
 use Rattle.index_rules.specs.Requests.{read_file}
-use Rattle.index_rules.specs.Effect.{key}
+use Rattle.index_rules.specs.Effect.{or_empty}
 use Rattle.index_rules.specs.History.{is_read_as}
 use Rattle.index_rules.proofs.KeyLemmas.{same-refl}
 
 -- what is not unread is read as its key
-pub read_key : (read : Option Bytes) → is_none read ≡ false → read ≡ Some (key read)
+pub read_key : (read : Option Bytes) → is_none read ≡ false → read ≡ Some (or_empty read)
 read_key None unread = absurd (true≢false unread)
 read_key (Some x) unread = λ _. Some x
 

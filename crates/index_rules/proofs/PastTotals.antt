@@ -8,11 +8,11 @@ use Rattle.index_names.specs.FileName.{project_of, release_of}
 use Rattle.index_rules.specs.declared.records.FileRecord.{FileRecord}
 use Rattle.index_rules.specs.Maps.{Bytes, same}
 use Rattle.index_rules.specs.Tables.{Tables}
-use Rattle.index_rules.specs.Facts.{is_undeleted_in, has_release_in}
-use Rattle.index_rules.specs.Sound.{is_undeleted_of, charged_size, charge_in, undeleted_in}
+use Rattle.index_rules.specs.Facts.{is_undeleted_of_release, has_release_in}
+use Rattle.index_rules.specs.Sound.{is_undeleted_of, charged_size, charge_in, undeleted_count_in}
 use Rattle.index_rules.specs.History.{History}
-use Rattle.index_rules.specs.PastFiles.{known, undeleted, requires_of, uploaded, charge, undeleted_count, is_there, size_of, has_file_of}
-use Rattle.index_rules.specs.StandsFor.{file_by, file_at}
+use Rattle.index_rules.specs.PastFiles.{first_upload_after, is_undeleted_after, requires_after, uploaded_files_after, charge_after, undeleted_count_after, is_charged_after, size_after, has_release_after}
+use Rattle.index_rules.specs.StandsFor.{file_of_upload, file_after}
 use Rattle.index_rules.proofs.PastWords.{Apart-uploaded, known_is_uploaded, undeleted_known}
 use Rattle.index_rules.proofs.ListTotals.{HasKeys, total-listed, any-listed}
 
@@ -27,29 +27,29 @@ abbrev pub counted : Bytes → FileRecord → ℕ
 counted n known = cond (is_undeleted_of n known) 1 0
 
 module _ (h : History) (n f : Bytes) where
-  pub charged_at : option_map_or (charged_size n) (file_at h f) 0 ≡ cond (is_there h n f) (size_of h f) 0
-  charged_at = by (known h f) (undeleted h f) (undeleted_known h f)
+  pub charged_at : option_map_or (charged_size n) (file_after h f) 0 ≡ cond (is_charged_after h n f) (size_after h f) 0
+  charged_at = by (first_upload_after h f) (is_undeleted_after h f) (undeleted_known h f)
     where
       by : (o : Option (Bytes × ℕ)) (b : Bool) → (b ≡ true → is_some o ≡ true)
-          → option_map_or (charged_size n) (option_map (file_by f (requires_of h f) b) o) 0 ≡ cond (b && same n (project_of f)) (option_map_or (λ first. first.1) o 0) 0
+          → option_map_or (charged_size n) (option_map (file_of_upload f (requires_after h f) b) o) 0 ≡ cond (b && same n (project_of f)) (option_map_or (λ first. first.1) o 0) 0
       by None true there = absurd (false≢true (there refl))
       by None false there = refl
       by (Some first) b there = refl
 
-  pub counted_at : option_map_or (counted n) (file_at h f) 0 ≡ cond (is_there h n f) 1 0
-  counted_at = by (known h f) (undeleted h f) (undeleted_known h f)
+  pub counted_at : option_map_or (counted n) (file_after h f) 0 ≡ cond (is_charged_after h n f) 1 0
+  counted_at = by (first_upload_after h f) (is_undeleted_after h f) (undeleted_known h f)
     where
       by : (o : Option (Bytes × ℕ)) (b : Bool) → (b ≡ true → is_some o ≡ true)
-          → option_map_or (counted n) (option_map (file_by f (requires_of h f) b) o) 0 ≡ cond (b && same n (project_of f)) 1 0
+          → option_map_or (counted n) (option_map (file_of_upload f (requires_after h f) b) o) 0 ≡ cond (b && same n (project_of f)) 1 0
       by None true there = absurd (false≢true (there refl))
       by None false there = refl
       by (Some first) b there = refl
 
-  pub released_at : (r : Bytes) → option_map_or (is_undeleted_in n r) (file_at h f) false ≡ (is_there h n f && same r (release_of f))
-  released_at r = by (known h f) (undeleted h f) (undeleted_known h f)
+  pub released_at : (r : Bytes) → option_map_or (is_undeleted_of_release n r) (file_after h f) false ≡ (is_charged_after h n f && same r (release_of f))
+  released_at r = by (first_upload_after h f) (is_undeleted_after h f) (undeleted_known h f)
     where
       by : (o : Option (Bytes × ℕ)) (b : Bool) → (b ≡ true → is_some o ≡ true)
-          → option_map_or (is_undeleted_in n r) (option_map (file_by f (requires_of h f) b) o) false ≡ ((b && same n (project_of f)) && same r (release_of f))
+          → option_map_or (is_undeleted_of_release n r) (option_map (file_of_upload f (requires_after h f) b) o) false ≡ ((b && same n (project_of f)) && same r (release_of f))
       by None true there = absurd (false≢true (there refl))
       by None false there = refl
       by (Some first) true there = refl
@@ -57,24 +57,24 @@ module _ (h : History) (n f : Bytes) where
 
 -- ---- over all files
 
-module _ (T : Tables) (h : History) (files : (f : Bytes) → get T.files f ≡ file_at h f) where
-  has_keys : HasKeys T.files (uploaded h)
-  has_keys f there = sym (known_is_uploaded h f) ∙ sym (is_some-map _ (known h f)) ∙ ap is_some (sym (files f)) ∙ there
+module _ (T : Tables) (h : History) (files : (f : Bytes) → get T.files f ≡ file_after h f) where
+  has_keys : HasKeys T.files (uploaded_files_after h)
+  has_keys f there = sym (known_is_uploaded h f) ∙ sym (is_some-map _ (first_upload_after h f)) ∙ ap is_some (sym (files f)) ∙ there
 
   -- the charge of a name
-  pub charge_agrees : (n : Bytes) → charge_in T n ≡ charge h n
+  pub charge_agrees : (n : Bytes) → charge_in T n ≡ charge_after h n
   charge_agrees n =
-      sym (total-listed (charged_size n) T.files (uploaded h) (Apart-uploaded h) has_keys)
-      ∙ (λ i. sum_by (λ f. (ap (λ o. option_map_or (charged_size n) o 0) (files f) ∙ charged_at h n f) i) (uploaded h))
+      sym (total-listed (charged_size n) T.files (uploaded_files_after h) (Apart-uploaded h) has_keys)
+      ∙ (λ i. sum_by (λ f. (ap (λ o. option_map_or (charged_size n) o 0) (files f) ∙ charged_at h n f) i) (uploaded_files_after h))
 
   -- how many undeleted files it has
-  pub count_agrees : (n : Bytes) → undeleted_in T n ≡ undeleted_count h n
+  pub count_agrees : (n : Bytes) → undeleted_count_in T n ≡ undeleted_count_after h n
   count_agrees n =
-      sym (total-listed (counted n) T.files (uploaded h) (Apart-uploaded h) has_keys)
-      ∙ (λ i. sum_by (λ f. (ap (λ o. option_map_or (counted n) o 0) (files f) ∙ counted_at h n f) i) (uploaded h))
+      sym (total-listed (counted n) T.files (uploaded_files_after h) (Apart-uploaded h) has_keys)
+      ∙ (λ i. sum_by (λ f. (ap (λ o. option_map_or (counted n) o 0) (files f) ∙ counted_at h n f) i) (uploaded_files_after h))
 
   -- whether a release of it has one
-  pub has_release_agrees : (n r : Bytes) → has_release_in T n r ≡ has_file_of h n r
+  pub has_release_agrees : (n r : Bytes) → has_release_in T n r ≡ has_release_after h n r
   has_release_agrees n r =
-      any-listed (is_undeleted_in n r) T.files (uploaded h) has_keys
-      ∙ (λ i. list_any (λ f. (ap (λ o. option_map_or (is_undeleted_in n r) o false) (files f) ∙ released_at h n f r) i) (uploaded h))
+      any-listed (is_undeleted_of_release n r) T.files (uploaded_files_after h) has_keys
+      ∙ (λ i. list_any (λ f. (ap (λ o. option_map_or (is_undeleted_of_release n r) o false) (files f) ∙ released_at h n f r) i) (uploaded_files_after h))

@@ -5,20 +5,20 @@ use Rattle.std.specs.Option.{option_or}
 use Rattle.std.proofs.lemmas.Bool.{false≢true, or_left, or_right, cases_Bool}
 use Rattle.index_names.specs.Project.{read_name}
 use Rattle.index_names.specs.FileName.{project_of}
-use Rattle.index_digest.specs.Digest.{digest_in}
+use Rattle.index_digest.specs.Digest.{read_digest}
 use Rattle.index_rules.specs.declared.call.Request.{Request}
 use Rattle.index_rules.specs.declared.call.Request.TheVariants.{Claim, AddOwner, RemoveOwner, Upload, Delete, Prohibit, Transfer}
 use Rattle.index_rules.specs.Maps.{Bytes, same}
 use Rattle.index_rules.specs.Users.{read_user}
 use Rattle.index_rules.specs.Requests.{read_file}
-use Rattle.index_rules.specs.Effect.{key}
+use Rattle.index_rules.specs.Effect.{or_empty}
 use Rattle.index_rules.specs.Verdict.{is_undeleted}
 use Rattle.index_rules.specs.History.{History, begins, more, is_read_as}
 use Rattle.index_rules.specs.PastUsers.{with_read}
-use Rattle.index_rules.specs.PastNames.{given_by, given_to, is_given, receivers}
-use Rattle.index_rules.specs.PastCases.{candidate_of}
-use Rattle.index_rules.specs.PastFiles.{known, known_by, undeleted, undeleted_by, requires_of, uploaded, uploaded_by, once_more}
-use Rattle.index_rules.specs.StandsFor.{file_by, file_at}
+use Rattle.index_rules.specs.PastNames.{is_given_by, receivers_by, is_given_after, receivers_after}
+use Rattle.index_rules.specs.PastCases.{candidate_after}
+use Rattle.index_rules.specs.PastFiles.{first_upload_after, first_upload_by, is_undeleted_after, is_undeleted_by, requires_after, uploaded_files_after, uploaded_files_by, once_more}
+use Rattle.index_rules.specs.StandsFor.{file_of_upload, file_after}
 use Rattle.index_rules.proofs.KeyLemmas.{same-refl, cases_same}
 
 abbrev pub has : List Bytes → Bytes → Bool
@@ -38,14 +38,14 @@ Apart-once_more (Some f) files apart = elim (has files f) as (λ b. has files f 
   | false ↦ λ gone. (gone, apart)
 ] refl
 
-Apart_by : (r : Request) (files : List Bytes) → Apart files → Apart (uploaded_by r files)
+Apart_by : (r : Request) (files : List Bytes) → Apart files → Apart (uploaded_files_by r files)
 Apart_by (Upload file sha256 body requires) files apart = Apart-once_more (read_file file) files apart
 Apart_by r files apart = apart
 
 -- each uploaded file is listed once
-pub Apart-uploaded : (h : History) → Apart (uploaded h)
+pub Apart-uploaded : (h : History) → Apart (uploaded_files_after h)
 Apart-uploaded (begins user token) = tt
-Apart-uploaded (more h e) = Apart_by e.call.request (uploaded h) (Apart-uploaded h)
+Apart-uploaded (more h e) = Apart_by e.call.request (uploaded_files_after h) (Apart-uploaded h)
 
 has-once_more : (read : Option Bytes) (files : List Bytes) (f : Bytes) → has (once_more read files) f ≡ (is_read_as read f || has files f)
 has-once_more None files f = refl
@@ -62,16 +62,16 @@ is_some-or b c (Some y) x is = elim c as (λ c. true ≡ (c || b)) [ true ↦ re
 is_some-or b true None x is = refl
 is_some-or b false None x is = is
 
-known_is_uploaded_by : (r : Request) (f : Bytes) (before : Option (Bytes × ℕ)) (files : List Bytes) → is_some before ≡ has files f → is_some (known_by r f before) ≡ has (uploaded_by r files) f
+known_is_uploaded_by : (r : Request) (f : Bytes) (before : Option (Bytes × ℕ)) (files : List Bytes) → is_some before ≡ has files f → is_some (first_upload_by r f before) ≡ has (uploaded_files_by r files) f
 known_is_uploaded_by (Upload file sha256 body requires) f before files is =
-    is_some-or (has files f) (is_read_as (read_file file) f) before (key (digest_in sha256), length body) is
+    is_some-or (has files f) (is_read_as (read_file file) f) before (or_empty (read_digest sha256), length body) is
     ∙ sym (has-once_more (read_file file) files f)
 known_is_uploaded_by r f before files is = is
 
 -- a file is known exactly if it was uploaded
-pub known_is_uploaded : (h : History) (f : Bytes) → is_some (known h f) ≡ has (uploaded h) f
+pub known_is_uploaded : (h : History) (f : Bytes) → is_some (first_upload_after h f) ≡ has (uploaded_files_after h) f
 known_is_uploaded (begins user token) f = refl
-known_is_uploaded (more h e) f = known_is_uploaded_by e.call.request f (known h f) (uploaded h) (known_is_uploaded h f)
+known_is_uploaded (more h e) f = known_is_uploaded_by e.call.request f (first_upload_after h f) (uploaded_files_after h) (known_is_uploaded h f)
 
 -- ---- the undeleted files
 
@@ -80,10 +80,10 @@ still : (gone before : Bool) → cond gone false before ≡ true → before ≡ 
 still true before is = absurd (false≢true is)
 still false before is = is
 
-known_after : (r : Request) (f : Bytes) (b : Bool) (before : Option (Bytes × ℕ)) → (b ≡ true → is_some before ≡ true) → undeleted_by r f b ≡ true → is_some (known_by r f before) ≡ true
+known_after : (r : Request) (f : Bytes) (b : Bool) (before : Option (Bytes × ℕ)) → (b ≡ true → is_some before ≡ true) → is_undeleted_by r f b ≡ true → is_some (first_upload_by r f before) ≡ true
 known_after (Upload file sha256 body requires) f b before there is = by (is_read_as (read_file file) f) before there is
   where
-    by : (t : Bool) (o : Option (Bytes × ℕ)) → (b ≡ true → is_some o ≡ true) → cond t true b ≡ true → is_some (option_or o (cond t (Some (key (digest_in sha256), length body)) None)) ≡ true
+    by : (t : Bool) (o : Option (Bytes × ℕ)) → (b ≡ true → is_some o ≡ true) → cond t true b ≡ true → is_some (option_or o (cond t (Some (or_empty (read_digest sha256), length body)) None)) ≡ true
     by t (Some first) there is = refl
     by true None there is = refl
     by false None there is = there is
@@ -92,15 +92,15 @@ known_after (Prohibit name) f b before there is = there (still (is_read_as (read
 known_after r f b before there is = there is
 
 -- an undeleted file is known
-pub undeleted_known : (h : History) (f : Bytes) → undeleted h f ≡ true → is_some (known h f) ≡ true
+pub undeleted_known : (h : History) (f : Bytes) → is_undeleted_after h f ≡ true → is_some (first_upload_after h f) ≡ true
 undeleted_known (begins user token) f is = absurd (false≢true is)
-undeleted_known (more h e) f is = known_after e.call.request f (undeleted h f) (known h f) (undeleted_known h f) is
+undeleted_known (more h e) f is = known_after e.call.request f (is_undeleted_after h f) (first_upload_after h f) (undeleted_known h f) is
 
 -- the record of a file says whether it is undeleted
-pub is_undeleted-file_at : (h : History) (f : Bytes) → is_undeleted (file_at h f) ≡ undeleted h f
-is_undeleted-file_at h f = by (known h f) (undeleted h f) (undeleted_known h f)
+pub is_undeleted-file_at : (h : History) (f : Bytes) → is_undeleted (file_after h f) ≡ is_undeleted_after h f
+is_undeleted-file_at h f = by (first_upload_after h f) (is_undeleted_after h f) (undeleted_known h f)
   where
-    by : (o : Option (Bytes × ℕ)) (b : Bool) → (b ≡ true → is_some o ≡ true) → is_undeleted (option_map (file_by f (requires_of h f) b) o) ≡ b
+    by : (o : Option (Bytes × ℕ)) (b : Bool) → (b ≡ true → is_some o ≡ true) → is_undeleted (option_map (file_of_upload f (requires_after h f) b) o) ≡ b
     by None true there = there refl
     by None false there = refl
     by (Some first) b there = refl
@@ -116,7 +116,7 @@ still_has None users v there = there
 still_has (Some user) users v there = or_right _ _ there
 
 received_by : (r : Request) (actor : Bytes) (candidate : Bytes → Option Bytes) (n v : Bytes) (b : Bool) (users : List Bytes) → (b ≡ true → has users v ≡ true)
-    → given_by r actor (candidate n) n v b ≡ true → has (given_to r actor candidate users) v ≡ true
+    → is_given_by r actor (candidate n) n v b ≡ true → has (receivers_by r actor candidate users) v ≡ true
 received_by (Claim name) actor candidate n v b users there is = by (is_read_as (read_name name) n) is
   where
     by : (t : Bool) → cond t (same v actor) b ≡ true → has (actor ∷ users) v ≡ true
@@ -143,6 +143,6 @@ received_by (Transfer name quiet) actor candidate n v b users there is = by (rea
 received_by r actor candidate n v b users there is = there is
 
 -- a user to whom a name is given is one of those to whom any was
-pub received : (h : History) (n v : Bytes) → is_given h n v ≡ true → has (receivers h) v ≡ true
+pub received : (h : History) (n v : Bytes) → is_given_after h n v ≡ true → has (receivers_after h) v ≡ true
 received (begins user token) n v is = is
-received (more h e) n v is = received_by e.call.request e.actor (candidate_of h) n v (is_given h n v) (receivers h) (received h n v) is
+received (more h e) n v is = received_by e.call.request e.actor (candidate_after h) n v (is_given_after h n v) (receivers_after h) (received h n v) is

@@ -10,9 +10,9 @@ use Rattle.index_rules.specs.declared.view.View.{View}
 use Rattle.index_rules.specs.Maps.{Bytes, same}
 use Rattle.index_rules.specs.Tables.{Tables}
 use Rattle.index_rules.specs.Requests.{user_key, token_key, name_key, keys_of}
-use Rattle.index_rules.specs.Facts.{Sees, IsBearer, IsBearerAs, AreOwners, HasOneBearer, bearer_in, caller_by, facts_seen, facts_in, is_one_of, is_only_one_of, of_both, owns_in, alone_owns_in}
+use Rattle.index_rules.specs.Facts.{Sees, IsBearer, IsBearerAs, AreOwners, HasOneBearer, bearer_in, caller_of, facts_seen, facts_in, is_one_of, is_only_one_of, of_both, owns_in, owns_alone_in}
 use Rattle.index_rules.specs.Verdict.{verdict_now, verdict_on}
-use Rattle.index_rules.specs.Effect.{effect, means, after}
+use Rattle.index_rules.specs.Effect.{effect, means, tables_with_call}
 use Rattle.index_rules.proofs.OwnerLists.{same-is}
 use Rattle.index_rules.proofs.KeyLemmas.{same_truth}
 use Rattle.index_rules.proofs.EntryLemmas.{get-found, get-missed, find-passes, list_all-at, list_all-from, each_owner, each_pair}
@@ -46,7 +46,7 @@ module _ (T : Tables) (one : HasOneBearer T) where
   one_seen (Some n) None users is = refl
   one_seen (Some n) (Some u) users is = is u
 
-  sole_seen : (name user : Option Bytes) (users : List Bytes) → AreOwners T name users → is_only_one_of users user ≡ of_both (alone_owns_in T) name user
+  sole_seen : (name user : Option Bytes) (users : List Bytes) → AreOwners T name users → is_only_one_of users user ≡ of_both (owns_alone_in T) name user
   sole_seen None None users is = refl
   sole_seen None (Some u) users is = ap (λ us. list_any (same u) us && list_all (same u) us) is
   sole_seen (Some n) None users is = refl
@@ -54,14 +54,14 @@ module _ (T : Tables) (one : HasOneBearer T) where
       (λ all. each_pair T n u (λ v there. list_all-at (same u) users v all (is v ∙ there)))
       (λ all. list_all-from (same u) users (λ v there. each_owner T n u all v (sym (is v) ∙ there))) i
 
-  user_of : (found : Option (Bytes × UserRecord)) → option_map (λ caller. caller.user) (option_map caller_by found) ≡ option_map (λ user. user.0) found
+  user_of : (found : Option (Bytes × UserRecord)) → option_map (λ caller. caller.user) (option_map caller_of found) ≡ option_map (λ user. user.0) found
   user_of None = refl
   user_of (Some e) = refl
 
   pub facts-seen : (c : Call) (k : Keys) (v : View) → k ≡ keys_of c → Sees T k v → facts_seen v c.request ≡ facts_in T c
   facts-seen c k v keys sees =
       let s : Sees T (keys_of c) v = subst (λ k. Sees T k v) keys sees in
-      let caller : v.caller ≡ option_map caller_by (bearer_in T c.token) = the_part caller_by (Some c.token) v.caller s.caller in
+      let caller : v.caller ≡ option_map caller_of (bearer_in T c.token) = the_part caller_of (Some c.token) v.caller s.caller in
       λ i. record {
         caller = caller i;
         user = s.user i;
@@ -80,5 +80,5 @@ module _ (T : Tables) (one : HasOneBearer T) where
   pub verdict_now-seen : (c : Call) (k : Keys) (v : View) → k ≡ keys_of c → Sees T k v → verdict_now T c ≡ verdict_on c (facts_seen v c.request)
   verdict_now-seen c k v keys sees = ap (verdict_on c) (sym (facts-seen c k v keys sees))
 
-  pub after-seen : (c : Call) (k : Keys) (v : View) → k ≡ keys_of c → Sees T k v → means (effect c.at c.request (facts_seen v c.request)) T ≡ after T c
+  pub after-seen : (c : Call) (k : Keys) (v : View) → k ≡ keys_of c → Sees T k v → means (effect c.at c.request (facts_seen v c.request)) T ≡ tables_with_call T c
   after-seen c k v keys sees = ap (λ f. means (effect c.at c.request f) T) (facts-seen c k v keys sees)

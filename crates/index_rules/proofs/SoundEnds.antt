@@ -12,9 +12,9 @@ use Rattle.index_rules.specs.Projects.{Project}
 use Rattle.index_rules.specs.declared.records.FileRecord.{FileRecord}
 use Rattle.index_rules.specs.Maps.{Bytes, Map, PairMap, same, change_values}
 use Rattle.index_rules.specs.Tables.{Tables}
-use Rattle.index_rules.specs.Verdict.{project_in, is_held, is_undeleted}
-use Rattle.index_rules.specs.Effect.{deleted, deleted_of, is_file_of, without_name}
-use Rattle.index_rules.specs.Sound.{IsSound, IsRecordOf, IsBodyOf, undeleted_in}
+use Rattle.index_rules.specs.Verdict.{held_project, is_held, is_undeleted}
+use Rattle.index_rules.specs.Effect.{as_deleted, as_deleted_of, is_file_of, without_name}
+use Rattle.index_rules.specs.Sound.{IsSound, IsRecordOf, IsBodyOf, undeleted_count_in}
 use Rattle.index_rules.proofs.KeyLemmas.{cases_same, get-kept, get-change_values, get-without_name, get-without_name_other}
 use Rattle.index_rules.proofs.PutLemmas.{other-sym, get-put_here, get-put_other, get-without_here, get-without_other, each_without, each_changed}
 use Rattle.index_rules.proofs.FileTotals.{total-delete_all, none_undeleted}
@@ -37,7 +37,7 @@ left_without {X = X} name m n u left =
 
 module _ (T : Tables) (sound : IsSound T) (name : Bytes) (closed : get T.cases name ≡ None) where
   abbrev left_files : Map FileRecord
-  left_files = change_values (deleted_of name) T.files
+  left_files = change_values (as_deleted_of name) T.files
 
   abbrev left_bodies : Map Bytes
   left_bodies = retain_keys T.bodies (λ file. not (is_file_of T.files name file))
@@ -54,9 +54,9 @@ module _ (T : Tables) (sound : IsSound T) (name : Bytes) (closed : get T.cases n
   -- ---- its files and bodies
 
   spelled-ended : (file : Bytes) (known : FileRecord) → get left_files file ≡ Some known → IsRecordOf file known
-  spelled-ended = each_changed (deleted_of name) T.files IsRecordOf (λ file known there.
+  spelled-ended = each_changed (as_deleted_of name) T.files IsRecordOf (λ file known there.
       let before = sound.spelled file known there in
-      elim (same name known.project) as (λ b. IsRecordOf file (cond b (deleted known) known)) [
+      elim (same name known.project) as (λ b. IsRecordOf file (cond b (as_deleted known) known)) [
         | true ↦ record { is_file_name = before.is_file_name; project = before.project; release = before.release }
         | false ↦ before
       ])
@@ -64,9 +64,9 @@ module _ (T : Tables) (sound : IsSound T) (name : Bytes) (closed : get T.cases n
   -- an undeleted file is of another name, which was held
   undeleted-ended : (file : Bytes) (known : FileRecord) → get left_files file ≡ Some known → known.is_undeleted ≡ true
       → (same known.project name ≡ false) × (is_held (get T.names known.project) ≡ true)
-  undeleted-ended = each_changed (deleted_of name) T.files (λ _ known. known.is_undeleted ≡ true → (same known.project name ≡ false) × (is_held (get T.names known.project) ≡ true)) (λ file known there.
-      elim (same name known.project) as (λ b. same name known.project ≡ b → (cond b (deleted known) known).is_undeleted ≡ true
-      → (same (cond b (deleted known) known).project name ≡ false) × (is_held (get T.names (cond b (deleted known) known).project) ≡ true)) [
+  undeleted-ended = each_changed (as_deleted_of name) T.files (λ _ known. known.is_undeleted ≡ true → (same known.project name ≡ false) × (is_held (get T.names known.project) ≡ true)) (λ file known there.
+      elim (same name known.project) as (λ b. same name known.project ≡ b → (cond b (as_deleted known) known).is_undeleted ≡ true
+      → (same (cond b (as_deleted known) known).project name ≡ false) × (is_held (get T.names (cond b (as_deleted known) known).project) ≡ true)) [
         | true ↦ λ _ is. absurd (false≢true is)
         | false ↦ λ other is. (other-sym name known.project other, sound.undeleted_held file known there is)
       ] refl)
@@ -80,17 +80,17 @@ module _ (T : Tables) (sound : IsSound T) (name : Bytes) (closed : get T.cases n
 
   bodies-ended : (file : Bytes) → is_some (get left_bodies file) ≡ is_undeleted (get left_files file)
   bodies-ended file =
-      ap is_some (get-ended file) ∙ by (get T.files file) (sound.bodies file) ∙ sym (ap is_undeleted (get-change_values (deleted_of name) T.files file))
+      ap is_some (get-ended file) ∙ by (get T.files file) (sound.bodies file) ∙ sym (ap is_undeleted (get-change_values (as_deleted_of name) T.files file))
     where
-      by : (found : Option FileRecord) → is_some (get T.bodies file) ≡ is_undeleted found → is_some (left_body found (get T.bodies file)) ≡ is_undeleted (option_map (deleted_of name) found)
+      by : (found : Option FileRecord) → is_some (get T.bodies file) ≡ is_undeleted found → is_some (left_body found (get T.bodies file)) ≡ is_undeleted (option_map (as_deleted_of name) found)
       by None e = e
-      by (Some known) e = elim (same name known.project) as (λ b. is_some (cond (not b) (get T.bodies file) None) ≡ (cond b (deleted known) known).is_undeleted) [ true ↦ refl | false ↦ e ]
+      by (Some known) e = elim (same name known.project) as (λ b. is_some (cond (not b) (get T.bodies file) None) ≡ (cond b (as_deleted known) known).is_undeleted) [ true ↦ refl | false ↦ e ]
 
   bytes-ended : (file body : Bytes) (known : FileRecord) → get left_bodies file ≡ Some body
       → get left_files file ≡ Some known → IsBodyOf known body
   bytes-ended file body known at_body at =
-      each_changed (deleted_of name) T.files (λ q k. left_body (get T.files q) (get T.bodies q) ≡ Some body → IsBodyOf k body) (λ q k there at_body.
-      elim (same name k.project) as (λ b. cond (not b) (get T.bodies q) None ≡ Some body → IsBodyOf (cond b (deleted k) k) body) [
+      each_changed (as_deleted_of name) T.files (λ q k. left_body (get T.files q) (get T.bodies q) ≡ Some body → IsBodyOf k body) (λ q k there at_body.
+      elim (same name k.project) as (λ b. cond (not b) (get T.bodies q) None ≡ Some body → IsBodyOf (cond b (as_deleted k) k) body) [
         | true ↦ λ e. cc
         | false ↦ λ e. sound.bytes q body k e there
       ] (sym (ap (λ found. left_body found (get T.bodies q)) there) ∙ at_body))
@@ -105,8 +105,8 @@ module _ (T : Tables) (sound : IsSound T) (name : Bytes) (closed : get T.cases n
       | inr other ↦ other
     ]
 
-    before : (n : Bytes) (p : Project) → project_in (get names n) ≡ Some p → (same n name ≡ false) × (project_in (get T.names n) ≡ Some p)
-    before n p at = let other = is_other n (ap is_some at) in (other, sym (ap project_in (others n other)) ∙ at)
+    before : (n : Bytes) (p : Project) → held_project (get names n) ≡ Some p → (same n name ≡ false) × (held_project (get T.names n) ≡ Some p)
+    before n p at = let other = is_other n (ap is_some at) in (other, sym (ap held_project (others n other)) ∙ at)
 
     IsSound-ended : IsSound (ended names)
     IsSound-ended = record {
@@ -135,13 +135,13 @@ module _ (T : Tables) (sound : IsSound T) (name : Bytes) (closed : get T.cases n
 
   -- ---- a name without undeleted files loses none
 
-  module _ (none : undeleted_in T name ≡ 0) where
+  module _ (none : undeleted_count_in T name ≡ 0) where
     files_stay : left_files ≡ T.files
-    files_stay = same_map nat_list_cmp_total exact_bytes _ _ (λ file. get-change_values (deleted_of name) T.files file ∙ by file (get T.files file) refl)
+    files_stay = same_map nat_list_cmp_total exact_bytes _ _ (λ file. get-change_values (as_deleted_of name) T.files file ∙ by file (get T.files file) refl)
       where
-        by : (file : Bytes) (found : Option FileRecord) → get T.files file ≡ found → option_map (deleted_of name) found ≡ found
+        by : (file : Bytes) (found : Option FileRecord) → get T.files file ≡ found → option_map (as_deleted_of name) found ≡ found
         by file None there = refl
-        by file (Some known) there = elim (same name known.project) as (λ b. known.is_undeleted && b ≡ false → Some (cond b (deleted known) known) ≡ Some known) [
+        by file (Some known) there = elim (same name known.project) as (λ b. known.is_undeleted && b ≡ false → Some (cond b (as_deleted known) known) ≡ Some known) [
           | true ↦ λ e. λ i. Some (record known { is_undeleted = sym (sym (and-true known.is_undeleted) ∙ e) i })
           | false ↦ λ _. refl
         ] (none_undeleted T name none file known there)

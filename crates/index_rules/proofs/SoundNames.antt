@@ -8,9 +8,9 @@ use Rattle.index_rules.specs.declared.records.FileRecord.{FileRecord}
 use Rattle.index_rules.specs.Maps.{Bytes, Pairs, same}
 use Rattle.index_rules.specs.Tables.{Tables}
 use Rattle.index_rules.specs.Facts.{owns_in, yank_in}
-use Rattle.index_rules.specs.Verdict.{project_in, is_held}
+use Rattle.index_rules.specs.Verdict.{held_project, is_held}
 use Rattle.index_rules.specs.Effect.{without_name}
-use Rattle.index_rules.specs.Sound.{IsSound, is_undeleted_of, charged_size, charge_in, undeleted_in}
+use Rattle.index_rules.specs.Sound.{IsSound, is_undeleted_of, charged_size, charge_in, undeleted_count_in}
 use Rattle.index_rules.proofs.OwnerLists.{same-is}
 use Rattle.index_rules.proofs.KeyLemmas.{same-refl, has-put, has-cleared, get-without_name_other}
 use Rattle.index_rules.proofs.Totals.{total-zero}
@@ -22,7 +22,7 @@ still_held T name project = each_put T.names name (Held project) (λ q found. is
 
 -- ---- a held name with another quota
 
-pub IsSound-project : (T : Tables) → IsSound T → (name : Bytes) (before project : Project) → project_in (get T.names name) ≡ Some before
+pub IsSound-project : (T : Tables) → IsSound T → (name : Bytes) (before project : Project) → held_project (get T.names name) ≡ Some before
     → project.charge ≡ before.charge → project.undeleted ≡ before.undeleted → project.charge ≤ project.quota
     → IsSound (record T { names = insert T.names name (Held project) })
 IsSound-project T sound name before project at charge undeleted quota = record {
@@ -35,13 +35,13 @@ IsSound-project T sound name before project at charge undeleted quota = record {
   cases = λ n is_open. still_held T name project n (sound.cases n is_open);
   spelled = sound.spelled;
   undeleted_held = λ file known there is. still_held T name project known.project (sound.undeleted_held file known there is);
-  charge = each_put T.names name (Held project) (λ n found. (p : Project) → project_in found ≡ Some p → p.charge ≡ charge_in T n)
+  charge = each_put T.names name (Held project) (λ n found. (p : Project) → held_project found ≡ Some p → p.charge ≡ charge_in T n)
       (λ p e. let is : project ≡ p = cc in ap (λ (r : Project). r.charge) (sym is) ∙ charge ∙ sound.charge name before at)
       (λ n _. sound.charge n);
-  undeleted = each_put T.names name (Held project) (λ n found. (p : Project) → project_in found ≡ Some p → p.undeleted ≡ undeleted_in T n)
+  undeleted = each_put T.names name (Held project) (λ n found. (p : Project) → held_project found ≡ Some p → p.undeleted ≡ undeleted_count_in T n)
       (λ p e. let is : project ≡ p = cc in ap (λ (r : Project). r.undeleted) (sym is) ∙ undeleted ∙ sound.undeleted name before at)
       (λ n _. sound.undeleted n);
-  quota = each_put T.names name (Held project) (λ n found. (p : Project) → project_in found ≡ Some p → p.charge ≤ p.quota)
+  quota = each_put T.names name (Held project) (λ n found. (p : Project) → held_project found ≡ Some p → p.charge ≤ p.quota)
       (λ p e. let is : project ≡ p = cc in subst (λ (r : Project). r.charge ≤ r.quota) is quota)
       (λ n _. sound.quota n);
   bodies = sound.bodies;
@@ -80,7 +80,7 @@ module _ (T : Tables) (sound : IsSound T) (name : Bytes) (free : is_held (get T.
   charge_in-free : charge_in T name ≡ 0
   charge_in-free = total-zero (charged_size name) T.files (λ file known there. ap (λ b. cond b known.size 0) (none_of_free file known there))
 
-  pub undeleted_in-free : undeleted_in T name ≡ 0
+  pub undeleted_in-free : undeleted_count_in T name ≡ 0
   undeleted_in-free = total-zero (λ known. cond (is_undeleted_of name known) 1 0) T.files (λ file known there. ap (λ b. cond b 1 0) (none_of_free file known there))
 
   module _ (project : Project) (owner : Bytes) where
@@ -106,13 +106,13 @@ module _ (T : Tables) (sound : IsSound T) (name : Bytes) (free : is_held (get T.
       cases = λ n is_open. still_held T name project n (sound.cases n is_open);
       spelled = sound.spelled;
       undeleted_held = λ file known there is. still_held T name project known.project (sound.undeleted_held file known there is);
-      charge = each_put T.names name (Held project) (λ n found. (p : Project) → project_in found ≡ Some p → p.charge ≡ charge_in T n)
+      charge = each_put T.names name (Held project) (λ n found. (p : Project) → held_project found ≡ Some p → p.charge ≡ charge_in T n)
           (λ p e. let is : project ≡ p = cc in ap (λ (r : Project). r.charge) (sym is) ∙ charge ∙ sym charge_in-free)
           (λ n _. sound.charge n);
-      undeleted = each_put T.names name (Held project) (λ n found. (p : Project) → project_in found ≡ Some p → p.undeleted ≡ undeleted_in T n)
+      undeleted = each_put T.names name (Held project) (λ n found. (p : Project) → held_project found ≡ Some p → p.undeleted ≡ undeleted_count_in T n)
           (λ p e. let is : project ≡ p = cc in ap (λ (r : Project). r.undeleted) (sym is) ∙ undeleted ∙ sym undeleted_in-free)
           (λ n _. sound.undeleted n);
-      quota = each_put T.names name (Held project) (λ n found. (p : Project) → project_in found ≡ Some p → p.charge ≤ p.quota)
+      quota = each_put T.names name (Held project) (λ n found. (p : Project) → held_project found ≡ Some p → p.charge ≤ p.quota)
           (λ p e. let is : project ≡ p = cc in subst (λ (r : Project). r.charge ≤ r.quota) is (omega (arith, charge)))
           (λ n _. sound.quota n);
       bodies = sound.bodies;

@@ -4,14 +4,14 @@ use Rattle.std.specs.FinMap.{get, empty, get-empty}
 use Rattle.std.proofs.lemmas.Bool.{false≢true}
 use Rattle.index_rules.specs.declared.records.UserRecord.{UserRecord}
 use Rattle.index_rules.specs.Maps.{Bytes, same, bytes_cmp, pair_cmp}
-use Rattle.index_rules.specs.Verdict.{project_in, is_held, is_undeleted}
-use Rattle.index_rules.specs.Opened.{first_record, opened}
+use Rattle.index_rules.specs.Verdict.{held_project, is_held, is_undeleted}
+use Rattle.index_rules.specs.FirstTables.{first_record, first_tables}
 use Rattle.index_rules.specs.Sound.{IsSound}
 use Rattle.index_rules.proofs.OwnerLists.{same-is}
 use Rattle.index_rules.proofs.KeyLemmas.{get-put}
 
 -- who is there is the first user
-the_user : (user token u : Bytes) (x : UserRecord) → get (opened user token).users u ≡ Some x → u ≡ user
+the_user : (user token u : Bytes) (x : UserRecord) → get (first_tables user token).users u ≡ Some x → u ≡ user
 the_user user token u x at = by (same u user) (same-is u user) (sym (get-put empty user (first_record token) u ∙ ap (λ o. cond (same u user) (Some (first_record token)) o) (get-empty bytes_cmp u)) ∙ at)
   where
     by : (b : Bool) → (b ≡ true → u ≡ user) → cond b (Some (first_record token)) None ≡ Some x → u ≡ user
@@ -21,7 +21,7 @@ the_user user token u x at = by (same u user) (same-is u user) (sym (get-put emp
 none_there : {X : Type 0} {found : Option X} {x : X} → found ≡ None → found ≡ Some x → ⊥
 none_there none some = false≢true (ap is_some (sym none ∙ some))
 
-pub IsSound-opened : (user token : Bytes) → IsSound (opened user token)
+pub IsSound-opened : (user token : Bytes) → IsSound (first_tables user token)
 IsSound-opened user token = record {
   one_bearer = λ u v x y at_u at_v e. the_user user token u x at_u ∙ sym (the_user user token v y at_v);
   owners = λ name u owns. absurd (false≢true (sym (ap is_some (get-empty pair_cmp (name, u))) ∙ owns));
@@ -30,9 +30,9 @@ IsSound-opened user token = record {
   cases = λ name is_open. absurd (false≢true (sym (ap is_some (get-empty bytes_cmp name)) ∙ is_open));
   spelled = λ file known at. absurd (none_there (get-empty bytes_cmp file) at);
   undeleted_held = λ file known at live. absurd (none_there (get-empty bytes_cmp file) at);
-  charge = λ name project at. absurd (none_there (ap project_in (get-empty bytes_cmp name)) at);
-  undeleted = λ name project at. absurd (none_there (ap project_in (get-empty bytes_cmp name)) at);
-  quota = λ name project at. absurd (none_there (ap project_in (get-empty bytes_cmp name)) at);
+  charge = λ name project at. absurd (none_there (ap held_project (get-empty bytes_cmp name)) at);
+  undeleted = λ name project at. absurd (none_there (ap held_project (get-empty bytes_cmp name)) at);
+  quota = λ name project at. absurd (none_there (ap held_project (get-empty bytes_cmp name)) at);
   bodies = λ file. ap is_some (get-empty bytes_cmp file) ∙ sym (ap is_undeleted (get-empty bytes_cmp file));
   bytes = λ file body known at_body at. absurd (none_there (get-empty bytes_cmp file) at);
 }

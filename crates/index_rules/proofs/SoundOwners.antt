@@ -6,7 +6,7 @@ use Rattle.std.specs.FinMap.{get, insert, remove, keys, contains_key-keys}
 use Rattle.std.proofs.lemmas.Bool.{true≢false, false≢true, cases_Bool, and_parts, and_from, or_parts, or_left, or_right, not-false}
 use Rattle.index_rules.specs.Maps.{Bytes, same, pair_cmp}
 use Rattle.index_rules.specs.Tables.{Tables}
-use Rattle.index_rules.specs.Facts.{owns_in, alone_owns_in}
+use Rattle.index_rules.specs.Facts.{owns_in, owns_alone_in}
 use Rattle.index_rules.specs.Verdict.{is_held}
 use Rattle.index_rules.specs.Sound.{IsSound}
 use Rattle.index_rules.proofs.OwnerLists.{same-is, same_pair}
@@ -50,7 +50,7 @@ failing_pair p (pair ∷ pairs) e = elim (cases_Bool (p pair)) [
 ]
 
 -- an owner who is not the only one is not alone
-another_owner : (T : Tables) (name owner : Bytes) → owns_in T name owner ≡ true → alone_owns_in T name owner ≡ false
+another_owner : (T : Tables) (name owner : Bytes) → owns_in T name owner ≡ true → owns_alone_in T name owner ≡ false
     → (user : Bytes) × (owns_in T name user ≡ true) × (same user owner ≡ false)
 another_owner T name owner owns sole =
     let some_fails : list_all (λ pair. not (same name pair.0) || same owner pair.1) (keys T.owners) ≡ false =
@@ -62,7 +62,7 @@ another_owner T name owner owns sole =
       other-sym owner found.0.1 parts.1,
     )
 
-pub IsSound-no_owner : (T : Tables) → IsSound T → (name owner : Bytes) → owns_in T name owner ≡ true → alone_owns_in T name owner ≡ false
+pub IsSound-no_owner : (T : Tables) → IsSound T → (name owner : Bytes) → owns_in T name owner ≡ true → owns_alone_in T name owner ≡ false
     → IsSound (record T { owners = remove T.owners (name, owner) })
 IsSound-no_owner T sound name owner owns sole = record {
   one_bearer = sound.one_bearer;

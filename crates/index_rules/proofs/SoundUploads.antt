@@ -8,16 +8,16 @@ use Rattle.index_rules.specs.Maps.{Bytes, same}
 use Rattle.index_digest.specs.Digest.{sha256}
 use Rattle.index_rules.specs.Tables.{Tables}
 use Rattle.index_rules.specs.Facts.{owns_in}
-use Rattle.index_rules.specs.Verdict.{project_in, is_held, is_undeleted}
+use Rattle.index_rules.specs.Verdict.{held_project, is_held, is_undeleted}
 use Rattle.index_rules.specs.Effect.{with_file}
-use Rattle.index_rules.specs.Sound.{IsSound, IsRecordOf, IsBodyOf, charge_in, undeleted_in}
+use Rattle.index_rules.specs.Sound.{IsSound, IsRecordOf, IsBodyOf, charge_in, undeleted_count_in}
 use Rattle.index_rules.proofs.KeyLemmas.{same-refl, cases_same}
 use Rattle.index_rules.proofs.FileTotals.{total-upload}
 use Rattle.index_rules.proofs.PutLemmas.{each_put, get-put_here, get-put_other}
 use Rattle.index_rules.proofs.SoundNames.{still_held}
 
 module _ (at : ℕ) (T : Tables) (sound : IsSound T) (file : Bytes) (known : FileRecord) (body : Bytes) (project : Project)
-    (undeleted : known.is_undeleted ≡ true) (deleted : is_undeleted (get T.files file) ≡ false) (there : project_in (get T.names known.project) ≡ Some project) where
+    (undeleted : known.is_undeleted ≡ true) (deleted : is_undeleted (get T.files file) ≡ false) (there : held_project (get T.names known.project) ≡ Some project) where
   abbrev uploaded : Tables
   uploaded = record T {
     names = insert T.names known.project (Held (with_file at known.size project));
@@ -28,14 +28,14 @@ module _ (at : ℕ) (T : Tables) (sound : IsSound T) (file : Bytes) (known : Fil
   charge_in-upload : (name : Bytes) → charge_in uploaded name ≡ charge_in T name + cond (same name known.project) known.size 0
   charge_in-upload = total-upload (λ known. known.size) T file known undeleted deleted
 
-  undeleted_in-upload : (name : Bytes) → undeleted_in uploaded name ≡ undeleted_in T name + cond (same name known.project) 1 0
+  undeleted_in-upload : (name : Bytes) → undeleted_count_in uploaded name ≡ undeleted_count_in T name + cond (same name known.project) 1 0
   undeleted_in-upload = total-upload (λ _. 1) T file known undeleted deleted
 
   held : is_held (get T.names known.project) ≡ true
   held = ap is_some there
 
-  charge-upload : (name : Bytes) (p : Project) → project_in (get uploaded.names name) ≡ Some p → p.charge ≡ charge_in uploaded name
-  charge-upload = each_put T.names known.project (Held (with_file at known.size project)) (λ name found. (p : Project) → project_in found ≡ Some p → p.charge ≡ charge_in uploaded name)
+  charge-upload : (name : Bytes) (p : Project) → held_project (get uploaded.names name) ≡ Some p → p.charge ≡ charge_in uploaded name
+  charge-upload = each_put T.names known.project (Held (with_file at known.size project)) (λ name found. (p : Project) → held_project found ≡ Some p → p.charge ≡ charge_in uploaded name)
       (λ p e.
       let is : with_file at known.size project ≡ p = cc in
       let more : charge_in uploaded known.project ≡ charge_in T known.project + known.size = charge_in-upload known.project ∙ ap (λ b. charge_in T known.project + cond b known.size 0) (same-refl known.project) in
@@ -45,15 +45,15 @@ module _ (at : ℕ) (T : Tables) (sound : IsSound T) (file : Bytes) (known : Fil
       let before : p.charge ≡ charge_in T name = sound.charge name p e in
       omega (arith, more, before))
 
-  undeleted-upload : (name : Bytes) (p : Project) → project_in (get uploaded.names name) ≡ Some p → p.undeleted ≡ undeleted_in uploaded name
-  undeleted-upload = each_put T.names known.project (Held (with_file at known.size project)) (λ name found. (p : Project) → project_in found ≡ Some p → p.undeleted ≡ undeleted_in uploaded name)
+  undeleted-upload : (name : Bytes) (p : Project) → held_project (get uploaded.names name) ≡ Some p → p.undeleted ≡ undeleted_count_in uploaded name
+  undeleted-upload = each_put T.names known.project (Held (with_file at known.size project)) (λ name found. (p : Project) → held_project found ≡ Some p → p.undeleted ≡ undeleted_count_in uploaded name)
       (λ p e.
       let is : with_file at known.size project ≡ p = cc in
-      let more : undeleted_in uploaded known.project ≡ undeleted_in T known.project + 1 = undeleted_in-upload known.project ∙ ap (λ b. undeleted_in T known.project + cond b 1 0) (same-refl known.project) in
+      let more : undeleted_count_in uploaded known.project ≡ undeleted_count_in T known.project + 1 = undeleted_in-upload known.project ∙ ap (λ b. undeleted_count_in T known.project + cond b 1 0) (same-refl known.project) in
       ap (λ (r : Project). r.undeleted) (sym is) ∙ ap (λ c. c + 1) (sound.undeleted known.project project there) ∙ sym more)
       (λ name other p e.
-      let more : undeleted_in uploaded name ≡ undeleted_in T name + 0 = undeleted_in-upload name ∙ ap (λ b. undeleted_in T name + cond b 1 0) other in
-      let before : p.undeleted ≡ undeleted_in T name = sound.undeleted name p e in
+      let more : undeleted_count_in uploaded name ≡ undeleted_count_in T name + 0 = undeleted_in-upload name ∙ ap (λ b. undeleted_count_in T name + cond b 1 0) other in
+      let before : p.undeleted ≡ undeleted_count_in T name = sound.undeleted name p e in
       omega (arith, more, before))
 
   bytes-upload : IsBodyOf known body → (q b : Bytes) (k : FileRecord) → get uploaded.bodies q ≡ Some b → get uploaded.files q ≡ Some k → IsBodyOf k b
@@ -82,7 +82,7 @@ module _ (at : ℕ) (T : Tables) (sound : IsSound T) (file : Bytes) (known : Fil
         (λ q _ k e there. still_held T known.project (with_file at known.size project) k.project (sound.undeleted_held q k e there));
     charge = charge-upload;
     undeleted = undeleted-upload;
-    quota = each_put T.names known.project (Held (with_file at known.size project)) (λ name found. (p : Project) → project_in found ≡ Some p → p.charge ≤ p.quota)
+    quota = each_put T.names known.project (Held (with_file at known.size project)) (λ name found. (p : Project) → held_project found ≡ Some p → p.charge ≤ p.quota)
         (λ p e. let is : with_file at known.size project ≡ p = cc in subst (λ (r : Project). r.charge ≤ r.quota) is fits)
         (λ name _. sound.quota name);
     bodies = λ q. elim (cases_same q file) [

@@ -7,7 +7,7 @@ use Rattle.index_rules.specs.Maps.{Bytes, same}
 use Rattle.index_rules.specs.Tables.{Tables}
 use Rattle.index_rules.specs.Facts.{HasOneBearer, bearer_in}
 use Rattle.index_rules.specs.Verdict.{is_taken}
-use Rattle.index_rules.specs.Effect.{key}
+use Rattle.index_rules.specs.Effect.{or_empty}
 use Rattle.index_rules.specs.Sound.{IsSound}
 use Rattle.index_rules.proofs.OwnerLists.{same-is}
 use Rattle.index_rules.proofs.KeyLemmas.{same-refl}
@@ -48,7 +48,7 @@ IsSound-user T sound user account free = record {
 
 -- a digest that is not taken is free for the user
 pub not_taken : (T : Tables) → HasOneBearer T → (token user : Option Bytes) → is_none token ≡ false → is_none user ≡ false
-    → is_taken (option_map (λ bearer. bearer.0) (option_and_then (bearer_in T) token)) user ≡ false → IsFreeFor T (key token) (key user)
+    → is_taken (option_map (λ bearer. bearer.0) (option_and_then (bearer_in T) token)) user ≡ false → IsFreeFor T (or_empty token) (or_empty user)
 not_taken T one None user no_token no_user taken v y at bears = absurd (true≢false no_token)
 not_taken T one (Some token) None no_token no_user taken v y at bears = absurd (true≢false no_user)
 not_taken T one (Some token) (Some user) no_token no_user taken v y at bears =

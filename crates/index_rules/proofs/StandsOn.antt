@@ -13,19 +13,19 @@ use Rattle.index_rules.specs.declared.answer.Answer.{Answer}
 use Rattle.index_rules.specs.declared.answer.Answer.TheVariants.{Accepted, Already, Refused, Fault}
 use Rattle.index_rules.specs.Maps.{Bytes, same, bytes_cmp, pair_cmp}
 use Rattle.index_rules.specs.Tables.{Tables}
-use Rattle.index_rules.specs.Facts.{HasOneBearer, bearer_in, caller_by, facts_in}
-use Rattle.index_rules.specs.Verdict.{Accept, project_in, verdict_now}
-use Rattle.index_rules.specs.Effect.{key, after}
-use Rattle.index_rules.specs.Opened.{first_record, opened}
+use Rattle.index_rules.specs.Facts.{HasOneBearer, bearer_in, caller_of, facts_in}
+use Rattle.index_rules.specs.Verdict.{Accept, held_project, verdict_now}
+use Rattle.index_rules.specs.Effect.{or_empty, tables_with_call}
+use Rattle.index_rules.specs.FirstTables.{first_record, first_tables}
 use Rattle.index_rules.specs.Runs.{Answers, Runs, tables_after}
 use Rattle.index_rules.specs.Sound.{IsSound}
 use Rattle.index_rules.specs.History.{History, begins, more}
-use Rattle.index_rules.specs.PastUsers.{bearer}
-use Rattle.index_rules.specs.PastNames.{State, Free, Held, Prohibited, state_of, shown_of, quota_of, last_upload_of}
-use Rattle.index_rules.specs.PastFiles.{charge, undeleted_count}
+use Rattle.index_rules.specs.PastUsers.{bearer_after}
+use Rattle.index_rules.specs.PastNames.{State, Free, Held, Prohibited, state_after, shown_after, quota_after, last_upload_after}
+use Rattle.index_rules.specs.PastFiles.{charge_after, undeleted_count_after}
 use Rattle.index_rules.specs.Laws.{HasOneBearerOfEach}
-use Rattle.index_rules.specs.StandsFor.{StandsFor, name_by, project_at, name_at, file_at}
-use Rattle.index_rules.specs.Legal.{verdict_after, with_call, IsLegal, history_after, CarriesOn, CarriesOnBy}
+use Rattle.index_rules.specs.StandsFor.{StandsFor, record_of_state, project_after, name_after, file_after}
+use Rattle.index_rules.specs.Legal.{verdict_after, with_call, IsLegal, history_after, CarriesOn, CarriesOnAll}
 use Rattle.index_rules.proofs.OwnerLists.{pair_total, exact_pair}
 use Rattle.index_rules.proofs.KeyLemmas.{get-put}
 use Rattle.index_rules.proofs.Accepted.{accepted}
@@ -34,25 +34,25 @@ use Rattle.index_rules.proofs.SoundLemmas.{IsSound-after}
 use Rattle.index_rules.proofs.PastWords.{received}
 use Rattle.index_rules.proofs.PastTotals.{charge_agrees, count_agrees, has_release_agrees}
 use Rattle.index_rules.proofs.Agree as agree
-use Rattle.index_rules.proofs.StepUsers.{users_after}
-use Rattle.index_rules.proofs.StepNames.{IsShaped, IsNamed, names_after}
-use Rattle.index_rules.proofs.StepOwners.{owners_after, yanks_after}
-use Rattle.index_rules.proofs.StepCases.{cases_after}
-use Rattle.index_rules.proofs.StepFiles.{files_after, bodies_after}
+use Rattle.index_rules.proofs.StepUsers.{step_of_users}
+use Rattle.index_rules.proofs.StepNames.{IsShaped, IsNamed, step_of_names}
+use Rattle.index_rules.proofs.StepOwners.{step_of_owners, step_of_yanks}
+use Rattle.index_rules.proofs.StepCases.{step_of_cases}
+use Rattle.index_rules.proofs.StepFiles.{step_of_files, step_of_bodies}
 
 -- ---- the numbers of a name
 
 -- in sound tables whose files are those of a history, a name with this shape has the numbers of the history
-name_numbered : (T : Tables) → IsSound T → (h : History) → ((file : Bytes) → get T.files file ≡ file_at h file) → (n : Bytes) → IsNamed h n (get T.names n) → get T.names n ≡ name_at h n
-name_numbered T sound h files n shaped = by (state_of h n) shaped
+name_numbered : (T : Tables) → IsSound T → (h : History) → ((file : Bytes) → get T.files file ≡ file_after h file) → (n : Bytes) → IsNamed h n (get T.names n) → get T.names n ≡ name_after h n
+name_numbered T sound h files n shaped = by (state_after h n) shaped
   where
-    by : (s : State) → IsShaped (get T.names n) s (shown_of h n) (quota_of h n) (last_upload_of h n) → get T.names n ≡ name_by s (project_at h n)
+    by : (s : State) → IsShaped (get T.names n) s (shown_after h n) (quota_after h n) (last_upload_after h n) → get T.names n ≡ record_of_state s (project_after h n)
     by Free found = found
     by Prohibited found = found
     by Held held =
-        let at : project_in (get T.names n) ≡ Some held.0 = ap project_in held.1 in
-        let charged : held.0.charge ≡ charge h n = sound.charge n held.0 at ∙ charge_agrees T h files n in
-        let counted : held.0.undeleted ≡ undeleted_count h n = sound.undeleted n held.0 at ∙ count_agrees T h files n in
+        let at : held_project (get T.names n) ≡ Some held.0 = ap held_project held.1 in
+        let charged : held.0.charge ≡ charge_after h n = sound.charge n held.0 at ∙ charge_agrees T h files n in
+        let counted : held.0.undeleted ≡ undeleted_count_after h n = sound.undeleted n held.0 at ∙ count_agrees T h files n in
         held.1 ∙ (λ i. Some (name_record.Held (record { shown = held.2 i; quota = held.3 i; charge = charged i; undeleted = counted i; last_upload = held.4 i })))
 
 -- ---- one call
@@ -61,40 +61,40 @@ module _ (T : Tables) (h : History) (sound : IsSound T) (stands : StandsFor T h)
   pub verdict_agrees : (c : Call) → verdict_now T c ≡ verdict_after h c
   verdict_agrees = agree.verdict_agrees T h sound.one_bearer stands (has_release_agrees T h stands.files) (received h)
 
-  acts : (token : Bytes) → key (option_map (λ (caller : Caller). caller.user) (option_map caller_by (bearer_in T token))) ≡ key (bearer h token)
-  acts token = ap key (by (bearer_in T token) ∙ agree.who_agrees T h sound.one_bearer stands (has_release_agrees T h stands.files) (received h) token)
+  acts : (token : Bytes) → or_empty (option_map (λ (caller : Caller). caller.user) (option_map caller_of (bearer_in T token))) ≡ or_empty (bearer_after h token)
+  acts token = ap or_empty (by (bearer_in T token) ∙ agree.who_agrees T h sound.one_bearer stands (has_release_agrees T h stands.files) (received h) token)
     where
-      by : (found : Option (Bytes × UserRecord)) → option_map (λ (caller : Caller). caller.user) (option_map caller_by found) ≡ option_map (λ user. user.0) found
+      by : (found : Option (Bytes × UserRecord)) → option_map (λ (caller : Caller). caller.user) (option_map caller_of found) ≡ option_map (λ user. user.0) found
       by None = refl
       by (Some user) = refl
 
   -- after an accepted call the tables stand for the history with it
-  pub StandsFor-after : (c : Call) → verdict_now T c ≡ Accept → StandsFor (after T c) (with_call h c)
+  pub StandsFor-after : (c : Call) → verdict_now T c ≡ Accept → StandsFor (tables_with_call T c) (with_call h c)
   StandsFor-after c accepts =
-      let actor : Bytes = key (bearer h c.token) in
-      let files : (file : Bytes) → get (after T c).files file ≡ file_at (with_call h c) file = files_after T h stands.files c.at c.token actor c.request accepts in
+      let actor : Bytes = or_empty (bearer_after h c.token) in
+      let files : (file : Bytes) → get (tables_with_call T c).files file ≡ file_after (with_call h c) file = step_of_files T h stands.files c.at c.token actor c.request accepts in
       record {
-        users = users_after T h stands.users c.at c.token actor c.request accepts;
-        names = λ n. name_numbered (after T c) (IsSound-after T sound c accepts) (with_call h c) files n (names_after T h stands.names c.at c.token actor c.request accepts n);
-        owners = owners_after T h stands.names stands.cases c.at c.token actor stands.owners (acts c.token) c.request accepts;
+        users = step_of_users T h stands.users c.at c.token actor c.request accepts;
+        names = λ n. name_numbered (tables_with_call T c) (IsSound-after T sound c accepts) (with_call h c) files n (step_of_names T h stands.names c.at c.token actor c.request accepts n);
+        owners = step_of_owners T h stands.names stands.cases c.at c.token actor stands.owners (acts c.token) c.request accepts;
         files = files;
-        bodies = bodies_after T h stands.files c.at c.token actor stands.bodies c.request accepts;
-        yanks = yanks_after T h stands.names stands.cases c.at c.token actor stands.yanks c.request accepts;
-        cases = cases_after T h sound stands.names stands.cases c.at c.token actor (acts c.token) c.request accepts;
+        bodies = step_of_bodies T h stands.files c.at c.token actor stands.bodies c.request accepts;
+        yanks = step_of_yanks T h stands.names stands.cases c.at c.token actor stands.yanks c.request accepts;
+        cases = step_of_cases T h sound stands.names stands.cases c.at c.token actor (acts c.token) c.request accepts;
       }
 
   -- who made an accepted call bears its token
-  caller_there : (c : Call) → verdict_now T c ≡ Accept → bearer h c.token ≡ Some (key (bearer h c.token))
+  caller_there : (c : Call) → verdict_now T c ≡ Accept → bearer_after h c.token ≡ Some (or_empty (bearer_after h c.token))
   caller_there c accepts =
       by (bearer_in T c.token) ((accepted c (facts_in T c) accepts).not_refused BadToken refl) (agree.who_agrees T h sound.one_bearer stands (has_release_agrees T h stands.files) (received h) c.token)
     where
-      by : (found : Option (Bytes × UserRecord)) → is_none (option_map caller_by found) ≡ false → option_map (λ user. user.0) found ≡ bearer h c.token → bearer h c.token ≡ Some (key (bearer h c.token))
+      by : (found : Option (Bytes × UserRecord)) → is_none (option_map caller_of found) ≡ false → option_map (λ user. user.0) found ≡ bearer_after h c.token → bearer_after h c.token ≡ Some (or_empty (bearer_after h c.token))
       by None missing is = absurd (true≢false missing)
-      by (Some user) missing is = sym is ∙ ap (λ o. Some (key o)) is
+      by (Some user) missing is = sym is ∙ ap (λ o. Some (or_empty o)) is
 
 -- ---- the opening
 
-pub StandsFor-opened : (user token : Bytes) → StandsFor (opened user token) (begins user token)
+pub StandsFor-opened : (user token : Bytes) → StandsFor (first_tables user token) (begins user token)
 StandsFor-opened user token = record {
   users = λ q. get-put empty user (first_record token) q ∙ ap (cond (same q user) (Some (first_record token))) (get-empty bytes_cmp q);
   names = λ q. get-empty bytes_cmp q;
@@ -109,8 +109,8 @@ StandsFor-opened user token = record {
 
 -- the tables that a history makes
 abbrev pub tables_of : History → Tables
-tables_of (begins user token) = opened user token
-tables_of (more h e) = after (tables_of h) e.call
+tables_of (begins user token) = first_tables user token
+tables_of (more h e) = tables_with_call (tables_of h) e.call
 
 pub record IsMade (h : History) : Type 0 where
   pub sound : IsSound (tables_of h)
@@ -123,7 +123,7 @@ legal_made (more h e) legal =
     let accepts : verdict_now (tables_of h) e.call ≡ Accept = verdict_agrees (tables_of h) h made.sound made.stands e.call ∙ legal.1 in
     record {
       sound = IsSound-after (tables_of h) made.sound e.call accepts;
-      stands = subst (λ actor. StandsFor (after (tables_of h) e.call) (more h (record { actor = actor; call = e.call }))) (ap key legal.2) (StandsFor-after (tables_of h) h made.sound made.stands e.call accepts);
+      stands = subst (λ actor. StandsFor (tables_with_call (tables_of h) e.call) (more h (record { actor = actor; call = e.call }))) (ap or_empty legal.2) (StandsFor-after (tables_of h) h made.sound made.stands e.call accepts);
     }
 
 -- two tables that stand for one history are equal
@@ -169,7 +169,7 @@ CarriesOn-answer h legal T stands c answer T' answers after_is =
     by (Refused refusal) now verdict is = record { verdict = verdict; legal = legal; stands = subst (λ x. StandsFor x h) (sym is) stands }
     by (Fault fault) now verdict is = record { verdict = verdict; legal = legal; stands = subst (λ x. StandsFor x h) (sym is) stands }
 
-pub CarriesOnBy-Runs : (h : History) → IsLegal h → (T : Tables) → StandsFor T h → (calls : List Call) (answers : List Answer) (T' : Tables) → Runs T calls answers T' → CarriesOnBy h calls answers T'
+pub CarriesOnBy-Runs : (h : History) → IsLegal h → (T : Tables) → StandsFor T h → (calls : List Call) (answers : List Answer) (T' : Tables) → Runs T calls answers T' → CarriesOnAll h calls answers T'
 CarriesOnBy-Runs h legal T stands [] [] T' run = record { after = h; extends = refl; legal = legal; stands = subst (λ x. StandsFor x h) (sym run) stands }
 CarriesOnBy-Runs h legal T stands [] (answer ∷ answers) T' run = absurd run
 CarriesOnBy-Runs h legal T stands (call ∷ calls) [] T' run = absurd run

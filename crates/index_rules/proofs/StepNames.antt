@@ -16,11 +16,11 @@ use Rattle.index_rules.specs.Maps.{Bytes}
 use Rattle.index_rules.specs.Tables.{Tables}
 use Rattle.index_rules.specs.Requests.{read_file}
 use Rattle.index_rules.specs.Facts.{facts_in}
-use Rattle.index_rules.specs.Verdict.{Accept, verdict_now, project_in, is_held, is_prohibited}
-use Rattle.index_rules.specs.Effect.{key, no_project, file_of, later, with_file, without_file, after}
+use Rattle.index_rules.specs.Verdict.{Accept, verdict_now, held_project, is_held, is_prohibited}
+use Rattle.index_rules.specs.Effect.{or_empty, no_project, the_file, later, with_file, without_file, tables_with_call}
 use Rattle.index_rules.specs.History.{History, more, is_read_as}
-use Rattle.index_rules.specs.PastNames.{State, Free, Held, Prohibited, state_of, shown_of, quota_of, uploads_of, greatest, last_upload_of}
-use Rattle.index_rules.specs.StandsFor.{name_by, project_at, name_at}
+use Rattle.index_rules.specs.PastNames.{State, Free, Held, Prohibited, state_after, shown_after, quota_after, uploads_after, greatest, last_upload_after}
+use Rattle.index_rules.specs.StandsFor.{record_of_state, project_after, name_after}
 use Rattle.index_rules.proofs.PutLemmas.{each_put, each_without}
 use Rattle.index_rules.proofs.Accepted.{accepted}
 use Rattle.index_rules.proofs.PastReading.{read_key, read_itself, at_key, at_other}
@@ -33,9 +33,9 @@ IsShaped found Held shown quota last =
 IsShaped found Prohibited shown quota last = found ≡ Some name_record.Prohibited
 
 abbrev pub IsNamed : History → Bytes → Option NameRecord → Type 0
-IsNamed h n found = IsShaped found (state_of h n) (shown_of h n) (quota_of h n) (last_upload_of h n)
+IsNamed h n found = IsShaped found (state_after h n) (shown_after h n) (quota_after h n) (last_upload_after h n)
 
-IsShaped-by : (s : State) (project : Project) (found : Option NameRecord) → found ≡ name_by s project → IsShaped found s project.shown project.quota project.last_upload
+IsShaped-by : (s : State) (project : Project) (found : Option NameRecord) → found ≡ record_of_state s project → IsShaped found s project.shown project.quota project.last_upload
 IsShaped-by Free project found is = is
 IsShaped-by Held project found is = (project, is, refl, refl, refl)
 IsShaped-by Prohibited project found is = is
@@ -56,26 +56,26 @@ later-greatest at (Some moment) = refl
 
 -- of a name that is held the history says so, and has its numbers
 pub record IsHeldAt (T : Tables) (h : History) (n : Bytes) : Type 0 where
-  pub state : state_of h n ≡ Held
-  pub project : project_in (get T.names n) ≡ Some (project_at h n)
+  pub state : state_after h n ≡ Held
+  pub project : held_project (get T.names n) ≡ Some (project_after h n)
 
-pub held_at : (T : Tables) (h : History) (n : Bytes) → get T.names n ≡ name_at h n → is_held (get T.names n) ≡ true → IsHeldAt T h n
-held_at T h n stands held = by (state_of h n) refl (sym (ap is_held stands) ∙ held)
+pub held_at : (T : Tables) (h : History) (n : Bytes) → get T.names n ≡ name_after h n → is_held (get T.names n) ≡ true → IsHeldAt T h n
+held_at T h n stands held = by (state_after h n) refl (sym (ap is_held stands) ∙ held)
   where
-    by : (s : State) → state_of h n ≡ s → is_held (name_by (state_of h n) (project_at h n)) ≡ true → IsHeldAt T h n
-    by Free is held = absurd (false≢true (ap (λ s. is_held (name_by s (project_at h n))) (sym is) ∙ held))
-    by Held is held = record { state = is; project = ap project_in stands ∙ ap (λ s. project_in (name_by s (project_at h n))) is }
-    by Prohibited is held = absurd (false≢true (ap (λ s. is_held (name_by s (project_at h n))) (sym is) ∙ held))
+    by : (s : State) → state_after h n ≡ s → is_held (record_of_state (state_after h n) (project_after h n)) ≡ true → IsHeldAt T h n
+    by Free is held = absurd (false≢true (ap (λ s. is_held (record_of_state s (project_after h n))) (sym is) ∙ held))
+    by Held is held = record { state = is; project = ap held_project stands ∙ ap (λ s. held_project (record_of_state s (project_after h n))) is }
+    by Prohibited is held = absurd (false≢true (ap (λ s. is_held (record_of_state s (project_after h n))) (sym is) ∙ held))
 
-pub prohibited_at : (T : Tables) (h : History) (n : Bytes) → get T.names n ≡ name_at h n → is_prohibited (get T.names n) ≡ true → state_of h n ≡ Prohibited
-prohibited_at T h n stands prohibited = by (state_of h n) refl (sym (ap is_prohibited stands) ∙ prohibited)
+pub prohibited_at : (T : Tables) (h : History) (n : Bytes) → get T.names n ≡ name_after h n → is_prohibited (get T.names n) ≡ true → state_after h n ≡ Prohibited
+prohibited_at T h n stands prohibited = by (state_after h n) refl (sym (ap is_prohibited stands) ∙ prohibited)
   where
-    by : (s : State) → state_of h n ≡ s → is_prohibited (name_by (state_of h n) (project_at h n)) ≡ true → state_of h n ≡ Prohibited
-    by Free is p = absurd (false≢true (ap (λ s. is_prohibited (name_by s (project_at h n))) (sym is) ∙ p))
-    by Held is p = absurd (false≢true (ap (λ s. is_prohibited (name_by s (project_at h n))) (sym is) ∙ p))
+    by : (s : State) → state_after h n ≡ s → is_prohibited (record_of_state (state_after h n) (project_after h n)) ≡ true → state_after h n ≡ Prohibited
+    by Free is p = absurd (false≢true (ap (λ s. is_prohibited (record_of_state s (project_after h n))) (sym is) ∙ p))
+    by Held is p = absurd (false≢true (ap (λ s. is_prohibited (record_of_state s (project_after h n))) (sym is) ∙ p))
     by Prohibited is p = is
 
-module _ (T : Tables) (h : History) (stands : (name : Bytes) → get T.names name ≡ name_at h name) (at : ℕ) (token actor : Bytes) where
+module _ (T : Tables) (h : History) (stands : (name : Bytes) → get T.names name ≡ name_after h name) (at : ℕ) (token actor : Bytes) where
   abbrev of : Request → Call
   of request = record { at = at; token = token; request = request }
 
@@ -83,88 +83,88 @@ module _ (T : Tables) (h : History) (stands : (name : Bytes) → get T.names nam
   then request = more h (record { actor = actor; call = of request })
 
   before : (n : Bytes) → IsNamed h n (get T.names n)
-  before n = IsShaped-by (state_of h n) (project_at h n) (get T.names n) (stands n)
+  before n = IsShaped-by (state_after h n) (project_after h n) (get T.names n) (stands n)
 
   -- what the facts have of the name of a request
   pub held_by : (read : Option Bytes) (n : Bytes) → read ≡ Some n → not (is_held (option_and_then (get T.names) read)) ≡ false
-      → IsHeldAt T h n × (unwrap_or (project_in (option_and_then (get T.names) read)) no_project ≡ project_at h n)
+      → IsHeldAt T h n × (unwrap_or (held_project (option_and_then (get T.names) read)) no_project ≡ project_after h n)
   held_by read n reads missing =
       let found : option_and_then (get T.names) read ≡ get T.names n = ap (option_and_then (get T.names)) reads in
       let there = held_at T h n (stands n) (sym (ap is_held found) ∙ not-false _ missing) in
-      (there, ap (λ o. unwrap_or (project_in o) no_project) found ∙ ap (λ o. unwrap_or o no_project) there.project)
+      (there, ap (λ o. unwrap_or (held_project o) no_project) found ∙ ap (λ o. unwrap_or o no_project) there.project)
 
-  quota_set : (name : Bytes) (quota : ℕ) → verdict_now T (of (SetQuota name quota)) ≡ Accept → (q : Bytes) → IsNamed (then (SetQuota name quota)) q (get (after T (of (SetQuota name quota))).names q)
+  quota_set : (name : Bytes) (quota : ℕ) → verdict_now T (of (SetQuota name quota)) ≡ Accept → (q : Bytes) → IsNamed (then (SetQuota name quota)) q (get (tables_with_call T (of (SetQuota name quota))).names q)
   quota_set name quota accepts =
       let all = accepted (of (SetQuota name quota)) (facts_in T (of (SetQuota name quota))) accepts in
-      let n : Bytes = key (read_name name) in
+      let n : Bytes = or_empty (read_name name) in
       let reads : read_name name ≡ Some n = read_key (read_name name) (all.not_refused BadName refl) in
       let held = held_by (read_name name) n reads (all.not_refused NoProject refl) in
-      let project : Project = unwrap_or (project_in (option_and_then (get T.names) (read_name name))) no_project in
+      let project : Project = unwrap_or (held_project (option_and_then (get T.names) (read_name name))) no_project in
       each_put T.names n (name_record.Held (record project { quota = quota })) (IsNamed (then (SetQuota name quota)))
-      (IsShaped-held (state_of h n) (shown_of h n) (quota_of (then (SetQuota name quota)) n) (last_upload_of h n) (record project { quota = quota }) held.0.state (λ i. (held.1 i).shown) (sym (at_key (read_name name) n reads quota (quota_of h n)))
+      (IsShaped-held (state_after h n) (shown_after h n) (quota_after (then (SetQuota name quota)) n) (last_upload_after h n) (record project { quota = quota }) held.0.state (λ i. (held.1 i).shown) (sym (at_key (read_name name) n reads quota (quota_after h n)))
       (λ i. (held.1 i).last_upload))
-      (λ q other. IsShaped-same (get T.names q) _ _ _ _ _ _ _ _ refl refl (sym (at_other (read_name name) n reads quota (quota_of h q) q other)) refl (before q))
+      (λ q other. IsShaped-same (get T.names q) _ _ _ _ _ _ _ _ refl refl (sym (at_other (read_name name) n reads quota (quota_after h q) q other)) refl (before q))
 
-  claimed : (name : Bytes) → is_none (read_name name) ≡ false → (q : Bytes) → IsNamed (then (Claim name)) q (get (after T (of (Claim name))).names q)
+  claimed : (name : Bytes) → is_none (read_name name) ≡ false → (q : Bytes) → IsNamed (then (Claim name)) q (get (tables_with_call T (of (Claim name))).names q)
   claimed name unread =
-      let n : Bytes = key (read_name name) in
+      let n : Bytes = or_empty (read_name name) in
       let reads : read_name name ≡ Some n = read_key (read_name name) unread in
       let project : Project = record { shown = name; quota = first_quota; charge = 0; undeleted = 0; last_upload = None } in
       each_put T.names n (name_record.Held project) (IsNamed (then (Claim name)))
-      (IsShaped-held _ _ _ _ project (at_key (read_name name) n reads Held (state_of h n)) (sym (at_key (read_name name) n reads name (shown_of h n))) (sym (at_key (read_name name) n reads first_quota (quota_of h n)))
-      (sym (ap greatest (at_key (read_name name) n reads [] (uploads_of h n)))))
+      (IsShaped-held _ _ _ _ project (at_key (read_name name) n reads Held (state_after h n)) (sym (at_key (read_name name) n reads name (shown_after h n))) (sym (at_key (read_name name) n reads first_quota (quota_after h n)))
+      (sym (ap greatest (at_key (read_name name) n reads [] (uploads_after h n)))))
       (λ q other. IsShaped-same (get T.names q) _ _ _ _ _ _ _ _
-      (sym (at_other (read_name name) n reads Held (state_of h q) q other)) (sym (at_other (read_name name) n reads name (shown_of h q) q other)) (sym (at_other (read_name name) n reads first_quota (quota_of h q) q other))
-      (sym (ap greatest (at_other (read_name name) n reads [] (uploads_of h q) q other))) (before q))
+      (sym (at_other (read_name name) n reads Held (state_after h q) q other)) (sym (at_other (read_name name) n reads name (shown_after h q) q other)) (sym (at_other (read_name name) n reads first_quota (quota_after h q) q other))
+      (sym (ap greatest (at_other (read_name name) n reads [] (uploads_after h q) q other))) (before q))
 
   -- a held name with other numbers
-  numbered : (n : Bytes) (project : Project) → state_of h n ≡ Held → project.shown ≡ shown_of h n → project.quota ≡ quota_of h n → project.last_upload ≡ last_upload_of h n
+  numbered : (n : Bytes) (project : Project) → state_after h n ≡ Held → project.shown ≡ shown_after h n → project.quota ≡ quota_after h n → project.last_upload ≡ last_upload_after h n
       → (q : Bytes) → IsNamed h q (get (insert T.names n (name_record.Held project)) q)
   numbered n project held shown quota last =
-      each_put T.names n (name_record.Held project) (IsNamed h) (IsShaped-held (state_of h n) (shown_of h n) (quota_of h n) (last_upload_of h n) project held shown quota last) (λ q other. before q)
+      each_put T.names n (name_record.Held project) (IsNamed h) (IsShaped-held (state_after h n) (shown_after h n) (quota_after h n) (last_upload_after h n) project held shown quota last) (λ q other. before q)
 
   -- a name that goes, or is prohibited
   freed : (read : Option Bytes) → is_none read ≡ false → (q : Bytes)
-      → IsShaped (get (remove T.names (key read)) q) (cond (is_read_as read q) Free (state_of h q)) (shown_of h q) (quota_of h q) (last_upload_of h q)
+      → IsShaped (get (remove T.names (or_empty read)) q) (cond (is_read_as read q) Free (state_after h q)) (shown_after h q) (quota_after h q) (last_upload_after h q)
   freed read unread =
-      let reads : read ≡ Some (key read) = read_key read unread in
-      each_without T.names (key read) (λ q found. IsShaped found (cond (is_read_as read q) Free (state_of h q)) (shown_of h q) (quota_of h q) (last_upload_of h q))
-      (IsShaped-same None _ _ _ _ _ _ _ _ (sym (at_key read (key read) reads Free (state_of h (key read)))) refl refl refl refl)
-      (λ q other. IsShaped-same (get T.names q) _ _ _ _ _ _ _ _ (sym (at_other read (key read) reads Free (state_of h q) q other)) refl refl refl (before q))
+      let reads : read ≡ Some (or_empty read) = read_key read unread in
+      each_without T.names (or_empty read) (λ q found. IsShaped found (cond (is_read_as read q) Free (state_after h q)) (shown_after h q) (quota_after h q) (last_upload_after h q))
+      (IsShaped-same None _ _ _ _ _ _ _ _ (sym (at_key read (or_empty read) reads Free (state_after h (or_empty read)))) refl refl refl refl)
+      (λ q other. IsShaped-same (get T.names q) _ _ _ _ _ _ _ _ (sym (at_other read (or_empty read) reads Free (state_after h q) q other)) refl refl refl (before q))
 
-  prohibited : (name : Bytes) → is_none (read_name name) ≡ false → (q : Bytes) → IsNamed (then (Prohibit name)) q (get (after T (of (Prohibit name))).names q)
+  prohibited : (name : Bytes) → is_none (read_name name) ≡ false → (q : Bytes) → IsNamed (then (Prohibit name)) q (get (tables_with_call T (of (Prohibit name))).names q)
   prohibited name unread =
-      let n : Bytes = key (read_name name) in
+      let n : Bytes = or_empty (read_name name) in
       let reads : read_name name ≡ Some n = read_key (read_name name) unread in
       each_put T.names n name_record.Prohibited (IsNamed (then (Prohibit name)))
-      (IsShaped-same (Some name_record.Prohibited) _ _ _ _ _ _ _ _ (sym (at_key (read_name name) n reads Prohibited (state_of h n))) refl refl refl refl)
-      (λ q other. IsShaped-same (get T.names q) _ _ _ _ _ _ _ _ (sym (at_other (read_name name) n reads Prohibited (state_of h q) q other)) refl refl refl (before q))
+      (IsShaped-same (Some name_record.Prohibited) _ _ _ _ _ _ _ _ (sym (at_key (read_name name) n reads Prohibited (state_after h n))) refl refl refl refl)
+      (λ q other. IsShaped-same (get T.names q) _ _ _ _ _ _ _ _ (sym (at_other (read_name name) n reads Prohibited (state_after h q) q other)) refl refl refl (before q))
 
   uploaded : (file digest body requires : Bytes) → read_file file ≡ Some file → not (is_held (option_and_then (get T.names) (option_map project_of (read_file file)))) ≡ false
-      → (q : Bytes) → IsNamed (then (Upload file digest body requires)) q (get (after T (of (Upload file digest body requires))).names q)
+      → (q : Bytes) → IsNamed (then (Upload file digest body requires)) q (get (tables_with_call T (of (Upload file digest body requires))).names q)
   uploaded file digest body requires is_file missing =
       let n : Bytes = project_of file in
       let read : Option Bytes = option_map project_of (read_file file) in
       let reads : read ≡ Some n = ap (option_map project_of) is_file in
       let held = held_by read n reads missing in
-      let project : Project = unwrap_or (project_in (option_and_then (get T.names) read)) no_project in
+      let project : Project = unwrap_or (held_project (option_and_then (get T.names) read)) no_project in
       each_put T.names n (name_record.Held (with_file at (length body) project)) (IsNamed (then (Upload file digest body requires)))
-      (IsShaped-held (state_of h n) (shown_of h n) (quota_of h n) (last_upload_of (then (Upload file digest body requires)) n) (with_file at (length body) project) held.0.state (λ i. (held.1 i).shown) (λ i. (held.1 i).quota)
-      ((λ i. Some (later (held.1 i).last_upload at)) ∙ later-greatest at (last_upload_of h n) ∙ sym (ap greatest (at_key read n reads (at ∷ uploads_of h n) (uploads_of h n)))))
-      (λ q other. IsShaped-same (get T.names q) _ _ _ _ _ _ _ _ refl refl refl (sym (ap greatest (at_other read n reads (at ∷ uploads_of h q) (uploads_of h q) q other))) (before q))
+      (IsShaped-held (state_after h n) (shown_after h n) (quota_after h n) (last_upload_after (then (Upload file digest body requires)) n) (with_file at (length body) project) held.0.state (λ i. (held.1 i).shown) (λ i. (held.1 i).quota)
+      ((λ i. Some (later (held.1 i).last_upload at)) ∙ later-greatest at (last_upload_after h n) ∙ sym (ap greatest (at_key read n reads (at ∷ uploads_after h n) (uploads_after h n)))))
+      (λ q other. IsShaped-same (get T.names q) _ _ _ _ _ _ _ _ refl refl refl (sym (ap greatest (at_other read n reads (at ∷ uploads_after h q) (uploads_after h q) q other))) (before q))
 
-  pub names_after : (request : Request) → verdict_now T (of request) ≡ Accept → (q : Bytes) → IsNamed (then request) q (get (after T (of request)).names q)
-  names_after (SetQuota name quota) accepts = quota_set name quota accepts
-  names_after (Claim name) accepts = claimed name ((accepted (of (Claim name)) (facts_in T (of (Claim name))) accepts).not_refused BadName refl)
-  names_after (Upload file digest body requires) accepts =
+  pub step_of_names : (request : Request) → verdict_now T (of request) ≡ Accept → (q : Bytes) → IsNamed (then request) q (get (tables_with_call T (of request)).names q)
+  step_of_names (SetQuota name quota) accepts = quota_set name quota accepts
+  step_of_names (Claim name) accepts = claimed name ((accepted (of (Claim name)) (facts_in T (of (Claim name))) accepts).not_refused BadName refl)
+  step_of_names (Upload file digest body requires) accepts =
       let all = accepted (of (Upload file digest body requires)) (facts_in T (of (Upload file digest body requires))) accepts in
       uploaded file digest body requires (read_itself file (all.not_refused BadFileName refl)) (all.not_refused NoProject refl)
-  names_after (Delete file) accepts =
+  step_of_names (Delete file) accepts =
       let all = accepted (of (Delete file)) (facts_in T (of (Delete file))) accepts in
       let held = held_by (option_map project_of (read_file file)) (project_of file) (ap (option_map project_of) (read_itself file (all.not_refused BadFileName refl))) (all.not_refused NoProject refl) in
-      let size : ℕ = (file_of (facts_in T (of (Delete file)))).size in
+      let size : ℕ = (the_file (facts_in T (of (Delete file)))).size in
       numbered (project_of file) _ held.0.state (λ i. (without_file size (held.1 i)).shown) (λ i. (without_file size (held.1 i)).quota) (λ i. (held.1 i).last_upload)
-  names_after (Relinquish name) accepts = freed (read_name name) ((accepted (of (Relinquish name)) (facts_in T (of (Relinquish name))) accepts).not_refused BadName refl)
-  names_after (Prohibit name) accepts = prohibited name ((accepted (of (Prohibit name)) (facts_in T (of (Prohibit name))) accepts).not_refused BadName refl)
-  names_after (Allow name) accepts = freed (read_name name) ((accepted (of (Allow name)) (facts_in T (of (Allow name))) accepts).not_refused BadName refl)
-  names_after request accepts = before
+  step_of_names (Relinquish name) accepts = freed (read_name name) ((accepted (of (Relinquish name)) (facts_in T (of (Relinquish name))) accepts).not_refused BadName refl)
+  step_of_names (Prohibit name) accepts = prohibited name ((accepted (of (Prohibit name)) (facts_in T (of (Prohibit name))) accepts).not_refused BadName refl)
+  step_of_names (Allow name) accepts = freed (read_name name) ((accepted (of (Allow name)) (facts_in T (of (Allow name))) accepts).not_refused BadName refl)
+  step_of_names request accepts = before

@@ -5,7 +5,7 @@ use Rattle.std.proofs.lemmas.Bool.{false≢true, true≢false, ltb-false, and_pa
 use Rattle.index_names.specs.Project.{read_name}
 use Rattle.index_retention.specs.declared.fault.CaseFault.{CaseFault}
 use Rattle.index_retention.specs.declared.fault.CaseFault.TheVariants as case_fault
-use Rattle.index_retention.specs.Attempts.{Attempt, Tally, attempt_of, noted, tally_of}
+use Rattle.index_retention.specs.Attempts.{Attempt, Tally, attempt_of, tally_with, tally_of}
 use Rattle.index_retention.specs.Transfer.{fewest_sent, six_weeks, twelve_months, too_few_attempts, too_early, recent_release, stands_against, IsReady}
 use Rattle.index_retention.proofs.TallyLemmas.{attempts_are_counted}
 use Rattle.index_rules.specs.declared.answer.Refusal.TheVariants.{HomePageActive, NoCase, NoProject, RecentRelease, TooEarly, TooFewAttempts}
@@ -13,11 +13,11 @@ use Rattle.index_rules.specs.declared.call.Call.{Call}
 use Rattle.index_rules.specs.declared.call.Request.{Request}
 use Rattle.index_rules.specs.declared.call.Request.TheVariants.{OpenCase, RecordAttempt, CloseCase, Transfer, Prohibit}
 use Rattle.index_rules.specs.Maps.{Bytes, same}
-use Rattle.index_rules.specs.Verdict.{Accept, project_in, is_held}
+use Rattle.index_rules.specs.Verdict.{Accept, held_project, is_held}
 use Rattle.index_rules.specs.History.{History, begins, more, is_read_as}
-use Rattle.index_rules.specs.PastNames.{State, Free, Held, Prohibited, state_of, is_held_now, is_given, last_upload_of}
-use Rattle.index_rules.specs.PastCases.{Case, with_attempt, case_by, case_of, is_owners_request, opens_case, is_unanswered}
-use Rattle.index_rules.specs.StandsFor.{name_by, project_at, name_at, case_by_attempts, case_at}
+use Rattle.index_rules.specs.PastNames.{State, Free, Held, Prohibited, state_after, is_held_now, is_given_after, last_upload_after}
+use Rattle.index_rules.specs.PastCases.{Case, with_attempt, case_by, case_after, is_owners_request, opens_case, is_unanswered_after}
+use Rattle.index_rules.specs.StandsFor.{record_of_state, project_after, name_after, record_of_case, case_record_after}
 use Rattle.index_rules.specs.Legal.{IsLegal, verdict_after, facts_after}
 use Rattle.index_rules.specs.Laws.{WasReady, TransferWasReady, TransfersWereReady}
 use Rattle.index_rules.proofs.Accepted.{accepted}
@@ -53,16 +53,16 @@ module _ (n : Bytes) (before : Option Case) (unanswered : Bool) (was : is_some b
   unanswered_by r actor at there = still_open (is_owners_request r n) there
 
 -- in every history
-unanswered_open : (h : History) (n : Bytes) → is_some (case_of h n) ≡ true → is_unanswered h n ≡ true
+unanswered_open : (h : History) (n : Bytes) → is_some (case_after h n) ≡ true → is_unanswered_after h n ≡ true
 unanswered_open (begins user token) n there = absurd (false≢true there)
-unanswered_open (more h e) n there = unanswered_by n (case_of h n) (is_unanswered h n) (unanswered_open h n) e.call.request e.actor e.call.at there
+unanswered_open (more h e) n there = unanswered_by n (case_after h n) (is_unanswered_after h n) (unanswered_open h n) e.call.request e.actor e.call.at there
 
 -- ---- a case with a sent attempt has the moment of the first
 
 abbrev HasFirst : Tally → Type 0
 HasFirst tally = (tally.sent ≡ 0) ⊎ (is_some tally.first ≡ true)
 
-HasFirst-noted : (tally : Tally) (attempt : Attempt) → HasFirst tally → HasFirst (noted tally attempt)
+HasFirst-noted : (tally : Tally) (attempt : Attempt) → HasFirst tally → HasFirst (tally_with tally attempt)
 HasFirst-noted tally attempt has = by tally.sent tally.first attempt.sent has
   where
     by : (count : ℕ) (first : Option ℕ) (sent : Bool) → (count ≡ 0) ⊎ (is_some first ≡ true)
@@ -109,11 +109,11 @@ ready_from tally last quiet at has few early recent active =
 
 -- ---- an accepted transfer
 
-case_there : (o : Option Case) → is_none (option_map case_by_attempts o) ≡ false → (case : Case) × (o ≡ Some case)
+case_there : (o : Option Case) → is_none (option_map record_of_case o) ≡ false → (case : Case) × (o ≡ Some case)
 case_there None missing = absurd (true≢false missing)
 case_there (Some case) missing = (case, refl)
 
-state_there : (h : History) (n : Bytes) (state : State) → not (is_held (name_by state (project_at h n))) ≡ false → state ≡ Held
+state_there : (h : History) (n : Bytes) (state : State) → not (is_held (record_of_state state (project_after h n))) ≡ false → state ≡ Held
 state_there h n Free missing = absurd (true≢false missing)
 state_there h n Held missing = refl
 state_there h n Prohibited missing = absurd (true≢false missing)
@@ -124,22 +124,22 @@ ready_then : (h : History) (actor token : Bytes) (at : ℕ) (name : Bytes) (quie
 ready_then h actor token at name quiet n reads accepts =
     let c : Call = record { at = at; token = token; request = Transfer name quiet } in
     let all = accepted c (facts_after h c) accepts in
-    let there = case_there (case_of h n) (sym (ap (λ read. is_none (option_and_then (case_at h) read)) reads) ∙ all.not_refused NoCase refl) in
-    let held : state_of h n ≡ Held = state_there h n (state_of h n) (sym (ap (λ read. not (is_held (option_and_then (name_at h) read))) reads) ∙ all.not_refused NoProject refl) in
+    let there = case_there (case_after h n) (sym (ap (λ read. is_none (option_and_then (case_record_after h) read)) reads) ∙ all.not_refused NoCase refl) in
+    let held : state_after h n ≡ Held = state_there h n (state_after h n) (sym (ap (λ read. not (is_held (option_and_then (name_after h) read))) reads) ∙ all.not_refused NoProject refl) in
     let against : Option Bytes → CaseFault → Bool = λ read fault.
-    option_map_or (λ case. option_map_or (λ project. stands_against case.state project.last_upload quiet at fault) (project_in (option_and_then (name_at h) read)) false) (option_and_then (case_at h) read) false in
-    let nothing : (fault : CaseFault) → against (read_name name) fault ≡ false → stands_against (tally_of there.0.attempts) (last_upload_of h n) quiet at fault ≡ false = λ fault none.
+    option_map_or (λ case. option_map_or (λ project. stands_against case.state project.last_upload quiet at fault) (held_project (option_and_then (name_after h) read)) false) (option_and_then (case_record_after h) read) false in
+    let nothing : (fault : CaseFault) → against (read_name name) fault ≡ false → stands_against (tally_of there.0.attempts) (last_upload_after h n) quiet at fault ≡ false = λ fault none.
     sym ((λ i. against (reads i) fault)
-    ∙ (λ i. option_map_or (λ case. option_map_or (λ project. stands_against case.state project.last_upload quiet at fault) (project_in (name_by (held i) (project_at h n))) false) (option_map case_by_attempts (there.1 i)) false))
+    ∙ (λ i. option_map_or (λ case. option_map_or (λ project. stands_against case.state project.last_upload quiet at fault) (held_project (record_of_state (held i) (project_after h n))) false) (option_map record_of_case (there.1 i)) false))
     ∙ none in
     record {
       case = there.0;
       is_open = there.1;
-      ready = ready_from (tally_of there.0.attempts) (last_upload_of h n) quiet at (HasFirst-tally there.0.attempts)
+      ready = ready_from (tally_of there.0.attempts) (last_upload_after h n) quiet at (HasFirst-tally there.0.attempts)
           (nothing case_fault.TooFewAttempts (all.not_refused TooFewAttempts refl)) (nothing case_fault.TooEarly (all.not_refused TooEarly refl)) (nothing case_fault.RecentRelease (all.not_refused RecentRelease refl)) (nothing case_fault.HomePageActive (all.not_refused HomePageActive refl));
       unanswered = unanswered_open h n (ap is_some there.1);
-      owners = λ u. (λ i. is_held_now (held i) && cond (is_read_as (reads i) n) (is_read_as (option_map (λ case. case.candidate) (there.1 i)) u) (is_given h n u))
-          ∙ ap (λ b. cond b (same u there.0.candidate) (is_given h n u)) (same-refl n);
+      owners = λ u. (λ i. is_held_now (held i) && cond (is_read_as (reads i) n) (is_read_as (option_map (λ case. case.candidate) (there.1 i)) u) (is_given_after h n u))
+          ∙ ap (λ b. cond b (same u there.0.candidate) (is_given_after h n u)) (same-refl n);
       quota = refl;
       yanks = λ r. refl;
     }

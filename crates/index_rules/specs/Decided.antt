@@ -12,8 +12,8 @@ use Rattle.index_rules.specs.declared.change.Change.{Change}
 use Rattle.index_rules.specs.Projects.{Project}
 use Rattle.index_rules.specs.Maps.{Bytes}
 use Rattle.index_rules.specs.Facts.{facts_seen}
-use Rattle.index_rules.specs.Verdict.{Verdict, Accept, AlreadySo, Refuse, applies, decided, file_refusals, is_already, refusals_of}
-use Rattle.index_rules.specs.Effect.{effect, held_in, with_file}
+use Rattle.index_rules.specs.Verdict.{Verdict, Accept, AlreadySo, Refuse, applies, verdict_of, file_refusals, is_already, refusals_of}
+use Rattle.index_rules.specs.Effect.{effect, the_project, with_file}
 
 -- the decision is the verdict, and its change the effect; memory can run out only where the verdict is to accept
 abbrev pub Decides : Result Decision Stop → Verdict → Change → Type 0
@@ -34,26 +34,26 @@ abbrev pub IsOfCaller : Context → Type 0
 IsOfCaller context = context.view.now.caller ≡ Some context.caller.now
 
 -- the verdict by these refusals, on what is in view
-abbrev pub verdict_by : Context → List Refusal → Request → Verdict
-verdict_by context refusals request =
+abbrev pub verdict_seen : Context → List Refusal → Request → Verdict
+verdict_seen context refusals request =
     let facts = facts_seen context.view.now request in
-    decided (find (applies context.at request facts) refusals) (is_already request facts)
+    verdict_of (find (applies context.at request facts) refusals) (is_already request facts)
 
 -- what an accepted request writes, by what is in view
-abbrev pub effect_in : Context → Request → Change
-effect_in context request = effect context.at request (facts_seen context.view.now request)
+abbrev pub effect_seen : Context → Request → Change
+effect_seen context request = effect context.at request (facts_seen context.view.now request)
 
 -- a decision on a request whose moment and token are in order
 abbrev pub DecidesIn : Context → Request → Result Decision Stop → Type 0
-DecidesIn context request result = Decides result (verdict_by context (refusals_of request) request) (effect_in context request)
+DecidesIn context request result = Decides result (verdict_seen context (refusals_of request) request) (effect_seen context request)
 
 -- the same on an upload whose parts are in order
 abbrev pub DecidesOnFile : Context → Request → Result Decision Stop → Type 0
-DecidesOnFile context request result = Decides result (verdict_by context file_refusals request) (effect_in context request)
+DecidesOnFile context request result = Decides result (verdict_seen context file_refusals request) (effect_seen context request)
 
 -- the project with the body of such an upload, which declares this digest
 abbrev pub FindsProject : Context → Bytes → Bytes → Result (Option Project) Stop → Type 0
 FindsProject context declared body result =
     let request = Upload [] declared body [] in
-    let held = held_in (facts_seen context.view.now request) in
-    Finds result (verdict_by context file_refusals request) (with_file context.at (length body) held)
+    let held = the_project (facts_seen context.view.now request) in
+    Finds result (verdict_seen context file_refusals request) (with_file context.at (length body) held)

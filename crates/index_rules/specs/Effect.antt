@@ -2,7 +2,7 @@
 use Rattle.std.specs.Prelude.{ℕ, ◌+◌, ◌-◌, max, Bool, true, false, not, if◌then◌else◌, [], Option, Some, None, unwrap_or, option_map, length}
 use Rattle.std.specs.Option.{option_map_or}
 use Rattle.std.specs.FinMap.{get, insert, remove, retain_keys}
-use Rattle.index_digest.specs.Digest.{digest_in, sha256}
+use Rattle.index_digest.specs.Digest.{read_digest, sha256}
 use Rattle.index_names.specs.FileName.{project_of, release_of}
 use Rattle.index_names.specs.Project.{read_name}
 use Rattle.index_names.specs.Release.{read_release}
@@ -14,49 +14,49 @@ use Rattle.index_rules.specs.declared.change.Change.TheVariants as change
 use Rattle.index_rules.specs.declared.records.NameRecord.TheVariants.{Held, Prohibited}
 use Rattle.index_retention.specs.declared.attempts.CaseKind.{CaseKind}
 use Rattle.index_retention.specs.declared.attempts.CaseKind.TheVariants.{Continue}
-use Rattle.index_retention.specs.Attempts.{Attempt, attempt_of, noted, tally_of}
+use Rattle.index_retention.specs.Attempts.{Attempt, attempt_of, tally_with, tally_of}
 use Rattle.index_rules.specs.declared.records.CaseRecord.{CaseRecord}
 use Rattle.index_rules.specs.declared.records.FileRecord.{FileRecord}
-use Rattle.index_rules.specs.Projects.{Project, claimed}
+use Rattle.index_rules.specs.Projects.{Project, new_project}
 use Rattle.index_rules.specs.declared.records.UserRecord.{UserRecord}
 use Rattle.index_rules.specs.Maps.{Bytes, Map, PairMap, same, change_values}
 use Rattle.index_rules.specs.Tables.{Tables}
 use Rattle.index_rules.specs.Texts.{read_token}
 use Rattle.index_rules.specs.Users.{read_user}
 use Rattle.index_rules.specs.Facts.{Facts, facts_in}
-use Rattle.index_rules.specs.Verdict.{project_in}
+use Rattle.index_rules.specs.Verdict.{held_project}
 
 -- ---- what is there, of a request that is accepted
 
-abbrev pub key : Option Bytes → Bytes
-key read = unwrap_or read []
+abbrev pub or_empty : Option Bytes → Bytes
+or_empty read = unwrap_or read []
 
-abbrev pub caller_in : Facts → Bytes
-caller_in f = key (option_map (λ caller. caller.user) f.caller)
+abbrev pub the_caller : Facts → Bytes
+the_caller f = or_empty (option_map (λ caller. caller.user) f.caller)
 
 abbrev pub no_project : Project
 no_project = record { shown = []; quota = 0; charge = 0; undeleted = 0; last_upload = None }
 
-abbrev pub held_in : Facts → Project
-held_in f = unwrap_or (project_in f.name) no_project
+abbrev pub the_project : Facts → Project
+the_project f = unwrap_or (held_project f.name) no_project
 
 abbrev pub no_user : UserRecord
 no_user = record { office = false; token = [] }
 
-abbrev pub user_in : Facts → UserRecord
-user_in f = unwrap_or f.user no_user
+abbrev pub the_user : Facts → UserRecord
+the_user f = unwrap_or f.user no_user
 
 abbrev pub no_file : FileRecord
 no_file = record { project = []; release = []; digest = []; size = 0; requires_python = []; is_undeleted = false }
 
-abbrev pub file_of : Facts → FileRecord
-file_of f = unwrap_or f.file no_file
+abbrev pub the_file : Facts → FileRecord
+the_file f = unwrap_or f.file no_file
 
 abbrev pub no_case : CaseRecord
 no_case = record { kind = Continue; candidate = []; contact = []; work = []; why = []; opened = 0; state = tally_of [] }
 
-abbrev pub case_in : Facts → CaseRecord
-case_in f = unwrap_or f.case no_case
+abbrev pub the_case : Facts → CaseRecord
+the_case f = unwrap_or f.case no_case
 
 -- ---- what is written
 
@@ -73,12 +73,12 @@ with_file at size project = record project { charge = project.charge + size; und
 abbrev pub without_file : ℕ → Project → Project
 without_file size project = record project { charge = project.charge - size; undeleted = project.undeleted - 1 }
 
-abbrev pub deleted : FileRecord → FileRecord
-deleted known = record known { is_undeleted = false }
+abbrev pub as_deleted : FileRecord → FileRecord
+as_deleted known = record known { is_undeleted = false }
 
 -- a name's file, deleted; any other as it is
-abbrev pub deleted_of : Bytes → FileRecord → FileRecord
-deleted_of name known = if same name known.project then deleted known else known
+abbrev pub as_deleted_of : Bytes → FileRecord → FileRecord
+as_deleted_of name known = if same name known.project then as_deleted known else known
 
 -- whether a file has a record of this name
 abbrev pub is_file_of : Map FileRecord → Bytes → Bytes → Bool
@@ -90,43 +90,43 @@ without_name name m = retain_keys m (λ pair. not (same name pair.0))
 
 -- one attempt more
 abbrev pub with_attempt_noted : Attempt → CaseRecord → CaseRecord
-with_attempt_noted attempt case = record case { state = noted case.state attempt }
+with_attempt_noted attempt case = record case { state = tally_with case.state attempt }
 
 -- a file's record, of its upload with this digest
-abbrev pub uploaded : Bytes → Bytes → Bytes → Bytes → FileRecord
-uploaded digest file body requires =
+abbrev pub new_file : Bytes → Bytes → Bytes → Bytes → FileRecord
+new_file digest file body requires =
     record { project = project_of file; release = release_of file; digest = digest; size = length body; requires_python = requires; is_undeleted = true }
 
 -- the change by the upload of a file to a project that has it in its charge
 abbrev pub upload_of : Project → Bytes → Bytes → Bytes → Change
-upload_of project file body requires = change.Upload (project_of file) project file (uploaded (sha256 body) file body requires) body
+upload_of project file body requires = change.Upload (project_of file) project file (new_file (sha256 body) file body requires) body
 
 -- a case that this candidate opened at this moment
-abbrev pub opened_case : ℕ → Bytes → CaseKind → Bytes → Bytes → Bytes → CaseRecord
-opened_case at candidate kind contact work why =
+abbrev pub new_case : ℕ → Bytes → CaseKind → Bytes → Bytes → Bytes → CaseRecord
+new_case at candidate kind contact work why =
     record { kind = kind; candidate = candidate; contact = contact; work = work; why = why; opened = at; state = tally_of [] }
 
 -- what an accepted request at a moment writes
 abbrev pub effect : ℕ → Request → Facts → Change
-effect at (AddUser user office token) f = change.AddUser (key (read_user user)) (record { office = office; token = key (read_token token) })
-effect at (SetToken user token) f = change.SetToken (key (read_user user)) (record { office = (user_in f).office; token = key (read_token token) })
-effect at (SetQuota name quota) f = change.SetQuota (key (read_name name)) (record (held_in f) { quota = quota })
-effect at (Claim name) f = change.Claim (key (read_name name)) (claimed name) (caller_in f)
-effect at (AddOwner name user) f = change.AddOwner (key (read_name name)) (key (read_user user))
-effect at (RemoveOwner name user) f = change.RemoveOwner (key (read_name name)) (key (read_user user))
+effect at (AddUser user office token) f = change.AddUser (or_empty (read_user user)) (record { office = office; token = or_empty (read_token token) })
+effect at (SetToken user token) f = change.SetToken (or_empty (read_user user)) (record { office = (the_user f).office; token = or_empty (read_token token) })
+effect at (SetQuota name quota) f = change.SetQuota (or_empty (read_name name)) (record (the_project f) { quota = quota })
+effect at (Claim name) f = change.Claim (or_empty (read_name name)) (new_project name) (the_caller f)
+effect at (AddOwner name user) f = change.AddOwner (or_empty (read_name name)) (or_empty (read_user user))
+effect at (RemoveOwner name user) f = change.RemoveOwner (or_empty (read_name name)) (or_empty (read_user user))
 effect at (Upload file declared body requires) f =
-    change.Upload (project_of file) (with_file at (length body) (held_in f)) file (uploaded (key (digest_in declared)) file body requires) body
-effect at (Delete file) f = change.Delete (project_of file) (without_file (file_of f).size (held_in f)) file (deleted (file_of f))
-effect at (Yank name release reason) f = change.Yank (key (read_name name)) (key (read_release release)) reason
-effect at (Unyank name release) f = change.Unyank (key (read_name name)) (key (read_release release))
-effect at (Relinquish name) f = change.Relinquish (key (read_name name))
-effect at (Prohibit name) f = change.Prohibit (key (read_name name))
-effect at (Allow name) f = change.Allow (key (read_name name))
-effect at (OpenCase name kind contact work why) f = change.OpenCase (key (read_name name)) (opened_case at (caller_in f) kind contact work why)
-effect at (RecordAttempt name means sent) f = change.RecordAttempt (key (read_name name)) (with_attempt_noted (attempt_of means sent at) (case_in f))
-effect at (Transfer name quiet) f = change.Transfer (key (read_name name)) (case_in f).candidate
-effect at (CloseCase name) f = change.CloseCase (key (read_name name))
-effect at (AnswerCase name) f = change.AnswerCase (key (read_name name))
+    change.Upload (project_of file) (with_file at (length body) (the_project f)) file (new_file (or_empty (read_digest declared)) file body requires) body
+effect at (Delete file) f = change.Delete (project_of file) (without_file (the_file f).size (the_project f)) file (as_deleted (the_file f))
+effect at (Yank name release reason) f = change.Yank (or_empty (read_name name)) (or_empty (read_release release)) reason
+effect at (Unyank name release) f = change.Unyank (or_empty (read_name name)) (or_empty (read_release release))
+effect at (Relinquish name) f = change.Relinquish (or_empty (read_name name))
+effect at (Prohibit name) f = change.Prohibit (or_empty (read_name name))
+effect at (Allow name) f = change.Allow (or_empty (read_name name))
+effect at (OpenCase name kind contact work why) f = change.OpenCase (or_empty (read_name name)) (new_case at (the_caller f) kind contact work why)
+effect at (RecordAttempt name means sent) f = change.RecordAttempt (or_empty (read_name name)) (with_attempt_noted (attempt_of means sent at) (the_case f))
+effect at (Transfer name quiet) f = change.Transfer (or_empty (read_name name)) (the_case f).candidate
+effect at (CloseCase name) f = change.CloseCase (or_empty (read_name name))
+effect at (AnswerCase name) f = change.AnswerCase (or_empty (read_name name))
 
 -- the tables where a name is free: its owners, its yanks and its case go with it
 abbrev pub without_record : Bytes → Tables → Tables
@@ -168,7 +168,7 @@ means (change.Relinquish name) T = without_record name T
 means (change.Prohibit name) T = record T {
   names = insert T.names name Prohibited;
   owners = without_name name T.owners;
-  files = change_values (deleted_of name) T.files;
+  files = change_values (as_deleted_of name) T.files;
   bodies = retain_keys T.bodies (λ file. not (is_file_of T.files name file));
   yanks = without_name name T.yanks;
   cases = remove T.cases name;
@@ -184,5 +184,5 @@ means (change.CloseCase name) T = record T { cases = remove T.cases name }
 means (change.AnswerCase name) T = record T { cases = remove T.cases name }
 
 -- the tables after an accepted call
-abbrev pub after : Tables → Call → Tables
-after T c = means (effect c.at c.request (facts_in T c)) T
+abbrev pub tables_with_call : Tables → Call → Tables
+tables_with_call T c = means (effect c.at c.request (facts_in T c)) T

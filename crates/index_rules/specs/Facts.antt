@@ -43,8 +43,8 @@ pub record Facts : Type 0 where
 abbrev pub bearer_in : Tables → Bytes → Option (Bytes × UserRecord)
 bearer_in T token = find (λ user. same token user.1.token) (entries T.users)
 
-abbrev pub caller_by : Bytes × UserRecord → Caller
-caller_by user = record { user = user.0; office = user.1.office }
+abbrev pub caller_of : Bytes × UserRecord → Caller
+caller_of user = record { user = user.0; office = user.1.office }
 
 -- a question on a name and a user or a release, where both are there
 abbrev pub of_both : (Bytes → Bytes → Bool) → Option Bytes → Option Bytes → Bool
@@ -56,15 +56,15 @@ abbrev pub owns_in : Tables → Bytes → Bytes → Bool
 owns_in T name user = contains_key T.owners (name, user)
 
 -- the user owns the name, and nobody else does
-abbrev pub alone_owns_in : Tables → Bytes → Bytes → Bool
-alone_owns_in T name user = owns_in T name user && list_all (λ pair. not (same name pair.0) || same user pair.1) (keys T.owners)
+abbrev pub owns_alone_in : Tables → Bytes → Bytes → Bool
+owns_alone_in T name user = owns_in T name user && list_all (λ pair. not (same name pair.0) || same user pair.1) (keys T.owners)
 
 -- a file of this name and release that is undeleted
-abbrev pub is_undeleted_in : Bytes → Bytes → FileRecord → Bool
-is_undeleted_in name release known = known.is_undeleted && same name known.project && same release known.release
+abbrev pub is_undeleted_of_release : Bytes → Bytes → FileRecord → Bool
+is_undeleted_of_release name release known = known.is_undeleted && same name known.project && same release known.release
 
 abbrev pub has_release_in : Tables → Bytes → Bytes → Bool
-has_release_in T name release = list_any (λ file. is_undeleted_in name release file.1) (entries T.files)
+has_release_in T name release = list_any (λ file. is_undeleted_of_release name release file.1) (entries T.files)
 
 -- what is there of a name and a release, where both are there
 abbrev pub at_both : {A : Type 0} → (Bytes → Bytes → Option A) → Option Bytes → Option Bytes → Option A
@@ -78,13 +78,13 @@ yank_in T name release = get T.yanks (name, release)
 -- what the tables say of a call
 abbrev pub facts_in : Tables → Call → Facts
 facts_in T c = record {
-  caller = option_map caller_by (bearer_in T c.token);
+  caller = option_map caller_of (bearer_in T c.token);
   user = option_and_then (get T.users) (user_key c.request);
   bearer = option_map (λ user. user.0) (option_and_then (bearer_in T) (token_key c.request));
   name = option_and_then (get T.names) (name_key c.request);
   owns = of_both (owns_in T) (name_key c.request) (option_map (λ user. user.0) (bearer_in T c.token));
   named_owns = of_both (owns_in T) (name_key c.request) (user_key c.request);
-  sole = of_both (alone_owns_in T) (name_key c.request) (user_key c.request);
+  sole = of_both (owns_alone_in T) (name_key c.request) (user_key c.request);
   file = option_and_then (get T.files) (file_key c.request);
   yank = at_both (yank_in T) (name_key c.request) (release_key c.request);
   has_release = of_both (has_release_in T) (name_key c.request) (release_key c.request);
@@ -114,7 +114,7 @@ AreOwners T (Some name) users = (user : Bytes) → list_any (same user) users �
 
 -- the view has the records of the tables that the keys name
 pub record Sees (T : Tables) (k : Keys) (v : View) : Type 0 where
-  pub caller : IsBearerAs caller_by T k.caller v.caller
+  pub caller : IsBearerAs caller_of T k.caller v.caller
   pub user : v.user ≡ option_and_then (get T.users) k.user
   pub bearer : IsBearerAs (λ user. user.0) T k.token v.bearer
   pub name : v.name ≡ option_and_then (get T.names) k.name

@@ -2,7 +2,7 @@
 use Rattle.std.specs.Prelude.{◌≡◌, ◌⊎◌, ℕ, ◌+◌, Bool, true, false, if◌then◌else◌, length, Some, option_map}
 use Rattle.index_names.specs.Project.{read_name}
 use Rattle.index_names.specs.FileName.{project_of}
-use Rattle.index_digest.specs.Digest.{digest_in}
+use Rattle.index_digest.specs.Digest.{read_digest}
 use Rattle.index_rules.specs.declared.call.Request.{Request}
 use Rattle.index_rules.specs.declared.call.Request.TheVariants.{AddUser, SetToken, Claim, AddOwner, RemoveOwner, Upload, Delete, Relinquish, Prohibit, Allow, Transfer}
 use Rattle.index_rules.specs.declared.records.UserRecord.{UserRecord}
@@ -11,25 +11,25 @@ use Rattle.index_retention.specs.Attempts.{tally_of}
 use Rattle.index_retention.specs.Transfer.{IsReady}
 use Rattle.index_rules.specs.declared.call.Call.{Call}
 use Rattle.index_rules.specs.Requests.{name_key, read_file}
-use Rattle.index_rules.specs.Effect.{key}
+use Rattle.index_rules.specs.Effect.{or_empty}
 use Rattle.index_rules.specs.History.{History, Entry, begins, more, is_read_as}
-use Rattle.index_rules.specs.PastUsers.{user_of}
-use Rattle.index_rules.specs.PastNames.{state_of, quota_of, last_upload_of, owns, yank_of}
-use Rattle.index_rules.specs.PastCases.{Case, case_of, is_unanswered}
+use Rattle.index_rules.specs.PastUsers.{user_after}
+use Rattle.index_rules.specs.PastNames.{state_after, quota_after, last_upload_after, owns_after, yank_after}
+use Rattle.index_rules.specs.PastCases.{Case, case_after, is_unanswered_after}
 use Rattle.index_rules.specs.Legal.{IsLegal, verdict_after}
-use Rattle.index_rules.specs.PastFiles.{undeleted, size_of, charge}
+use Rattle.index_rules.specs.PastFiles.{is_undeleted_after, size_after, charge_after}
 
 -- ---- a token has one bearer
 
 -- at most one user bears a digest
 abbrev pub HasOneBearerOfEach : History → Type 0
-HasOneBearerOfEach h = (u v : Bytes) (x y : UserRecord) → user_of h u ≡ Some x → user_of h v ≡ Some y → x.token ≡ y.token → u ≡ v
+HasOneBearerOfEach h = (u v : Bytes) (x y : UserRecord) → user_after h u ≡ Some x → user_after h v ≡ Some y → x.token ≡ y.token → u ≡ v
 
 -- ---- a file name is bound for good
 
 -- the request is an upload of the file with this digest and this size
 abbrev pub IsUploadOf : Request → Bytes → Bytes × ℕ → Type 0
-IsUploadOf (Upload file sha256 body requires) f first = (read_file file ≡ Some f) × (first ≡ (key (digest_in sha256), length body))
+IsUploadOf (Upload file sha256 body requires) f first = (read_file file ≡ Some f) × (first ≡ (or_empty (read_digest sha256), length body))
 IsUploadOf request f first = ⊥
 
 -- some entry of the history is one
@@ -49,13 +49,13 @@ BindsFiles h = (f : Bytes) (first second : Bytes × ℕ) → HasUpload h f first
 -- its own name to 0, and nothing else changes a charge
 abbrev pub MovesCharge : Request → History → Bytes → ℕ → ℕ → Type 0
 MovesCharge (Upload file sha256 body requires) h n before after = after ≡ before + (if is_read_as (option_map project_of (read_file file)) n then length body else 0)
-MovesCharge (Delete file) h n before after = after + (if is_read_as (option_map project_of (read_file file)) n then size_of h (key (read_file file)) else 0) ≡ before
+MovesCharge (Delete file) h n before after = after + (if is_read_as (option_map project_of (read_file file)) n then size_after h (or_empty (read_file file)) else 0) ≡ before
 MovesCharge (Prohibit name) h n before after = after ≡ (if is_read_as (read_name name) n then 0 else before)
 MovesCharge request h n before after = after ≡ before
 
 -- an upload is of a file that is not undeleted
 abbrev pub UploadsAnew : Request → History → Type 0
-UploadsAnew (Upload file sha256 body requires) h = undeleted h (key (read_file file)) ≡ false
+UploadsAnew (Upload file sha256 body requires) h = is_undeleted_after h (or_empty (read_file file)) ≡ false
 UploadsAnew request h = Unit {0}
 
 -- whether a request may change the state of a name: a claim, a relinquish, a prohibit and an allow may, of their own
@@ -76,10 +76,10 @@ may_move_owners request n = may_move_state request n
 
 -- what an entry moves
 pub record Moves (h : History) (e : Entry) : Type 0 where
-  pub charge : (n : Bytes) → MovesCharge e.call.request h n (charge h n) (charge (more h e) n)
+  pub charge : (n : Bytes) → MovesCharge e.call.request h n (charge_after h n) (charge_after (more h e) n)
   pub anew : UploadsAnew e.call.request h
-  pub state : (n : Bytes) → may_move_state e.call.request n ≡ false → state_of (more h e) n ≡ state_of h n
-  pub owners : (n u : Bytes) → may_move_owners e.call.request n ≡ false → owns (more h e) n u ≡ owns h n u
+  pub state : (n : Bytes) → may_move_state e.call.request n ≡ false → state_after (more h e) n ≡ state_after h n
+  pub owners : (n u : Bytes) → may_move_owners e.call.request n ≡ false → owns_after (more h e) n u ≡ owns_after h n u
 
 -- each entry moves what it may
 abbrev pub MovesAsRecorded : History → Type 0
@@ -91,15 +91,15 @@ MovesAsRecorded (more h e) = MovesAsRecorded h × Moves h e
 -- what held right before a transfer of the name to the candidate of its case, and what holds right after it
 pub record WasReady (h : History) (e : Entry) (name : Bytes) (quiet : Bool) : Type 0 where
   pub case : Case
-  pub is_open : case_of h name ≡ Some case
+  pub is_open : case_after h name ≡ Some case
   -- three attempts were sent and each means was tried, six weeks and a year have passed, and the home page is quiet
-  pub ready : IsReady (tally_of case.attempts) (last_upload_of h name) quiet e.call.at
+  pub ready : IsReady (tally_of case.attempts) (last_upload_after h name) quiet e.call.at
   -- no owner acted since the case was opened
-  pub unanswered : is_unanswered h name ≡ true
+  pub unanswered : is_unanswered_after h name ≡ true
   -- the candidate alone owns the name, and its quota and yanks are as they were
-  pub owners : (u : Bytes) → owns (more h e) name u ≡ same u case.candidate
-  pub quota : quota_of (more h e) name ≡ quota_of h name
-  pub yanks : (r : Bytes) → yank_of (more h e) name r ≡ yank_of h name r
+  pub owners : (u : Bytes) → owns_after (more h e) name u ≡ same u case.candidate
+  pub quota : quota_after (more h e) name ≡ quota_after h name
+  pub yanks : (r : Bytes) → yank_after (more h e) name r ≡ yank_after h name r
 
 -- an entry that is a transfer was
 abbrev pub TransferWasReady : Request → History → Entry → Type 0
@@ -121,11 +121,11 @@ is_kept (SetToken user token) n = true
 is_kept request n = is_read_as (name_key request) n
 
 -- the opening, the entries on users, and the entries of the name, in their order
-abbrev pub only : Bytes → History → History
-only n (begins user token) = begins user token
-only n (more h e) = if is_kept e.call.request n then more (only n h) e else only n h
+abbrev pub history_of_name : Bytes → History → History
+history_of_name n (begins user token) = begins user token
+history_of_name n (more h e) = if is_kept e.call.request n then more (history_of_name n h) e else history_of_name n h
 
 -- that is a legal history, and a call of the name has the same verdict in it: so for one name it makes no difference
 -- what was accepted of others
 abbrev pub StandsAlone : History → Type 0
-StandsAlone h = (n : Bytes) → IsLegal (only n h) × ((c : Call) → name_key c.request ≡ Some n → verdict_after (only n h) c ≡ verdict_after h c)
+StandsAlone h = (n : Bytes) → IsLegal (history_of_name n h) × ((c : Call) → name_key c.request ≡ Some n → verdict_after (history_of_name n h) c ≡ verdict_after h c)

@@ -10,32 +10,32 @@ use Rattle.index_rules.specs.Tables.{Tables}
 use Rattle.index_rules.specs.Requests.{user_key, token_key, name_key, file_key, release_key}
 use Rattle.index_rules.specs.Facts.{Facts, of_both, at_both}
 use Rattle.index_rules.specs.Verdict.{Verdict, Accept, verdict_on}
-use Rattle.index_rules.specs.Effect.{key}
-use Rattle.index_rules.specs.Runs.{Answers, RunsBy}
+use Rattle.index_rules.specs.Effect.{or_empty}
+use Rattle.index_rules.specs.Runs.{Answers, RunsOver}
 use Rattle.index_rules.specs.History.{History, begins, more}
-use Rattle.index_rules.specs.PastUsers.{user_of, bearer}
-use Rattle.index_rules.specs.PastNames.{owns, alone_owns, yank_of}
-use Rattle.index_rules.specs.PastFiles.{has_file_of}
-use Rattle.index_rules.specs.StandsFor.{StandsFor, name_at, file_at, case_at}
+use Rattle.index_rules.specs.PastUsers.{user_after, bearer_after}
+use Rattle.index_rules.specs.PastNames.{owns_after, owns_alone_after, yank_after}
+use Rattle.index_rules.specs.PastFiles.{has_release_after}
+use Rattle.index_rules.specs.StandsFor.{StandsFor, name_after, file_after, case_record_after}
 
 -- the user as the caller of a call, with his office flag
-abbrev pub caller_at : History → Bytes → Caller
-caller_at h user = record { user = user; office = option_map_or (λ account. account.office) (user_of h user) false }
+abbrev pub caller_after : History → Bytes → Caller
+caller_after h user = record { user = user; office = option_map_or (λ account. account.office) (user_after h user) false }
 
 -- what a history says of a call, whose caller is the bearer of its token
 abbrev pub facts_after : History → Call → Facts
 facts_after h c = record {
-  caller = option_map (caller_at h) (bearer h c.token);
-  user = option_and_then (user_of h) (user_key c.request);
-  bearer = option_and_then (bearer h) (token_key c.request);
-  name = option_and_then (name_at h) (name_key c.request);
-  owns = of_both (owns h) (name_key c.request) (bearer h c.token);
-  named_owns = of_both (owns h) (name_key c.request) (user_key c.request);
-  sole = of_both (alone_owns h) (name_key c.request) (user_key c.request);
-  file = option_and_then (file_at h) (file_key c.request);
-  yank = at_both (yank_of h) (name_key c.request) (release_key c.request);
-  has_release = of_both (has_file_of h) (name_key c.request) (release_key c.request);
-  case = option_and_then (case_at h) (name_key c.request);
+  caller = option_map (caller_after h) (bearer_after h c.token);
+  user = option_and_then (user_after h) (user_key c.request);
+  bearer = option_and_then (bearer_after h) (token_key c.request);
+  name = option_and_then (name_after h) (name_key c.request);
+  owns = of_both (owns_after h) (name_key c.request) (bearer_after h c.token);
+  named_owns = of_both (owns_after h) (name_key c.request) (user_key c.request);
+  sole = of_both (owns_alone_after h) (name_key c.request) (user_key c.request);
+  file = option_and_then (file_after h) (file_key c.request);
+  yank = at_both (yank_after h) (name_key c.request) (release_key c.request);
+  has_release = of_both (has_release_after h) (name_key c.request) (release_key c.request);
+  case = option_and_then (case_record_after h) (name_key c.request);
 }
 
 -- the verdict on a call after a history: the rules are those of the verdict on tables, and only the facts are read off
@@ -45,12 +45,12 @@ verdict_after h c = verdict_on c (facts_after h c)
 
 -- the history with a call as its newest entry, made by the bearer of its token
 abbrev pub with_call : History → Call → History
-with_call h c = more h (record { actor = key (bearer h c.token); call = c })
+with_call h c = more h (record { actor = or_empty (bearer_after h c.token); call = c })
 
 -- each entry was accepted after the entries before it, and its actor bore its token there; the opening alone is legal
 abbrev pub IsLegal : History → Type 0
 IsLegal (begins user token) = Unit {0}
-IsLegal (more h e) = IsLegal h × (verdict_after h e.call ≡ Accept) × (bearer h e.call.token ≡ Some e.actor)
+IsLegal (more h e) = IsLegal h × (verdict_after h e.call ≡ Accept) × (bearer_after h e.call.token ≡ Some e.actor)
 
 -- ---- calls in a row
 
@@ -63,7 +63,7 @@ history_after h c (answer.Fault fault) = h
 
 -- each answer is the verdict in the history so far or a fault, and exactly the accepted calls are appended, in order
 abbrev pub Extends : History → List Call → List Answer → History → Type 0
-Extends = RunsBy verdict_after history_after
+Extends = RunsOver verdict_after history_after
 
 -- what is proved of one call: the answer is right, and the tables stand for the history that it leads to, which is
 -- legal
@@ -73,7 +73,7 @@ pub record CarriesOn (h : History) (call : Call) (answer : Answer) (T' : Tables)
   pub stands : StandsFor T' (history_after h call answer)
 
 -- the same of calls in a row
-pub record CarriesOnBy (h : History) (calls : List Call) (answers : List Answer) (T' : Tables) : Type 0 where
+pub record CarriesOnAll (h : History) (calls : List Call) (answers : List Answer) (T' : Tables) : Type 0 where
   pub after : History
   pub extends : Extends h calls answers after
   pub legal : IsLegal after

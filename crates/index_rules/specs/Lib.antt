@@ -4,7 +4,7 @@ pub mod Texts
 pub mod Refusals
 pub mod Projects
 pub mod Tables
-pub mod Opened
+pub mod FirstTables
 pub mod Requests
 pub mod Facts
 pub mod Verdict

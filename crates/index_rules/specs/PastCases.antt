@@ -60,13 +60,13 @@ case_by request actor at n before = if is_owners_request request n then None els
 
 -- the open case is the last that was opened, as long as it was not closed, the name was not transferred or prohibited,
 -- and no owner's request of the name was accepted since; its attempts are those recorded since
-abbrev pub case_of : History → Bytes → Option Case
-case_of (begins user token) n = None
-case_of (more h e) n = case_by e.call.request e.actor e.call.at n (case_of h n)
+abbrev pub case_after : History → Bytes → Option Case
+case_after (begins user token) n = None
+case_after (more h e) n = case_by e.call.request e.actor e.call.at n (case_after h n)
 
 -- its candidate is the user who opened it
-abbrev pub candidate_of : History → Bytes → Option Bytes
-candidate_of h n = option_map (λ case. case.candidate) (case_of h n)
+abbrev pub candidate_after : History → Bytes → Option Bytes
+candidate_after h n = option_map (λ case. case.candidate) (case_after h n)
 
 -- a request that opens a case on the name
 abbrev pub opens_case : Request → Bytes → Bool
@@ -75,6 +75,6 @@ opens_case request n = false
 
 -- no owner's request of the name stands after the last opening of a case on it; no table keeps this, and
 -- `TransfersWereReady` speaks of it
-abbrev pub is_unanswered : History → Bytes → Bool
-is_unanswered (begins user token) n = false
-is_unanswered (more h e) n = opens_case e.call.request n || (not (is_owners_request e.call.request n) && is_unanswered h n)
+abbrev pub is_unanswered_after : History → Bytes → Bool
+is_unanswered_after (begins user token) n = false
+is_unanswered_after (more h e) n = opens_case e.call.request n || (not (is_owners_request e.call.request n) && is_unanswered_after h n)

@@ -14,7 +14,7 @@ use Rattle.index_rules.specs.Requests.{read_file}
 use Rattle.index_rules.specs.Projects.{first_quota}
 use Rattle.index_rules.specs.History.{History, begins, more, is_read_as}
 use Rattle.index_rules.specs.PastUsers.{with_read}
-use Rattle.index_rules.specs.PastCases.{candidate_of}
+use Rattle.index_rules.specs.PastCases.{candidate_after}
 
 -- what a name is
 pub data State : Type 0 where
@@ -34,9 +34,9 @@ state_by request n before = before
 
 -- a name is free at first; after that it is as the last claim, relinquish, prohibit or allow of it left it: held, free,
 -- prohibited, free
-abbrev pub state_of : History → Bytes → State
-state_of (begins user token) n = Free
-state_of (more h e) n = state_by e.call.request n (state_of h n)
+abbrev pub state_after : History → Bytes → State
+state_after (begins user token) n = Free
+state_after (more h e) n = state_by e.call.request n (state_after h n)
 
 -- true of held alone
 abbrev pub is_held_now : State → Bool
@@ -52,9 +52,9 @@ shown_by (Claim name) n before = if is_read_as (read_name name) n then name else
 shown_by request n before = before
 
 -- the shown name is the spelling of the last claim
-abbrev pub shown_of : History → Bytes → Bytes
-shown_of (begins user token) n = []
-shown_of (more h e) n = shown_by e.call.request n (shown_of h n)
+abbrev pub shown_after : History → Bytes → Bytes
+shown_after (begins user token) n = []
+shown_after (more h e) n = shown_by e.call.request n (shown_after h n)
 
 -- the quota, after one request more
 abbrev pub quota_by : Request → Bytes → ℕ → ℕ
@@ -63,9 +63,9 @@ quota_by (SetQuota name quota) n before = if is_read_as (read_name name) n then 
 quota_by request n before = before
 
 -- the quota is the one that was set last since the last claim, else the one that a claim brings
-abbrev pub quota_of : History → Bytes → ℕ
-quota_of (begins user token) n = first_quota
-quota_of (more h e) n = quota_by e.call.request n (quota_of h n)
+abbrev pub quota_after : History → Bytes → ℕ
+quota_after (begins user token) n = first_quota
+quota_after (more h e) n = quota_by e.call.request n (quota_after h n)
 
 -- ---- the latest upload
 
@@ -76,9 +76,9 @@ uploads_by (Upload file sha256 body requires) at n before = if is_read_as (optio
 uploads_by request at n before = before
 
 -- the moments of the name's uploads since its last claim, whether or not the files were deleted since
-abbrev pub uploads_of : History → Bytes → List ℕ
-uploads_of (begins user token) n = []
-uploads_of (more h e) n = uploads_by e.call.request e.call.at n (uploads_of h n)
+abbrev pub uploads_after : History → Bytes → List ℕ
+uploads_after (begins user token) n = []
+uploads_after (more h e) n = uploads_by e.call.request e.call.at n (uploads_after h n)
 
 -- the greatest of some moments
 abbrev pub greatest : List ℕ → Option ℕ
@@ -86,63 +86,63 @@ greatest [] = None
 greatest (moment ∷ moments) = Some (option_map_or (max moment) (greatest moments) moment)
 
 -- the latest upload is the one with the greatest of these moments, whatever the order they came in
-abbrev pub last_upload_of : History → Bytes → Option ℕ
-last_upload_of h n = greatest (uploads_of h n)
+abbrev pub last_upload_after : History → Bytes → Option ℕ
+last_upload_after h n = greatest (uploads_after h n)
 
 -- ---- the owners
 
 -- what one request gives and takes: a claim gives the name to its caller, and to nobody else; an add_owner gives it to
 -- a user, and a remove_owner takes it from one; a transfer gives it to the candidate of its case, and to nobody else
-abbrev pub given_by : Request → Bytes → Option Bytes → Bytes → Bytes → Bool → Bool
-given_by (Claim name) actor candidate n u before = if is_read_as (read_name name) n then same u actor else before
-given_by (AddOwner name user) actor candidate n u before = if is_read_as (read_name name) n && is_read_as (read_user user) u then true else before
-given_by (RemoveOwner name user) actor candidate n u before = if is_read_as (read_name name) n && is_read_as (read_user user) u then false else before
-given_by (Transfer name quiet) actor candidate n u before = if is_read_as (read_name name) n then is_read_as candidate u else before
-given_by request actor candidate n u before = before
+abbrev pub is_given_by : Request → Bytes → Option Bytes → Bytes → Bytes → Bool → Bool
+is_given_by (Claim name) actor candidate n u before = if is_read_as (read_name name) n then same u actor else before
+is_given_by (AddOwner name user) actor candidate n u before = if is_read_as (read_name name) n && is_read_as (read_user user) u then true else before
+is_given_by (RemoveOwner name user) actor candidate n u before = if is_read_as (read_name name) n && is_read_as (read_user user) u then false else before
+is_given_by (Transfer name quiet) actor candidate n u before = if is_read_as (read_name name) n then is_read_as candidate u else before
+is_given_by request actor candidate n u before = before
 
 -- whether the name is given to the user; the candidate of a transfer is that of the case that is open right before it,
 -- so it is asked of the history `h` before the entry
-abbrev pub is_given : History → Bytes → Bytes → Bool
-is_given (begins user token) n u = false
-is_given (more h e) n u = given_by e.call.request e.actor (candidate_of h n) n u (is_given h n u)
+abbrev pub is_given_after : History → Bytes → Bytes → Bool
+is_given_after (begins user token) n u = false
+is_given_after (more h e) n u = is_given_by e.call.request e.actor (candidate_after h n) n u (is_given_after h n u)
 
 -- an owner is a user to whom a held name is given; so a relinquish and a prohibit end all owners without a line of
 -- their own: the name is held no more, and the claim that makes it held again gives it to its caller alone
-abbrev pub owns : History → Bytes → Bytes → Bool
-owns h n u = is_held_now (state_of h n) && is_given h n u
+abbrev pub owns_after : History → Bytes → Bytes → Bool
+owns_after h n u = is_held_now (state_after h n) && is_given_after h n u
 
 -- those to whom names were given, after one request more
-abbrev pub given_to : Request → Bytes → (Bytes → Option Bytes) → List Bytes → List Bytes
-given_to (Claim name) actor candidate users = actor ∷ users
-given_to (AddOwner name user) actor candidate users = with_read (read_user user) users
-given_to (Transfer name quiet) actor candidate users = with_read (option_and_then candidate (read_name name)) users
-given_to request actor candidate users = users
+abbrev pub receivers_by : Request → Bytes → (Bytes → Option Bytes) → List Bytes → List Bytes
+receivers_by (Claim name) actor candidate users = actor ∷ users
+receivers_by (AddOwner name user) actor candidate users = with_read (read_user user) users
+receivers_by (Transfer name quiet) actor candidate users = with_read (option_and_then candidate (read_name name)) users
+receivers_by request actor candidate users = users
 
 -- all to whom any name was ever given
-abbrev pub receivers : History → List Bytes
-receivers (begins user token) = []
-receivers (more h e) = given_to e.call.request e.actor (candidate_of h) (receivers h)
+abbrev pub receivers_after : History → List Bytes
+receivers_after (begins user token) = []
+receivers_after (more h e) = receivers_by e.call.request e.actor (candidate_after h) (receivers_after h)
 
 -- the user owns the name, and of all to whom any name was ever given nobody else does
-abbrev pub alone_owns : History → Bytes → Bytes → Bool
-alone_owns h n u = owns h n u && list_all (λ v. not (owns h n v) || same u v) (receivers h)
+abbrev pub owns_alone_after : History → Bytes → Bytes → Bool
+owns_alone_after h n u = owns_after h n u && list_all (λ v. not (owns_after h n v) || same u v) (receivers_after h)
 
 -- ---- the yanks (PEP 592)
 
 -- the reason for which a release is yanked, after one request more; uploads and deletes have no line: a release stays
 -- yanked when its files are deleted, and a file that is uploaded into it later is yanked too
-abbrev pub yanked_by : Request → Bytes → Bytes → Option Bytes → Option Bytes
-yanked_by (Claim name) n r before = if is_read_as (read_name name) n then None else before
-yanked_by (Yank name release reason) n r before = if is_read_as (read_name name) n && is_read_as (read_release release) r then Some reason else before
-yanked_by (Unyank name release) n r before = if is_read_as (read_name name) n && is_read_as (read_release release) r then None else before
-yanked_by request n r before = before
+abbrev pub reason_by : Request → Bytes → Bytes → Option Bytes → Option Bytes
+reason_by (Claim name) n r before = if is_read_as (read_name name) n then None else before
+reason_by (Yank name release reason) n r before = if is_read_as (read_name name) n && is_read_as (read_release release) r then Some reason else before
+reason_by (Unyank name release) n r before = if is_read_as (read_name name) n && is_read_as (read_release release) r then None else before
+reason_by request n r before = before
 
 -- the reason of the last yank of the release since the last claim of the name, where no unyank came after that yank
-abbrev pub yanked_for : History → Bytes → Bytes → Option Bytes
-yanked_for (begins user token) n r = None
-yanked_for (more h e) n r = yanked_by e.call.request n r (yanked_for h n r)
+abbrev pub reason_after : History → Bytes → Bytes → Option Bytes
+reason_after (begins user token) n r = None
+reason_after (more h e) n r = reason_by e.call.request n r (reason_after h n r)
 
 -- a release of a held name is yanked for this reason (PEP 592, which marks files; here a yank is of all files of a
 -- release); a relinquish and a prohibit end the yanks as they end the owners
-abbrev pub yank_of : History → Bytes → Bytes → Option Bytes
-yank_of h n r = if is_held_now (state_of h n) then yanked_for h n r else None
+abbrev pub yank_after : History → Bytes → Bytes → Option Bytes
+yank_after h n r = if is_held_now (state_after h n) then reason_after h n r else None

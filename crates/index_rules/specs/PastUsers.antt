@@ -7,8 +7,8 @@ use Rattle.index_rules.specs.Maps.{Bytes, same}
 use Rattle.index_rules.specs.Users.{read_user}
 use Rattle.index_rules.specs.Texts.{read_token}
 use Rattle.index_rules.specs.Verdict.{bears}
-use Rattle.index_rules.specs.Effect.{key}
-use Rattle.index_rules.specs.Opened.{first_record}
+use Rattle.index_rules.specs.Effect.{or_empty}
+use Rattle.index_rules.specs.FirstTables.{first_record}
 use Rattle.index_rules.specs.History.{History, begins, more, is_read_as}
 
 -- the user's record with another digest of a token
@@ -17,15 +17,15 @@ with_token token user = record { office = user.office; token = token }
 
 -- what one request makes of a user's record
 abbrev pub user_by : Request → Bytes → Option UserRecord → Option UserRecord
-user_by (AddUser user office token) u before = if is_read_as (read_user user) u then Some (record { office = office; token = key (read_token token) }) else before
-user_by (SetToken user token) u before = if is_read_as (read_user user) u then option_map (with_token (key (read_token token))) before else before
+user_by (AddUser user office token) u before = if is_read_as (read_user user) u then Some (record { office = office; token = or_empty (read_token token) }) else before
+user_by (SetToken user token) u before = if is_read_as (read_user user) u then option_map (with_token (or_empty (read_token token))) before else before
 user_by request u before = before
 
 -- a user is there from the opening or from his add_user on; the office flag is that of this entry, and the digest that
 -- of the user's last add_user or set_token
-abbrev pub user_of : History → Bytes → Option UserRecord
-user_of (begins user token) u = if same u user then Some (first_record token) else None
-user_of (more h e) u = user_by e.call.request u (user_of h u)
+abbrev pub user_after : History → Bytes → Option UserRecord
+user_after (begins user token) u = if same u user then Some (first_record token) else None
+user_after (more h e) u = user_by e.call.request u (user_after h u)
 
 -- one more, where a user id was read
 abbrev pub with_read : Option Bytes → List Bytes → List Bytes
@@ -33,15 +33,15 @@ with_read None users = users
 with_read (Some user) users = user ∷ users
 
 -- those who were added, after one request more
-abbrev pub added_by : Request → List Bytes → List Bytes
-added_by (AddUser user office token) users = with_read (read_user user) users
-added_by request users = users
+abbrev pub users_by : Request → List Bytes → List Bytes
+users_by (AddUser user office token) users = with_read (read_user user) users
+users_by request users = users
 
 -- the users who were added, the first one too
-abbrev pub added : History → List Bytes
-added (begins user token) = user ∷ []
-added (more h e) = added_by e.call.request (added h)
+abbrev pub users_after : History → List Bytes
+users_after (begins user token) = user ∷ []
+users_after (more h e) = users_by e.call.request (users_after h)
 
 -- the one of them who bears the digest of a token; the refusal TokenTaken keeps it to one
-abbrev pub bearer : History → Bytes → Option Bytes
-bearer h token = find (λ user. bears (Some token) (user_of h user)) (added h)
+abbrev pub bearer_after : History → Bytes → Option Bytes
+bearer_after h token = find (λ user. bears (Some token) (user_after h user)) (users_after h)

@@ -34,5 +34,5 @@ pub record FitsProject (quota charge undeleted : ℕ) : Type 0 where
   pub undeleted_fit : undeleted ≤ most_files
 
 -- the project of a name that is claimed in this spelling
-abbrev pub claimed : Bytes → Project
-claimed shown = record { shown = shown; quota = first_quota; charge = 0; undeleted = 0; last_upload = None }
+abbrev pub new_project : Bytes → Project
+new_project shown = record { shown = shown; quota = first_quota; charge = 0; undeleted = 0; last_upload = None }

@@ -3,7 +3,7 @@ use Rattle.std.specs.Prelude.{Bool, true, false, Option, Some, None, option_map}
 use Rattle.index_names.specs.Project.{read_name}
 use Rattle.index_names.specs.FileName.{read_file_name, project_of}
 use Rattle.index_names.specs.Release.{read_release}
-use Rattle.index_digest.specs.Digest.{digest_in}
+use Rattle.index_digest.specs.Digest.{read_digest}
 use Rattle.index_rules.specs.declared.call.Call.{Call}
 use Rattle.index_rules.specs.declared.call.Request.{Request}
 use Rattle.index_rules.specs.declared.call.Request.TheVariants.{AddUser, SetToken, SetQuota, Claim, AddOwner, RemoveOwner, Upload, Delete, Yank, Unyank, Relinquish, Prohibit, Allow, OpenCase, RecordAttempt, Transfer, CloseCase, AnswerCase}
@@ -65,7 +65,7 @@ release_key r = None
 
 -- the digest that it declares, of a token or of a body
 abbrev pub declared_digest : Request → Option Bytes
-declared_digest (Upload file sha256 body requires) = digest_in sha256
+declared_digest (Upload file sha256 body requires) = read_digest sha256
 declared_digest r = token_key r
 
 abbrev pub is_upload : Request → Bool
@@ -73,8 +73,8 @@ is_upload (Upload file sha256 body requires) = true
 is_upload request = false
 
 -- what is looked up for a request, and for the bearer of a token where there is one
-abbrev pub keys_by : Option Bytes → Request → Keys
-keys_by caller request = record {
+abbrev pub keys_of_request : Option Bytes → Request → Keys
+keys_of_request caller request = record {
   caller = caller;
   user = user_key request;
   token = token_key request;
@@ -85,7 +85,7 @@ keys_by caller request = record {
 
 -- what is looked up for a call
 abbrev pub keys_of : Call → Keys
-keys_of c = keys_by (Some c.token) c.request
+keys_of c = keys_of_request (Some c.token) c.request
 
 -- a name alone
 abbrev pub keys_of_name : Bytes → Keys

@@ -17,25 +17,25 @@ Answers verdict (Refused refusal) = verdict ≡ Refuse refusal
 Answers verdict (Fault fault) = Unit {0}
 
 -- the tables after a change that was answered so
-abbrev pub tables_by : Tables → Change → Answer → Tables
-tables_by T change Accepted = means change T
-tables_by T change Already = T
-tables_by T change (Refused refusal) = T
-tables_by T change (Fault fault) = T
+abbrev pub tables_after_change : Tables → Change → Answer → Tables
+tables_after_change T change Accepted = means change T
+tables_after_change T change Already = T
+tables_after_change T change (Refused refusal) = T
+tables_after_change T change (Fault fault) = T
 
 -- the tables after a call that was answered so
 abbrev pub tables_after : Tables → Call → Answer → Tables
-tables_after T c answer = tables_by T (effect c.at c.request (facts_in T c)) answer
+tables_after T c answer = tables_after_change T (effect c.at c.request (facts_in T c)) answer
 
 -- calls in a row, over what a verdict is read off and what is next after an answer: each answer is the verdict at its
 -- point or a fault
-abbrev pub RunsBy : {S : Type 0} → (S → Call → Verdict) → (S → Call → Answer → S) → S → List Call → List Answer → S → Type 0
-RunsBy verdict next s [] [] s' = s' ≡ s
-RunsBy verdict next s [] (answer ∷ answers) s' = ⊥
-RunsBy verdict next s (call ∷ calls) [] s' = ⊥
-RunsBy verdict next s (call ∷ calls) (answer ∷ answers) s' =
-    Answers (verdict s call) answer × RunsBy verdict next (next s call answer) calls answers s'
+abbrev pub RunsOver : {S : Type 0} → (S → Call → Verdict) → (S → Call → Answer → S) → S → List Call → List Answer → S → Type 0
+RunsOver verdict next s [] [] s' = s' ≡ s
+RunsOver verdict next s [] (answer ∷ answers) s' = ⊥
+RunsOver verdict next s (call ∷ calls) [] s' = ⊥
+RunsOver verdict next s (call ∷ calls) (answer ∷ answers) s' =
+    Answers (verdict s call) answer × RunsOver verdict next (next s call answer) calls answers s'
 
 -- on the tables: the accepted calls were applied in order
 abbrev pub Runs : Tables → List Call → List Answer → Tables → Type 0
-Runs = RunsBy verdict_now tables_after
+Runs = RunsOver verdict_now tables_after

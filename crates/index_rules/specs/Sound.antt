@@ -8,7 +8,7 @@ use Rattle.index_rules.specs.declared.records.FileRecord.{FileRecord}
 use Rattle.index_rules.specs.Maps.{Bytes, same}
 use Rattle.index_rules.specs.Tables.{Tables}
 use Rattle.index_rules.specs.Facts.{HasOneBearer, owns_in, yank_in}
-use Rattle.index_rules.specs.Verdict.{project_in, is_held, is_undeleted}
+use Rattle.index_rules.specs.Verdict.{held_project, is_held, is_undeleted}
 
 -- an undeleted file of this name
 abbrev pub is_undeleted_of : Bytes → FileRecord → Bool
@@ -23,8 +23,8 @@ abbrev pub charge_in : Tables → Bytes → ℕ
 charge_in T name = sum_by (λ file. charged_size name file.1) (entries T.files)
 
 -- how many they are
-abbrev pub undeleted_in : Tables → Bytes → ℕ
-undeleted_in T name = count_by (λ file. is_undeleted_of name file.1) (entries T.files)
+abbrev pub undeleted_count_in : Tables → Bytes → ℕ
+undeleted_count_in T name = count_by (λ file. is_undeleted_of name file.1) (entries T.files)
 
 -- the record has the project and the release that this file name spells
 pub record IsRecordOf (file : Bytes) (known : FileRecord) : Type 0 where
@@ -54,11 +54,11 @@ pub record IsSound (T : Tables) : Type 0 where
   -- an undeleted file's project is held
   pub undeleted_held : (file : Bytes) (known : FileRecord) → get T.files file ≡ Some known → known.is_undeleted ≡ true → is_held (get T.names known.project) ≡ true
   -- a held name's charge is the sum of the sizes of its undeleted files
-  pub charge : (name : Bytes) (project : Project) → project_in (get T.names name) ≡ Some project → project.charge ≡ charge_in T name
+  pub charge : (name : Bytes) (project : Project) → held_project (get T.names name) ≡ Some project → project.charge ≡ charge_in T name
   -- its count is the number of these files
-  pub undeleted : (name : Bytes) (project : Project) → project_in (get T.names name) ≡ Some project → project.undeleted ≡ undeleted_in T name
+  pub undeleted : (name : Bytes) (project : Project) → held_project (get T.names name) ≡ Some project → project.undeleted ≡ undeleted_count_in T name
   -- its charge is not above its quota
-  pub quota : (name : Bytes) (project : Project) → project_in (get T.names name) ≡ Some project → project.charge ≤ project.quota
+  pub quota : (name : Bytes) (project : Project) → held_project (get T.names name) ≡ Some project → project.charge ≤ project.quota
   -- the undeleted files, and no others, have a body
   pub bodies : (file : Bytes) → is_some (get T.bodies file) ≡ is_undeleted (get T.files file)
   -- each body has the size and the digest of its file's record

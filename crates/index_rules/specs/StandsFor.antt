@@ -12,28 +12,28 @@ use Rattle.index_rules.specs.Maps.{Bytes}
 use Rattle.index_rules.specs.Tables.{Tables}
 use Rattle.index_rules.specs.Facts.{owns_in, yank_in}
 use Rattle.index_rules.specs.History.{History}
-use Rattle.index_rules.specs.PastUsers.{user_of}
-use Rattle.index_rules.specs.PastNames.{State, Free, Held, Prohibited, state_of, shown_of, quota_of, last_upload_of, owns, yank_of}
-use Rattle.index_rules.specs.PastCases.{Case, case_of}
-use Rattle.index_rules.specs.PastFiles.{known, undeleted, requires_of, body_of, charge, undeleted_count}
+use Rattle.index_rules.specs.PastUsers.{user_after}
+use Rattle.index_rules.specs.PastNames.{State, Free, Held, Prohibited, state_after, shown_after, quota_after, last_upload_after, owns_after, yank_after}
+use Rattle.index_rules.specs.PastCases.{Case, case_after}
+use Rattle.index_rules.specs.PastFiles.{first_upload_after, is_undeleted_after, requires_after, last_body_after, charge_after, undeleted_count_after}
 
 -- nothing is kept of a free name, its values of a held one, and no values of a prohibited one
-abbrev pub name_by : State → Project → Option NameRecord
-name_by Free project = None
-name_by Held project = Some (name_record.Held project)
-name_by Prohibited project = Some name_record.Prohibited
+abbrev pub record_of_state : State → Project → Option NameRecord
+record_of_state Free project = None
+record_of_state Held project = Some (name_record.Held project)
+record_of_state Prohibited project = Some name_record.Prohibited
 
 -- the record of a held name: its shown name, quota, charge, count and latest upload
-abbrev pub project_at : History → Bytes → Project
-project_at h n = record { shown = shown_of h n; quota = quota_of h n; charge = charge h n; undeleted = undeleted_count h n; last_upload = last_upload_of h n }
+abbrev pub project_after : History → Bytes → Project
+project_after h n = record { shown = shown_after h n; quota = quota_after h n; charge = charge_after h n; undeleted = undeleted_count_after h n; last_upload = last_upload_after h n }
 
 -- the record of a name
-abbrev pub name_at : History → Bytes → Option NameRecord
-name_at h n = name_by (state_of h n) (project_at h n)
+abbrev pub name_after : History → Bytes → Option NameRecord
+name_after h n = record_of_state (state_after h n) (project_after h n)
 
 -- the record of a known file, with the digest and the size of its first upload
-abbrev pub file_by : Bytes → Bytes → Bool → Bytes × ℕ → FileRecord
-file_by f requires is_undeleted first = record {
+abbrev pub file_of_upload : Bytes → Bytes → Bool → Bytes × ℕ → FileRecord
+file_of_upload f requires is_undeleted first = record {
   project = project_of f;
   release = release_of f;
   digest = first.0;
@@ -43,16 +43,16 @@ file_by f requires is_undeleted first = record {
 }
 
 -- the record of a file is there where the file is known
-abbrev pub file_at : History → Bytes → Option FileRecord
-file_at h f = option_map (file_by f (requires_of h f) (undeleted h f)) (known h f)
+abbrev pub file_after : History → Bytes → Option FileRecord
+file_after h f = option_map (file_of_upload f (requires_after h f) (is_undeleted_after h f)) (first_upload_after h f)
 
 -- the bytes of a file are there where it is undeleted
-abbrev pub body_at : History → Bytes → Option Bytes
-body_at h f = if undeleted h f then Some (body_of h f) else None
+abbrev pub body_after : History → Bytes → Option Bytes
+body_after h f = if is_undeleted_after h f then Some (last_body_after h f) else None
 
 -- the record of an open case, which has the tally of its attempts in place of them
-abbrev pub case_by_attempts : Case → CaseRecord
-case_by_attempts case = record {
+abbrev pub record_of_case : Case → CaseRecord
+record_of_case case = record {
   kind = case.kind;
   candidate = case.candidate;
   contact = case.contact;
@@ -63,16 +63,16 @@ case_by_attempts case = record {
 }
 
 -- the record of a case is there where one is open
-abbrev pub case_at : History → Bytes → Option CaseRecord
-case_at h n = option_map case_by_attempts (case_of h n)
+abbrev pub case_record_after : History → Bytes → Option CaseRecord
+case_record_after h n = option_map record_of_case (case_after h n)
 
 -- the tables hold exactly these records; each key stands once, since the tables are maps, so this says all there is to
 -- say of them: tables that stand for one history are equal
 pub record StandsFor (T : Tables) (h : History) : Type 0 where
-  pub users : (user : Bytes) → get T.users user ≡ user_of h user
-  pub names : (name : Bytes) → get T.names name ≡ name_at h name
-  pub owners : (name user : Bytes) → owns_in T name user ≡ owns h name user
-  pub files : (file : Bytes) → get T.files file ≡ file_at h file
-  pub bodies : (file : Bytes) → get T.bodies file ≡ body_at h file
-  pub cases : (name : Bytes) → get T.cases name ≡ case_at h name
-  pub yanks : (name release : Bytes) → yank_in T name release ≡ yank_of h name release
+  pub users : (user : Bytes) → get T.users user ≡ user_after h user
+  pub names : (name : Bytes) → get T.names name ≡ name_after h name
+  pub owners : (name user : Bytes) → owns_in T name user ≡ owns_after h name user
+  pub files : (file : Bytes) → get T.files file ≡ file_after h file
+  pub bodies : (file : Bytes) → get T.bodies file ≡ body_after h file
+  pub cases : (name : Bytes) → get T.cases name ≡ case_record_after h name
+  pub yanks : (name release : Bytes) → yank_in T name release ≡ yank_after h name release

@@ -3,7 +3,7 @@ use Rattle.std.specs.Prelude.{ℕ, Bool, not, ◌&&◌, nat_le, [], length, Opti
 use Rattle.std.specs.Char.{is_control}
 use Rattle.std.specs.List.{list_all}
 use Rattle.std.specs.Str.{is_utf8, chars}
-use Rattle.index_digest.specs.Digest.{digest_in, sha256}
+use Rattle.index_digest.specs.Digest.{read_digest, sha256}
 use Rattle.index_rules.specs.Maps.{Bytes, same}
 
 -- the most bytes of a text
@@ -20,4 +20,4 @@ is_evidence x = nat_le 1 (length x) && is_text x
 
 -- the digest of a token that a text gives; the empty text is no token
 unfoldable pub read_token : Bytes → Option Bytes
-read_token text = option_and_then (λ digest. if same digest (sha256 []) then None else Some digest) (digest_in text)
+read_token text = option_and_then (λ digest. if same digest (sha256 []) then None else Some digest) (read_digest text)

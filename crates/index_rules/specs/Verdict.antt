@@ -1,7 +1,7 @@
 -- The verdict on a call: the least refusal that applies, else that it is so already, else that it is accepted.
 use Rattle.std.specs.Prelude.{ℕ, ◌+◌, Bool, true, false, not, ◌&&◌, ◌==◌, nat_lt, List, [], ◌∷◌, length, Option, Some, None, is_some, is_none, find}
 use Rattle.std.specs.Option.{option_map_or}
-use Rattle.index_digest.specs.Digest.{digest_in, sha256}
+use Rattle.index_digest.specs.Digest.{read_digest, sha256}
 use Rattle.index_rules.specs.declared.call.Call.{Call}
 use Rattle.index_rules.specs.declared.call.Request.{Request}
 use Rattle.index_rules.specs.declared.call.Request.TheVariants.{AddUser, SetToken, SetQuota, Claim, AddOwner, RemoveOwner, Upload, Delete, Yank, Unyank, Relinquish, Prohibit, Allow, OpenCase, RecordAttempt, Transfer, CloseCase, AnswerCase}
@@ -40,13 +40,13 @@ largest_body = 16777216
 -- ---- questions on the facts
 
 -- the held name of a record
-abbrev pub project_in : Option NameRecord → Option Project
-project_in None = None
-project_in (Some (Held project)) = Some project
-project_in (Some Prohibited) = None
+abbrev pub held_project : Option NameRecord → Option Project
+held_project None = None
+held_project (Some (Held project)) = Some project
+held_project (Some Prohibited) = None
 
 abbrev pub is_held : Option NameRecord → Bool
-is_held name = is_some (project_in name)
+is_held name = is_some (held_project name)
 
 abbrev pub is_prohibited : Option NameRecord → Bool
 is_prohibited None = false
@@ -79,7 +79,7 @@ is_undeleted file = option_map_or (λ known. known.is_undeleted) file false
 
 -- the name has an undeleted file
 abbrev pub has_files : Option NameRecord → Bool
-has_files name = option_map_or (λ project. nat_lt 0 project.undeleted) (project_in name) false
+has_files name = option_map_or (λ project. nat_lt 0 project.undeleted) (held_project name) false
 
 -- the file is known with another digest or size
 abbrev pub is_other_file : Option Bytes → ℕ → Option FileRecord → Bool
@@ -89,7 +89,7 @@ is_other_file (Some digest) size (Some known) = not (same digest known.digest &&
 
 -- more bytes would bring the charge above the quota
 abbrev pub exceeds_quota : ℕ → Option NameRecord → Bool
-exceeds_quota size name = option_map_or (λ project. nat_lt project.quota (project.charge + size)) (project_in name) false
+exceeds_quota size name = option_map_or (λ project. nat_lt project.quota (project.charge + size)) (held_project name) false
 
 -- ---- questions on the request
 
@@ -105,7 +105,7 @@ is_too_large r = false
 
 -- the body has not the digest that is declared
 abbrev pub is_mismatched : Request → Bool
-is_mismatched (Upload file declared body requires) = option_map_or (λ digest. not (same digest (sha256 body))) (digest_in declared) false
+is_mismatched (Upload file declared body requires) = option_map_or (λ digest. not (same digest (sha256 body))) (read_digest declared) false
 is_mismatched r = false
 
 abbrev pub is_quota_too_large : Request → Bool
@@ -113,11 +113,11 @@ is_quota_too_large (SetQuota name quota) = nat_lt largest_quota quota
 is_quota_too_large r = false
 
 abbrev pub is_quota_below_charge : Request → Facts → Bool
-is_quota_below_charge (SetQuota name quota) f = option_map_or (λ project. nat_lt quota project.charge) (project_in f.name) false
+is_quota_below_charge (SetQuota name quota) f = option_map_or (λ project. nat_lt quota project.charge) (held_project f.name) false
 is_quota_below_charge r f = false
 
 abbrev pub uploads_other_file : Request → Facts → Bool
-uploads_other_file (Upload file declared body requires) f = is_other_file (digest_in declared) (length body) f.file
+uploads_other_file (Upload file declared body requires) f = is_other_file (read_digest declared) (length body) f.file
 uploads_other_file r f = false
 
 abbrev pub uploads_over_quota : Request → Facts → Bool
@@ -131,7 +131,7 @@ closes_own_case r f = false
 
 -- what stands against a transfer, of the case, the latest upload, the statement and the moment
 abbrev pub hinders : ℕ → Request → Facts → CaseFault → Bool
-hinders at (Transfer name quiet) f fault = option_map_or (λ case. option_map_or (λ project. stands_against case.state project.last_upload quiet at fault) (project_in f.name) false) f.case false
+hinders at (Transfer name quiet) f fault = option_map_or (λ case. option_map_or (λ project. stands_against case.state project.last_upload quiet at fault) (held_project f.name) false) f.case false
 hinders at r f fault = false
 
 -- the refusal by what stands against a transfer, or a further attempt
@@ -148,7 +148,7 @@ refusal_of case_fault.HomePageActive = HomePageActive
 abbrev pub is_already : Request → Facts → Bool
 is_already (AddUser user office token) f = option_map_or (is_user_with office (read_token token)) f.user false
 is_already (SetToken user token) f = bears (read_token token) f.user
-is_already (SetQuota name quota) f = option_map_or (λ project. quota == project.quota) (project_in f.name) false
+is_already (SetQuota name quota) f = option_map_or (λ project. quota == project.quota) (held_project f.name) false
 is_already (Claim name) f = f.owns
 is_already (AddOwner name user) f = f.named_owns
 is_already (RemoveOwner name user) f = not f.named_owns
@@ -228,14 +228,14 @@ refusals_of (CloseCase name) = NotOffice ∷ BadName ∷ NoProject ∷ NoCase �
 refusals_of (AnswerCase name) = BadName ∷ NoProject ∷ NotOwner ∷ NoCase ∷ []
 
 -- the verdict by the least refusal that applies, and by whether it is so already
-abbrev pub decided : Option Refusal → Bool → Verdict
-decided (Some r) already = Refuse r
-decided None true = AlreadySo
-decided None false = Accept
+abbrev pub verdict_of : Option Refusal → Bool → Verdict
+verdict_of (Some r) already = Refuse r
+verdict_of None true = AlreadySo
+verdict_of None false = Accept
 
 -- the verdict on a call by the facts
 abbrev pub verdict_on : Call → Facts → Verdict
-verdict_on c f = decided (find (applies c.at c.request f) (BadMoment ∷ BadToken ∷ refusals_of c.request)) (is_already c.request f)
+verdict_on c f = verdict_of (find (applies c.at c.request f) (BadMoment ∷ BadToken ∷ refusals_of c.request)) (is_already c.request f)
 
 -- the verdict on the tables as they are
 abbrev pub verdict_now : Tables → Call → Verdict

@@ -2,7 +2,7 @@
 ghost use Rattle.std.specs.Prelude.{◌≡◌, IfOk, IfErr, option_map};
 ghost use Rattle.index_names.specs.FileName.{project_of};
 ghost use Rattle.index_rules.specs.declared.call.Request.TheVariants.{AddOwner, Claim, Delete, SetToken, Unyank};
-ghost use Rattle.index_rules.specs.Requests.{keys_by, keys_of, keys_of_name};
+ghost use Rattle.index_rules.specs.Requests.{keys_of_request, keys_of, keys_of_name};
 
 use crate::answer::Fault;
 use crate::bytes::Bytes;
@@ -101,7 +101,7 @@ fn user_keys(
     user: &Bytes,
     token: &Bytes,
 ) -> Result<Keys, AllocError>
-    ensures { IfOk result (λ keys. keys ≡ keys_by caller (SetToken user.now token.now)) }
+    ensures { IfOk result (λ keys. keys ≡ keys_of_request caller (SetToken user.now token.now)) }
 {
     Ok(Keys {
         caller,
@@ -114,7 +114,7 @@ fn user_keys(
 }
 
 fn name_keys(alloc: Global, caller: Option<Digest256>, name: &Bytes) -> Result<Keys, AllocError>
-    ensures { IfOk result (λ keys. keys ≡ keys_by caller (Claim name.now)) }
+    ensures { IfOk result (λ keys. keys ≡ keys_of_request caller (Claim name.now)) }
 {
     Ok(Keys {
         caller,
@@ -132,7 +132,7 @@ fn owner_keys(
     name: &Bytes,
     user: &Bytes,
 ) -> Result<Keys, AllocError>
-    ensures { IfOk result (λ keys. keys ≡ keys_by caller (AddOwner name.now user.now)) }
+    ensures { IfOk result (λ keys. keys ≡ keys_of_request caller (AddOwner name.now user.now)) }
 {
     Ok(Keys {
         caller,
@@ -150,7 +150,7 @@ fn release_keys(
     name: &Bytes,
     release: &Bytes,
 ) -> Result<Keys, AllocError>
-    ensures { IfOk result (λ keys. keys ≡ keys_by caller (Unyank name.now release.now)) }
+    ensures { IfOk result (λ keys. keys ≡ keys_of_request caller (Unyank name.now release.now)) }
 {
     Ok(Keys {
         caller,
@@ -164,7 +164,7 @@ fn release_keys(
 
 /// The file and the project that its name decides.
 fn file_keys(alloc: Global, caller: Option<Digest256>, file: &Bytes) -> Result<Keys, AllocError>
-    ensures { IfOk result (λ keys. keys ≡ keys_by caller (Delete file.now)) }
+    ensures { IfOk result (λ keys. keys ≡ keys_of_request caller (Delete file.now)) }
 {
     let file = readable_file(alloc, file)?;
     let name = project_of_file(&file)?;

@@ -1,6 +1,6 @@
 //! The opening of a new index with its first user.
 ghost use Rattle.std.specs.Prelude.{◌≡◌, ◌⊎◌, ◌↔◌, IfOk, IfErr, IsErrOf};
-ghost use Rattle.index_rules.specs.Opened.{IsBadFirstUser, first_record};
+ghost use Rattle.index_rules.specs.FirstTables.{IsBadFirstUser, first_record};
 
 use crate::records::UserRecord;
 use crate::user::{UserFault, UserId};

@@ -1,6 +1,6 @@
 //! Held names.
 ghost use Rattle.std.specs.Prelude.{◌≡◌, ◌<◌, ◌≤◌, ◌+◌, IfOk, SomeIff, nat_lt, not};
-ghost use Rattle.index_rules.specs.Projects.{FitsProject, claimed, largest_quota, most_files};
+ghost use Rattle.index_rules.specs.Projects.{FitsProject, new_project, largest_quota, most_files};
 ghost use Rattle.index_rules.specs.Effect.{later, with_file, without_file};
 
 use index_names::Text;
@@ -96,7 +96,7 @@ impl Project {
 
     /// A name that was just claimed in this spelling.
     pub(crate) fn claimed(shown: Text) -> Project
-        ensures { result ≡ claimed shown }
+        ensures { result ≡ new_project shown }
     {
         Project {
             shown,

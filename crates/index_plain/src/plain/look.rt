@@ -1,7 +1,7 @@
 //! What the tables have at the keys of a call.
 ghost use Rattle.std.specs.Prelude.{◌≡◌, IfOk, option_and_then, option_map};
 ghost use Rattle.std.specs.FinMap.{get};
-ghost use Rattle.index_rules.specs.Facts.{AreOwners, IsBearer, IsBearerAs, Sees, at_both, caller_by, has_release_in, of_both, yank_in};
+ghost use Rattle.index_rules.specs.Facts.{AreOwners, IsBearer, IsBearerAs, Sees, at_both, caller_of, has_release_in, of_both, yank_in};
 ghost use Rattle.index_rules.specs.Tables.{owners_in};
 ghost use Rattle.index_plain.specs.Plain.{tables_of};
 
@@ -73,7 +73,7 @@ impl PlainBooks {
 
     fn users_at(&self, keys: &Keys) -> Result<UsersSeen, AllocError>
         ensures caller { let k = keys.now in
-            IfOk result (λ seen. IsBearerAs caller_by (tables_of self.now) k.caller seen.caller) }
+            IfOk result (λ seen. IsBearerAs caller_of (tables_of self.now) k.caller seen.caller) }
         ensures user { let T = tables_of self.now in
             IfOk result (λ seen. seen.user ≡ option_and_then (get T.users) keys.now.user) }
         ensures bearer { let k = keys.now in
@@ -195,7 +195,7 @@ impl PlainBooks {
     }
 
     fn caller(&self, token: Option<Digest256>) -> Result<Option<Caller>, AllocError>
-        ensures { IfOk result (IsBearerAs caller_by (tables_of self.now) token) }
+        ensures { IfOk result (IsBearerAs caller_of (tables_of self.now) token) }
     {
         let Some(token) = token else {
             return Ok(None);

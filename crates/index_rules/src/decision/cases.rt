@@ -5,7 +5,7 @@ ghost use Rattle.index_rules.specs.declared.call.Request.TheVariants.{AnswerCase
 ghost use Rattle.index_rules.specs.Maps.{same};
 ghost use Rattle.index_rules.specs.Texts.{is_evidence as is_evidence_lem};
 ghost use Rattle.index_rules.specs.Verdict.{refusal_of};
-ghost use Rattle.index_rules.specs.Effect.{opened_case as opened_case_lem};
+ghost use Rattle.index_rules.specs.Effect.{new_case as opened_case_lem};
 ghost use Rattle.index_rules.specs.Decided.{DecidesIn, IsOfCaller};
 
 use super::context::Context;

@@ -3,7 +3,7 @@ ghost use Rattle.std.specs.Prelude.{◌≡◌, Some, option_copied};
 ghost use Rattle.std.specs.List.{list_all, list_any};
 ghost use Rattle.index_rules.specs.Maps.{same};
 ghost use Rattle.index_rules.specs.Facts.{is_one_of, is_only_one_of};
-ghost use Rattle.index_rules.specs.Verdict.{project_in};
+ghost use Rattle.index_rules.specs.Verdict.{held_project};
 
 use crate::project::Project;
 use crate::records::NameRecord;
@@ -25,7 +25,7 @@ pub struct Context<'a> {
 impl<'a> Context<'a> {
     /// The held name that the call speaks of, where it is held.
     pub fn project(&self) -> Option<&'a Project>
-        ensures { option_copied result ≡ project_in self.now.view.now.name }
+        ensures { option_copied result ≡ held_project self.now.view.now.name }
     {
         match &self.view.name {
             Some(NameRecord::Held(project)) => Some(project),

@@ -1,13 +1,13 @@
 //! Owners' requests on files.
 ghost use Rattle.std.specs.Prelude.{◌≡◌, [], Some, IfOk, IsSome, IsTrue};
 ghost use Rattle.index_rules.specs.declared.call.Request.TheVariants.{Delete, Upload};
-ghost use Rattle.index_digest.specs.Digest.{digest_in, sha256};
+ghost use Rattle.index_digest.specs.Digest.{read_digest, sha256};
 ghost use Rattle.index_names.specs.FileName.{project_of};
 ghost use Rattle.index_rules.specs.Maps.{Bytes};
 ghost use Rattle.index_rules.specs.Requests.{read_file};
 ghost use Rattle.index_rules.specs.Texts.{is_text as is_text_lem};
 ghost use Rattle.index_rules.specs.Verdict.{Accept, is_other_file};
-ghost use Rattle.index_rules.specs.Effect.{deleted as deleted_lem, upload_of, uploaded};
+ghost use Rattle.index_rules.specs.Effect.{as_deleted as deleted_lem, upload_of, new_file};
 ghost use Rattle.index_rules.specs.Decided.{Decides, DecidesIn, DecidesOnFile, FindsProject, IsOfCaller};
 
 use super::context::Context;
@@ -66,7 +66,7 @@ fn accept(
     requires caller { IsOfCaller context.now }
     requires file { IsSome (read_file file.now) }
     requires text { IsTrue (is_text_lem requires_python.now) }
-    ensures { (declared : Bytes) → digest_in declared ≡ Some (sha256 body)
+    ensures { (declared : Bytes) → read_digest declared ≡ Some (sha256 body)
         → DecidesOnFile context.now (Upload file.now declared body requires_python.now) result }
 {
     match project_with(context, &body) {
@@ -85,7 +85,7 @@ fn accept(
 /// The project with one more file of these bytes, or `None` where that file is undeleted already.
 fn project_with(context: &Context<'_>, body: &Sealed) -> Result<Option<Project>, Stop>
     requires caller { IsOfCaller context.now }
-    ensures { (declared : Bytes) → digest_in declared ≡ Some (sha256 body.now)
+    ensures { (declared : Bytes) → read_digest declared ≡ Some (sha256 body.now)
         → FindsProject context.now declared body.now result }
 {
     let size = body.bytes().len() as u64;
@@ -149,7 +149,7 @@ fn recorded(
 ) -> Result<(NormalName, FileName, FileRecord), AllocError>
     requires file { IsSome (read_file file.now) }
     requires text { IsTrue (is_text_lem requires_python.now) }
-    ensures { let known = uploaded (sha256 body.now) file.now body.now requires_python.now in
+    ensures { let known = new_file (sha256 body.now) file.now body.now requires_python.now in
         IfOk result (λ made. made ≡ (project_of file.now, file.now, known)) }
 {
     let file = to_file(alloc, file)?;
@@ -166,7 +166,7 @@ fn record_of(
     requires_python: &Bytes,
 ) -> Result<FileRecord, AllocError>
     requires { IsTrue (is_text_lem requires_python.now) }
-    ensures { let known = uploaded (sha256 body.now) file.now body.now requires_python.now in
+    ensures { let known = new_file (sha256 body.now) file.now body.now requires_python.now in
         IfOk result (λ made. made ≡ known) }
 {
     let project = file.project().clone()?;

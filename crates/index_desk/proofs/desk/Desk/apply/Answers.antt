@@ -2,7 +2,7 @@ use Rattle.std.proofs.Common.{◌≡◌, subst, sym}
 use Rattle.index_rules.specs.Effect.{effect}
 use Rattle.index_rules.specs.Facts.{HasOneBearer, facts_in}
 use Rattle.index_rules.specs.Verdict.{verdict_now}
-use Rattle.index_rules.specs.Runs.{Answers, tables_after, tables_by}
+use Rattle.index_rules.specs.Runs.{Answers, tables_after, tables_after_change}
 use Rattle.index_rules.specs.Sound.{IsSound}
 use Rattle.index_rules.proofs.StandsOn.{CarriesOn-answer}
 use Rattle.index_rules.proofs.OneBearer.{HasOneBearer-tables_after}
@@ -25,7 +25,7 @@ returns-in-Ok-clause-tables g c =
     (λ honest one. let T = tables c.self.inside.books in
     let before = c.settle.ensures.honest honest in
     let change = effect call.at call.request (facts_in T call) in
-    subst (λ U. tables c.settle.new.books ≡ tables_by U change c.settle.result) (c.consider.ensures.look.unchanged before)
+    subst (λ U. tables c.settle.new.books ≡ tables_after_change U change c.settle.result) (c.consider.ensures.look.unchanged before)
     (c.settle.ensures.tables honest (verdict_now T call) change (c.in-Ok.ensures.decision before one)))
 
 pub returns-in-Ok-clause-one_bearer : goal.returns-in-Ok-clause-one_bearer

@@ -1,11 +1,11 @@
 use Rattle.std.proofs.Common.{sym, ◌∙◌, refl}
-use Rattle.index_digest.proofs.TextLemmas.{digest_in-other, reads, reads-decoded}
+use Rattle.index_digest.proofs.TextLemmas.{read_digest-other, reads, reads-decoded}
 use Rattle.index_digest.proofs.digest.Digest256.read_hex.Goals as goal
 
 pub returns-then-not-is_digest_text-clause-value :
     goal.returns-then-not-is_digest_text-clause-value
 returns-then-not-is_digest_text-clause-value c =
-    sym (digest_in-other c.args.text.now (sym c.is_digest_text.ensures ∙ c.if-not-is_digest_text.true))
+    sym (read_digest-other c.args.text.now (sym c.is_digest_text.ensures ∙ c.if-not-is_digest_text.true))
 
 pub unwrap-bytes-requires : goal.unwrap-bytes-requires
 unwrap-bytes-requires c =

@@ -12,8 +12,8 @@ abbrev pub first_record : Bytes → UserRecord
 first_record token = record { office = true; token = token }
 
 -- one user of the office with this digest of a token, and nothing else
-abbrev pub opened : Bytes → Bytes → Tables
-opened user token = record {
+abbrev pub first_tables : Bytes → Bytes → Tables
+first_tables user token = record {
   users = insert empty user (first_record token);
   names = empty;
   owners = empty;
