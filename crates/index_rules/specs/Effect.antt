@@ -32,31 +32,31 @@ abbrev pub or_empty : Option Bytes → Bytes
 or_empty read = unwrap_or read []
 
 abbrev pub the_caller : Facts → Bytes
-the_caller f = or_empty (option_map (λ caller. caller.user) f.caller)
+the_caller facts = or_empty (option_map (λ caller. caller.user) facts.caller)
 
 abbrev pub no_project : Project
 no_project = record { shown = []; quota = 0; charge = 0; undeleted = 0; last_upload = None }
 
 abbrev pub the_project : Facts → Project
-the_project f = unwrap_or (held_project f.name) no_project
+the_project facts = unwrap_or (held_project facts.name) no_project
 
 abbrev pub no_user : UserRecord
 no_user = record { office = false; token = [] }
 
 abbrev pub the_user : Facts → UserRecord
-the_user f = unwrap_or f.user no_user
+the_user facts = unwrap_or facts.user no_user
 
 abbrev pub no_file : FileRecord
 no_file = record { project = []; release = []; digest = []; size = 0; requires_python = []; is_undeleted = false }
 
 abbrev pub the_file : Facts → FileRecord
-the_file f = unwrap_or f.file no_file
+the_file facts = unwrap_or facts.file no_file
 
 abbrev pub no_case : CaseRecord
 no_case = record { kind = Continue; candidate = []; contact = []; work = []; why = []; opened = 0; state = tally_of [] }
 
 abbrev pub the_case : Facts → CaseRecord
-the_case f = unwrap_or f.case no_case
+the_case facts = unwrap_or facts.case no_case
 
 -- ---- what is written
 
@@ -108,25 +108,25 @@ new_case at candidate kind contact work why =
 
 -- what an accepted request at a moment writes
 abbrev pub effect : ℕ → Request → Facts → Change
-effect at (AddUser user office token) f = change.AddUser (or_empty (read_user user)) (record { office = office; token = or_empty (read_token token) })
-effect at (SetToken user token) f = change.SetToken (or_empty (read_user user)) (record { office = (the_user f).office; token = or_empty (read_token token) })
-effect at (SetQuota name quota) f = change.SetQuota (or_empty (read_name name)) (record (the_project f) { quota = quota })
-effect at (Claim name) f = change.Claim (or_empty (read_name name)) (new_project name) (the_caller f)
-effect at (AddOwner name user) f = change.AddOwner (or_empty (read_name name)) (or_empty (read_user user))
-effect at (RemoveOwner name user) f = change.RemoveOwner (or_empty (read_name name)) (or_empty (read_user user))
-effect at (Upload file declared body requires) f =
-    change.Upload (project_of file) (with_file at (length body) (the_project f)) file (new_file (or_empty (read_digest declared)) file body requires) body
-effect at (Delete file) f = change.Delete (project_of file) (without_file (the_file f).size (the_project f)) file (as_deleted (the_file f))
-effect at (Yank name release reason) f = change.Yank (or_empty (read_name name)) (or_empty (read_release release)) reason
-effect at (Unyank name release) f = change.Unyank (or_empty (read_name name)) (or_empty (read_release release))
-effect at (Relinquish name) f = change.Relinquish (or_empty (read_name name))
-effect at (Prohibit name) f = change.Prohibit (or_empty (read_name name))
-effect at (Allow name) f = change.Allow (or_empty (read_name name))
-effect at (OpenCase name kind contact work why) f = change.OpenCase (or_empty (read_name name)) (new_case at (the_caller f) kind contact work why)
-effect at (RecordAttempt name means sent) f = change.RecordAttempt (or_empty (read_name name)) (with_attempt_noted (attempt_of means sent at) (the_case f))
-effect at (Transfer name quiet) f = change.Transfer (or_empty (read_name name)) (the_case f).candidate
-effect at (CloseCase name) f = change.CloseCase (or_empty (read_name name))
-effect at (AnswerCase name) f = change.AnswerCase (or_empty (read_name name))
+effect at (AddUser user office token) facts = change.AddUser (or_empty (read_user user)) (record { office = office; token = or_empty (read_token token) })
+effect at (SetToken user token) facts = change.SetToken (or_empty (read_user user)) (record { office = (the_user facts).office; token = or_empty (read_token token) })
+effect at (SetQuota name quota) facts = change.SetQuota (or_empty (read_name name)) (record (the_project facts) { quota = quota })
+effect at (Claim name) facts = change.Claim (or_empty (read_name name)) (new_project name) (the_caller facts)
+effect at (AddOwner name user) facts = change.AddOwner (or_empty (read_name name)) (or_empty (read_user user))
+effect at (RemoveOwner name user) facts = change.RemoveOwner (or_empty (read_name name)) (or_empty (read_user user))
+effect at (Upload file declared body requires) facts =
+    change.Upload (project_of file) (with_file at (length body) (the_project facts)) file (new_file (or_empty (read_digest declared)) file body requires) body
+effect at (Delete file) facts = change.Delete (project_of file) (without_file (the_file facts).size (the_project facts)) file (as_deleted (the_file facts))
+effect at (Yank name release reason) facts = change.Yank (or_empty (read_name name)) (or_empty (read_release release)) reason
+effect at (Unyank name release) facts = change.Unyank (or_empty (read_name name)) (or_empty (read_release release))
+effect at (Relinquish name) facts = change.Relinquish (or_empty (read_name name))
+effect at (Prohibit name) facts = change.Prohibit (or_empty (read_name name))
+effect at (Allow name) facts = change.Allow (or_empty (read_name name))
+effect at (OpenCase name kind contact work why) facts = change.OpenCase (or_empty (read_name name)) (new_case at (the_caller facts) kind contact work why)
+effect at (RecordAttempt name means sent) facts = change.RecordAttempt (or_empty (read_name name)) (with_attempt_noted (attempt_of means sent at) (the_case facts))
+effect at (Transfer name quiet) facts = change.Transfer (or_empty (read_name name)) (the_case facts).candidate
+effect at (CloseCase name) facts = change.CloseCase (or_empty (read_name name))
+effect at (AnswerCase name) facts = change.AnswerCase (or_empty (read_name name))
 
 -- the tables where a name is free: its owners, its yanks and its case go with it
 abbrev pub without_record : Bytes → Tables → Tables
@@ -185,4 +185,4 @@ means (change.AnswerCase name) T = record T { cases = remove T.cases name }
 
 -- the tables after an accepted call
 abbrev pub tables_with_call : Tables → Call → Tables
-tables_with_call T c = means (effect c.at c.request (facts_in T c)) T
+tables_with_call T call = means (effect call.at call.request (facts_in T call)) T

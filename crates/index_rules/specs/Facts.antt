@@ -77,18 +77,18 @@ yank_in T name release = get T.yanks (name, release)
 
 -- what the tables say of a call
 abbrev pub facts_in : Tables → Call → Facts
-facts_in T c = record {
-  caller = option_map caller_of (bearer_in T c.token);
-  user = option_and_then (get T.users) (user_key c.request);
-  bearer = option_map (λ user. user.0) (option_and_then (bearer_in T) (token_key c.request));
-  name = option_and_then (get T.names) (name_key c.request);
-  owns = of_both (owns_in T) (name_key c.request) (option_map (λ user. user.0) (bearer_in T c.token));
-  named_owns = of_both (owns_in T) (name_key c.request) (user_key c.request);
-  sole = of_both (owns_alone_in T) (name_key c.request) (user_key c.request);
-  file = option_and_then (get T.files) (file_key c.request);
-  yank = at_both (yank_in T) (name_key c.request) (release_key c.request);
-  has_release = of_both (has_release_in T) (name_key c.request) (release_key c.request);
-  case = option_and_then (get T.cases) (name_key c.request);
+facts_in T call = record {
+  caller = option_map caller_of (bearer_in T call.token);
+  user = option_and_then (get T.users) (user_key call.request);
+  bearer = option_map (λ user. user.0) (option_and_then (bearer_in T) (token_key call.request));
+  name = option_and_then (get T.names) (name_key call.request);
+  owns = of_both (owns_in T) (name_key call.request) (option_map (λ user. user.0) (bearer_in T call.token));
+  named_owns = of_both (owns_in T) (name_key call.request) (user_key call.request);
+  sole = of_both (owns_alone_in T) (name_key call.request) (user_key call.request);
+  file = option_and_then (get T.files) (file_key call.request);
+  yank = at_both (yank_in T) (name_key call.request) (release_key call.request);
+  has_release = of_both (has_release_in T) (name_key call.request) (release_key call.request);
+  case = option_and_then (get T.cases) (name_key call.request);
 }
 
 -- no two users bear one digest
@@ -133,14 +133,14 @@ is_only_one_of users user = option_map_or (λ one. list_any (same one) users && 
 
 -- what a view says of a request
 abbrev pub facts_seen : View → Request → Facts
-facts_seen v r = record {
+facts_seen v request = record {
   caller = v.caller;
   user = v.user;
   bearer = v.bearer;
   name = v.name;
   owns = is_one_of v.owners (option_map (λ caller. caller.user) v.caller);
-  named_owns = is_one_of v.owners (user_key r);
-  sole = is_only_one_of v.owners (user_key r);
+  named_owns = is_one_of v.owners (user_key request);
+  sole = is_only_one_of v.owners (user_key request);
   file = v.file;
   yank = v.yank;
   has_release = v.has_release;

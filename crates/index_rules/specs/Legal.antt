@@ -24,28 +24,28 @@ caller_after h user = record { user = user; office = option_map_or (λ account. 
 
 -- what a history says of a call, whose caller is the bearer of its token
 abbrev pub facts_after : History → Call → Facts
-facts_after h c = record {
-  caller = option_map (caller_after h) (bearer_after h c.token);
-  user = option_and_then (user_after h) (user_key c.request);
-  bearer = option_and_then (bearer_after h) (token_key c.request);
-  name = option_and_then (name_after h) (name_key c.request);
-  owns = of_both (owns_after h) (name_key c.request) (bearer_after h c.token);
-  named_owns = of_both (owns_after h) (name_key c.request) (user_key c.request);
-  sole = of_both (owns_alone_after h) (name_key c.request) (user_key c.request);
-  file = option_and_then (file_after h) (file_key c.request);
-  yank = at_both (yank_after h) (name_key c.request) (release_key c.request);
-  has_release = of_both (has_release_after h) (name_key c.request) (release_key c.request);
-  case = option_and_then (case_record_after h) (name_key c.request);
+facts_after h call = record {
+  caller = option_map (caller_after h) (bearer_after h call.token);
+  user = option_and_then (user_after h) (user_key call.request);
+  bearer = option_and_then (bearer_after h) (token_key call.request);
+  name = option_and_then (name_after h) (name_key call.request);
+  owns = of_both (owns_after h) (name_key call.request) (bearer_after h call.token);
+  named_owns = of_both (owns_after h) (name_key call.request) (user_key call.request);
+  sole = of_both (owns_alone_after h) (name_key call.request) (user_key call.request);
+  file = option_and_then (file_after h) (file_key call.request);
+  yank = at_both (yank_after h) (name_key call.request) (release_key call.request);
+  has_release = of_both (has_release_after h) (name_key call.request) (release_key call.request);
+  case = option_and_then (case_record_after h) (name_key call.request);
 }
 
 -- the verdict on a call after a history: the rules are those of the verdict on tables, and only the facts are read off
 -- the history
 abbrev pub verdict_after : History → Call → Verdict
-verdict_after h c = verdict_on c (facts_after h c)
+verdict_after h call = verdict_on call (facts_after h call)
 
 -- the history with a call as its newest entry, made by the bearer of its token
 abbrev pub with_call : History → Call → History
-with_call h c = more h (record { actor = or_empty (bearer_after h c.token); call = c })
+with_call h call = more h (record { actor = or_empty (bearer_after h call.token); call = call })
 
 -- each entry was accepted after the entries before it, and its actor bore its token there; the opening alone is legal
 abbrev pub IsLegal : History → Type 0
@@ -56,10 +56,10 @@ IsLegal (more h e) = IsLegal h × (verdict_after h e.call ≡ Accept) × (bearer
 
 -- an accepted call is appended, and no other
 abbrev pub history_after : History → Call → Answer → History
-history_after h c answer.Accepted = with_call h c
-history_after h c answer.Already = h
-history_after h c (answer.Refused refusal) = h
-history_after h c (answer.Fault fault) = h
+history_after h call answer.Accepted = with_call h call
+history_after h call answer.Already = h
+history_after h call (answer.Refused refusal) = h
+history_after h call (answer.Fault fault) = h
 
 -- each answer is the verdict in the history so far or a fault, and exactly the accepted calls are appended, in order
 abbrev pub Extends : History → List Call → List Answer → History → Type 0

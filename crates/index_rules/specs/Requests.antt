@@ -22,13 +22,13 @@ user_key (AddUser user office token) = read_user user
 user_key (SetToken user token) = read_user user
 user_key (AddOwner name user) = read_user user
 user_key (RemoveOwner name user) = read_user user
-user_key r = None
+user_key request = None
 
 -- the digest of the token that it brings for that user
 abbrev pub token_key : Request → Option Bytes
 token_key (AddUser user office token) = read_token token
 token_key (SetToken user token) = read_token token
-token_key r = None
+token_key request = None
 
 -- the name that it speaks of; a file name decides its project
 abbrev pub name_key : Request → Option Bytes
@@ -55,18 +55,18 @@ name_key (AnswerCase name) = read_name name
 abbrev pub file_key : Request → Option Bytes
 file_key (Upload file sha256 body requires) = read_file file
 file_key (Delete file) = read_file file
-file_key r = None
+file_key request = None
 
 -- the release
 abbrev pub release_key : Request → Option Bytes
 release_key (Yank name release reason) = read_release release
 release_key (Unyank name release) = read_release release
-release_key r = None
+release_key request = None
 
 -- the digest that it declares, of a token or of a body
 abbrev pub declared_digest : Request → Option Bytes
 declared_digest (Upload file sha256 body requires) = read_digest sha256
-declared_digest r = token_key r
+declared_digest request = token_key request
 
 abbrev pub is_upload : Request → Bool
 is_upload (Upload file sha256 body requires) = true
@@ -85,7 +85,7 @@ keys_of_request caller request = record {
 
 -- what is looked up for a call
 abbrev pub keys_of : Call → Keys
-keys_of c = keys_of_request (Some c.token) c.request
+keys_of call = keys_of_request (Some call.token) call.request
 
 -- a name alone
 abbrev pub keys_of_name : Bytes → Keys

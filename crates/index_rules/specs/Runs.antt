@@ -25,7 +25,7 @@ tables_after_change T change (Fault fault) = T
 
 -- the tables after a call that was answered so
 abbrev pub tables_after : Tables → Call → Answer → Tables
-tables_after T c answer = tables_after_change T (effect c.at c.request (facts_in T c)) answer
+tables_after T call answer = tables_after_change T (effect call.at call.request (facts_in T call)) answer
 
 -- calls in a row, over what a verdict is read off and what is next after an answer: each answer is the verdict at its
 -- point or a fault

@@ -54,7 +54,7 @@ is_prohibited (Some (Held project)) = false
 is_prohibited (Some Prohibited) = true
 
 abbrev pub is_of_office : Facts → Bool
-is_of_office f = option_map_or (λ caller. caller.office) f.caller false
+is_of_office facts = option_map_or (λ caller. caller.office) facts.caller false
 
 -- a user with this flag and this digest
 abbrev pub is_user_with : Bool → Option Bytes → UserRecord → Bool
@@ -97,42 +97,42 @@ abbrev pub brings_text : Request → Bool
 brings_text (Upload file sha256 body requires) = is_text requires
 brings_text (Yank name release reason) = is_text reason
 brings_text (OpenCase name kind contact work why) = is_evidence contact && is_evidence work && is_evidence why
-brings_text r = true
+brings_text request = true
 
 abbrev pub is_too_large : Request → Bool
 is_too_large (Upload file sha256 body requires) = nat_lt largest_body (length body)
-is_too_large r = false
+is_too_large request = false
 
 -- the body has not the digest that is declared
 abbrev pub is_mismatched : Request → Bool
 is_mismatched (Upload file declared body requires) = option_map_or (λ digest. not (same digest (sha256 body))) (read_digest declared) false
-is_mismatched r = false
+is_mismatched request = false
 
 abbrev pub is_quota_too_large : Request → Bool
 is_quota_too_large (SetQuota name quota) = nat_lt largest_quota quota
-is_quota_too_large r = false
+is_quota_too_large request = false
 
 abbrev pub is_quota_below_charge : Request → Facts → Bool
-is_quota_below_charge (SetQuota name quota) f = option_map_or (λ project. nat_lt quota project.charge) (held_project f.name) false
-is_quota_below_charge r f = false
+is_quota_below_charge (SetQuota name quota) facts = option_map_or (λ project. nat_lt quota project.charge) (held_project facts.name) false
+is_quota_below_charge request facts = false
 
 abbrev pub uploads_other_file : Request → Facts → Bool
-uploads_other_file (Upload file declared body requires) f = is_other_file (read_digest declared) (length body) f.file
-uploads_other_file r f = false
+uploads_other_file (Upload file declared body requires) facts = is_other_file (read_digest declared) (length body) facts.file
+uploads_other_file request facts = false
 
 abbrev pub uploads_over_quota : Request → Facts → Bool
-uploads_over_quota (Upload file sha256 body requires) f = not (is_undeleted f.file) && exceeds_quota (length body) f.name
-uploads_over_quota r f = false
+uploads_over_quota (Upload file sha256 body requires) facts = not (is_undeleted facts.file) && exceeds_quota (length body) facts.name
+uploads_over_quota request facts = false
 
 -- a candidate closes the case that he opened
 abbrev pub closes_own_case : Request → Facts → Bool
-closes_own_case (CloseCase name) f = option_map_or (λ case. option_map_or (λ caller. same case.candidate caller.user) f.caller false) f.case false
-closes_own_case r f = false
+closes_own_case (CloseCase name) facts = option_map_or (λ case. option_map_or (λ caller. same case.candidate caller.user) facts.caller false) facts.case false
+closes_own_case request facts = false
 
 -- what stands against a transfer, of the case, the latest upload, the statement and the moment
 abbrev pub hinders : ℕ → Request → Facts → CaseFault → Bool
-hinders at (Transfer name quiet) f fault = option_map_or (λ case. option_map_or (λ project. stands_against case.state project.last_upload quiet at fault) (held_project f.name) false) f.case false
-hinders at r f fault = false
+hinders at (Transfer name quiet) facts fault = option_map_or (λ case. option_map_or (λ project. stands_against case.state project.last_upload quiet at fault) (held_project facts.name) false) facts.case false
+hinders at request facts fault = false
 
 -- the refusal by what stands against a transfer, or a further attempt
 abbrev pub refusal_of : CaseFault → Refusal
@@ -146,61 +146,61 @@ refusal_of case_fault.HomePageActive = HomePageActive
 
 -- where a request that nothing refuses changes nothing
 abbrev pub is_already : Request → Facts → Bool
-is_already (AddUser user office token) f = option_map_or (is_user_with office (read_token token)) f.user false
-is_already (SetToken user token) f = bears (read_token token) f.user
-is_already (SetQuota name quota) f = option_map_or (λ project. quota == project.quota) (held_project f.name) false
-is_already (Claim name) f = f.owns
-is_already (AddOwner name user) f = f.named_owns
-is_already (RemoveOwner name user) f = not f.named_owns
-is_already (Upload file sha256 body requires) f = is_undeleted f.file
-is_already (Delete file) f = not (is_undeleted f.file)
-is_already (Yank name release reason) f = option_map_or (same reason) f.yank false
-is_already (Unyank name release) f = is_none f.yank
-is_already (Relinquish name) f = false
-is_already (Prohibit name) f = is_prohibited f.name
-is_already (Allow name) f = not (is_prohibited f.name)
-is_already (OpenCase name kind contact work why) f = false
-is_already (RecordAttempt name means sent) f = false
-is_already (Transfer name quiet) f = false
-is_already (CloseCase name) f = false
-is_already (AnswerCase name) f = false
+is_already (AddUser user office token) facts = option_map_or (is_user_with office (read_token token)) facts.user false
+is_already (SetToken user token) facts = bears (read_token token) facts.user
+is_already (SetQuota name quota) facts = option_map_or (λ project. quota == project.quota) (held_project facts.name) false
+is_already (Claim name) facts = facts.owns
+is_already (AddOwner name user) facts = facts.named_owns
+is_already (RemoveOwner name user) facts = not facts.named_owns
+is_already (Upload file sha256 body requires) facts = is_undeleted facts.file
+is_already (Delete file) facts = not (is_undeleted facts.file)
+is_already (Yank name release reason) facts = option_map_or (same reason) facts.yank false
+is_already (Unyank name release) facts = is_none facts.yank
+is_already (Relinquish name) facts = false
+is_already (Prohibit name) facts = is_prohibited facts.name
+is_already (Allow name) facts = not (is_prohibited facts.name)
+is_already (OpenCase name kind contact work why) facts = false
+is_already (RecordAttempt name means sent) facts = false
+is_already (Transfer name quiet) facts = false
+is_already (CloseCase name) facts = false
+is_already (AnswerCase name) facts = false
 
 -- where each refusal applies, to a request at a moment
 abbrev pub applies : ℕ → Request → Facts → Refusal → Bool
-applies at r f BadMoment = nat_lt last_moment at
-applies at r f BadToken = is_none f.caller
-applies at r f NotOffice = not (is_of_office f) && not (closes_own_case r f)
-applies at r f BadUser = is_none (user_key r)
-applies at r f BadName = is_none (name_key r)
-applies at r f BadFileName = is_none (file_key r)
-applies at r f BadRelease = is_none (release_key r)
-applies at r f BadText = not (brings_text r)
-applies at r f BadDigest = is_none (declared_digest r)
-applies at r f TooLarge = is_too_large r
-applies at r f DigestMismatch = is_mismatched r
-applies at r f QuotaTooLarge = is_quota_too_large r
-applies at r f NoUser = is_none f.user
-applies at r f UserExists = is_some f.user && not (is_already r f)
-applies at r f TokenTaken = is_taken f.bearer (user_key r)
-applies at r f NameProhibited = is_prohibited f.name
-applies at r f NoProject = not (is_held f.name)
-applies at r f NotOwner = not f.owns
-applies at r f NameHeld = is_held f.name && not f.owns
-applies at r f LastOwner = f.sole
-applies at r f FilesRemain = has_files f.name
-applies at r f NoFile = is_none f.file
-applies at r f NoRelease = not f.has_release
-applies at r f FileNameTaken = uploads_other_file r f
-applies at r f OverQuota = uploads_over_quota r f
-applies at r f QuotaBelowCharge = is_quota_below_charge r f
-applies at r f CaseOpen = is_some f.case
-applies at r f OwnerCandidate = f.owns
-applies at r f NoCase = is_none f.case
-applies at r f AttemptsFull = option_map_or (λ case. is_full case.state) f.case false
-applies at r f TooFewAttempts = hinders at r f case_fault.TooFewAttempts
-applies at r f TooEarly = hinders at r f case_fault.TooEarly
-applies at r f RecentRelease = hinders at r f case_fault.RecentRelease
-applies at r f HomePageActive = hinders at r f case_fault.HomePageActive
+applies at request facts BadMoment = nat_lt last_moment at
+applies at request facts BadToken = is_none facts.caller
+applies at request facts NotOffice = not (is_of_office facts) && not (closes_own_case request facts)
+applies at request facts BadUser = is_none (user_key request)
+applies at request facts BadName = is_none (name_key request)
+applies at request facts BadFileName = is_none (file_key request)
+applies at request facts BadRelease = is_none (release_key request)
+applies at request facts BadText = not (brings_text request)
+applies at request facts BadDigest = is_none (declared_digest request)
+applies at request facts TooLarge = is_too_large request
+applies at request facts DigestMismatch = is_mismatched request
+applies at request facts QuotaTooLarge = is_quota_too_large request
+applies at request facts NoUser = is_none facts.user
+applies at request facts UserExists = is_some facts.user && not (is_already request facts)
+applies at request facts TokenTaken = is_taken facts.bearer (user_key request)
+applies at request facts NameProhibited = is_prohibited facts.name
+applies at request facts NoProject = not (is_held facts.name)
+applies at request facts NotOwner = not facts.owns
+applies at request facts NameHeld = is_held facts.name && not facts.owns
+applies at request facts LastOwner = facts.sole
+applies at request facts FilesRemain = has_files facts.name
+applies at request facts NoFile = is_none facts.file
+applies at request facts NoRelease = not facts.has_release
+applies at request facts FileNameTaken = uploads_other_file request facts
+applies at request facts OverQuota = uploads_over_quota request facts
+applies at request facts QuotaBelowCharge = is_quota_below_charge request facts
+applies at request facts CaseOpen = is_some facts.case
+applies at request facts OwnerCandidate = facts.owns
+applies at request facts NoCase = is_none facts.case
+applies at request facts AttemptsFull = option_map_or (λ case. is_full case.state) facts.case false
+applies at request facts TooFewAttempts = hinders at request facts case_fault.TooFewAttempts
+applies at request facts TooEarly = hinders at request facts case_fault.TooEarly
+applies at request facts RecentRelease = hinders at request facts case_fault.RecentRelease
+applies at request facts HomePageActive = hinders at request facts case_fault.HomePageActive
 
 -- those of an upload whose parts are in order
 abbrev pub file_refusals : List Refusal
@@ -229,14 +229,14 @@ refusals_of (AnswerCase name) = BadName ∷ NoProject ∷ NotOwner ∷ NoCase �
 
 -- the verdict by the least refusal that applies, and by whether it is so already
 abbrev pub verdict_of : Option Refusal → Bool → Verdict
-verdict_of (Some r) already = Refuse r
+verdict_of (Some refusal) already = Refuse refusal
 verdict_of None true = AlreadySo
 verdict_of None false = Accept
 
 -- the verdict on a call by the facts
 abbrev pub verdict_on : Call → Facts → Verdict
-verdict_on c f = verdict_of (find (applies c.at c.request f) (BadMoment ∷ BadToken ∷ refusals_of c.request)) (is_already c.request f)
+verdict_on call facts = verdict_of (find (applies call.at call.request facts) (BadMoment ∷ BadToken ∷ refusals_of call.request)) (is_already call.request facts)
 
 -- the verdict on the tables as they are
 abbrev pub verdict_now : Tables → Call → Verdict
-verdict_now T c = verdict_on c (facts_in T c)
+verdict_now T call = verdict_on call (facts_in T call)
