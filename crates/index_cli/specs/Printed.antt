@@ -3,6 +3,7 @@ use Rattle.std.specs.Prelude.{ℕ, List, codes}
 use Rattle.index_cli.specs.declared.end.LineEnd.{LineEnd}
 use Rattle.index_cli.specs.declared.end.LineEnd.TheVariants.{ReadFault, WriteFault, OutOfMemory}
 
+-- each end prints its name, and a write that failed the bytes that went out before it
 abbrev pub line_end_text : LineEnd → List ℕ
 line_end_text ReadFault = codes "ReadFault"
 line_end_text WriteFault = codes "WriteFault"

@@ -16,6 +16,7 @@ use Rattle.index_rules.specs.StandsFor.{case_record_after, project_after}
 use Rattle.index_desk.specs.declared.standing.Standing.{Standing}
 use Rattle.index_desk.specs.declared.standing.Standing.TheVariants as standing
 
+-- a held name with its record, its owners and its open case
 abbrev pub held_with : Bytes → Project → List Bytes → Option CaseRecord → Standing
 held_with name project owners case = standing.Held (record { name = name; project = project; owners = owners; case = case })
 
@@ -25,6 +26,7 @@ standing_of_record T name None = standing.Free name
 standing_of_record T name (Some Prohibited) = standing.Prohibited name
 standing_of_record T name (Some (Held project)) = held_with name project (owners_in T name) (get T.cases name)
 
+-- what stands of a name in the tables
 abbrev pub standing_in : Tables → Bytes → Standing
 standing_in T name = standing_of_record T name (get T.names name)
 

@@ -10,6 +10,7 @@ use Rattle.index_rules.specs.declared.answer.Refusal.{Refusal}
 use Rattle.index_rules.specs.declared.answer.Refusal.TheVariants.{BadMoment, BadToken, NotOffice, BadUser, BadName, BadFileName, BadRelease, BadText, BadDigest, TooLarge, DigestMismatch, QuotaTooLarge, NoUser, UserExists, TokenTaken, NameProhibited, NoProject, NotOwner, NameHeld, LastOwner, FilesRemain, NoFile, NoRelease, FileNameTaken, OverQuota, QuotaBelowCharge, CaseOpen, OwnerCandidate, NoCase, AttemptsFull, TooFewAttempts, TooEarly, RecentRelease, HomePageActive}
 use Rattle.index_rules.specs.Refusals.{number_of}
 
+-- the name that stands in the text of an answer
 abbrev pub refusal_name : Refusal → List ℕ
 refusal_name BadMoment = codes "BadMoment"
 refusal_name BadToken = codes "BadToken"
@@ -46,6 +47,7 @@ refusal_name TooEarly = codes "TooEarly"
 refusal_name RecentRelease = codes "RecentRelease"
 refusal_name HomePageActive = codes "HomePageActive"
 
+-- each fault by its name
 abbrev pub fault_name : Fault → List ℕ
 fault_name OutOfMemory = codes "OutOfMemory"
 fault_name Store = codes "Store"
@@ -54,9 +56,11 @@ fault_name Store = codes "Store"
 abbrev pub kind_value : List ℕ → Members → Data
 kind_value kind more = object (member (codes "answer") (string kind) more)
 
+-- the member that names a refusal or a fault
 abbrev pub name_member : List ℕ → Members
 name_member name = member (codes "name") (string name) no_members
 
+-- an answer as a JSON object
 abbrev pub answer_value : Answer → Data
 answer_value answer.Accepted = kind_value (codes "accepted") no_members
 answer_value answer.Already = kind_value (codes "already") no_members
@@ -65,6 +69,7 @@ answer_value (answer.Refused refusal) = kind_value (codes "refused")
     (name_member (refusal_name refusal)))
 answer_value (answer.Fault fault) = kind_value (codes "fault") (name_member (fault_name fault))
 
+-- the text of an answer: the compact print of its object
 unfoldable pub answer_text_of : Answer → List ℕ
 answer_text_of answer = compact_text (answer_value answer)
 

@@ -17,6 +17,7 @@ call_row = do
   request ← request_row
   always (line.Call (record { at = at; token = sha256 token; request = request }))
 
+-- the row of a question for a standing
 abbrev pub standing_row : Reading Line
 standing_row = do
   name ← one_text (codes "name")
@@ -28,6 +29,7 @@ line_row value word =
     if bytes_eq word (codes "standing") then standing_row (object_alone value)
     else call_row (object_in_call value)
 
+-- what a line asks, by its JSON value
 abbrev pub line_in : Data → Option Line
 line_in value = option_and_then (line_row value) (text (codes "do") (object_alone value))
 

@@ -11,6 +11,7 @@ Reading A = Object → Option A
 
 -- the next reading, where this one found something
 infixl 10 ◌>>=◌
+-- one reading, and then what it leads to; nothing is read where either reads nothing
 abbrev pub ◌>>=◌ : {A B : Type 0} → Reading A → (A → Reading B) → Reading B
 reading >>= next = λ object. option_and_then (λ found. next found object) (reading object)
 
@@ -22,12 +23,15 @@ always this = λ object. Some this
 abbrev pub maybe : {A : Type 0} → Option A → Reading A
 maybe this = λ object. this
 
+-- the text at a key
 abbrev pub text : List ℕ → Reading (List ℕ)
 text key = λ object. text_at key object.value
 
+-- the number at a key
 abbrev pub number : List ℕ → Reading ℕ
 number key = λ object. number_at key object.value
 
+-- the flag at a key
 abbrev pub flag : List ℕ → Reading Bool
 flag key = λ object. flag_at key object.value
 

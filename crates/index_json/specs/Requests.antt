@@ -25,6 +25,7 @@ two_texts first second = do
 
 -- ---- rows on users
 
+-- a row for each request: its keys, as docs/FORMATS.md lists them
 abbrev pub add_user_row : Reading Request
 add_user_row = do
   _ ← has_keys 4
@@ -93,12 +94,14 @@ unyank_row = do
 
 -- ---- rows on retention cases
 
+-- the kind of a case, by its word
 abbrev pub kind_of : List ℕ → Option CaseKind
 kind_of word =
     if bytes_eq word (codes "continue") then Some Continue
     else if bytes_eq word (codes "reuse") then Some Reuse
     else None
 
+-- the means of an attempt, by its word
 abbrev pub means_of : List ℕ → Option Means
 means_of word =
     if bytes_eq word (codes "profile") then Some Profile
@@ -106,11 +109,13 @@ means_of word =
     else if bytes_eq word (codes "pages") then Some Pages
     else None
 
+-- the kind of a case at its key
 abbrev pub case_kind : Reading CaseKind
 case_kind = do
   word ← text (codes "kind")
   maybe (kind_of word)
 
+-- the means of an attempt at its key
 abbrev pub attempt_means : Reading Means
 attempt_means = do
   word ← text (codes "means")
@@ -141,6 +146,7 @@ transfer_row = do
 
 -- ---- the row that a word names
 
+-- the row of a request on cases, by the word at `do`
 abbrev pub case_row : List ℕ → Reading Request
 case_row word = λ object.
     if bytes_eq word (codes "open_case") then open_case_row object
@@ -150,6 +156,7 @@ case_row word = λ object.
     else if bytes_eq word (codes "answer_case") then name_request AnswerCase object
     else None
 
+-- the same of requests on files and releases
 abbrev pub file_row : List ℕ → Reading Request
 file_row word = λ object.
     if bytes_eq word (codes "upload") then upload_row object
@@ -158,6 +165,7 @@ file_row word = λ object.
     else if bytes_eq word (codes "unyank") then unyank_row object
     else case_row word object
 
+-- the same of requests on owners
 abbrev pub owner_row : List ℕ → Reading Request
 owner_row word = λ object.
     if bytes_eq word (codes "claim") then name_request Claim object
@@ -166,6 +174,7 @@ owner_row word = λ object.
     else if bytes_eq word (codes "remove_owner") then owner_request RemoveOwner object
     else file_row word object
 
+-- the same of requests on names
 abbrev pub name_row : List ℕ → Reading Request
 name_row word = λ object.
     if bytes_eq word (codes "set_quota") then set_quota_row object
@@ -173,12 +182,14 @@ name_row word = λ object.
     else if bytes_eq word (codes "allow") then name_request Allow object
     else owner_row word object
 
+-- the same of requests on users
 abbrev pub user_row : List ℕ → Reading Request
 user_row word = λ object.
     if bytes_eq word (codes "add_user") then add_user_row object
     else if bytes_eq word (codes "set_token") then set_token_row object
     else name_row word object
 
+-- the row of any request
 abbrev pub request_row : Reading Request
 request_row = do
   word ← text (codes "do")

@@ -12,9 +12,11 @@ use Rattle.index_desk.specs.declared.standing.HeldName.{HeldName}
 use Rattle.index_desk.specs.declared.standing.Standing.{Standing}
 use Rattle.index_desk.specs.declared.standing.Standing.TheVariants as standing
 
+-- a whole number
 abbrev pub whole : ℕ → Data
 whole n = number (unsigned n)
 
+-- an array of texts
 abbrev pub texts : List (List ℕ) → Data
 texts list = array (items_of (map string list))
 
@@ -30,10 +32,12 @@ abbrev pub moment_value : Option ℕ → Data
 moment_value None = null
 moment_value (Some at) = whole at
 
+-- the word of a kind of case
 abbrev pub kind_text : CaseKind → List ℕ
 kind_text Continue = codes "continue"
 kind_text Reuse = codes "reuse"
 
+-- an open case as a JSON object
 abbrev pub open_case_value : CaseRecord → Data
 open_case_value opened = object
     (member (codes "attempts") (whole opened.state.attempts)
@@ -55,6 +59,7 @@ abbrev pub case_value : Option CaseRecord → Data
 case_value None = null
 case_value (Some opened) = open_case_value opened
 
+-- a held name as a JSON object
 abbrev pub held_value : HeldName → Data
 held_value held = object
     (member (codes "case") (case_value held.case)
@@ -66,16 +71,19 @@ held_value held = object
     (member (codes "state") (string (codes "held"))
     no_members)))))))
 
+-- a standing as a JSON object
 abbrev pub standing_value : Standing → Data
 standing_value (standing.Free name) = unheld_value name (codes "free")
 standing_value (standing.Prohibited name) = unheld_value name (codes "prohibited")
 standing_value (standing.Held held) = held_value held
 
+-- the text of a standing: the compact print of its object
 unfoldable pub standing_text_of : Standing → List ℕ
 standing_text_of standing = compact_text (standing_value standing)
 
 -- ---- the same by what is put into an object, whatever the order
 
+-- the words below put members before members, as the code does
 abbrev pub name_put : List ℕ → List ℕ → Members → Members
 name_put name state members =
     put (codes "state") (string state)

@@ -18,6 +18,7 @@ abbrev pub IsCutOf : Option Cut → Option Spelled → Type 0
 IsCutOf None spelled = spelled ≡ None
 IsCutOf (Some cut) spelled = IsReadAs cut spelled
 
+-- the parts of a wheel name as texts
 abbrev pub wheel_cut : WheelParts → WheelCut
 wheel_cut parts =
     record { distribution = parts.distribution.now; version = parts.version.now; build = option_copied parts.build; python = parts.python.now; abi = parts.abi.now; platform = parts.platform.now }

@@ -22,10 +22,12 @@ wheel_cut_of (distribution ∷ version ∷ build ∷ python ∷ abi ∷ platform
     Some (record { distribution = distribution; version = version; build = Some build; python = python; abi = abi; platform = platform })
 wheel_cut_of _ = None
 
+-- what the name of a wheel spells, where its name and version are in order
 abbrev pub spelled_by_wheel : WheelCut → Option Spelled
 spelled_by_wheel cut =
     if is_wheel_cut cut then Some (record { project = normal_form cut.distribution; release = release_named_by cut.version; kind = Wheel }) else None
 
+-- the same of a source archive
 abbrev pub spelled_by_source : SourceCut → Option Spelled
 spelled_by_source cut =
     if is_source_cut cut then Some (record { project = normal_form cut.name; release = release_named_by cut.version; kind = Source }) else None
@@ -44,6 +46,7 @@ abbrev pub strip_suffix : List ℕ → List ℕ → Option (List ℕ)
 strip_suffix suffix f =
     if bytes_eq (drop (length f - length suffix) f) suffix then Some (take (length f - length suffix) f) else None
 
+-- what a file name spells, by its stem as a wheel or as a source archive
 abbrev pub read_stem : Option (List ℕ) → Option (List ℕ) → Option Spelled
 read_stem (Some wheel) _ = read_wheel wheel
 read_stem None (Some source) = read_source source
@@ -58,9 +61,11 @@ read_file_name f =
 abbrev pub project_of : List ℕ → List ℕ
 project_of f = option_map_or (λ spelled. spelled.project) (read_file_name f) []
 
+-- the release that a file name spells
 abbrev pub release_of : List ℕ → List ℕ
 release_of f = option_map_or (λ spelled. spelled.release) (read_file_name f) []
 
+-- whether a file is a wheel or a source archive
 abbrev pub kind_of : List ℕ → FileKind
 kind_of f = option_map_or (λ spelled. spelled.kind) (read_file_name f) Source
 

@@ -3,6 +3,7 @@ use Rattle.std.specs.Prelude.{ℕ, List, codes}
 use Rattle.index_names.specs.declared.fault.NameFault.{NameFault}
 use Rattle.index_names.specs.declared.fault.NameFault.TheVariants.{BadName, BadFileName, BadRelease, OutOfMemory}
 
+-- what is wrong with a name
 abbrev pub name_fault_text : NameFault → List ℕ
 name_fault_text BadName = codes "not a project name"
 name_fault_text BadFileName = codes "not a file name of a wheel or a source archive"

@@ -4,6 +4,7 @@ use Rattle.std.specs.List.{list_all, join_with_byte}
 use Rattle.std.specs.Str.{byte}
 use Rattle.std.specs.Char.{is_ascii_alphanumeric, to_ascii_lowercase}
 
+-- a hyphen, an underscore or a dot (PEP 503)
 abbrev pub is_separator : ℕ → Bool
 is_separator c = (c == byte "-") || (c == byte "_") || (c == byte ".")
 
@@ -14,6 +15,7 @@ is_project_name x =
     && is_ascii_alphanumeric (slice_index x 0)
     && is_ascii_alphanumeric (slice_index x (length x - 1))
 
+-- a text that begins with a letter or a digit, and so with a run of them
 abbrev pub begins_run : List ℕ → Bool
 begins_run [] = false
 begins_run (c ∷ x) = is_ascii_alphanumeric c

@@ -4,6 +4,7 @@ use Rattle.std.specs.List.{list_all}
 use Rattle.std.specs.Str.{byte}
 use Rattle.std.specs.Char.{is_ascii_alphanumeric, to_ascii_lowercase}
 
+-- a byte that version texts may have
 abbrev pub is_version_byte : ℕ → Bool
 is_version_byte c = is_ascii_alphanumeric c || (c == byte ".") || (c == byte "_") || (c == byte "+") || (c == byte "!")
 

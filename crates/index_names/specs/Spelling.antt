@@ -23,6 +23,7 @@ pub record SourceCut : Type 0 where
   pub name : List ℕ
   pub version : List ℕ
 
+-- the hyphen, which parts a file name
 abbrev pub is_hyphen : ℕ → Bool
 is_hyphen c = c == byte "-"
 
@@ -30,6 +31,7 @@ is_hyphen c = c == byte "-"
 abbrev pub is_distribution : List ℕ → Bool
 is_distribution x = is_project_name x && list_all (λ c. not (is_hyphen c)) x
 
+-- a byte that a tag may have (PEP 425)
 abbrev pub is_tag_byte : ℕ → Bool
 is_tag_byte c = is_ascii_alphanumeric c || (c == byte ".") || (c == byte "_")
 
@@ -37,9 +39,11 @@ is_tag_byte c = is_ascii_alphanumeric c || (c == byte ".") || (c == byte "_")
 abbrev pub is_tag : List ℕ → Bool
 is_tag x = nat_le 1 (length x) && list_all is_tag_byte x
 
+-- a build tag begins with a digit (PEP 427)
 abbrev pub is_build_tag : List ℕ → Bool
 is_build_tag x = is_tag x && is_ascii_digit (slice_index x 0)
 
+-- the parts of a wheel name are in order (PEP 427)
 abbrev pub is_wheel_cut : WheelCut → Bool
 is_wheel_cut cut =
     is_distribution cut.distribution && is_version_text cut.version && option_map_or is_build_tag cut.build true
@@ -47,6 +51,7 @@ is_wheel_cut cut =
     && is_tag cut.abi
     && is_tag cut.platform
 
+-- the parts of the name of a source archive are in order (PEP 625)
 abbrev pub is_source_cut : SourceCut → Bool
 is_source_cut cut = is_project_name cut.name && is_version_text cut.version
 
@@ -55,6 +60,7 @@ abbrev pub with_build : Option (List ℕ) → List (List ℕ) → List (List ℕ
 with_build None tags = tags
 with_build (Some build) tags = build ∷ tags
 
+-- the parts of a wheel name, in order
 abbrev pub parts_of : WheelCut → List (List ℕ)
 parts_of cut =
     cut.distribution ∷ cut.version ∷ with_build cut.build (cut.python ∷ cut.abi ∷ cut.platform ∷ [])

@@ -9,6 +9,7 @@ use Rattle.index_rules.specs.Effect.{means}
 use Rattle.index_plain.specs.declared.plain.PlainBooks.{PlainBooks}
 use Rattle.index_plain.specs.Sets.{set_of}
 
+-- the tables that are kept here
 abbrev pub tables_of : PlainBooks → Tables
 tables_of b = record {
   users = from_entries {R = bytes_cmp} b.users.items;

@@ -15,9 +15,11 @@ pub record Attempt : Type 0 where
   pub sent : Bool
   pub at : ℕ
 
+-- an attempt of these parts
 abbrev pub attempt_of : Means → Bool → ℕ → Attempt
 attempt_of means sent at = record { means = means; sent = sent; at = at }
 
+-- both means are the same
 abbrev pub is_same_means : Means → Means → Bool
 is_same_means Profile Profile = true
 is_same_means Author Author = true

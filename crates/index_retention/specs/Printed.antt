@@ -3,6 +3,7 @@ use Rattle.std.specs.Prelude.{ℕ, List, codes}
 use Rattle.index_retention.specs.declared.fault.CaseFault.{CaseFault}
 use Rattle.index_retention.specs.declared.fault.CaseFault.TheVariants.{AttemptsFull, TooFewAttempts, TooEarly, RecentRelease, HomePageActive}
 
+-- what stands against a transfer, or a further attempt
 abbrev pub case_fault_text : CaseFault → List ℕ
 case_fault_text AttemptsFull = codes "the case has 1,000 attempts"
 case_fault_text TooFewAttempts = codes "too few attempts to reach the owner"

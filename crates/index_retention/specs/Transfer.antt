@@ -10,6 +10,7 @@ use Rattle.index_retention.specs.Attempts.{Tally}
 abbrev pub six_weeks : ℕ
 six_weeks = 3628800
 
+-- twelve months as 365 days, in seconds
 abbrev pub twelve_months : ℕ
 twelve_months = 31536000
 

@@ -28,33 +28,40 @@ use Rattle.index_rules.specs.Verdict.{held_project}
 
 -- ---- what is there, of a request that is accepted
 
+-- what was read; the empty text where nothing was, which an accepted request does not meet
 abbrev pub or_empty : Option Bytes → Bytes
 or_empty read = unwrap_or read []
 
+-- the user id of the caller
 abbrev pub the_caller : Facts → Bytes
 the_caller facts = or_empty (option_map (λ caller. caller.user) facts.caller)
 
+-- stands where there is no held name, which an accepted request does not meet; so do the three below
 abbrev pub no_project : Project
 no_project = record { shown = []; quota = 0; charge = 0; undeleted = 0; last_upload = None }
 
+-- the held name
 abbrev pub the_project : Facts → Project
 the_project facts = unwrap_or (held_project facts.name) no_project
 
 abbrev pub no_user : UserRecord
 no_user = record { office = false; token = [] }
 
+-- the record of the named user
 abbrev pub the_user : Facts → UserRecord
 the_user facts = unwrap_or facts.user no_user
 
 abbrev pub no_file : FileRecord
 no_file = record { project = []; release = []; digest = []; size = 0; requires_python = []; is_undeleted = false }
 
+-- the record of the file
 abbrev pub the_file : Facts → FileRecord
 the_file facts = unwrap_or facts.file no_file
 
 abbrev pub no_case : CaseRecord
 no_case = record { kind = Continue; candidate = []; contact = []; work = []; why = []; opened = 0; state = tally_of [] }
 
+-- the record of the open case
 abbrev pub the_case : Facts → CaseRecord
 the_case facts = unwrap_or facts.case no_case
 
@@ -73,6 +80,7 @@ with_file at size project = record project { charge = project.charge + size; und
 abbrev pub without_file : ℕ → Project → Project
 without_file size project = record project { charge = project.charge - size; undeleted = project.undeleted - 1 }
 
+-- the record of a file that is deleted: all of it but the flag stays
 abbrev pub as_deleted : FileRecord → FileRecord
 as_deleted known = record known { is_undeleted = false }
 

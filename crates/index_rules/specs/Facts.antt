@@ -16,6 +16,7 @@ use Rattle.index_rules.specs.Maps.{Bytes, same}
 use Rattle.index_rules.specs.Tables.{Tables}
 use Rattle.index_rules.specs.Requests.{user_key, token_key, name_key, file_key, release_key}
 
+-- the records that a verdict rests on, and nothing else of the tables
 pub record Facts : Type 0 where
   -- who bears the caller's token
   pub caller : Option Caller
@@ -43,6 +44,7 @@ pub record Facts : Type 0 where
 abbrev pub bearer_in : Tables → Bytes → Option (Bytes × UserRecord)
 bearer_in T token = find (λ user. same token user.1.token) (entries T.users)
 
+-- a user as the caller of a call
 abbrev pub caller_of : Bytes × UserRecord → Caller
 caller_of user = record { user = user.0; office = user.1.office }
 
@@ -52,6 +54,7 @@ of_both question None other = false
 of_both question (Some name) None = false
 of_both question (Some name) (Some other) = question name other
 
+-- whether the user owns the name
 abbrev pub owns_in : Tables → Bytes → Bytes → Bool
 owns_in T name user = contains_key T.owners (name, user)
 
@@ -63,6 +66,7 @@ owns_alone_in T name user = owns_in T name user && list_all (λ pair. not (same 
 abbrev pub is_undeleted_of_release : Bytes → Bytes → FileRecord → Bool
 is_undeleted_of_release name release known = known.is_undeleted && same name known.project && same release known.release
 
+-- the name has an undeleted file of this release
 abbrev pub has_release_in : Tables → Bytes → Bytes → Bool
 has_release_in T name release = list_any (λ file. is_undeleted_of_release name release file.1) (entries T.files)
 
@@ -72,6 +76,7 @@ at_both found None release = None
 at_both found (Some name) None = None
 at_both found (Some name) (Some release) = found name release
 
+-- the reason for which a release is yanked (PEP 592)
 abbrev pub yank_in : Tables → Bytes → Bytes → Option Bytes
 yank_in T name release = get T.yanks (name, release)
 
@@ -128,6 +133,7 @@ pub record Sees (T : Tables) (k : Keys) (v : View) : Type 0 where
 abbrev pub is_one_of : List Bytes → Option Bytes → Bool
 is_one_of users user = option_map_or (λ one. list_any (same one) users) user false
 
+-- whether a user is there, and all of these are that user
 abbrev pub is_only_one_of : List Bytes → Option Bytes → Bool
 is_only_one_of users user = option_map_or (λ one. list_any (same one) users && list_all (same one) users) user false
 

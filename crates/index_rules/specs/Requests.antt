@@ -68,6 +68,7 @@ abbrev pub declared_digest : Request → Option Bytes
 declared_digest (Upload file sha256 body requires) = read_digest sha256
 declared_digest request = token_key request
 
+-- whether a request is an upload
 abbrev pub is_upload : Request → Bool
 is_upload (Upload file sha256 body requires) = true
 is_upload request = false

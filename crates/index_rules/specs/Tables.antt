@@ -7,6 +7,7 @@ use Rattle.index_rules.specs.declared.records.FileRecord.{FileRecord}
 use Rattle.index_rules.specs.declared.records.CaseRecord.{CaseRecord}
 use Rattle.index_rules.specs.Maps.{Bytes, Map, PairMap, Pairs, same}
 
+-- all that the index keeps
 pub record Tables : Type 0 where
   -- by user id
   pub users : Map UserRecord

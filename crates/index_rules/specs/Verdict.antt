@@ -22,6 +22,7 @@ use Rattle.index_rules.specs.Tables.{Tables}
 use Rattle.index_rules.specs.Requests.{user_key, name_key, file_key, release_key, declared_digest}
 use Rattle.index_rules.specs.Facts.{Facts, facts_in}
 
+-- what the rules say of a call: it is accepted, it is so already, or it is refused
 pub data Verdict : Type 0 where
   Accept : Verdict
   AlreadySo : Verdict
@@ -45,14 +46,17 @@ held_project None = None
 held_project (Some (Held project)) = Some project
 held_project (Some Prohibited) = None
 
+-- the record is that of a held name
 abbrev pub is_held : Option NameRecord → Bool
 is_held name = is_some (held_project name)
 
+-- the record is that of a prohibited name
 abbrev pub is_prohibited : Option NameRecord → Bool
 is_prohibited None = false
 is_prohibited (Some (Held project)) = false
 is_prohibited (Some Prohibited) = true
 
+-- the caller is of the office
 abbrev pub is_of_office : Facts → Bool
 is_of_office facts = option_map_or (λ caller. caller.office) facts.caller false
 
@@ -74,6 +78,7 @@ is_taken None user = false
 is_taken (Some bearer) None = true
 is_taken (Some bearer) (Some user) = not (same user bearer)
 
+-- the file is there and undeleted
 abbrev pub is_undeleted : Option FileRecord → Bool
 is_undeleted file = option_map_or (λ known. known.is_undeleted) file false
 
@@ -93,12 +98,14 @@ exceeds_quota size name = option_map_or (λ project. nat_lt project.quota (proje
 
 -- ---- questions on the request
 
+-- the texts that a request brings are texts that are kept
 abbrev pub brings_text : Request → Bool
 brings_text (Upload file sha256 body requires) = is_text requires
 brings_text (Yank name release reason) = is_text reason
 brings_text (OpenCase name kind contact work why) = is_evidence contact && is_evidence work && is_evidence why
 brings_text request = true
 
+-- the body has more bytes than a file may have
 abbrev pub is_too_large : Request → Bool
 is_too_large (Upload file sha256 body requires) = nat_lt largest_body (length body)
 is_too_large request = false
@@ -108,18 +115,22 @@ abbrev pub is_mismatched : Request → Bool
 is_mismatched (Upload file declared body requires) = option_map_or (λ digest. not (same digest (sha256 body))) (read_digest declared) false
 is_mismatched request = false
 
+-- the quota is above the largest one
 abbrev pub is_quota_too_large : Request → Bool
 is_quota_too_large (SetQuota name quota) = nat_lt largest_quota quota
 is_quota_too_large request = false
 
+-- the quota is below what the name is charged already
 abbrev pub is_quota_below_charge : Request → Facts → Bool
 is_quota_below_charge (SetQuota name quota) facts = option_map_or (λ project. nat_lt quota project.charge) (held_project facts.name) false
 is_quota_below_charge request facts = false
 
+-- the file name stands for another digest or size already
 abbrev pub uploads_other_file : Request → Facts → Bool
 uploads_other_file (Upload file declared body requires) facts = is_other_file (read_digest declared) (length body) facts.file
 uploads_other_file request facts = false
 
+-- the body would bring the charge of its project above the quota
 abbrev pub uploads_over_quota : Request → Facts → Bool
 uploads_over_quota (Upload file sha256 body requires) facts = not (is_undeleted facts.file) && exceeds_quota (length body) facts.name
 uploads_over_quota request facts = false

@@ -4,6 +4,7 @@ use Rattle.clap.specs.Words.{App, app_of, new_app, with_subcommand}
 use Rattle.clap.specs.declared.builder.command.Command.{Command}
 use Rattle.clap.specs.declared.builder.command.Command.TheViews.{out-Command}
 
+-- the subcommand `apply`
 abbrev pub apply_app : App
 apply_app = new_app (codes "apply")
 
@@ -11,6 +12,7 @@ apply_app = new_app (codes "apply")
 abbrev pub program_app : App
 program_app = record { top = record (new_app (codes "index")).top { subcommand_required = true }; subs = [] }
 
+-- the whole command line
 abbrev pub index_app : App
 index_app = with_subcommand program_app apply_app.top
 
