@@ -9,9 +9,17 @@ use Rattle.sha2.specs.Sha256 as standard
 unfoldable pub sha256 : List ℕ → List ℕ
 sha256 message = standard.sha256 message
 
+-- the bytes of a digest
+abbrev pub digest_length : ℕ
+digest_length = 32
+
+-- the digits of its text
+abbrev pub digest_text_length : ℕ
+digest_text_length = 64
+
 -- a digest is 32 bytes (FIPS 180-4, figure 1)
 pub record IsDigest (digest : List ℕ) : Type 0 where
-  pub size : length digest ≡ 32
+  pub size : length digest ≡ digest_length
   pub bytes : IsBytes digest
 
 -- the sixteen digits of a digest's text, in the order of their values
@@ -24,7 +32,7 @@ is_text_digit c = list_any (λ digit. digit == c) text_digits
 
 -- a digest's text is 64 of these digits
 abbrev pub is_digest_text : List ℕ → Bool
-is_digest_text text = (length text == 64) && list_all is_text_digit text
+is_digest_text text = (length text == digest_text_length) && list_all is_text_digit text
 
 -- the text of a digest: two digits for each byte, that of the high four bits first
 unfoldable pub text_of : List ℕ → List ℕ

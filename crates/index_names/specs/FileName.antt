@@ -6,7 +6,7 @@ use Rattle.index_names.specs.declared.file_name.FileKind.{FileKind}
 use Rattle.index_names.specs.declared.file_name.FileKind.TheVariants.{Wheel, Source}
 use Rattle.index_names.specs.Project.{normal_form}
 use Rattle.index_names.specs.Release.{release_named_by}
-use Rattle.index_names.specs.Spelling.{WheelCut, SourceCut, is_hyphen, is_wheel_cut, is_source_cut, Spells}
+use Rattle.index_names.specs.Spelling.{WheelCut, SourceCut, is_hyphen, is_wheel_cut, is_source_cut, Spells, longest_file_name}
 
 -- what a file name spells
 pub record Spelled : Type 0 where
@@ -55,7 +55,7 @@ read_stem None None = None
 -- what a text is read as: what it spells, and nothing of a text that is no file name
 unfoldable pub read_file_name : List ℕ → Option Spelled
 read_file_name f =
-    if nat_le (length f) 255 then read_stem (strip_suffix (codes ".whl") f) (strip_suffix (codes ".tar.gz") f) else None
+    if nat_le (length f) longest_file_name then read_stem (strip_suffix (codes ".whl") f) (strip_suffix (codes ".tar.gz") f) else None
 
 -- of what a file name is read as; of no other text do these say anything
 abbrev pub project_of : List ℕ → List ℕ

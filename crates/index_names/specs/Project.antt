@@ -8,10 +8,14 @@ use Rattle.std.specs.Char.{is_ascii_alphanumeric, to_ascii_lowercase}
 abbrev pub is_separator : ℕ → Bool
 is_separator c = (c == byte "-") || (c == byte "_") || (c == byte ".")
 
+-- the most bytes of a project name
+abbrev pub longest_project_name : ℕ
+longest_project_name = 128
+
 -- 1 to 128 letters, digits and separators, of which the first and the last are letters or digits
 abbrev pub is_project_name : List ℕ → Bool
 is_project_name x =
-    nat_le 1 (length x) && nat_le (length x) 128 && list_all (λ c. is_ascii_alphanumeric c || is_separator c) x
+    nat_le 1 (length x) && nat_le (length x) longest_project_name && list_all (λ c. is_ascii_alphanumeric c || is_separator c) x
     && is_ascii_alphanumeric (slice_index x 0)
     && is_ascii_alphanumeric (slice_index x (length x - 1))
 

@@ -8,10 +8,14 @@ use Rattle.std.specs.Char.{is_ascii_alphanumeric, to_ascii_lowercase}
 abbrev pub is_version_byte : ℕ → Bool
 is_version_byte c = is_ascii_alphanumeric c || (c == byte ".") || (c == byte "_") || (c == byte "+") || (c == byte "!")
 
+-- the most bytes of a version text
+abbrev pub longest_version : ℕ
+longest_version = 64
+
 -- 1 to 64 of these bytes, of which the first and the last are letters or digits
 abbrev pub is_version_text : List ℕ → Bool
 is_version_text x =
-    nat_le 1 (length x) && nat_le (length x) 64 && list_all is_version_byte x
+    nat_le 1 (length x) && nat_le (length x) longest_version && list_all is_version_byte x
     && is_ascii_alphanumeric (slice_index x 0)
     && is_ascii_alphanumeric (slice_index x (length x - 1))
 

@@ -1,4 +1,5 @@
--- What the file names of wheels (PEP 427, "File name convention") and of source archives (PEP 625, "Specification") spell.
+-- What the file names of wheels (PEP 427, "File name convention") and of source archives (PEP 625, "Specification")
+-- spell.
 use Rattle.std.specs.Prelude.{◌≡◌, ℕ, ◌≤◌, Bool, true, not, ◌&&◌, ◌||◌, ◌==◌, nat_le, List, [], ◌∷◌, ◌++◌, Option, Some, None, length, slice_index, codes, IsTrue}
 use Rattle.std.specs.Char.{is_ascii_alphanumeric, is_ascii_digit}
 use Rattle.std.specs.List.{list_all, join_with_byte}
@@ -89,7 +90,11 @@ pub record IsSourceOf (f project release : List ℕ) : Type 0 where
   pub is_project : project ≡ normal_form cut.name
   pub is_release : release ≡ release_named_by cut.version
 
+-- the most bytes of a file name
+abbrev pub longest_file_name : ℕ
+longest_file_name = 255
+
 -- a file name of 1 to 255 bytes spells a project, a release and a kind
 abbrev pub Spells : List ℕ → List ℕ → List ℕ → FileKind → Type 0
-Spells f project release Wheel = (1 ≤ length f) × (length f ≤ 255) × IsWheelOf f project release
-Spells f project release Source = (1 ≤ length f) × (length f ≤ 255) × IsSourceOf f project release
+Spells f project release Wheel = (1 ≤ length f) × (length f ≤ longest_file_name) × IsWheelOf f project release
+Spells f project release Source = (1 ≤ length f) × (length f ≤ longest_file_name) × IsSourceOf f project release
