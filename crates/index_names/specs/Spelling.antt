@@ -1,5 +1,5 @@
--- What the file names of wheels (PEP 427, "File name convention") and of source archives (PEP 625, "Specification")
--- spell.
+-- What the file names of wheels (PEP 427, "File name convention") and of source archives (PEP 625,
+-- "Specification") spell.
 use Rattle.std.specs.Prelude.{◌≡◌, ℕ, ◌≤◌, Bool, true, not, ◌&&◌, ◌||◌, ◌==◌, nat_le, List, [], ◌∷◌, ◌++◌, Option, Some, None, length, slice_index, codes, IsTrue}
 use Rattle.std.specs.Char.{is_ascii_alphanumeric, is_ascii_digit}
 use Rattle.std.specs.List.{list_all, join_with_byte}
