@@ -1,9 +1,9 @@
 //! Texts as they were given, and ASCII bytes as texts.
-ghost use Rattle.std.specs.Prelude.{◌≡◌, ◌↔◌, IfSome, IsSome, Some, refl, bytes_eq, string_bytes};
+ghost use Rattle.std.specs.Prelude.{◌≡◌, Some, refl, bytes_eq, string_bytes};
 ghost use Rattle.std.specs.Ordering.{nat_cmp};
 ghost use Rattle.std.specs.Cmp.{partial_equiv_from_equiv};
 ghost use Rattle.std.specs.Cmp.Lexicographic.{slice_cmp, nat_list_eq_equiv, nat_list_cmp_total, texts_ties, texts_po};
-ghost use Rattle.std.specs.Str.{IsAscii, IsUtf8};
+ghost use Rattle.std.specs.Str.{IsAscii};
 
 use std::alloc::AllocError;
 use std::cmp::Ordering;
@@ -36,17 +36,6 @@ impl Text {
         ensures { result ≡ string_bytes string }
     {
         Text { string }
-    }
-
-    /// The text of these bytes, without a copy. `None` where they are not UTF-8.
-    pub fn from_utf8(bytes: Vec<u8>) -> Option<Text>
-        ensures text { IfSome result (λ text. text ≡ bytes.items) }
-        ensures readable { IsSome result ↔ IsUtf8 bytes.items }
-    {
-        match String::from_utf8(bytes) {
-            Ok(string) => Some(Text { string }),
-            Err(_) => None,
-        }
     }
 
     /// The text.

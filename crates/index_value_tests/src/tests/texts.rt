@@ -3,17 +3,16 @@ use index_names::{NameFault, Text};
 use std::alloc::AllocGlobal;
 use std::process::Abort;
 
-fn text_of(rt: &(impl Abort + AllocGlobal), bytes: &[u8]) -> Option<Text> {
-    Text::from_utf8(bytes.to_vec(rt.alloc()).expect(rt, "bytes"))
+fn text_of(rt: &(impl Abort + AllocGlobal), text: &str) -> Text {
+    Text::new(String::from_str(rt.alloc(), text).expect(rt, text))
 }
 
 #[test]
-fn texts_of_bytes(rt: HostRuntime) {
-    let text = text_of(&rt, "é-1".as_bytes()).expect(&rt, "a text");
+fn texts_of_strings(rt: HostRuntime) {
+    let text = text_of(&rt, "é-1");
     assert!(rt; text.as_str() == "é-1");
-    let copy = Text::new(String::from_str(rt.alloc(), "é-1").expect(&rt, "a copy"));
-    assert!(rt; copy == text);
-    assert!(rt; text_of(&rt, &[0xc3]).is_none());
+    assert!(rt; text == text_of(&rt, "é-1"));
+    assert!(rt; text != text_of(&rt, "é-2"));
 }
 
 fn assert_printed(rt: &(impl Abort + AllocGlobal), fault: NameFault, want: &str) {
