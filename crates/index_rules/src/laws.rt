@@ -21,8 +21,8 @@ pub fn file_names_are_bound()
 
 /// An entry moves what its request says, and only for its own name: an upload adds its size to the charge and is of a
 /// file that is not undeleted, a delete takes the file's size away, and a prohibition brings the charge to nothing; a
-/// claim, a relinquishment, a prohibition and an allowance alone change the state, and these with a transfer and the
-/// requests on owners alone change who owns the name.
+/// claim, a relinquish, a prohibition and an allow alone change the state, and these with a transfer and the requests
+/// on owners alone change who owns the name.
 #[tactic(auto, using(crate::proofs::MoveLemmas::moves_as_recorded))]
 pub fn charges_states_and_owners_move_as_recorded()
     ensures { (h : History) → IsLegal h → MovesAsRecorded h }

@@ -78,7 +78,7 @@ release flask 1.0 = true -
 release django 1.0 = true broken";
 
 #[test]
-fn a_claim_after_a_relinquishment_has_no_yanks(rt: HostRuntime) {
+fn a_claim_after_a_relinquish_has_no_yanks(rt: HostRuntime) {
     assert_script(&rt, &[YANKS, CLAIMED_AGAIN]);
 }
 
