@@ -1,7 +1,7 @@
 -- Texts that the index keeps.
 use Rattle.std.proofs.Common.{◌≡◌, ℕ, ◌≤◌, Bool, true, false, not, ◌&&◌, ◌∙◌, ap, refl, nat_le, length, arith}
 use Rattle.std.specs.Char.{is_control}
-use Rattle.std.specs.List.{list_all}
+use Rattle.std.specs.List.{list_any}
 use Rattle.std.specs.Str.{IsUtf8, chars}
 use Rattle.std.proofs.lemmas.Bool.{and_parts, and_from}
 use Rattle.std.proofs.lemmas.Bool.Decides.{nat_tests}
@@ -13,7 +13,7 @@ use Rattle.index_rules.specs.Texts.{is_text}
 pub record IsText (x : Bytes) : Type 0 where
   pub size : length x ≤ 512
   pub utf8 : IsUtf8 x
-  pub plain : list_all (λ c. not (is_control c)) (chars x) ≡ true
+  pub plain : not (list_any is_control (chars x)) ≡ true
 
 within : (n : ℕ) → nat_le n 512 ≡ true → n ≤ 512
 within n h = grind (arith, nat_tests)
@@ -34,11 +34,11 @@ is_text-from_IsText x text =
     and_from _ _ (and_from _ _ (is_within (length x) text.size) (is_utf8-from_IsUtf8 x text.utf8)) text.plain
 
 -- of what is UTF-8
-pub is_text-utf8 : (x : Bytes) → IsUtf8 x → is_text x ≡ (nat_le (length x) 512 && list_all (λ c. not (is_control c)) (chars x))
+pub is_text-utf8 : (x : Bytes) → IsUtf8 x → is_text x ≡ (nat_le (length x) 512 && not (list_any is_control (chars x)))
 unfolding is_text
 is_text-utf8 x utf8 =
-    ap (λ b. (nat_le (length x) 512 && b) && list_all (λ c. not (is_control c)) (chars x)) (is_utf8-from_IsUtf8 x utf8)
-    ∙ ap (λ b. b && list_all (λ c. not (is_control c)) (chars x)) (and_true (nat_le (length x) 512))
+    ap (λ b. (nat_le (length x) 512 && b) && not (list_any is_control (chars x))) (is_utf8-from_IsUtf8 x utf8)
+    ∙ ap (λ b. b && not (list_any is_control (chars x))) (and_true (nat_le (length x) 512))
   where
     and_true : (b : Bool) → (b && true) ≡ b
     and_true true = refl

@@ -1,7 +1,7 @@
 -- Texts and token digests that requests bring.
 use Rattle.std.specs.Prelude.{ℕ, Bool, not, ◌&&◌, nat_le, [], length, Option, Some, None, option_and_then, if◌then◌else◌}
 use Rattle.std.specs.Char.{is_control}
-use Rattle.std.specs.List.{list_all}
+use Rattle.std.specs.List.{list_any}
 use Rattle.std.specs.Str.{is_utf8, chars}
 use Rattle.index_digest.specs.Digest.{read_digest, sha256}
 use Rattle.index_rules.specs.Maps.{Bytes, same}
@@ -12,7 +12,7 @@ longest_text = 512
 
 -- 0 to 512 bytes of UTF-8 without control characters (the code points 0 to 31 and 127 to 159)
 unfoldable pub is_text : Bytes → Bool
-is_text x = nat_le (length x) longest_text && is_utf8 x && list_all (λ c. not (is_control c)) (chars x)
+is_text x = nat_le (length x) longest_text && is_utf8 x && not (list_any is_control (chars x))
 
 -- a text of one byte or more, as the three texts of a case are
 abbrev pub is_evidence : Bytes → Bool

@@ -1,7 +1,7 @@
 //! What the bytes of a request are read as.
-ghost use Rattle.std.specs.Prelude.{◌≡◌, ◌↔◌, not, IfErr, IfOk, IfSome, IsSome, IsTrue, None, Some, if◌then◌else◌};
+ghost use Rattle.std.specs.Prelude.{◌≡◌, ◌↔◌, IfErr, IfOk, IfSome, IsSome, IsTrue, None, Some, if◌then◌else◌};
 ghost use Rattle.std.specs.Char.{is_control};
-ghost use Rattle.std.specs.List.{list_all};
+ghost use Rattle.std.specs.List.{list_any};
 ghost use Rattle.std.specs.Str.{chars};
 ghost use Rattle.index_names.specs.Project.{read_name};
 ghost use Rattle.index_names.specs.Release.{read_release};
@@ -185,7 +185,7 @@ pub fn is_text(bytes: &Bytes) -> bool
 fn is_kept_text(text: &str) -> bool
     ensures { result ≡ is_text_lem text.now }
 {
-    text.len() <= LONGEST_TEXT && has_no_control(text)
+    text.len() <= LONGEST_TEXT && !has_control(text)
 }
 
 /// A text that the index keeps.
@@ -206,13 +206,8 @@ pub fn is_evidence(text: &Bytes) -> bool
     !text.as_slice().is_empty() && is_text(text)
 }
 
-fn has_no_control(text: &str) -> bool
-    ensures { result ≡ list_all (λ c. not (is_control c)) (chars text.now) }
+fn has_control(text: &str) -> bool
+    ensures { result ≡ list_any is_control (chars text.now) }
 {
-    for c in text.chars() {
-        if c.is_control() {
-            return false;
-        }
-    }
-    true
+    text.chars().any(char::is_control)
 }
