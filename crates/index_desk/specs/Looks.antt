@@ -1,9 +1,9 @@
 -- What a look at the tables does beside what it finds.
 use Rattle.std.specs.Prelude.{◌≡◌, ℕ, Result, IfErr, OnOk}
+use Rattle.index_io.specs.Counts.{FailsAtMostOnce, HasFailed}
 use Rattle.index_rules.specs.declared.answer.Fault.{Fault}
 use Rattle.index_rules.specs.declared.answer.Fault.TheVariants.{Store}
 use Rattle.index_rules.specs.Tables.{Tables}
-use Rattle.index_rules.specs.Failures.{FailsAtMostOnce, HasFailed}
 
 -- no table changes, and only a failure of the books is told as one
 pub record Looks {S X : Type 0} (is_honest : S → Type 0) (tables : S → Tables) (failures : S → ℕ) (old new : S) (result : Result X Fault) : Type 0 where

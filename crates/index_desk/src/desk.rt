@@ -1,6 +1,7 @@
 //! Calls in order, over any books.
 ghost use Rattle.std.specs.Prelude.{◌≡◌, ◌≢◌, [], IfOk, IfErr, OnOk, OnErr, Contains, length, vec_len, vec_capacity};
 ghost use Rattle.std.specs.FinMap.{get};
+ghost use Rattle.index_io.specs.Counts.{FailsAtMostOnce, HasFailed};
 ghost use Rattle.index_rules.specs.Runs.{Answers, Runs, tables_after, tables_after_change};
 ghost use Rattle.index_rules.specs.Decided.{Decides};
 ghost use Rattle.index_rules.specs.Effect.{effect};
@@ -9,7 +10,6 @@ ghost use Rattle.index_rules.specs.Facts.{HasOneBearer, Sees, facts_in};
 ghost use Rattle.index_rules.specs.Requests.{keys_of};
 ghost use Rattle.index_rules.specs.Sound.{IsSound};
 ghost use Rattle.index_rules.specs.Tables.{owners_in};
-ghost use Rattle.index_rules.specs.Failures.{FailsAtMostOnce, HasFailed};
 ghost use Rattle.index_rules.specs.History.{History};
 ghost use Rattle.index_rules.specs.StandsFor.{StandsFor, body_after};
 ghost use Rattle.index_rules.specs.Legal.{CarriesOn, CarriesOnAll, IsLegal};

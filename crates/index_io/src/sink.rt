@@ -2,7 +2,7 @@
 ghost use Rattle.std.specs.Prelude.{◌≡◌, ◌<◌, ℕ, List, Option, length, take, is_ok, IfErr, IfOk, OnErr, OnOk};
 ghost use Rattle.std.specs.Io.KnownBytes.{Appends, Keeps};
 ghost use Rattle.index_io.specs.Bytes.{AppendsFront};
-ghost use Rattle.index_io.specs.Counts.{count_after, HasFailed};
+ghost use Rattle.index_io.specs.Counts.{next_count, HasFailed};
 
 use crate::source::Failed;
 use std::io::{ErrorKind, Write};
@@ -20,7 +20,7 @@ pub trait Sink {
         ensures front { IfOk result
             (AppendsFront bytes.now (contents self.old) (contents self.new)) }
         ensures kept { OnErr result (Keeps (contents self.old) (contents self.new)) }
-        ensures failures { failures self.new ≡ count_after (failures self.old) (is_ok result) };
+        ensures failures { failures self.new ≡ next_count (failures self.old) (is_ok result) };
 }
 
 /// The bytes that a writer takes. An interrupted write is tried again.

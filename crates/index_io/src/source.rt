@@ -3,7 +3,7 @@ ghost use Rattle.std.specs.Prelude.{◌≡◌, ℕ, List, Option, is_ok, IfOk, O
 ghost use Rattle.std.specs.Io.{ReadsAtMost};
 ghost use Rattle.std.specs.Io.KnownBytes.{Keeps, ReadConsumes};
 ghost use Rattle.index_io.specs.Bytes.{TakesByte};
-ghost use Rattle.index_io.specs.Counts.{count_after};
+ghost use Rattle.index_io.specs.Counts.{next_count};
 
 use std::io::{ErrorKind, Read};
 
@@ -23,7 +23,7 @@ pub trait Source {
     fn give(&mut self, room: &mut [u8]) -> Result<usize, Failed>
         ensures bound { ReadsAtMost result room.new }
         ensures bytes { ReadConsumes (remaining self.old) (remaining self.new) result room.new }
-        ensures failures { failures self.new ≡ count_after (failures self.old) (is_ok result) };
+        ensures failures { failures self.new ≡ next_count (failures self.old) (is_ok result) };
 }
 
 /// The bytes of a reader. An interrupted read is tried again.
@@ -81,7 +81,7 @@ pub fn next_byte<S: Source>(source: &mut S) -> Result<Option<u8>, Failed>
     ensures byte { IfOk result (λ byte.
         TakesByte byte (S.remaining source.old) (S.remaining source.new)) }
     ensures kept { OnErr result (Keeps (S.remaining source.old) (S.remaining source.new)) }
-    ensures failures { S.failures source.new ≡ count_after (S.failures source.old) (is_ok result) }
+    ensures failures { S.failures source.new ≡ next_count (S.failures source.old) (is_ok result) }
 {
     let mut one = [0u8; 1];
     match source.give(&mut one)? {

@@ -1,6 +1,6 @@
 //! The tables in memory.
 ghost use Rattle.std.specs.Prelude.{◌≡◌, ◌⊎◌, ◌↔◌, IfOk, IfErr, IsErrOf, OnOk, OnErr, is_ok, false};
-ghost use Rattle.index_rules.specs.Failures.{counted};
+ghost use Rattle.index_io.specs.Counts.{next_count};
 
 use crate::entries;
 use index_digest::{Digest256, Sealed};
@@ -99,7 +99,7 @@ impl PlainBooks {
     fn failed(&mut self) -> Fault
         ensures fault { result ≡ Fault.OutOfMemory }
         ensures tables { tables_of self.new ≡ tables_of self.old }
-        ensures failures { failures_of self.new ≡ counted (failures_of self.old) false }
+        ensures failures { failures_of self.new ≡ next_count (failures_of self.old) false }
     {
         self.failures = self.failures.saturating_add(1);
         Fault::OutOfMemory
@@ -123,7 +123,7 @@ impl Books for PlainBooks {
     fn view(&mut self, alloc: Global, keys: &Keys) -> Result<View, Fault>
         ensures found { IfOk result (Sees (tables_of self.old) keys.now) }
         ensures unchanged { tables_of self.new ≡ tables_of self.old }
-        ensures failures { failures_of self.new ≡ counted (failures_of self.old) (is_ok result) }
+        ensures failures { failures_of self.new ≡ next_count (failures_of self.old) (is_ok result) }
         ensures memory { IfErr result (λ fault. fault ≡ Fault.OutOfMemory) }
     {
         match self.look(alloc, keys) {
@@ -135,7 +135,7 @@ impl Books for PlainBooks {
     fn write(&mut self, _alloc: Global, change: Change) -> Result<(), Fault>
         ensures written { OnOk result (tables_of self.new ≡ means change (tables_of self.old)) }
         ensures unchanged { OnErr result (tables_of self.new ≡ tables_of self.old) }
-        ensures failures { failures_of self.new ≡ counted (failures_of self.old) (is_ok result) }
+        ensures failures { failures_of self.new ≡ next_count (failures_of self.old) (is_ok result) }
         ensures memory { IfErr result (λ fault. fault ≡ Fault.OutOfMemory) }
     {
         match self.make(change) {
@@ -147,7 +147,7 @@ impl Books for PlainBooks {
     fn owners_of(&mut self, alloc: Global, name: &NormalName) -> Result<Owners, Fault>
         ensures found { IfOk result (λ owners. owners ≡ owners_in (tables_of self.old) name.now) }
         ensures unchanged { tables_of self.new ≡ tables_of self.old }
-        ensures failures { failures_of self.new ≡ counted (failures_of self.old) (is_ok result) }
+        ensures failures { failures_of self.new ≡ next_count (failures_of self.old) (is_ok result) }
         ensures memory { IfErr result (λ fault. fault ≡ Fault.OutOfMemory) }
     {
         match self.owners_by_name(alloc, name) {
@@ -159,7 +159,7 @@ impl Books for PlainBooks {
     fn bytes_of(&mut self, _alloc: Global, file: &FileName) -> Result<Option<Sealed>, Fault>
         ensures found { IfOk result (λ body. body ≡ get (tables_of self.old).bodies file.now) }
         ensures unchanged { tables_of self.new ≡ tables_of self.old }
-        ensures failures { failures_of self.new ≡ counted (failures_of self.old) (is_ok result) }
+        ensures failures { failures_of self.new ≡ next_count (failures_of self.old) (is_ok result) }
         ensures memory { IfErr result (λ fault. fault ≡ Fault.OutOfMemory) }
     {
         match entries::copy_at(self.bodies.as_slice(), file) {

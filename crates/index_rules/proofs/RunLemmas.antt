@@ -1,9 +1,9 @@
 -- Calls in a row, and one more.
 use Rattle.std.proofs.Common.{◌≡◌, ◌∙◌, ℕ, List, [], ◌∷◌, ◌++◌, inl, inr, Contains, ap, subst}
 use Rattle.std.proofs.lemmas.List.Elements.{Contains-push_cases}
+use Rattle.index_io.specs.Counts.{HasFailed, FailsAtMostOnce}
 use Rattle.index_rules.specs.declared.call.Call.{Call}
 use Rattle.index_rules.specs.declared.answer.Answer.{Answer}
-use Rattle.index_rules.specs.Failures.{HasFailed, FailsAtMostOnce}
 use Rattle.index_rules.specs.Tables.{Tables}
 use Rattle.index_rules.specs.Verdict.{verdict_now}
 use Rattle.index_rules.specs.Runs.{Answers, Runs, tables_after}

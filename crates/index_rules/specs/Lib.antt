@@ -10,7 +10,6 @@ pub mod Facts
 pub mod Verdict
 pub mod Effect
 pub mod Decided
-pub mod Failures
 pub mod Runs
 pub mod Sound
 pub mod Printed

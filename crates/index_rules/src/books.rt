@@ -1,10 +1,10 @@
 //! The tables behind a trait.
 ghost use Rattle.std.specs.Prelude.{◌≡◌, ℕ, IfOk, OnOk, OnErr, is_ok};
 ghost use Rattle.std.specs.FinMap.{get};
+ghost use Rattle.index_io.specs.Counts.{next_count};
 ghost use Rattle.index_rules.specs.Tables.{Tables, owners_in};
 ghost use Rattle.index_rules.specs.Facts.{Sees};
 ghost use Rattle.index_rules.specs.Effect.{means};
-ghost use Rattle.index_rules.specs.Failures.{counted};
 
 use crate::answer::Fault;
 use crate::change::Change;
@@ -30,7 +30,7 @@ pub trait Books {
         ensures found { IsHonest self.new → IfOk result (Sees (tables self.old) keys.now) }
         ensures unchanged { IsHonest self.new → tables self.new ≡ tables self.old }
         ensures honest { IsHonest self.new → IsHonest self.old }
-        ensures failures { failures self.new ≡ counted (failures self.old) (is_ok result) };
+        ensures failures { failures self.new ≡ next_count (failures self.old) (is_ok result) };
 
     /// Writes a change. After a fault the tables are what they were.
     fn write(&mut self, alloc: Global, change: Change) -> Result<(), Fault>
@@ -38,7 +38,7 @@ pub trait Books {
             → OnOk result (tables self.new ≡ means change (tables self.old)) }
         ensures unchanged { IsHonest self.new → OnErr result (tables self.new ≡ tables self.old) }
         ensures honest { IsHonest self.new → IsHonest self.old }
-        ensures failures { failures self.new ≡ counted (failures self.old) (is_ok result) };
+        ensures failures { failures self.new ≡ next_count (failures self.old) (is_ok result) };
 
     /// The owners of a name in byte order. It changes no table.
     fn owners_of(&mut self, alloc: Global, name: &NormalName) -> Result<Owners, Fault>
@@ -46,7 +46,7 @@ pub trait Books {
             → IfOk result (λ owners. owners ≡ owners_in (tables self.old) name.now) }
         ensures unchanged { IsHonest self.new → tables self.new ≡ tables self.old }
         ensures honest { IsHonest self.new → IsHonest self.old }
-        ensures failures { failures self.new ≡ counted (failures self.old) (is_ok result) };
+        ensures failures { failures self.new ≡ next_count (failures self.old) (is_ok result) };
 
     /// The bytes that are kept of a file, or `None` where none are: in sound tables, where it is not undeleted. It changes
     /// no table.
@@ -55,5 +55,5 @@ pub trait Books {
             → IfOk result (λ body. body ≡ get (tables self.old).bodies file.now) }
         ensures unchanged { IsHonest self.new → tables self.new ≡ tables self.old }
         ensures honest { IsHonest self.new → IsHonest self.old }
-        ensures failures { failures self.new ≡ counted (failures self.old) (is_ok result) };
+        ensures failures { failures self.new ≡ next_count (failures self.old) (is_ok result) };
 }

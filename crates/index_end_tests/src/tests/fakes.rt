@@ -131,7 +131,7 @@ impl Drop for FailingBooks {
 
 impl Books for FailingBooks {
     ghost use Rattle.std.specs.FinMap.{empty};
-    ghost use Rattle.index_rules.specs.Failures.{last_count};
+    ghost use Rattle.index_io.specs.Counts.{last_count};
 
     ghost tables = { λ _. record { users = empty; names = empty; owners = empty; files = empty; bodies = empty; yanks = empty; cases = empty } };
 

@@ -1,8 +1,8 @@
 use Rattle.std.proofs.Common.{◌≡◌, ◌≤◌, length, vec_capacity, Contains}
+use Rattle.index_io.specs.Counts.{HasFailed}
 use Rattle.index_rules.specs.declared.answer.Answer.TheVariants as answer
 use Rattle.index_rules.specs.declared.answer.Fault.TheVariants.{Store}
 use Rattle.index_rules.specs.Facts.{HasOneBearer}
-use Rattle.index_rules.specs.Failures.{HasFailed}
 use Rattle.index_rules.specs.Runs.{Runs}
 use Rattle.index_rules.proofs.Counts.{NotFewer}
 use Rattle.index_desk.proofs.desk.Desk.apply_all.Given as goal
