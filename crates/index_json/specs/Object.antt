@@ -1,26 +1,23 @@
 -- A JSON object of which a row is read.
-use Rattle.std.specs.Prelude.{ℕ}
+use Rattle.std.specs.Prelude.{ℕ, ◌-◌}
 use Rattle.serde_json.specs.Data.{Data}
 use Rattle.serde_json.specs.View.{view}
+use Rattle.index_json.specs.Json.{key_count}
 use Rattle.index_json.specs.declared.row.Row.{Row}
 
--- the object, and how many of its keys are none of the row's
+-- the object, and how many of its keys are left to read
 pub record Object : Type 0 where
-  pub others : ℕ
+  pub left : ℕ
   pub value : Data
 
--- a row stands alone
-abbrev pub object_alone : Data → Object
-object_alone value = record { others = 0; value = value }
+-- an object of which nothing was read
+abbrev pub whole_object : Data → Object
+whole_object value = record { left = key_count value; value = value }
 
--- a call's moment and its token
-abbrev pub call_keys : ℕ
-call_keys = 2
-
--- a row has those beside it
-abbrev pub object_in_call : Data → Object
-object_in_call value = record { others = call_keys; value = value }
+-- a key more was read; a row reads none of its keys twice
+abbrev pub with_key_read : Object → Object
+with_key_read object = record { left = object.left - 1; value = object.value }
 
 -- the object of which a row is read
 abbrev pub object_of : Row → Object
-object_of row = record { others = row.others; value = view row.value.now }
+object_of row = record { left = row.left; value = view row.value.now }

@@ -1,39 +1,44 @@
 -- Reading the keys of a JSON object.
-use Rattle.std.specs.Prelude.{◌≡◌, ℕ, ◌+◌, ◌==◌, Bool, List, if◌then◌else◌, Option, Some, None, option_and_then, Result, Err, IfOk, ⊤}
+use Rattle.std.specs.Prelude.{◌≡◌, ℕ, ◌==◌, Bool, List, if◌then◌else◌, Option, Some, None, option_and_then, option_map, Result, Err, IfOk}
+use Rattle.serde_json.specs.Data.{Data}
 use Rattle.index_json.specs.declared.row.Unread.{Unread}
 use Rattle.index_json.specs.declared.row.Unread.TheVariants.{NoRow}
-use Rattle.index_json.specs.Json.{flag_at, key_count, number_at, text_at}
-use Rattle.index_json.specs.Object.{Object}
+use Rattle.index_json.specs.Json.{flag_at, number_at, text_at}
+use Rattle.index_json.specs.Object.{Object, whole_object, with_key_read}
 
--- what is read of an object
+-- what is read of an object, and the object after it
 abbrev pub Reading : Type 0 → Type 0
-Reading A = Object → Option A
+Reading A = Object → Option (A × Object)
 
 -- the next reading, where this one found something
 infixl 10 ◌>>=◌
 -- one reading, and then what it leads to; nothing is read where either reads nothing
 abbrev pub ◌>>=◌ : {A B : Type 0} → Reading A → (A → Reading B) → Reading B
-reading >>= next = λ object. option_and_then (λ found. next found object) (reading object)
+reading >>= next = λ object. option_and_then (λ found. next found.0 found.1) (reading object)
 
 -- this, whatever the object
 abbrev pub always : {A : Type 0} → A → Reading A
-always this = λ object. Some this
+always this = λ object. Some (this, object)
 
 -- this where it is something, whatever the object
 abbrev pub maybe : {A : Type 0} → Option A → Reading A
-maybe this = λ object. this
+maybe this = λ object. option_map (λ found. (found, object)) this
+
+-- what is found at a key, which is read by that
+abbrev pub at_key : {A : Type 0} → (Data → Option A) → Reading A
+at_key find = λ object. option_map (λ found. (found, with_key_read object)) (find object.value)
 
 -- the text at a key
 abbrev pub text : List ℕ → Reading (List ℕ)
-text key = λ object. text_at key object.value
+text key = at_key (text_at key)
 
 -- the number at a key
 abbrev pub number : List ℕ → Reading ℕ
-number key = λ object. number_at key object.value
+number key = at_key (number_at key)
 
 -- the flag at a key
 abbrev pub flag : List ℕ → Reading Bool
-flag key = λ object. flag_at key object.value
+flag key = at_key (flag_at key)
 
 -- the texts at two keys
 abbrev pub texts : List ℕ → List ℕ → Reading (List ℕ × List ℕ)
@@ -42,10 +47,19 @@ texts first second = do
   other ← text second
   always (one, other)
 
--- the object has so many keys of the row's, and the others alone
-abbrev pub has_keys : ℕ → Reading ⊤
-has_keys keys = λ object. if key_count object.value == object.others + keys then Some tt else None
+-- what was found, where no key of the object is left
+abbrev pub if_whole : {A : Type 0} → A × Object → Option A
+if_whole found = if found.1.left == 0 then Some found.0 else None
+
+-- what is read of a value, where that leaves none of its keys
+abbrev pub read_whole : {A : Type 0} → Reading A → Data → Option A
+read_whole reading value = option_and_then if_whole (reading (whole_object value))
 
 -- it is what is read, and of no row where nothing is; or memory ran out
 abbrev pub Reads : {A : Type 0} → Result A Unread → Option A → Type 0
 Reads result read = IfOk result (λ found. read ≡ Some found) × (result ≡ Err NoRow → read ≡ None)
+
+-- the same, and this is the object after it
+abbrev pub ReadsTo : {A : Type 0} → Result A Unread → Option (A × Object) → Object → Type 0
+ReadsTo result read after =
+    IfOk result (λ found. read ≡ Some (found, after)) × (result ≡ Err NoRow → read ≡ None)

@@ -1,5 +1,4 @@
--- The rows of requests: a key `do` with the row's name, the row's own keys, and no key beside these and
--- the others.
+-- The rows of requests: a key `do` with the row's name, and the row's own keys.
 use Rattle.std.specs.Prelude.{ℕ, List, if◌then◌else◌, Option, Some, None, bytes_eq, codes, option_and_then}
 use Rattle.index_retention.specs.declared.attempts.CaseKind.{CaseKind}
 use Rattle.index_retention.specs.declared.attempts.CaseKind.TheVariants.{Continue, Reuse}
@@ -8,34 +7,20 @@ use Rattle.index_retention.specs.declared.attempts.Means.TheVariants.{Profile, A
 use Rattle.index_rules.specs.declared.call.Request.{Request}
 use Rattle.index_rules.specs.declared.call.Request.TheVariants.{AddUser, SetToken, SetQuota, Claim, AddOwner, RemoveOwner, Upload, Delete, Yank, Unyank, Relinquish, Prohibit, Allow, OpenCase, RecordAttempt, Transfer, CloseCase, AnswerCase}
 use Rattle.index_json.specs.Json.{hex_bytes, json_of}
-use Rattle.index_json.specs.Object.{object_alone}
-use Rattle.index_json.specs.Reading.{Reading, ◌>>=◌, always, flag, has_keys, maybe, number, text, texts}
-
--- a row of one text
-abbrev pub one_text : List ℕ → Reading (List ℕ)
-one_text key = do
-  _ ← has_keys 2
-  text key
-
--- a row of two texts
-abbrev pub two_texts : List ℕ → List ℕ → Reading (List ℕ × List ℕ)
-two_texts first second = do
-  _ ← has_keys 3
-  texts first second
+use Rattle.index_json.specs.Reading.{Reading, ◌>>=◌, always, flag, maybe, number, read_whole, text, texts}
 
 -- ---- rows on users
 
 -- a row for each request: its keys, as docs/FORMATS.md lists them
 abbrev pub add_user_row : Reading Request
 add_user_row = do
-  _ ← has_keys 4
   office ← flag (codes "office")
   found ← texts (codes "user") (codes "token_sha256")
   always (AddUser found.0 office found.1)
 
 abbrev pub set_token_row : Reading Request
 set_token_row = do
-  found ← two_texts (codes "user") (codes "token_sha256")
+  found ← texts (codes "user") (codes "token_sha256")
   always (SetToken found.0 found.1)
 
 -- ---- rows on names
@@ -43,18 +28,17 @@ set_token_row = do
 -- a row of a name alone
 abbrev pub name_request : (List ℕ → Request) → Reading Request
 name_request request = do
-  name ← one_text (codes "name")
+  name ← text (codes "name")
   always (request name)
 
 -- a row of a name and a user
 abbrev pub owner_request : (List ℕ → List ℕ → Request) → Reading Request
 owner_request request = do
-  found ← two_texts (codes "name") (codes "user")
+  found ← texts (codes "name") (codes "user")
   always (request found.0 found.1)
 
 abbrev pub set_quota_row : Reading Request
 set_quota_row = do
-  _ ← has_keys 3
   quota ← number (codes "quota")
   name ← text (codes "name")
   always (SetQuota name quota)
@@ -69,7 +53,6 @@ body = do
 
 abbrev pub upload_row : Reading Request
 upload_row = do
-  _ ← has_keys 5
   body ← body
   requires ← text (codes "requires_python")
   found ← texts (codes "file") (codes "sha256")
@@ -77,19 +60,18 @@ upload_row = do
 
 abbrev pub delete_row : Reading Request
 delete_row = do
-  file ← one_text (codes "file")
+  file ← text (codes "file")
   always (Delete file)
 
 abbrev pub yank_row : Reading Request
 yank_row = do
-  _ ← has_keys 4
   reason ← text (codes "reason")
   found ← texts (codes "name") (codes "release")
   always (Yank found.0 found.1 reason)
 
 abbrev pub unyank_row : Reading Request
 unyank_row = do
-  found ← two_texts (codes "name") (codes "release")
+  found ← texts (codes "name") (codes "release")
   always (Unyank found.0 found.1)
 
 -- ---- rows on retention cases
@@ -123,7 +105,6 @@ attempt_means = do
 
 abbrev pub open_case_row : Reading Request
 open_case_row = do
-  _ ← has_keys 6
   kind ← case_kind
   found ← texts (codes "name") (codes "contact")
   more ← texts (codes "work") (codes "why")
@@ -131,7 +112,6 @@ open_case_row = do
 
 abbrev pub record_attempt_row : Reading Request
 record_attempt_row = do
-  _ ← has_keys 4
   means ← attempt_means
   sent ← flag (codes "sent")
   name ← text (codes "name")
@@ -139,7 +119,6 @@ record_attempt_row = do
 
 abbrev pub transfer_row : Reading Request
 transfer_row = do
-  _ ← has_keys 3
   quiet ← flag (codes "quiet")
   name ← text (codes "name")
   always (Transfer name quiet)
@@ -189,7 +168,7 @@ user_row word = λ object.
     else if bytes_eq word (codes "set_token") then set_token_row object
     else name_row word object
 
--- the row of any request
+-- the request that a word at `do` says, with the keys of its row
 abbrev pub request_row : Reading Request
 request_row = do
   word ← text (codes "do")
@@ -197,4 +176,4 @@ request_row = do
 
 -- the request that bytes of JSON are, with the keys of its row alone
 unfoldable pub request_of : List ℕ → Option Request
-request_of bytes = option_and_then (λ value. request_row (object_alone value)) (json_of bytes)
+request_of bytes = option_and_then (read_whole request_row) (json_of bytes)

@@ -2,20 +2,17 @@
 ghost use Rattle.std.specs.Prelude.{◌≡◌, IfOk, IfErr};
 ghost use Rattle.serde_json.specs.View.{view};
 ghost use Rattle.index_json.specs.Json.{json_of};
-ghost use Rattle.index_json.specs.Line.{call_row, line_in as line_in_lem, line_of};
+ghost use Rattle.index_json.specs.Line.{call_row, line_of, line_row, row_of_word};
 ghost use Rattle.index_json.specs.Object.{object_of};
-ghost use Rattle.index_json.specs.Reading.{Reads};
-ghost use Rattle.index_json.specs.Requests.{request_of};
+ghost use Rattle.index_json.specs.Reading.{Reads, ReadsTo, read_whole};
+ghost use Rattle.index_json.specs.Requests.{request_of, request_row};
 
-use crate::request::{one_text, request_in};
+use crate::request::request_named;
 use crate::row::{Row, Unread};
 use index_digest::Digest256;
 use index_rules::{Bytes, Call, Fault, Request};
 use serde_json::Value;
 use std::alloc::Global;
-
-/// How many keys of a call's object are none of its request's: its moment and its token.
-const CALL_KEYS: usize = 2;
 
 /// What a line of input asks.
 #[derive(Drop)]
@@ -67,7 +64,7 @@ fn request_read(alloc: Global, bytes: &[u8]) -> Result<Request, Unread>
     ensures { Reads result (request_of bytes.now) }
 {
     let value = parse(alloc, bytes)?;
-    request_in(alloc, &Row::of(&value, 0))
+    request_in(alloc, &value)
 }
 
 /// The value that bytes of JSON are. Bytes that are none are of no row.
@@ -83,21 +80,39 @@ fn parse(alloc: Global, bytes: &[u8]) -> Result<Value, Unread>
 }
 
 fn line_in(alloc: Global, value: &Value) -> Result<Line, Unread>
-    ensures { Reads result (line_in_lem (view value.now)) }
+    ensures { Reads result (read_whole line_row (view value.now)) }
 {
-    let alone = Row::of(value, 0);
-    match alone.text("do")? {
-        "standing" => Ok(Line::Standing(one_text(alloc, &alone, "name")?)),
-        _ => call_in(alloc, &Row::of(value, CALL_KEYS)),
+    let mut row = Row::of(value);
+    let word = row.text("do")?;
+    let line = line_named(alloc, word, &mut row)?;
+    row.whole(line)
+}
+
+fn request_in(alloc: Global, value: &Value) -> Result<Request, Unread>
+    ensures { Reads result (read_whole request_row (view value.now)) }
+{
+    let mut row = Row::of(value);
+    let word = row.text("do")?;
+    let request = request_named(alloc, word, &mut row)?;
+    row.whole(request)
+}
+
+/// What an object asks whose `do` is this word.
+fn line_named(alloc: Global, word: &str, row: &mut Row<'_>) -> Result<Line, Unread>
+    ensures { ReadsTo result (row_of_word word.now (object_of row.old)) (object_of row.new) }
+{
+    match word {
+        "standing" => row.bytes(alloc, "name").map(Line::Standing),
+        word => call_in(alloc, word, row),
     }
 }
 
-fn call_in(alloc: Global, row: &Row<'_>) -> Result<Line, Unread>
-    ensures { Reads result (call_row (object_of row.now)) }
+fn call_in(alloc: Global, word: &str, row: &mut Row<'_>) -> Result<Line, Unread>
+    ensures { ReadsTo result (call_row word.now (object_of row.old)) (object_of row.new) }
 {
     let at = row.number("at")?;
     let token = row.text("token")?;
-    let request = request_in(alloc, row)?;
+    let request = request_named(alloc, word, row)?;
     let token = Digest256::of(token.as_bytes());
     Ok(Line::Call(Call { at, token, request }))
 }

@@ -1,9 +1,10 @@
 //! The keys of a JSON object.
-ghost use Rattle.std.specs.Prelude.{◌≡◌, Err, IfErr, IfOk, None, Some};
+ghost use Rattle.std.specs.Prelude.{◌≡◌, Err, IfErr, IfOk, None, Some, option_map};
+ghost use Rattle.serde_json.specs.Find.{get};
 ghost use Rattle.serde_json.specs.View.{view};
 ghost use Rattle.index_json.specs.Json.{key_count};
-ghost use Rattle.index_json.specs.Object.{object_of};
-ghost use Rattle.index_json.specs.Reading.{Reads, flag as flag_lem, has_keys as has_keys_lem, number as number_lem, text, texts};
+ghost use Rattle.index_json.specs.Object.{object_of, whole_object, with_key_read};
+ghost use Rattle.index_json.specs.Reading.{Reads, ReadsTo, flag as flag_lem, if_whole, number as number_lem, text, texts};
 
 use index_rules::Bytes;
 use serde_json::Value;
@@ -27,81 +28,100 @@ impl From<AllocError> for Unread {
     }
 }
 
-/// An object of which a row is read.
+/// An object of which a row is read, and how many of its keys are left to read.
 #[derive(Drop)]
 pub struct Row<'v> {
     value: &'v Value,
-    others: usize,
+    left: usize,
 }
 
 impl<'v> Row<'v> {
-    /// A row of this value, which has so many keys that are none of the row's.
-    pub fn of(value: &'v Value, others: usize) -> Row<'v>
-        ensures { object_of result ≡ record { others = others; value = view value.now } }
+    /// A row of this value, of which nothing was read.
+    pub fn of(value: &'v Value) -> Row<'v>
+        ensures { object_of result ≡ whole_object (view value.now) }
     {
-        Row { value, others }
+        Row {
+            value,
+            left: count(value),
+        }
     }
 
     /// The text at a key.
-    pub fn text(&self, key: &str) -> Result<&'v str, Unread>
-        ensures text { IfOk result (λ found. text key.now (object_of self.now) ≡ Some found.now) }
-        ensures none { result ≡ Err Unread.NoRow → text key.now (object_of self.now) ≡ None }
+    pub fn text(&mut self, key: &str) -> Result<&'v str, Unread>
+        ensures text { IfOk result (λ found.
+            text key.now (object_of self.old) ≡ Some (found.now, object_of self.new)) }
+        ensures none { result ≡ Err Unread.NoRow → text key.now (object_of self.old) ≡ None }
         ensures no_row { IfErr result (λ unread. unread ≡ Unread.NoRow) }
     {
-        match self.value.get(key).and_then(Value::as_str) {
+        match self.value_at(key).and_then(Value::as_str) {
             Some(text) => Ok(text),
             None => Err(Unread::NoRow),
         }
     }
 
     /// The whole number of 64 bits at a key.
-    pub fn number(&self, key: &str) -> Result<u64, Unread>
-        ensures number { Reads result (number_lem key.now (object_of self.now)) }
+    pub fn number(&mut self, key: &str) -> Result<u64, Unread>
+        ensures number { ReadsTo result
+            (number_lem key.now (object_of self.old)) (object_of self.new) }
         ensures no_row { IfErr result (λ unread. unread ≡ Unread.NoRow) }
     {
-        match self.value.get(key).and_then(Value::as_u64) {
+        match self.value_at(key).and_then(Value::as_u64) {
             Some(number) => Ok(number),
             None => Err(Unread::NoRow),
         }
     }
 
     /// True or false at a key.
-    pub fn flag(&self, key: &str) -> Result<bool, Unread>
-        ensures flag { Reads result (flag_lem key.now (object_of self.now)) }
+    pub fn flag(&mut self, key: &str) -> Result<bool, Unread>
+        ensures flag { ReadsTo result
+            (flag_lem key.now (object_of self.old)) (object_of self.new) }
         ensures no_row { IfErr result (λ unread. unread ≡ Unread.NoRow) }
     {
-        match self.value.get(key).and_then(Value::as_bool) {
+        match self.value_at(key).and_then(Value::as_bool) {
             Some(flag) => Ok(flag),
             None => Err(Unread::NoRow),
         }
     }
 
     /// A copy of the text at a key.
-    pub fn bytes(&self, alloc: Global, key: &str) -> Result<Bytes, Unread>
-        ensures { Reads result (text key.now (object_of self.now)) }
+    pub fn bytes(&mut self, alloc: Global, key: &str) -> Result<Bytes, Unread>
+        ensures { ReadsTo result (text key.now (object_of self.old)) (object_of self.new) }
     {
         let text = self.text(key)?;
         Ok(Bytes::copy_of(alloc, text.as_bytes())?)
     }
 
     /// Copies of the texts at two keys.
-    pub fn both(&self, alloc: Global, first: &str, second: &str) -> Result<(Bytes, Bytes), Unread>
-        ensures { Reads result (texts first.now second.now (object_of self.now)) }
+    pub fn both(
+        &mut self,
+        alloc: Global,
+        first: &str,
+        second: &str,
+    ) -> Result<(Bytes, Bytes), Unread>
+        ensures { ReadsTo result
+            (texts first.now second.now (object_of self.old)) (object_of self.new) }
     {
         let first = self.bytes(alloc, first)?;
         let second = self.bytes(alloc, second)?;
         Ok((first, second))
     }
 
-    /// Says that the row has so many keys, `do` among them.
-    pub fn has_keys(&self, keys: usize) -> Result<(), Unread>
-        ensures { Reads result (has_keys_lem keys (object_of self.now)) }
+    /// The value at a key, which is read by that.
+    fn value_at(&mut self, key: &str) -> Option<&'v Value>
+        ensures value { option_map (λ found. view found.now) result
+            ≡ get key.now (view self.old.value.now) }
+        ensures read { object_of self.new ≡ with_key_read (object_of self.old) }
     {
-        let Some(own) = count(self.value).checked_sub(self.others) else {
-            return Err(Unread::NoRow);
-        };
-        if own == keys {
-            return Ok(());
+        self.left = self.left.saturating_sub(1);
+        self.value.get(key)
+    }
+
+    /// What was read of it, where each of its keys was.
+    pub fn whole<T: Drop>(&self, read: T) -> Result<T, Unread>
+        ensures { Reads result (if_whole (read, object_of self.now)) }
+    {
+        if self.left == 0 {
+            return Ok(read);
         }
         Err(Unread::NoRow)
     }

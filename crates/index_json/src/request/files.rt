@@ -2,18 +2,18 @@
 ghost use Rattle.std.specs.Prelude.{◌≡◌, ◌%◌, length, Err};
 ghost use Rattle.index_json.specs.Json.{hex_bytes};
 ghost use Rattle.index_json.specs.Object.{object_of};
-ghost use Rattle.index_json.specs.Reading.{Reads};
+ghost use Rattle.index_json.specs.Reading.{Reads, ReadsTo};
 ghost use Rattle.index_json.specs.Requests.{body as body_lem, delete_row, file_row, unyank_row, upload_row, yank_row};
 
-use super::{cases, one_text, two_texts};
+use super::cases;
 use crate::row::{Row, Unread};
 use hex::FromHexError;
 use index_rules::{Bytes, Request};
 use std::alloc::Global;
 
 /// The request of an object whose `do` is this word, which is none on users, names or owners.
-pub fn request_named(alloc: Global, word: &str, row: &Row<'_>) -> Result<Request, Unread>
-    ensures { Reads result (file_row word.now (object_of row.now)) }
+pub fn request_named(alloc: Global, word: &str, row: &mut Row<'_>) -> Result<Request, Unread>
+    ensures { ReadsTo result (file_row word.now (object_of row.old)) (object_of row.new) }
 {
     match word {
         "upload" => upload(alloc, row),
@@ -24,10 +24,9 @@ pub fn request_named(alloc: Global, word: &str, row: &Row<'_>) -> Result<Request
     }
 }
 
-fn upload(alloc: Global, row: &Row<'_>) -> Result<Request, Unread>
-    ensures { Reads result (upload_row (object_of row.now)) }
+fn upload(alloc: Global, row: &mut Row<'_>) -> Result<Request, Unread>
+    ensures { ReadsTo result (upload_row (object_of row.old)) (object_of row.new) }
 {
-    row.has_keys(5)?;
     let body = body(alloc, row)?;
     let requires_python = row.bytes(alloc, "requires_python")?;
     let (file, sha256) = row.both(alloc, "file", "sha256")?;
@@ -39,16 +38,16 @@ fn upload(alloc: Global, row: &Row<'_>) -> Result<Request, Unread>
     })
 }
 
-fn delete(alloc: Global, row: &Row<'_>) -> Result<Request, Unread>
-    ensures { Reads result (delete_row (object_of row.now)) }
+fn delete(alloc: Global, row: &mut Row<'_>) -> Result<Request, Unread>
+    ensures { ReadsTo result (delete_row (object_of row.old)) (object_of row.new) }
 {
-    one_text(alloc, row, "file").map(|file| Request::Delete { file })
+    row.bytes(alloc, "file")
+        .map(|file| Request::Delete { file })
 }
 
-fn yank(alloc: Global, row: &Row<'_>) -> Result<Request, Unread>
-    ensures { Reads result (yank_row (object_of row.now)) }
+fn yank(alloc: Global, row: &mut Row<'_>) -> Result<Request, Unread>
+    ensures { ReadsTo result (yank_row (object_of row.old)) (object_of row.new) }
 {
-    row.has_keys(4)?;
     let reason = row.bytes(alloc, "reason")?;
     let (name, release) = row.both(alloc, "name", "release")?;
     Ok(Request::Yank {
@@ -58,16 +57,16 @@ fn yank(alloc: Global, row: &Row<'_>) -> Result<Request, Unread>
     })
 }
 
-fn unyank(alloc: Global, row: &Row<'_>) -> Result<Request, Unread>
-    ensures { Reads result (unyank_row (object_of row.now)) }
+fn unyank(alloc: Global, row: &mut Row<'_>) -> Result<Request, Unread>
+    ensures { ReadsTo result (unyank_row (object_of row.old)) (object_of row.new) }
 {
-    let texts = two_texts(alloc, row, "name", "release");
+    let texts = row.both(alloc, "name", "release");
     texts.map(|(name, release)| Request::Unyank { name, release })
 }
 
 /// The body that a row's hex digits say.
-fn body(alloc: Global, row: &Row<'_>) -> Result<Bytes, Unread>
-    ensures { Reads result (body_lem (object_of row.now)) }
+fn body(alloc: Global, row: &mut Row<'_>) -> Result<Bytes, Unread>
+    ensures { ReadsTo result (body_lem (object_of row.old)) (object_of row.new) }
 {
     let digits = row.text("hex")?;
     bytes_of_hex(alloc, digits)
