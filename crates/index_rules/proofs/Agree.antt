@@ -13,14 +13,14 @@ use Rattle.index_rules.specs.Users.{read_user}
 use Rattle.index_rules.specs.Texts.{read_token}
 use Rattle.index_rules.specs.Tables.{Tables}
 use Rattle.index_rules.specs.Requests.{user_key, token_key, name_key, file_key, release_key}
-use Rattle.index_rules.specs.Facts.{HasOneBearer, bearer_in, caller_of, facts_in, of_both, at_both, owns_in, owns_alone_in, yank_in, has_release_in}
+use Rattle.index_rules.specs.Facts.{HasOneBearer, bearer_in, caller_of, facts_in, of_both, at_both, owns_in, owns_alone_in, yank_in, is_banned_in, has_release_in}
 use Rattle.index_rules.specs.Verdict.{bears, verdict_on, verdict_now}
 use Rattle.index_rules.specs.Effect.{or_empty}
 use Rattle.index_rules.specs.FirstTables.{first_record}
 use Rattle.index_rules.specs.History.{History, begins, more, is_read_as}
 use Rattle.index_rules.specs.PastUsers.{user_after, user_by, with_read, with_token, users_after, users_by, bearer_after}
 use Rattle.index_rules.specs.PastNames.{owns_after, is_given_after, owns_alone_after, receivers_after, yank_after}
-use Rattle.index_rules.specs.PastFiles.{has_release_after}
+use Rattle.index_rules.specs.PastFiles.{is_banned_after, has_release_after}
 use Rattle.index_rules.specs.StandsFor.{StandsFor, name_after, file_after, case_record_after}
 use Rattle.index_rules.specs.Legal.{caller_after, facts_after, verdict_after}
 use Rattle.index_rules.proofs.OwnerLists.{same-is}
@@ -79,6 +79,10 @@ bears-some token (Some x) bears = (x, refl, bears)
 pub agree_at : {X : Type 0} (a b : Bytes → Option X) → ((q : Bytes) → a q ≡ b q) → (at : Option Bytes) → option_and_then a at ≡ option_and_then b at
 agree_at a b each None = refl
 agree_at a b each (Some q) = each q
+
+test_agrees : (a b : Bytes → Bool) → ((q : Bytes) → a q ≡ b q) → (at : Option Bytes) → option_map_or a at false ≡ option_map_or b at false
+test_agrees a b each None = refl
+test_agrees a b each (Some q) = each q
 
 both_agree : (a b : Bytes → Bytes → Bool) → ((x y : Bytes) → a x y ≡ b x y) → (x y : Option Bytes) → of_both a x y ≡ of_both b x y
 both_agree a b each None y = refl
@@ -152,6 +156,7 @@ module _ (T : Tables) (h : History) (one : HasOneBearer T) (stands : StandsFor T
     named_owns = both_agree (owns_in T) (owns_after h) stands.owners (name_key c.request) (user_key c.request) i;
     sole = both_agree (owns_alone_in T) (owns_alone_after h) (λ n u i. stands.owners n u i && all_agree n u i) (name_key c.request) (user_key c.request) i;
     file = agree_at (get T.files) (file_after h) stands.files (file_key c.request) i;
+    is_banned = test_agrees (is_banned_in T) (is_banned_after h) stands.bans (file_key c.request) i;
     yank = at_both_agree (yank_in T) (yank_after h) stands.yanks (name_key c.request) (release_key c.request) i;
     has_release = both_agree (has_release_in T) (has_release_after h) released (name_key c.request) (release_key c.request) i;
     case = agree_at (get T.cases) (case_record_after h) stands.cases (name_key c.request) i;

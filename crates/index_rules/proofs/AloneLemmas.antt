@@ -7,7 +7,7 @@ use Rattle.std.proofs.lemmas.Bool.{cases_Bool, and_parts, and_right, or_left, fa
 use Rattle.index_names.specs.FileName.{project_of, release_of}
 use Rattle.index_rules.specs.declared.call.Call.{Call}
 use Rattle.index_rules.specs.declared.call.Request.{Request}
-use Rattle.index_rules.specs.declared.call.Request.TheVariants.{AddUser, SetToken, Upload, Delete}
+use Rattle.index_rules.specs.declared.call.Request.TheVariants.{AddUser, SetToken, Upload, Delete, BanFile}
 use Rattle.index_rules.specs.declared.records.FileRecord.{FileRecord}
 use Rattle.index_rules.specs.Maps.{Bytes, Map, same}
 use Rattle.index_rules.specs.Requests.{read_file, user_key, token_key, name_key, file_key, release_key}
@@ -17,7 +17,7 @@ use Rattle.index_rules.specs.Sound.{charged_size}
 use Rattle.index_rules.specs.History.{History, begins, more, is_read_as}
 use Rattle.index_rules.specs.PastUsers.{user_after, bearer_after}
 use Rattle.index_rules.specs.PastNames.{greatest, is_held_now, owns_after, receivers_after, owns_alone_after, yank_after}
-use Rattle.index_rules.specs.PastFiles.{uploaded_files_after, is_charged_after, size_after, charge_after, undeleted_count_after, has_release_after}
+use Rattle.index_rules.specs.PastFiles.{uploaded_files_after, is_banned_after, is_charged_after, size_after, charge_after, undeleted_count_after, has_release_after}
 use Rattle.index_rules.specs.StandsFor.{record_of_state, name_after, file_of_upload, file_after, record_of_case, case_record_after}
 use Rattle.index_rules.specs.Legal.{IsLegal, facts_after}
 use Rattle.index_rules.specs.Laws.{is_kept, history_of_name, StandsAlone}
@@ -29,7 +29,7 @@ use Rattle.index_rules.proofs.Totals.{total_of}
 use Rattle.index_rules.proofs.PastWords.{received, Apart-uploaded, known_is_uploaded}
 use Rattle.index_rules.proofs.PastTotals.{is_some-map, counted, charged_at, counted_at, released_at}
 use Rattle.index_rules.proofs.Agree.{agree_at}
-use Rattle.index_rules.proofs.AloneWords.{user-only, bearer-only, state-only, shown-only, quota-only, uploads-only, case-only, given-only, yanked-only, known-only, undeleted-only, requires-only}
+use Rattle.index_rules.proofs.AloneWords.{user-only, bearer-only, state-only, shown-only, quota-only, uploads-only, case-only, given-only, yanked-only, known-only, undeleted-only, banned-only, requires-only}
 use Rattle.index_rules.proofs.StandsOn.{tables_of, legal_made}
 
 -- ---- the name's files
@@ -146,6 +146,7 @@ module _ (n : Bytes) where
   file_of_kept : (r : Request) → is_kept r n ≡ true → IsOfFile (file_key r)
   file_of_kept (Upload file sha256 body requires) kept = of_file (read_file file) kept
   file_of_kept (Delete file) kept = of_file (read_file file) kept
+  file_of_kept (BanFile file) kept = of_file (read_file file) kept
   file_of_kept r kept = inl refl
 
   kept_by_name : (r : Request) → name_key r ≡ Some n → is_kept r n ≡ true
@@ -176,6 +177,10 @@ module _ (n : Bytes) where
   file_at_name h legal read (inl is) = ap (option_and_then (file_after (history_of_name n h))) is ∙ sym (ap (option_and_then (file_after h)) is)
   file_at_name h legal read (inr is) = ap (option_and_then (file_after (history_of_name n h))) is.2 ∙ file-only n h legal is.0 is.1 ∙ sym (ap (option_and_then (file_after h)) is.2)
 
+  ban_at_name : (h : History) (read : Option Bytes) → IsOfFile read → option_map_or (is_banned_after (history_of_name n h)) read false ≡ option_map_or (is_banned_after h) read false
+  ban_at_name h read (inl is) = ap (λ o. option_map_or (is_banned_after (history_of_name n h)) o false) is ∙ sym (ap (λ o. option_map_or (is_banned_after h) o false) is)
+  ban_at_name h read (inr is) = ap (λ o. option_map_or (is_banned_after (history_of_name n h)) o false) is.2 ∙ banned-only n h is.0 (sym is.1) ∙ sym (ap (λ o. option_map_or (is_banned_after h) o false) is.2)
+
   facts-only : (h : History) → IsLegal h → (c : Call) → is_kept c.request n ≡ true → facts_after (history_of_name n h) c ≡ facts_after h c
   facts-only h legal c kept =
       let g : History = history_of_name n h in
@@ -189,6 +194,7 @@ module _ (n : Bytes) where
         named_owns = both_at_name (owns_after g) (owns_after h) (owns-only n h legal) (name_key c.request) (user_key c.request) name i;
         sole = both_at_name (owns_alone_after g) (owns_alone_after h) (alone-only n h legal) (name_key c.request) (user_key c.request) name i;
         file = file_at_name h legal (file_key c.request) (file_of_kept c.request kept) i;
+        is_banned = ban_at_name h (file_key c.request) (file_of_kept c.request kept) i;
         yank = yank_at_name (yank_after g) (yank_after h) (yank-only n h legal) (name_key c.request) (release_key c.request) name i;
         has_release = both_at_name (has_release_after g) (has_release_after h) (release-only n h legal) (name_key c.request) (release_key c.request) name i;
         case = at_name (option_and_then (case_record_after g)) (option_and_then (case_record_after h)) refl (ap (option_map record_of_case) (case-only n h)) (name_key c.request) name i;

@@ -8,7 +8,7 @@ use Rattle.index_names.specs.Release.{read_release}
 use Rattle.index_digest.specs.Digest.{read_digest}
 use Rattle.index_retention.specs.Attempts.{attempt_of}
 use Rattle.index_rules.specs.declared.call.Request.{Request}
-use Rattle.index_rules.specs.declared.call.Request.TheVariants.{AddUser, SetToken, SetQuota, Claim, AddOwner, RemoveOwner, Upload, Delete, Yank, Unyank, Relinquish, Prohibit, Allow, OpenCase, RecordAttempt, Transfer, CloseCase}
+use Rattle.index_rules.specs.declared.call.Request.TheVariants.{AddUser, SetToken, SetQuota, Claim, AddOwner, RemoveOwner, Upload, Delete, BanFile, Yank, Unyank, Relinquish, Prohibit, Allow, OpenCase, RecordAttempt, Transfer, CloseCase}
 use Rattle.index_rules.specs.declared.records.UserRecord.{UserRecord}
 use Rattle.index_rules.specs.Maps.{Bytes, same}
 use Rattle.index_rules.specs.Users.{read_user}
@@ -20,7 +20,7 @@ use Rattle.index_rules.specs.History.{History, Entry, begins, more, is_read_as}
 use Rattle.index_rules.specs.PastUsers.{user_after, user_by, users_after, users_by, bearer_after}
 use Rattle.index_rules.specs.PastNames.{State, Free, Held, Prohibited, state_after, state_by, shown_after, shown_by, quota_after, quota_by, uploads_after, uploads_by, is_given_after, is_given_by, reason_after, reason_by}
 use Rattle.index_rules.specs.PastCases.{Case, case_after, case_by, with_attempt, is_owners_request}
-use Rattle.index_rules.specs.PastFiles.{first_upload_after, first_upload_by, is_undeleted_after, is_undeleted_by, requires_after, requires_by}
+use Rattle.index_rules.specs.PastFiles.{first_upload_after, first_upload_by, is_undeleted_after, is_undeleted_by, is_banned_by, is_banned_after, requires_after, requires_by}
 use Rattle.index_rules.specs.Laws.{is_kept, history_of_name}
 use Rattle.index_rules.proofs.KeyLemmas.{same-refl, cases_same}
 
@@ -63,6 +63,7 @@ module _ (n : Bytes) where
   owners_left (SetToken user token) other = refl
   owners_left (SetQuota name quota) other = refl
   owners_left (Claim name) other = refl
+  owners_left (BanFile file) other = refl
   owners_left (Prohibit name) other = refl
   owners_left (Allow name) other = refl
   owners_left (OpenCase name kind contact work why) other = refl
@@ -114,8 +115,13 @@ module _ (n : Bytes) where
     undeleted_left : (r : Request) → is_kept r n ≡ false → (before : Bool) → is_undeleted_by r f before ≡ before
     undeleted_left (Upload file sha256 body requires) other before = ap (λ b. cond b true before) (other_file (read_file file) other)
     undeleted_left (Delete file) other before = ap (λ b. cond b false before) (other_file (read_file file) other)
+    undeleted_left (BanFile file) other before = ap (λ b. cond b false before) (other_file (read_file file) other)
     undeleted_left (Prohibit name) other before = ap (λ b. cond b false before) (ap (is_read_as (read_name name)) project ∙ other)
     undeleted_left r other before = refl
+
+    banned_left : (r : Request) → is_kept r n ≡ false → (before : Bool) → is_banned_by r f before ≡ before
+    banned_left (BanFile file) other before = ap (λ b. cond b true before) (other_file (read_file file) other)
+    banned_left r other before = refl
 
     requires_left : (r : Request) → is_kept r n ≡ false → (before : Bytes) → requires_by r f before ≡ before
     requires_left (Upload file sha256 body requires) other before = ap (λ b. cond b requires before) (other_file (read_file file) other)
@@ -177,6 +183,9 @@ module _ (n : Bytes) where
 
     pub undeleted-only : is_undeleted_after (history_of_name n h) f ≡ is_undeleted_after h f
     undeleted-only = word-only n (λ g. is_undeleted_after g f) (λ e. is_undeleted_by e.call.request f) (λ g e. refl) (λ e. undeleted_left n f project e.call.request) h
+
+    pub banned-only : is_banned_after (history_of_name n h) f ≡ is_banned_after h f
+    banned-only = word-only n (λ g. is_banned_after g f) (λ e. is_banned_by e.call.request f) (λ g e. refl) (λ e. banned_left n f project e.call.request) h
 
     pub requires-only : requires_after (history_of_name n h) f ≡ requires_after h f
     requires-only = word-only n (λ g. requires_after g f) (λ e. requires_by e.call.request f) (λ g e. refl) (λ e. requires_left n f project e.call.request) h

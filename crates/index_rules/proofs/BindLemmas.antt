@@ -1,12 +1,13 @@
--- In a legal history a file name is bound to the digest and the size of its first upload.
-use Rattle.std.proofs.Common.{◌≡◌, ℕ, cond, inl, inr, sym, ap, ◌∙◌, [], Option, Some, None, length, refl}
-use Rattle.std.specs.Option.{option_or}
+-- In a legal history a file name is bound to the digest and the size of its first upload, and a ban of it is for good.
+use Rattle.std.proofs.Common.{◌≡◌, ℕ, Bool, true, false, cond, inl, inr, sym, ap, ◌∙◌, [], Option, Some, None, length, refl}
+use Rattle.std.specs.Option.{option_or, option_map_or}
 use Rattle.std.specs.FinMap.{get}
+use Rattle.std.proofs.lemmas.Bool.{false≢true}
 use Rattle.index_digest.specs.Digest.{read_digest}
-use Rattle.index_rules.specs.declared.answer.Refusal.TheVariants.{BadDigest, BadFileName, FileNameTaken}
+use Rattle.index_rules.specs.declared.answer.Refusal.TheVariants.{BadDigest, BadFileName, FileBanned, FileNameTaken}
 use Rattle.index_rules.specs.declared.call.Call.{Call}
 use Rattle.index_rules.specs.declared.call.Request.{Request}
-use Rattle.index_rules.specs.declared.call.Request.TheVariants.{Upload}
+use Rattle.index_rules.specs.declared.call.Request.TheVariants.{Upload, BanFile}
 use Rattle.index_rules.specs.Maps.{Bytes}
 use Rattle.index_rules.specs.Tables.{Tables}
 use Rattle.index_rules.specs.Requests.{read_file}
@@ -14,10 +15,11 @@ use Rattle.index_rules.specs.Facts.{facts_in}
 use Rattle.index_rules.specs.Verdict.{Accept, verdict_now}
 use Rattle.index_rules.specs.Effect.{or_empty}
 use Rattle.index_rules.specs.History.{History, begins, more, is_read_as}
-use Rattle.index_rules.specs.PastFiles.{first_upload_after, first_upload_by}
+use Rattle.index_rules.specs.PastFiles.{first_upload_after, first_upload_by, is_banned_by, is_banned_after}
 use Rattle.index_rules.specs.StandsFor.{file_after}
-use Rattle.index_rules.specs.Legal.{IsLegal}
-use Rattle.index_rules.specs.Laws.{IsUploadOf, HasUpload, BindsFiles}
+use Rattle.index_rules.specs.Legal.{IsLegal, verdict_after, facts_after}
+use Rattle.index_rules.specs.Laws.{IsUploadOf, HasUpload, BindsFiles, IsBanOf, HasBan, KeepsBans}
+use Rattle.index_rules.proofs.KeyLemmas.{same-refl}
 use Rattle.index_rules.proofs.Accepted.{accepted}
 use Rattle.index_rules.proofs.PastReading.{read_itself}
 use Rattle.index_rules.proofs.StepFiles.{known-here}
@@ -54,3 +56,37 @@ known_upload (more h e) legal f first (inr is) = known_before e.call.request f (
 pub binds_files : (h : History) → IsLegal h → BindsFiles h
 binds_files h legal f first second one other =
     let both : Some first ≡ Some second = sym (known_upload h legal f first one) ∙ known_upload h legal f second other in cc
+
+-- ---- bans
+
+-- what a ban makes banned, and what was banned stays so
+banned_now : (r : Request) (f : Bytes) (before : Bool) → IsBanOf r f → is_banned_by r f before ≡ true
+banned_now (BanFile file) f before is = ap (λ read. cond (is_read_as read f) true before) is ∙ ap (λ b. cond b true before) (same-refl f)
+banned_now r f before is = absurd is
+
+banned_before : (r : Request) (f : Bytes) (before : Bool) → before ≡ true → is_banned_by r f before ≡ true
+banned_before (BanFile file) f before is = by (is_read_as (read_file file) f)
+  where
+    by : (b : Bool) → cond b true before ≡ true
+    by true = refl
+    by false = is
+banned_before r f before is = is
+
+-- a file that some entry bans is banned
+banned_file : (h : History) (f : Bytes) → HasBan h f → is_banned_after h f ≡ true
+banned_file (begins user token) f has = absurd has
+banned_file (more h e) f (inl is) = banned_now e.call.request f (is_banned_after h f) is
+banned_file (more h e) f (inr is) = banned_before e.call.request f (is_banned_after h f) (banned_file h f is)
+
+-- no upload of a banned file is accepted
+no_upload : (h : History) (at : ℕ) (token : Bytes) (r : Request) → verdict_after h (record { at = at; token = token; request = r }) ≡ Accept
+    → (f : Bytes) (first : Bytes × ℕ) → IsUploadOf r f first → is_banned_after h f ≡ true → ⊥
+no_upload h at token (Upload file sha256 body requires) accepts f first is banned =
+    let c : Call = record { at = at; token = token; request = Upload file sha256 body requires } in
+    let no_ban = (accepted c (facts_after h c) accepts).not_refused FileBanned refl in
+    false≢true (sym no_ban ∙ ap (λ read. option_map_or (is_banned_after h) read false) is.0 ∙ banned)
+no_upload h at token r accepts f first is banned = is
+
+pub keeps_bans : (h : History) → IsLegal h → KeepsBans h
+keeps_bans (begins user token) legal = tt
+keeps_bans (more h e) legal = (keeps_bans h legal.0, λ f first is has. no_upload h e.call.at e.call.token e.call.request legal.1 f first is (banned_file h f has))

@@ -13,6 +13,7 @@ pub mod PutLemmas
 pub mod Rising
 pub mod RunLemmas
 pub mod Seen
+pub mod SoundBans
 pub mod SoundCases
 pub mod SoundDeletes
 pub mod SoundEnds

@@ -1,16 +1,16 @@
 -- In a legal history each entry moves the charges, the states and the owners as its request says.
-use Rattle.std.proofs.Common.{◌≡◌, ℕ, ◌+◌, Bool, true, false, cond, ◌&&◌, inl, inr, refl, sym, ap, ◌∙◌, subst, Option, Some, None, length, option_map, option_and_then, unwrap_or}
+use Rattle.std.proofs.Common.{◌≡◌, ℕ, ◌+◌, Bool, true, false, cond, ◌&&◌, inl, inr, refl, sym, ap, ◌∙◌, subst, Option, Some, None, length, option_map, option_and_then, unwrap_or, arith}
 use Rattle.std.specs.Option.{option_map_or}
 use Rattle.std.specs.FinMap.{get, entries}
-use Rattle.std.proofs.Math.Bool.{and-false}
+use Rattle.std.proofs.Math.Bool.{and-false, and-true}
 use Rattle.std.proofs.lemmas.Bool.{not-false}
 use Rattle.index_names.specs.Project.{read_name}
 use Rattle.index_names.specs.FileName.{project_of, release_of}
 use Rattle.index_digest.specs.Digest.{read_digest}
-use Rattle.index_rules.specs.declared.answer.Refusal.TheVariants.{BadFileName, BadName}
+use Rattle.index_rules.specs.declared.answer.Refusal.TheVariants.{BadFileName, BadName, NoFile}
 use Rattle.index_rules.specs.declared.call.Call.{Call}
 use Rattle.index_rules.specs.declared.call.Request.{Request}
-use Rattle.index_rules.specs.declared.call.Request.TheVariants.{Claim, AddOwner, RemoveOwner, Upload, Delete, Relinquish, Prohibit, Allow, Transfer}
+use Rattle.index_rules.specs.declared.call.Request.TheVariants.{Claim, AddOwner, RemoveOwner, Upload, Delete, BanFile, Relinquish, Prohibit, Allow, Transfer}
 use Rattle.index_rules.specs.declared.records.FileRecord.{FileRecord}
 use Rattle.index_rules.specs.Maps.{Bytes, same, change_values}
 use Rattle.index_rules.specs.Users.{read_user}
@@ -32,7 +32,8 @@ use Rattle.index_rules.proofs.PutLemmas.{each_changed}
 use Rattle.index_rules.proofs.Totals.{total_of, total-zero}
 use Rattle.index_rules.proofs.FileTotals.{total-upload, total-delete, total-delete_all}
 use Rattle.index_rules.proofs.Accepted.{accepted}
-use Rattle.index_rules.proofs.SoundLemmas.{undeleted_there}
+use Rattle.index_rules.proofs.SoundBans.{file_stays}
+use Rattle.index_rules.proofs.SoundLemmas.{file_there, undeleted_there}
 use Rattle.index_rules.proofs.PastWords.{is_undeleted-file_at}
 use Rattle.index_rules.proofs.PastReading.{read_key, read_itself, at_key, at_other}
 use Rattle.index_rules.proofs.PastTotals.{charge_agrees}
@@ -85,6 +86,24 @@ module _ (T : Tables) (h : History) (sound : IsSound T) (stands : StandsFor T h)
       ∙ (λ i. left + cond (same n (sym project i)) (sym size i) 0)
       ∙ total-delete (λ known. known.size) T file known undeleted.1 there n
 
+  charge-ban : (file : Bytes) → verdict_now T (of (BanFile file)) ≡ Accept → (n : Bytes) → MovesCharge (BanFile file) h n (charge_in T n) (charge_in (tables_with_call T (of (BanFile file))) n)
+  charge-ban file accepts n =
+      let all = accepted (of (BanFile file)) (facts_in T (of (BanFile file))) accepts in
+      let reads : read_file file ≡ Some file = read_itself file (all.not_refused BadFileName refl) in
+      let found : option_and_then (get T.files) (read_file file) ≡ get T.files file = ap (option_and_then (get T.files)) reads in
+      let known : FileRecord = unwrap_or (option_and_then (get T.files) (read_file file)) no_file in
+      let there : get T.files file ≡ Some known = sym found ∙ file_there (option_and_then (get T.files) (read_file file)) (all.not_refused NoFile refl) in
+      let project : known.project ≡ project_of file = (sound.spelled file known there).project in
+      let size : known.size ≡ size_after h file = ap (λ o. (unwrap_or o no_file).size) (found ∙ stands.files file) ∙ size-file_at h file in
+      let is : known.is_undeleted ≡ is_undeleted_after h file = sym (ap is_undeleted there) ∙ ap is_undeleted (stands.files file) ∙ is_undeleted-file_at h file in
+      let left : ℕ = charge_in (tables_with_call T (of (BanFile file))) n in
+      (λ i. left + cond (is_read_as (option_map project_of (reads i)) n && is_undeleted_after h (or_empty (reads i))) (size_after h (or_empty (reads i))) 0)
+      ∙ (λ i. left + cond (same n (sym project i) && sym is i) (sym size i) 0)
+      ∙ elim known.is_undeleted as (λ b. known.is_undeleted ≡ b → left + cond (same n known.project && b) known.size 0 ≡ charge_in T n) [
+        | true ↦ λ there_now. ap (λ b. left + cond b known.size 0) (and-true (same n known.project)) ∙ total-delete (λ known. known.size) T file known there_now there n
+        | false ↦ λ gone. ap (λ b. left + cond b known.size 0) (and-false (same n known.project)) ∙ ap (λ files. total_of (charged_size n) (entries files) + 0) (file_stays T file known there gone) ∙ omega arith
+      ] refl
+
   charge-prohibit : (name : Bytes) → verdict_now T (of (Prohibit name)) ≡ Accept → (n : Bytes) → MovesCharge (Prohibit name) h n (charge_in T n) (charge_in (tables_with_call T (of (Prohibit name))) n)
   charge-prohibit name accepts n =
       let read : Option Bytes = read_name name in
@@ -99,6 +118,7 @@ module _ (T : Tables) (h : History) (sound : IsSound T) (stands : StandsFor T h)
   charge-moves : (r : Request) → verdict_now T (of r) ≡ Accept → (n : Bytes) → MovesCharge r h n (charge_in T n) (charge_in (tables_with_call T (of r)) n)
   charge-moves (Upload file digest body requires) accepts n = charge-upload file digest body requires accepts n
   charge-moves (Delete file) accepts n = charge-delete file accepts n
+  charge-moves (BanFile file) accepts n = charge-ban file accepts n
   charge-moves (Prohibit name) accepts n = charge-prohibit name accepts n
   charge-moves r accepts n = refl
 

@@ -7,7 +7,7 @@ use Rattle.index_names.specs.Project.{read_name}
 use Rattle.index_names.specs.FileName.{project_of}
 use Rattle.index_digest.specs.Digest.{read_digest}
 use Rattle.index_rules.specs.declared.call.Request.{Request}
-use Rattle.index_rules.specs.declared.call.Request.TheVariants.{Claim, AddOwner, RemoveOwner, Upload, Delete, Prohibit, Transfer}
+use Rattle.index_rules.specs.declared.call.Request.TheVariants.{Claim, AddOwner, RemoveOwner, Upload, Delete, BanFile, Prohibit, Transfer}
 use Rattle.index_rules.specs.Maps.{Bytes, same}
 use Rattle.index_rules.specs.Users.{read_user}
 use Rattle.index_rules.specs.Requests.{read_file}
@@ -88,6 +88,7 @@ known_after (Upload file sha256 body requires) f b before there is = by (is_read
     by true None there is = refl
     by false None there is = there is
 known_after (Delete file) f b before there is = there (still (is_read_as (read_file file) f) b is)
+known_after (BanFile file) f b before there is = there (still (is_read_as (read_file file) f) b is)
 known_after (Prohibit name) f b before there is = there (still (is_read_as (read_name name) (project_of f)) b is)
 known_after r f b before there is = there is
 

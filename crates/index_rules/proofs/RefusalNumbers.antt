@@ -2,7 +2,7 @@
 use Rattle.std.proofs.Common.{◌≡◌, ℕ, ◌==◌, true, cond, refl, sym, ap, ◌∙◌, arith}
 use Rattle.std.proofs.lemmas.Bool.Decides.{nat_tests}
 use Rattle.index_rules.specs.declared.answer.Refusal.{Refusal}
-use Rattle.index_rules.specs.declared.answer.Refusal.TheVariants.{BadMoment, BadToken, NotOffice, BadUser, BadName, BadFileName, BadRelease, BadText, BadDigest, TooLarge, DigestMismatch, QuotaTooLarge, NoUser, UserExists, TokenTaken, NameProhibited, NoProject, NotOwner, NameHeld, LastOwner, FilesRemain, NoFile, NoRelease, FileNameTaken, OverQuota, QuotaBelowCharge, CaseOpen, OwnerCandidate, NoCase, AttemptsFull, TooFewAttempts, TooEarly, RecentRelease, HomePageActive}
+use Rattle.index_rules.specs.declared.answer.Refusal.TheVariants.{BadMoment, BadToken, NotOffice, BadUser, BadName, BadFileName, BadRelease, BadText, BadDigest, TooLarge, DigestMismatch, QuotaTooLarge, NoUser, UserExists, TokenTaken, NameProhibited, NoProject, NotOwner, NameHeld, LastOwner, FilesRemain, NoFile, NoRelease, FileNameTaken, FileBanned, OverQuota, QuotaBelowCharge, CaseOpen, OwnerCandidate, NoCase, AttemptsFull, TooFewAttempts, TooEarly, RecentRelease, HomePageActive}
 use Rattle.index_rules.specs.Refusals.{number_of}
 
 abbrev refusal_numbered : ℕ → Refusal
@@ -31,6 +31,7 @@ refusal_numbered n =
     cond (n == 22) NoFile (
     cond (n == 23) NoRelease (
     cond (n == 24) FileNameTaken (
+    cond (n == 25) FileBanned (
     cond (n == 26) OverQuota (
     cond (n == 27) QuotaBelowCharge (
     cond (n == 28) CaseOpen (
@@ -40,7 +41,7 @@ refusal_numbered n =
     cond (n == 32) TooFewAttempts (
     cond (n == 33) TooEarly (
     cond (n == 34) RecentRelease (
-    HomePageActive)))))))))))))))))))))))))))))))))
+    HomePageActive))))))))))))))))))))))))))))))))))
 
 refusal_numbered-number : (refusal : Refusal) → refusal_numbered (number_of refusal) ≡ refusal
 refusal_numbered-number BadMoment = refl
@@ -67,6 +68,7 @@ refusal_numbered-number FilesRemain = refl
 refusal_numbered-number NoFile = refl
 refusal_numbered-number NoRelease = refl
 refusal_numbered-number FileNameTaken = refl
+refusal_numbered-number FileBanned = refl
 refusal_numbered-number OverQuota = refl
 refusal_numbered-number QuotaBelowCharge = refl
 refusal_numbered-number CaseOpen = refl

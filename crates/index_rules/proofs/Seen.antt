@@ -71,6 +71,7 @@ module _ (T : Tables) (one : HasOneBearer T) where
         named_owns = one_seen (name_key c.request) (user_key c.request) v.owners s.owners i;
         sole = sole_seen (name_key c.request) (user_key c.request) v.owners s.owners i;
         file = s.file i;
+        is_banned = s.is_banned i;
         yank = s.yank i;
         has_release = s.has_release i;
         case = s.case i;

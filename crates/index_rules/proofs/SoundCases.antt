@@ -26,6 +26,7 @@ IsSound-cases T sound cases held = record {
   quota = sound.quota;
   bodies = sound.bodies;
   bytes = sound.bytes;
+  bans = sound.bans;
 }
 
 -- the tables with no case of a name
@@ -62,4 +63,5 @@ IsSound-transfer T sound name candidate held = record {
   quota = sound.quota;
   bodies = sound.bodies;
   bytes = sound.bytes;
+  bans = sound.bans;
 }

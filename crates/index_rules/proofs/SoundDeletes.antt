@@ -1,5 +1,5 @@
 -- Sound tables stay sound where an undeleted file is deleted.
-use Rattle.std.proofs.Common.{◌≡◌, ◌+◌, ◌-◌, ◌≤◌, true, cond, sym, ap, ◌∙◌, subst, Some, is_some, arith}
+use Rattle.std.proofs.Common.{◌≡◌, ◌+◌, ◌-◌, ◌≤◌, true, false, cond, refl, sym, ap, ◌∙◌, subst, Some, is_some, arith}
 use Rattle.std.specs.FinMap.{get, insert, remove}
 use Rattle.std.proofs.lemmas.Bool.{false≢true}
 use Rattle.index_names.specs.FileName.{project_of}
@@ -8,7 +8,7 @@ use Rattle.index_rules.specs.Projects.{Project}
 use Rattle.index_rules.specs.declared.records.FileRecord.{FileRecord}
 use Rattle.index_rules.specs.Maps.{Bytes, same}
 use Rattle.index_rules.specs.Tables.{Tables}
-use Rattle.index_rules.specs.Facts.{owns_in}
+use Rattle.index_rules.specs.Facts.{owns_in, is_banned_in}
 use Rattle.index_rules.specs.Verdict.{held_project, is_held, is_undeleted}
 use Rattle.index_rules.specs.Effect.{without_file, as_deleted}
 use Rattle.index_rules.specs.Sound.{IsSound, IsRecordOf, IsBodyOf, charge_in, undeleted_count_in}
@@ -99,4 +99,7 @@ module _ (T : Tables) (sound : IsSound T) (file : Bytes) (known : FileRecord) (p
     bytes = each_without T.bodies file (λ q found. (b : Bytes) (k : FileRecord) → found ≡ Some b → get with_one_less.files q ≡ Some k → IsBodyOf k b)
         (λ b k e at_k. cc)
         (λ q other b k e at_k. sound.bytes q b k e (sym (get-put_other T.files file (as_deleted known) q other) ∙ at_k));
+    bans = each_put T.files file (as_deleted known) (λ q found. is_banned_in T q ≡ true → (k : FileRecord) × (found ≡ Some k) × (k.is_undeleted ≡ false))
+        (λ _. (as_deleted known, refl, refl))
+        (λ q _. sound.bans q);
   }

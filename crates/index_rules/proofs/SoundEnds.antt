@@ -12,6 +12,7 @@ use Rattle.index_rules.specs.Projects.{Project}
 use Rattle.index_rules.specs.declared.records.FileRecord.{FileRecord}
 use Rattle.index_rules.specs.Maps.{Bytes, Map, PairMap, same, change_values}
 use Rattle.index_rules.specs.Tables.{Tables}
+use Rattle.index_rules.specs.Facts.{is_banned_in}
 use Rattle.index_rules.specs.Verdict.{held_project, is_held, is_undeleted}
 use Rattle.index_rules.specs.Effect.{as_deleted, as_deleted_of, is_file_of, without_name}
 use Rattle.index_rules.specs.Sound.{IsSound, IsRecordOf, IsBodyOf, undeleted_count_in}
@@ -21,7 +22,7 @@ use Rattle.index_rules.proofs.FileTotals.{total-delete_all, none_undeleted}
 
 -- ---- a name that ends
 
-nothing_there : {X : Type 0} (found : Option X) → is_some found ≡ false → found ≡ None
+pub nothing_there : {X : Type 0} (found : Option X) → is_some found ≡ false → found ≡ None
 nothing_there None e = refl
 nothing_there (Some x) e = absurd (true≢false e)
 
@@ -96,6 +97,14 @@ module _ (T : Tables) (sound : IsSound T) (name : Bytes) (closed : get T.cases n
       ] (sym (ap (λ found. left_body found (get T.bodies q)) there) ∙ at_body))
       file known at (sym (get-ended file) ∙ at_body)
 
+  bans-ended : (file : Bytes) → is_banned_in T file ≡ true → (known : FileRecord) × (get left_files file ≡ Some known) × (known.is_undeleted ≡ false)
+  bans-ended file banned =
+      let was = sound.bans file banned in (
+        as_deleted_of name was.0,
+        get-change_values (as_deleted_of name) T.files file ∙ ap (option_map (as_deleted_of name)) was.1,
+        elim (same name was.0.project) as (λ b. (cond b (deleted was.0) was.0).is_undeleted ≡ false) [ true ↦ refl | false ↦ was.2 ],
+      )
+
   -- ---- the tables, where the name is held no more and the others are as they were
 
   module _ (names : Map NameRecord) (gone : is_held (get names name) ≡ false) (others : (n : Bytes) → same n name ≡ false → get names n ≡ get T.names n) where
@@ -128,6 +137,7 @@ module _ (T : Tables) (sound : IsSound T) (name : Bytes) (closed : get T.cases n
       quota = λ n p at. sound.quota n p (before n p at).1;
       bodies = bodies-ended;
       bytes = bytes-ended;
+      bans = bans-ended;
     }
 
   pub IsSound-prohibit : IsSound (ended (insert T.names name Prohibited))

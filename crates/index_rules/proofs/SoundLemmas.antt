@@ -1,5 +1,5 @@
 -- Sound tables stay sound: after an accepted call, after any answer, after calls in a row.
-use Rattle.std.proofs.Common.{◌≡◌, ℕ, ◌+◌, ◌≤◌, true, false, not, ◌&&◌, refl, sym, ap, ◌∙◌, subst, List, [], ◌∷◌, Option, Some, None, is_some, is_none, option_map, option_and_then, unwrap_or, length, nat_lt, arith}
+use Rattle.std.proofs.Common.{◌≡◌, ℕ, ◌+◌, ◌≤◌, true, false, cond, not, ◌&&◌, refl, sym, ap, ◌∙◌, subst, List, [], ◌∷◌, Option, Some, None, is_some, is_none, option_map, option_and_then, unwrap_or, length, nat_lt, arith}
 use Rattle.std.specs.Option.{option_map_or}
 use Rattle.std.specs.FinMap.{get, remove}
 use Rattle.std.proofs.lemmas.Bool.{true≢false, false≢true, not-false, ltb-false}
@@ -7,12 +7,12 @@ use Rattle.index_names.specs.Project.{read_name}
 use Rattle.index_names.specs.Release.{read_release}
 use Rattle.index_names.specs.FileName.{Spelled, read_file_name, project_of, release_of}
 use Rattle.index_digest.specs.Digest.{sha256, read_digest}
-use Rattle.index_rules.specs.declared.answer.Refusal.TheVariants.{BadDigest, BadFileName, BadName, BadUser, DigestMismatch, FilesRemain, LastOwner, NameHeld, NoProject, OverQuota, QuotaBelowCharge, TokenTaken}
+use Rattle.index_rules.specs.declared.answer.Refusal.TheVariants.{BadDigest, BadFileName, BadName, BadUser, DigestMismatch, FileBanned, FilesRemain, LastOwner, NameHeld, NoFile, NoProject, OverQuota, QuotaBelowCharge, TokenTaken}
 use Rattle.index_rules.specs.declared.answer.Answer.{Answer}
 use Rattle.index_rules.specs.declared.answer.Answer.TheVariants.{Accepted, Already, Refused, Fault}
 use Rattle.index_rules.specs.declared.call.Call.{Call}
 use Rattle.index_rules.specs.declared.call.Request.{Request}
-use Rattle.index_rules.specs.declared.call.Request.TheVariants.{AddUser, SetToken, SetQuota, Claim, AddOwner, RemoveOwner, Upload, Delete, Yank, Unyank, Relinquish, Prohibit, Allow, OpenCase, RecordAttempt, Transfer, CloseCase, AnswerCase}
+use Rattle.index_rules.specs.declared.call.Request.TheVariants.{AddUser, SetToken, SetQuota, Claim, AddOwner, RemoveOwner, Upload, Delete, BanFile, Yank, Unyank, Relinquish, Prohibit, Allow, OpenCase, RecordAttempt, Transfer, CloseCase, AnswerCase}
 use Rattle.index_rules.specs.declared.records.FileRecord.{FileRecord}
 use Rattle.index_rules.specs.declared.records.NameRecord.{NameRecord}
 use Rattle.index_rules.specs.declared.records.NameRecord.TheVariants.{Held, Prohibited}
@@ -22,9 +22,9 @@ use Rattle.index_rules.specs.Users.{read_user}
 use Rattle.index_rules.specs.Texts.{read_token}
 use Rattle.index_rules.specs.Tables.{Tables}
 use Rattle.index_rules.specs.Requests.{read_file}
-use Rattle.index_rules.specs.Facts.{Facts, facts_in, of_both, owns_in, owns_alone_in}
+use Rattle.index_rules.specs.Facts.{Facts, facts_in, of_both, owns_in, owns_alone_in, is_banned_in}
 use Rattle.index_rules.specs.Verdict.{Accept, verdict_now, exceeds_quota, has_files, is_prohibited, held_project, is_held, is_undeleted}
-use Rattle.index_rules.specs.Effect.{or_empty, no_file, no_project, the_file, the_user, the_project, the_caller, tables_with_call}
+use Rattle.index_rules.specs.Effect.{or_empty, no_file, no_project, the_file, the_user, the_project, the_caller, without_file, tables_with_call}
 use Rattle.index_rules.specs.Runs.{Answers, Runs, tables_after}
 use Rattle.index_rules.specs.Sound.{IsSound, undeleted_count_in}
 use Rattle.index_rules.proofs.OwnerLists.{same-is}
@@ -35,6 +35,7 @@ use Rattle.index_rules.proofs.SoundNames.{IsSound-project, IsSound-claim, undele
 use Rattle.index_rules.proofs.SoundOwners.{IsSound-owner, IsSound-no_owner}
 use Rattle.index_rules.proofs.SoundUploads.{IsSound-upload}
 use Rattle.index_rules.proofs.SoundDeletes.{IsSound-delete}
+use Rattle.index_rules.proofs.SoundBans.{with_ban, IsSound-ban_deleted, IsSound-ban_undeleted}
 use Rattle.index_rules.proofs.SoundYanks.{IsSound-yank, IsSound-no_yank}
 use Rattle.index_rules.proofs.SoundCases.{closed, IsSound-closed, IsSound-case, IsSound-transfer}
 use Rattle.index_rules.proofs.PutLemmas.{get-without_here}
@@ -89,6 +90,10 @@ file_spelled file unread = by (read_file_name file) unread
     by None unread = absurd (true≢false unread)
     by (Some spelled) unread = refl
 
+pub file_there : (found : Option FileRecord) → is_none found ≡ false → found ≡ Some (unwrap_or found no_file)
+file_there None missing = absurd (true≢false missing)
+file_there (Some known) missing = refl
+
 pub undeleted_there : (found : Option FileRecord) → is_undeleted found ≡ true → (found ≡ Some (unwrap_or found no_file)) × ((unwrap_or found no_file).is_undeleted ≡ true)
 undeleted_there None undeleted = absurd (false≢true undeleted)
 undeleted_there (Some known) undeleted = (refl, undeleted)
@@ -137,6 +142,7 @@ module _ (T : Tables) (sound : IsSound T) (at : ℕ) (token : Bytes) where
       (record { is_file_name = file_spelled file (all.not_refused BadFileName refl); project = refl; release = refl })
       (record { size = refl; digest = digest_is (read_digest digest) body (all.not_refused BadDigest refl) (all.not_refused DigestMismatch refl) })
       fits
+      (sym (ap (λ o. option_map_or (is_banned_in T) o false) reads) ∙ all.not_refused FileBanned refl)
 
   deleted_one : (file : Bytes) → verdict_now T (of (Delete file)) ≡ Accept → IsSound (tables_with_call T (of (Delete file)))
   deleted_one file accepts =
@@ -147,6 +153,25 @@ module _ (T : Tables) (sound : IsSound T) (at : ℕ) (token : Bytes) where
       let file_is : f.file ≡ get T.files file = ap (option_and_then (get T.files)) reads in
       let known = undeleted_there f.file (not-false _ all.not_already) in
       IsSound-delete (closed (project_of file) T) (IsSound-closed T sound (project_of file)) file (the_file f) (the_project f) known.1 (sym file_is ∙ known.0) (sym (ap held_project name_is) ∙ project_there _ (all.not_refused NoProject refl))
+
+  banned : (file : Bytes) → verdict_now T (of (BanFile file)) ≡ Accept → IsSound (tables_with_call T (of (BanFile file)))
+  banned file accepts =
+      let all = accepted (of (BanFile file)) (facts (BanFile file)) accepts in
+      let f : Facts = facts (BanFile file) in
+      let known : FileRecord = the_file f in
+      let reads = read_itself file (all.not_refused BadFileName refl) in
+      let name_is : f.name ≡ get T.names (project_of file) = ap (λ o. option_and_then (get T.names) (option_map project_of o)) reads in
+      let found : f.file ≡ Some known = file_there f.file (all.not_refused NoFile refl) in
+      let there : get T.files file ≡ Some known = sym (ap (option_and_then (get T.files)) reads) ∙ found in
+      let is : is_undeleted f.file ≡ known.is_undeleted = ap is_undeleted found in
+      elim (is_undeleted f.file) as (λ b. is_undeleted f.file ≡ b → IsSound (with_ban T file known (cond b (option_map (without_file known.size) (held_project f.name)) None))) [
+        | true ↦ λ undeleted.
+            let held : is_held (get T.names (project_of file)) ≡ true = ap (λ n. is_held (get T.names n)) (sym (sound.spelled file known there).project) ∙ sound.undeleted_held file known there (sym is ∙ undeleted) in
+            let project : held_project f.name ≡ Some (the_project f) = some_there (held_project f.name) no_project (ap is_held name_is ∙ held) in
+            subst (λ left. IsSound (with_ban T file known (option_map (without_file known.size) left))) (sym project)
+            (IsSound-ban_undeleted T file known there sound (the_project f) (sym is ∙ undeleted) (sym (ap held_project name_is) ∙ project))
+        | false ↦ λ gone. IsSound-ban_deleted T file known there sound (sym is ∙ gone)
+      ] refl
 
   each_request : (request : Request) → verdict_now T (of request) ≡ Accept → IsSound (tables_with_call T (of request))
   each_request (AddUser user office digest) accepts =
@@ -167,6 +192,7 @@ module _ (T : Tables) (sound : IsSound T) (at : ℕ) (token : Bytes) where
       no_owner (closed (or_empty (read_name name)) T) (IsSound-closed T sound (or_empty (read_name name))) (read_name name) (read_user user) (not-false _ all.not_already) (all.not_refused LastOwner refl)
   each_request (Upload file digest body requires) accepts = uploaded file digest body requires accepts
   each_request (Delete file) accepts = deleted_one file accepts
+  each_request (BanFile file) accepts = banned file accepts
   each_request (Yank name release reason) accepts =
       let all = accepted (of (Yank name release reason)) (facts (Yank name release reason)) accepts in
       IsSound-yank (closed (or_empty (read_name name)) T) (IsSound-closed T sound (or_empty (read_name name))) (or_empty (read_name name)) (or_empty (read_release release)) reason (ap is_some (project_at T (read_name name) (all.not_refused NoProject refl)))

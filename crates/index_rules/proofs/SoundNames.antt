@@ -46,6 +46,7 @@ IsSound-project T sound name before project at charge undeleted quota = record {
       (λ n _. sound.quota n);
   bodies = sound.bodies;
   bytes = sound.bytes;
+  bans = sound.bans;
 }
 
 -- ---- a name that is given to one user alone
@@ -117,4 +118,5 @@ module _ (T : Tables) (sound : IsSound T) (name : Bytes) (free : is_held (get T.
           (λ n _. sound.quota n);
       bodies = sound.bodies;
       bytes = sound.bytes;
+      bans = sound.bans;
     }

@@ -35,4 +35,5 @@ IsSound-opened user token = record {
   quota = λ name project at. absurd (none_there (ap held_project (get-empty bytes_cmp name)) at);
   bodies = λ file. ap is_some (get-empty bytes_cmp file) ∙ sym (ap is_undeleted (get-empty bytes_cmp file));
   bytes = λ file body known at_body at. absurd (none_there (get-empty bytes_cmp file) at);
+  bans = λ file banned. absurd (false≢true (sym (ap is_some (get-empty bytes_cmp file)) ∙ banned));
 }

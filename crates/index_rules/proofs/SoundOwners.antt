@@ -30,6 +30,7 @@ IsSound-owner T sound name owner held = record {
   quota = sound.quota;
   bodies = sound.bodies;
   bytes = sound.bytes;
+  bans = sound.bans;
 }
   where
     either : (a b : Bool) → b ≡ true → cond a true b ≡ true
@@ -87,6 +88,7 @@ IsSound-no_owner T sound name owner owns sole = record {
   quota = sound.quota;
   bodies = sound.bodies;
   bytes = sound.bytes;
+  bans = sound.bans;
 }
   where
     had : (a b : Bool) → cond a false b ≡ true → b ≡ true

@@ -1,13 +1,14 @@
 -- Sound tables stay sound where a file that is not undeleted is uploaded within its project's quota.
 use Rattle.std.proofs.Common.{◌≡◌, ℕ, ◌+◌, ◌≤◌, true, false, cond, inl, inr, sym, ap, ◌∙◌, subst, Some, is_some, length, arith}
 use Rattle.std.specs.FinMap.{get, insert}
+use Rattle.std.proofs.lemmas.Bool.{false≢true}
 use Rattle.index_rules.specs.declared.records.NameRecord.TheVariants.{Held}
 use Rattle.index_rules.specs.Projects.{Project}
 use Rattle.index_rules.specs.declared.records.FileRecord.{FileRecord}
 use Rattle.index_rules.specs.Maps.{Bytes, same}
 use Rattle.index_digest.specs.Digest.{sha256}
 use Rattle.index_rules.specs.Tables.{Tables}
-use Rattle.index_rules.specs.Facts.{owns_in}
+use Rattle.index_rules.specs.Facts.{owns_in, is_banned_in}
 use Rattle.index_rules.specs.Verdict.{held_project, is_held, is_undeleted}
 use Rattle.index_rules.specs.Effect.{with_file}
 use Rattle.index_rules.specs.Sound.{IsSound, IsRecordOf, IsBodyOf, charge_in, undeleted_count_in}
@@ -65,8 +66,8 @@ module _ (at : ℕ) (T : Tables) (sound : IsSound T) (file : Bytes) (known : Fil
       record { size = (λ i. length (sym body_is i)) ∙ is.size ∙ (λ i. (same_known i).size); digest = (λ i. sha256 (sym body_is i)) ∙ is.digest ∙ (λ i. (same_known i).digest) })
       (λ q other b k e at_k. sound.bytes q b k e (sym (get-put_other T.files file known q other) ∙ at_k))
 
-  pub IsSound-upload : IsRecordOf file known → IsBodyOf known body → project.charge + known.size ≤ project.quota → IsSound uploaded
-  IsSound-upload spelled is_body fits = record {
+  pub IsSound-upload : IsRecordOf file known → IsBodyOf known body → project.charge + known.size ≤ project.quota → is_banned_in T file ≡ false → IsSound uploaded
+  IsSound-upload spelled is_body fits no_ban = record {
     one_bearer = sound.one_bearer;
     owners = λ name user owns. still_held T known.project (with_file at known.size project) name (sound.owners name user owns);
     owned = each_put T.names known.project (Held (with_file at known.size project)) (λ name found. is_held found ≡ true → (user : Bytes) × (owns_in T name user ≡ true))
@@ -90,4 +91,7 @@ module _ (at : ℕ) (T : Tables) (sound : IsSound T) (file : Bytes) (known : Fil
       | inr other ↦ ap is_some (get-put_other T.bodies file body q other) ∙ sound.bodies q ∙ sym (ap is_undeleted (get-put_other T.files file known q other))
     ];
     bytes = bytes-upload is_body;
+    bans = each_put T.files file known (λ q found. is_banned_in T q ≡ true → (k : FileRecord) × (found ≡ Some k) × (k.is_undeleted ≡ false))
+        (λ banned. absurd (false≢true (sym no_ban ∙ banned)))
+        (λ q _. sound.bans q);
   }

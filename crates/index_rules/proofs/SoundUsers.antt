@@ -44,6 +44,7 @@ IsSound-user T sound user account free = record {
   quota = sound.quota;
   bodies = sound.bodies;
   bytes = sound.bytes;
+  bans = sound.bans;
 }
 
 -- a digest that is not taken is free for the user

@@ -26,6 +26,7 @@ IsSound-yanks T sound yanks held = record {
   quota = sound.quota;
   bodies = sound.bodies;
   bytes = sound.bytes;
+  bans = sound.bans;
 }
 
 pub IsSound-yank : (T : Tables) → IsSound T → (name release reason : Bytes) → is_held (get T.names name) ≡ true → IsSound (record T { yanks = insert T.yanks (name, release) reason })

@@ -38,7 +38,7 @@ use Rattle.index_rules.proofs.StepUsers.{step_of_users}
 use Rattle.index_rules.proofs.StepNames.{IsShaped, IsNamed, step_of_names}
 use Rattle.index_rules.proofs.StepOwners.{step_of_owners, step_of_yanks}
 use Rattle.index_rules.proofs.StepCases.{step_of_cases}
-use Rattle.index_rules.proofs.StepFiles.{step_of_files, step_of_bodies}
+use Rattle.index_rules.proofs.StepFiles.{step_of_files, step_of_bodies, bans_after}
 
 -- ---- the numbers of a name
 
@@ -81,6 +81,7 @@ module _ (T : Tables) (h : History) (sound : IsSound T) (stands : StandsFor T h)
         bodies = step_of_bodies T h stands.files c.at c.token actor stands.bodies c.request accepts;
         yanks = step_of_yanks T h stands.names stands.cases c.at c.token actor stands.yanks c.request accepts;
         cases = step_of_cases T h sound stands.names stands.cases c.at c.token actor (acts c.token) c.request accepts;
+        bans = bans_after T h stands.files c.at c.token actor stands.bans c.request accepts;
       }
 
   -- who made an accepted call bears its token
@@ -103,6 +104,7 @@ StandsFor-opened user token = record {
   bodies = λ q. get-empty bytes_cmp q;
   yanks = λ n r. get-empty pair_cmp (n, r);
   cases = λ q. get-empty bytes_cmp q;
+  bans = λ q. ap is_some (get-empty bytes_cmp q);
 }
 
 -- ---- legal histories
@@ -136,6 +138,7 @@ same_tables h T T' one other = λ i. record {
   bodies = same_map nat_list_cmp_total exact_bytes T.bodies T'.bodies (λ q. one.bodies q ∙ sym (other.bodies q)) i;
   yanks = same_map pair_total exact_pair T.yanks T'.yanks (λ q. one.yanks q.0 q.1 ∙ sym (other.yanks q.0 q.1)) i;
   cases = same_map nat_list_cmp_total exact_bytes T.cases T'.cases (λ q. one.cases q ∙ sym (other.cases q)) i;
+  bans = same_map nat_list_cmp_total exact_bytes T.bans T'.bans (λ q. by (get T.bans q) (get T'.bans q) (one.bans q ∙ sym (other.bans q))) i;
 }
   where
     by : (x y : Option (Unit {0})) → is_some x ≡ is_some y → x ≡ y

@@ -1,4 +1,4 @@
--- The files and the bodies after an accepted call are those of the history with it.
+-- The files, the bodies and the bans after an accepted call are those of the history with it.
 use Rattle.std.proofs.Common.{◌≡◌, ℕ, Bool, true, false, cond, not, refl, sym, ap, ◌∙◌, Option, Some, None, is_some, is_none, option_map, option_and_then, unwrap_or, length}
 use Rattle.std.specs.Option.{option_or, option_map_or}
 use Rattle.std.specs.FinMap.{get}
@@ -9,16 +9,16 @@ use Rattle.index_digest.specs.Digest.{read_digest}
 use Rattle.index_rules.specs.declared.answer.Refusal.TheVariants.{BadDigest, BadFileName, BadName, FileNameTaken, NoFile}
 use Rattle.index_rules.specs.declared.call.Call.{Call}
 use Rattle.index_rules.specs.declared.call.Request.{Request}
-use Rattle.index_rules.specs.declared.call.Request.TheVariants.{AddUser, SetToken, SetQuota, Claim, AddOwner, RemoveOwner, Upload, Delete, Yank, Unyank, Relinquish, Prohibit, Allow, OpenCase, RecordAttempt, Transfer, CloseCase, AnswerCase}
+use Rattle.index_rules.specs.declared.call.Request.TheVariants.{AddUser, SetToken, SetQuota, Claim, AddOwner, RemoveOwner, Upload, Delete, BanFile, Yank, Unyank, Relinquish, Prohibit, Allow, OpenCase, RecordAttempt, Transfer, CloseCase, AnswerCase}
 use Rattle.index_rules.specs.declared.records.FileRecord.{FileRecord}
 use Rattle.index_rules.specs.Maps.{Bytes, same}
 use Rattle.index_rules.specs.Tables.{Tables}
 use Rattle.index_rules.specs.Requests.{read_file}
-use Rattle.index_rules.specs.Facts.{facts_in}
+use Rattle.index_rules.specs.Facts.{facts_in, is_banned_in}
 use Rattle.index_rules.specs.Verdict.{Accept, verdict_now, is_other_file}
 use Rattle.index_rules.specs.Effect.{or_empty, no_file, as_deleted, as_deleted_of, is_file_of, tables_with_call}
 use Rattle.index_rules.specs.History.{History, more, is_read_as}
-use Rattle.index_rules.specs.PastFiles.{first_upload_after, is_undeleted_after, requires_after, last_body_after}
+use Rattle.index_rules.specs.PastFiles.{first_upload_after, is_undeleted_after, is_banned_after, requires_after, last_body_after}
 use Rattle.index_rules.specs.StandsFor.{file_of_upload, file_after, body_after}
 use Rattle.index_rules.proofs.OwnerLists.{same-is}
 use Rattle.index_rules.proofs.KeyLemmas.{get-without, get-kept, get-change_values}
@@ -156,6 +156,9 @@ module _ (T : Tables) (h : History) (files : (file : Bytes) → get T.files file
   step_of_files (Delete file) accepts =
       let all = accepted (of (Delete file)) (facts_in T (of (Delete file))) accepts in
       file_deleted file (read_itself file (all.not_refused BadFileName refl)) (all.not_refused NoFile refl)
+  step_of_files (BanFile file) accepts =
+      let all = accepted (of (BanFile file)) (facts_in T (of (BanFile file))) accepts in
+      file_deleted file (read_itself file (all.not_refused BadFileName refl)) (all.not_refused NoFile refl)
   step_of_files (Prohibit name) accepts = files_prohibited name ((accepted (of (Prohibit name)) (facts_in T (of (Prohibit name))) accepts).not_refused BadName refl)
   step_of_files request accepts = files
 
@@ -163,5 +166,16 @@ module _ (T : Tables) (h : History) (files : (file : Bytes) → get T.files file
   step_of_bodies bodies (Upload file digest body requires) accepts =
       body_uploaded file digest body requires (read_itself file ((accepted (of (Upload file digest body requires)) (facts_in T (of (Upload file digest body requires))) accepts).not_refused BadFileName refl)) bodies
   step_of_bodies bodies (Delete file) accepts = body_deleted file (read_itself file ((accepted (of (Delete file)) (facts_in T (of (Delete file))) accepts).not_refused BadFileName refl)) bodies
+  step_of_bodies bodies (BanFile file) accepts = body_deleted file (read_itself file ((accepted (of (BanFile file)) (facts_in T (of (BanFile file))) accepts).not_refused BadFileName refl)) bodies
   step_of_bodies bodies (Prohibit name) accepts = bodies_prohibited name ((accepted (of (Prohibit name)) (facts_in T (of (Prohibit name))) accepts).not_refused BadName refl) bodies
   step_of_bodies bodies request accepts = bodies
+
+  banned : (bans : (q : Bytes) → is_banned_in T q ≡ is_banned_after h q) (file : Bytes) → read_file file ≡ Some file → (q : Bytes) → is_banned_in (tables_with_call T (of (BanFile file))) q ≡ is_banned_after (then (BanFile file)) q
+  banned bans file reads =
+      each_put T.bans file tt (λ q found. is_some found ≡ is_banned_after (then (BanFile file)) q)
+      (sym (at_key (read_file file) file reads true (is_banned_after h file)))
+      (λ q other. bans q ∙ sym (at_other (read_file file) file reads true (is_banned_after h q) q other))
+
+  pub bans_after : ((q : Bytes) → is_banned_in T q ≡ is_banned_after h q) → (request : Request) → verdict_now T (of request) ≡ Accept → (q : Bytes) → is_banned_in (tables_with_call T (of request)) q ≡ is_banned_after (then request) q
+  bans_after bans (BanFile file) accepts = banned bans file (read_itself file ((accepted (of (BanFile file)) (facts_in T (of (BanFile file))) accepts).not_refused BadFileName refl))
+  bans_after bans request accepts = bans

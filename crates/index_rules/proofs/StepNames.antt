@@ -1,5 +1,5 @@
 -- The names after an accepted call are those of the history with it, once their numbers are.
-use Rattle.std.proofs.Common.{◌≡◌, ℕ, true, false, cond, not, refl, sym, ap, ◌∙◌, subst, Option, Some, None, is_none, option_map, option_and_then, unwrap_or, length, max, [], ◌∷◌}
+use Rattle.std.proofs.Common.{◌≡◌, ℕ, Bool, true, false, cond, not, refl, sym, ap, ◌∙◌, subst, Option, Some, None, is_some, is_none, option_map, option_and_then, unwrap_or, length, max, [], ◌∷◌}
 use Rattle.std.specs.Option.{option_map_or}
 use Rattle.std.specs.FinMap.{get, insert, remove}
 use Rattle.std.proofs.lemmas.Bool.{false≢true, not-false}
@@ -8,7 +8,7 @@ use Rattle.index_names.specs.FileName.{project_of}
 use Rattle.index_rules.specs.declared.answer.Refusal.TheVariants.{BadFileName, BadName, NoProject}
 use Rattle.index_rules.specs.declared.call.Call.{Call}
 use Rattle.index_rules.specs.declared.call.Request.{Request}
-use Rattle.index_rules.specs.declared.call.Request.TheVariants.{AddUser, SetToken, SetQuota, Claim, AddOwner, RemoveOwner, Upload, Delete, Yank, Unyank, Relinquish, Prohibit, Allow, OpenCase, RecordAttempt, Transfer, CloseCase, AnswerCase}
+use Rattle.index_rules.specs.declared.call.Request.TheVariants.{AddUser, SetToken, SetQuota, Claim, AddOwner, RemoveOwner, Upload, Delete, BanFile, Yank, Unyank, Relinquish, Prohibit, Allow, OpenCase, RecordAttempt, Transfer, CloseCase, AnswerCase}
 use Rattle.index_rules.specs.declared.records.NameRecord.{NameRecord}
 use Rattle.index_rules.specs.declared.records.NameRecord.TheVariants as name_record
 use Rattle.index_rules.specs.Projects.{Project, first_quota}
@@ -16,8 +16,8 @@ use Rattle.index_rules.specs.Maps.{Bytes}
 use Rattle.index_rules.specs.Tables.{Tables}
 use Rattle.index_rules.specs.Requests.{read_file}
 use Rattle.index_rules.specs.Facts.{facts_in}
-use Rattle.index_rules.specs.Verdict.{Accept, verdict_now, held_project, is_held, is_prohibited}
-use Rattle.index_rules.specs.Effect.{or_empty, no_project, the_file, later, with_file, without_file, tables_with_call}
+use Rattle.index_rules.specs.Verdict.{Accept, verdict_now, held_project, is_held, is_prohibited, is_undeleted}
+use Rattle.index_rules.specs.Effect.{or_empty, no_project, the_file, later, with_file, without_file, with_project, tables_with_call}
 use Rattle.index_rules.specs.History.{History, more, is_read_as}
 use Rattle.index_rules.specs.PastNames.{State, Free, Held, Prohibited, state_after, shown_after, quota_after, uploads_after, greatest, last_upload_after}
 use Rattle.index_rules.specs.StandsFor.{record_of_state, project_after, name_after}
@@ -153,6 +153,16 @@ module _ (T : Tables) (h : History) (stands : (name : Bytes) → get T.names nam
       ((λ i. Some (later (held.1 i).last_upload at)) ∙ later-greatest at (last_upload_after h n) ∙ sym (ap greatest (at_key read n reads (at ∷ uploads_after h n) (uploads_after h n)))))
       (λ q other. IsShaped-same (get T.names q) _ _ _ _ _ _ _ _ refl refl refl (sym (ap greatest (at_other read n reads (at ∷ uploads_after h q) (uploads_after h q) q other))) (before q))
 
+  -- a name that loses a file, where it is held
+  left : (n : Bytes) (size : ℕ) (found : Option Project) (undeleted : Bool) → ((project : Project) → found ≡ Some project → IsHeldAt T h n × (project ≡ project_after h n))
+      → (q : Bytes) → IsNamed h q (get (with_project n (cond undeleted (option_map (without_file size) found) None) T.names) q)
+  left n size None true held = before
+  left n size None false held = before
+  left n size (Some project) false held = before
+  left n size (Some project) true held =
+      let at = held project refl in
+      numbered n (without_file size project) at.0.state (λ i. (at.1 i).shown) (λ i. (at.1 i).quota) (λ i. (at.1 i).last_upload)
+
   pub step_of_names : (request : Request) → verdict_now T (of request) ≡ Accept → (q : Bytes) → IsNamed (then request) q (get (tables_with_call T (of request)).names q)
   step_of_names (SetQuota name quota) accepts = quota_set name quota accepts
   step_of_names (Claim name) accepts = claimed name ((accepted (of (Claim name)) (facts_in T (of (Claim name))) accepts).not_refused BadName refl)
@@ -164,6 +174,13 @@ module _ (T : Tables) (h : History) (stands : (name : Bytes) → get T.names nam
       let held = held_by (option_map project_of (read_file file)) (project_of file) (ap (option_map project_of) (read_itself file (all.not_refused BadFileName refl))) (all.not_refused NoProject refl) in
       let size : ℕ = (the_file (facts_in T (of (Delete file)))).size in
       numbered (project_of file) _ held.0.state (λ i. (without_file size (held.1 i)).shown) (λ i. (without_file size (held.1 i)).quota) (λ i. (held.1 i).last_upload)
+  step_of_names (BanFile file) accepts =
+      let reads = read_itself file ((accepted (of (BanFile file)) (facts_in T (of (BanFile file))) accepts).not_refused BadFileName refl) in
+      let read : Option Bytes = option_map project_of (read_file file) in
+      let found : Option Project = held_project (option_and_then (get T.names) read) in
+      left (project_of file) (the_file (facts_in T (of (BanFile file)))).size found (is_undeleted (option_and_then (get T.files) (read_file file))) (λ project is.
+      let held = held_by read (project_of file) (ap (option_map project_of) reads) (ap (λ o. not (is_some o)) is) in
+      (held.0, sym (ap (λ o. unwrap_or o no_project) is) ∙ held.1))
   step_of_names (Relinquish name) accepts = freed (read_name name) ((accepted (of (Relinquish name)) (facts_in T (of (Relinquish name))) accepts).not_refused BadName refl)
   step_of_names (Prohibit name) accepts = prohibited name ((accepted (of (Prohibit name)) (facts_in T (of (Prohibit name))) accepts).not_refused BadName refl)
   step_of_names (Allow name) accepts = freed (read_name name) ((accepted (of (Allow name)) (facts_in T (of (Allow name))) accepts).not_refused BadName refl)

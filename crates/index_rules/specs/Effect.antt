@@ -8,9 +8,10 @@ use Rattle.index_names.specs.Project.{read_name}
 use Rattle.index_names.specs.Release.{read_release}
 use Rattle.index_rules.specs.declared.call.Call.{Call}
 use Rattle.index_rules.specs.declared.call.Request.{Request}
-use Rattle.index_rules.specs.declared.call.Request.TheVariants.{AddUser, SetToken, SetQuota, Claim, AddOwner, RemoveOwner, Upload, Delete, Yank, Unyank, Relinquish, Prohibit, Allow, OpenCase, RecordAttempt, Transfer, CloseCase, AnswerCase}
+use Rattle.index_rules.specs.declared.call.Request.TheVariants.{AddUser, SetToken, SetQuota, Claim, AddOwner, RemoveOwner, Upload, Delete, BanFile, Yank, Unyank, Relinquish, Prohibit, Allow, OpenCase, RecordAttempt, Transfer, CloseCase, AnswerCase}
 use Rattle.index_rules.specs.declared.change.Change.{Change}
 use Rattle.index_rules.specs.declared.change.Change.TheVariants as change
+use Rattle.index_rules.specs.declared.records.NameRecord.{NameRecord}
 use Rattle.index_rules.specs.declared.records.NameRecord.TheVariants.{Held, Prohibited}
 use Rattle.index_retention.specs.declared.attempts.CaseKind.{CaseKind}
 use Rattle.index_retention.specs.declared.attempts.CaseKind.TheVariants.{Continue}
@@ -24,7 +25,7 @@ use Rattle.index_rules.specs.Tables.{Tables}
 use Rattle.index_rules.specs.Texts.{read_token}
 use Rattle.index_rules.specs.Users.{read_user}
 use Rattle.index_rules.specs.Facts.{Facts, facts_in}
-use Rattle.index_rules.specs.Verdict.{held_project}
+use Rattle.index_rules.specs.Verdict.{held_project, is_undeleted}
 
 -- ---- what is there, of a request that is accepted
 
@@ -109,6 +110,11 @@ new_file digest file body requires =
 abbrev pub upload_of : Project → Bytes → Bytes → Bytes → Change
 upload_of project file body requires = change.Upload (project_of file) project file (new_file (sha256 body) file body requires) body
 
+-- the held name without the file that a ban deletes, where the file is undeleted; in sound tables the name of such a file
+-- is held
+abbrev pub project_left : Facts → Option Project
+project_left facts = if is_undeleted facts.file then option_map (without_file (the_file facts).size) (held_project facts.name) else None
+
 -- a case that this candidate opened at this moment
 abbrev pub new_case : ℕ → Bytes → CaseKind → Bytes → Bytes → Bytes → CaseRecord
 new_case at candidate kind contact work why =
@@ -125,6 +131,7 @@ effect at (RemoveOwner name user) facts = change.RemoveOwner (or_empty (read_nam
 effect at (Upload file declared body requires) facts =
     change.Upload (project_of file) (with_file at (length body) (the_project facts)) file (new_file (or_empty (read_digest declared)) file body requires) body
 effect at (Delete file) facts = change.Delete (project_of file) (without_file (the_file facts).size (the_project facts)) file (as_deleted (the_file facts))
+effect at (BanFile file) facts = change.BanFile (project_of file) (project_left facts) file (as_deleted (the_file facts))
 effect at (Yank name release reason) facts = change.Yank (or_empty (read_name name)) (or_empty (read_release release)) reason
 effect at (Unyank name release) facts = change.Unyank (or_empty (read_name name)) (or_empty (read_release release))
 effect at (Relinquish name) facts = change.Relinquish (or_empty (read_name name))
@@ -144,6 +151,11 @@ without_record name T = record T {
   yanks = without_name name T.yanks;
   cases = remove T.cases name;
 }
+
+-- the names where one has this project, if there is one
+abbrev pub with_project : Bytes → Option Project → Map NameRecord → Map NameRecord
+with_project name None names = names
+with_project name (Some project) names = insert names name (Held project)
 
 -- what a change means for the tables
 abbrev pub means : Change → Tables → Tables
@@ -169,6 +181,12 @@ means (change.Delete name project file known) T = record T {
   files = insert T.files file known;
   bodies = remove T.bodies file;
   cases = remove T.cases name;
+}
+means (change.BanFile name project file known) T = record T {
+  names = with_project name project T.names;
+  files = insert T.files file known;
+  bodies = remove T.bodies file;
+  bans = insert T.bans file tt;
 }
 means (change.Yank name release reason) T = record T { yanks = insert T.yanks (name, release) reason; cases = remove T.cases name }
 means (change.Unyank name release) T = record T { yanks = remove T.yanks (name, release); cases = remove T.cases name }

@@ -32,6 +32,8 @@ pub record Facts : Type 0 where
   pub sole : Bool
   -- the record of the file
   pub file : Option FileRecord
+  -- whether the file is banned
+  pub is_banned : Bool
   -- the reason for which the release is yanked, and whether the release has an undeleted file
   pub yank : Option Bytes
   pub has_release : Bool
@@ -80,6 +82,9 @@ at_both found (Some name) (Some release) = found name release
 abbrev pub yank_in : Tables → Bytes → Bytes → Option Bytes
 yank_in T name release = get T.yanks (name, release)
 
+abbrev pub is_banned_in : Tables → Bytes → Bool
+is_banned_in T file = contains_key T.bans file
+
 -- what the tables say of a call
 abbrev pub facts_in : Tables → Call → Facts
 facts_in T call = record {
@@ -91,6 +96,7 @@ facts_in T call = record {
   named_owns = of_both (owns_in T) (name_key call.request) (user_key call.request);
   sole = of_both (owns_alone_in T) (name_key call.request) (user_key call.request);
   file = option_and_then (get T.files) (file_key call.request);
+  is_banned = option_map_or (is_banned_in T) (file_key call.request) false;
   yank = at_both (yank_in T) (name_key call.request) (release_key call.request);
   has_release = of_both (has_release_in T) (name_key call.request) (release_key call.request);
   case = option_and_then (get T.cases) (name_key call.request);
@@ -125,6 +131,7 @@ pub record Sees (T : Tables) (k : Keys) (v : View) : Type 0 where
   pub name : v.name ≡ option_and_then (get T.names) k.name
   pub owners : AreOwners T k.name v.owners
   pub file : v.file ≡ option_and_then (get T.files) k.file
+  pub is_banned : v.is_banned ≡ option_map_or (is_banned_in T) k.file false
   pub yank : v.yank ≡ at_both (yank_in T) k.name k.release
   pub has_release : v.has_release ≡ of_both (has_release_in T) k.name k.release
   pub case : v.case ≡ option_and_then (get T.cases) k.name
@@ -148,6 +155,7 @@ facts_seen v request = record {
   named_owns = is_one_of v.owners (user_key request);
   sole = is_only_one_of v.owners (user_key request);
   file = v.file;
+  is_banned = v.is_banned;
   yank = v.yank;
   has_release = v.has_release;
   case = v.case;

@@ -21,6 +21,7 @@ first_tables user token = record {
   bodies = empty;
   yanks = empty;
   cases = empty;
+  bans = empty;
 }
 
 -- the bytes are no user id, or the digest is that of the empty text, which is no token

@@ -1,10 +1,10 @@
 -- What holds of every legal history. These words speak of no tables.
-use Rattle.std.specs.Prelude.{◌≡◌, ◌⊎◌, ℕ, ◌+◌, Bool, true, false, if◌then◌else◌, length, Some, option_map}
+use Rattle.std.specs.Prelude.{◌≡◌, ◌⊎◌, ℕ, ◌+◌, Bool, true, false, ◌&&◌, if◌then◌else◌, length, Some, option_map}
 use Rattle.index_names.specs.Project.{read_name}
 use Rattle.index_names.specs.FileName.{project_of}
 use Rattle.index_digest.specs.Digest.{read_digest}
 use Rattle.index_rules.specs.declared.call.Request.{Request}
-use Rattle.index_rules.specs.declared.call.Request.TheVariants.{AddUser, SetToken, Claim, AddOwner, RemoveOwner, Upload, Delete, Relinquish, Prohibit, Allow, Transfer}
+use Rattle.index_rules.specs.declared.call.Request.TheVariants.{AddUser, SetToken, Claim, AddOwner, RemoveOwner, Upload, Delete, BanFile, Relinquish, Prohibit, Allow, Transfer}
 use Rattle.index_rules.specs.declared.records.UserRecord.{UserRecord}
 use Rattle.index_rules.specs.Maps.{Bytes, same}
 use Rattle.index_retention.specs.Attempts.{tally_of}
@@ -42,14 +42,31 @@ HasUpload (more h e) f first = IsUploadOf e.call.request f first ⊎ HasUpload h
 abbrev pub BindsFiles : History → Type 0
 BindsFiles h = (f : Bytes) (first second : Bytes × ℕ) → HasUpload h f first → HasUpload h f second → first ≡ second
 
+-- the request is a ban of the file
+abbrev pub IsBanOf : Request → Bytes → Type 0
+IsBanOf (BanFile file) f = read_file file ≡ Some f
+IsBanOf request f = ⊥
+
+-- some entry of the history is one
+abbrev pub HasBan : History → Bytes → Type 0
+HasBan (begins user token) f = ⊥
+HasBan (more h e) f = IsBanOf e.call.request f ⊎ HasBan h f
+
+-- a ban is for good: no upload of a file stands after a ban of it
+abbrev pub KeepsBans : History → Type 0
+KeepsBans (begins user token) = Unit {0}
+KeepsBans (more h e) = KeepsBans h × ((f : Bytes) (first : Bytes × ℕ) → IsUploadOf e.call.request f first → HasBan h f → ⊥)
+
 -- ---- what moves a charge, a state, the owners
 
 -- what a request does to the charge of a name `n`, in bytes, which is `before` ahead of its entry and `after` behind
--- it: an upload adds the size of its body to its own project, a delete takes the file's size away, a prohibit brings
--- its own name to 0, and nothing else changes a charge
+-- it: an upload adds the size of its body to its own project, a delete takes the file's size away, so does a ban of an
+-- undeleted file, a prohibit brings its own name to 0, and nothing else changes a charge
 abbrev pub MovesCharge : Request → History → Bytes → ℕ → ℕ → Type 0
 MovesCharge (Upload file sha256 body requires) h n before after = after ≡ before + (if is_read_as (option_map project_of (read_file file)) n then length body else 0)
 MovesCharge (Delete file) h n before after = after + (if is_read_as (option_map project_of (read_file file)) n then size_after h (or_empty (read_file file)) else 0) ≡ before
+MovesCharge (BanFile file) h n before after =
+    after + (if is_read_as (option_map project_of (read_file file)) n && is_undeleted_after h (or_empty (read_file file)) then size_after h (or_empty (read_file file)) else 0) ≡ before
 MovesCharge (Prohibit name) h n before after = after ≡ (if is_read_as (read_name name) n then 0 else before)
 MovesCharge request h n before after = after ≡ before
 
@@ -113,8 +130,8 @@ TransfersWereReady (more h e) = TransfersWereReady h × TransferWasReady e.call.
 
 -- ---- names don't touch one another
 
--- whether a request is on users, or speaks of the name; an upload and a delete speak of the project that the file name
--- decides
+-- whether a request is on users, or speaks of the name; an upload, a delete and a ban of a file speak of the project that
+-- the file name decides
 abbrev pub is_kept : Request → Bytes → Bool
 is_kept (AddUser user office token) n = true
 is_kept (SetToken user token) n = true

@@ -15,7 +15,7 @@ use Rattle.index_rules.specs.Runs.{Answers, RunsOver}
 use Rattle.index_rules.specs.History.{History, begins, more}
 use Rattle.index_rules.specs.PastUsers.{user_after, bearer_after}
 use Rattle.index_rules.specs.PastNames.{owns_after, owns_alone_after, yank_after}
-use Rattle.index_rules.specs.PastFiles.{has_release_after}
+use Rattle.index_rules.specs.PastFiles.{is_banned_after, has_release_after}
 use Rattle.index_rules.specs.StandsFor.{StandsFor, name_after, file_after, case_record_after}
 
 -- the user as the caller of a call, with his office flag
@@ -33,6 +33,7 @@ facts_after h call = record {
   named_owns = of_both (owns_after h) (name_key call.request) (user_key call.request);
   sole = of_both (owns_alone_after h) (name_key call.request) (user_key call.request);
   file = option_and_then (file_after h) (file_key call.request);
+  is_banned = option_map_or (is_banned_after h) (file_key call.request) false;
   yank = at_both (yank_after h) (name_key call.request) (release_key call.request);
   has_release = of_both (has_release_after h) (name_key call.request) (release_key call.request);
   case = option_and_then (case_record_after h) (name_key call.request);

@@ -6,7 +6,7 @@ use Rattle.index_names.specs.FileName.{project_of}
 use Rattle.index_retention.specs.declared.attempts.CaseKind.{CaseKind}
 use Rattle.index_retention.specs.Attempts.{Attempt, attempt_of}
 use Rattle.index_rules.specs.declared.call.Request.{Request}
-use Rattle.index_rules.specs.declared.call.Request.TheVariants.{AddUser, SetToken, SetQuota, Claim, AddOwner, RemoveOwner, Upload, Delete, Yank, Unyank, Relinquish, Prohibit, Allow, OpenCase, RecordAttempt, Transfer, CloseCase, AnswerCase}
+use Rattle.index_rules.specs.declared.call.Request.TheVariants.{AddUser, SetToken, SetQuota, Claim, AddOwner, RemoveOwner, Upload, Delete, BanFile, Yank, Unyank, Relinquish, Prohibit, Allow, OpenCase, RecordAttempt, Transfer, CloseCase, AnswerCase}
 use Rattle.index_rules.specs.Maps.{Bytes}
 use Rattle.index_rules.specs.Requests.{read_file}
 use Rattle.index_rules.specs.History.{History, begins, more, is_read_as}
@@ -36,6 +36,7 @@ is_owners_request (AddOwner name user) n = is_read_as (read_name name) n
 is_owners_request (RemoveOwner name user) n = is_read_as (read_name name) n
 is_owners_request (Upload file sha256 body requires) n = is_read_as (option_map project_of (read_file file)) n
 is_owners_request (Delete file) n = is_read_as (option_map project_of (read_file file)) n
+is_owners_request (BanFile file) n = false
 is_owners_request (Yank name release reason) n = is_read_as (read_name name) n
 is_owners_request (Unyank name release) n = is_read_as (read_name name) n
 is_owners_request (Relinquish name) n = is_read_as (read_name name) n

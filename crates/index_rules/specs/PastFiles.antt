@@ -1,5 +1,5 @@
--- What a history makes of a file name: whether it is known and undeleted; and what its project is charged. What a file
--- name is, and which project and release it belongs to, is read off the name (PEP 427, PEP 625).
+-- What a history makes of a file name: whether it is known, undeleted and banned; and what its project is charged. What a
+-- file name is, and which project and release it belongs to, is read off the name (PEP 427, PEP 625).
 use Rattle.std.specs.Prelude.{ℕ, Bool, true, false, ◌&&◌, if◌then◌else◌, List, [], ◌∷◌, length, Option, Some, None, sum_by}
 use Rattle.std.specs.Option.{option_map_or, option_or}
 use Rattle.std.specs.List.{list_any}
@@ -7,7 +7,7 @@ use Rattle.index_names.specs.Project.{read_name}
 use Rattle.index_names.specs.FileName.{project_of, release_of}
 use Rattle.index_digest.specs.Digest.{read_digest}
 use Rattle.index_rules.specs.declared.call.Request.{Request}
-use Rattle.index_rules.specs.declared.call.Request.TheVariants.{Upload, Delete, Prohibit}
+use Rattle.index_rules.specs.declared.call.Request.TheVariants.{Upload, Delete, BanFile, Prohibit}
 use Rattle.index_rules.specs.Maps.{Bytes, same}
 use Rattle.index_rules.specs.Requests.{read_file}
 use Rattle.index_rules.specs.Effect.{or_empty}
@@ -32,13 +32,26 @@ first_upload_after (more h e) f = first_upload_by e.call.request f (first_upload
 abbrev pub is_undeleted_by : Request → Bytes → Bool → Bool
 is_undeleted_by (Upload file sha256 body requires) f before = if is_read_as (read_file file) f then true else before
 is_undeleted_by (Delete file) f before = if is_read_as (read_file file) f then false else before
+is_undeleted_by (BanFile file) f before = if is_read_as (read_file file) f then false else before
 is_undeleted_by (Prohibit name) f before = if is_read_as (read_name name) (project_of f) then false else before
 is_undeleted_by request f before = before
 
--- of the uploads and deletes of the file, and the prohibits of its project, the last is an upload
+-- of the uploads, deletes and bans of the file, and the prohibits of its project, the last is an upload
 abbrev pub is_undeleted_after : History → Bytes → Bool
 is_undeleted_after (begins user token) f = false
 is_undeleted_after (more h e) f = is_undeleted_by e.call.request f (is_undeleted_after h f)
+
+-- ---- banned
+
+-- whether a file is banned, after one request more: no request takes a ban away
+abbrev pub is_banned_by : Request → Bytes → Bool → Bool
+is_banned_by (BanFile file) f before = if is_read_as (read_file file) f then true else before
+is_banned_by request f before = before
+
+-- some entry bans the file
+abbrev pub is_banned_after : History → Bytes → Bool
+is_banned_after (begins user token) f = false
+is_banned_after (more h e) f = is_banned_by e.call.request f (is_banned_after h f)
 
 -- ---- the last upload
 

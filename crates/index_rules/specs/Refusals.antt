@@ -1,7 +1,7 @@
 -- The numbers of the refusals.
 use Rattle.std.specs.Prelude.{ℕ}
 use Rattle.index_rules.specs.declared.answer.Refusal.{Refusal}
-use Rattle.index_rules.specs.declared.answer.Refusal.TheVariants.{BadMoment, BadToken, NotOffice, BadUser, BadName, BadFileName, BadRelease, BadText, BadDigest, TooLarge, DigestMismatch, QuotaTooLarge, NoUser, UserExists, TokenTaken, NameProhibited, NoProject, NotOwner, NameHeld, LastOwner, FilesRemain, NoFile, NoRelease, FileNameTaken, OverQuota, QuotaBelowCharge, CaseOpen, OwnerCandidate, NoCase, AttemptsFull, TooFewAttempts, TooEarly, RecentRelease, HomePageActive}
+use Rattle.index_rules.specs.declared.answer.Refusal.TheVariants.{BadMoment, BadToken, NotOffice, BadUser, BadName, BadFileName, BadRelease, BadText, BadDigest, TooLarge, DigestMismatch, QuotaTooLarge, NoUser, UserExists, TokenTaken, NameProhibited, NoProject, NotOwner, NameHeld, LastOwner, FilesRemain, NoFile, NoRelease, FileNameTaken, FileBanned, OverQuota, QuotaBelowCharge, CaseOpen, OwnerCandidate, NoCase, AttemptsFull, TooFewAttempts, TooEarly, RecentRelease, HomePageActive}
 
 -- the number of a refusal: of those that apply the least is answered
 abbrev pub number_of : Refusal → ℕ
@@ -29,6 +29,7 @@ number_of FilesRemain = 21
 number_of NoFile = 22
 number_of NoRelease = 23
 number_of FileNameTaken = 24
+number_of FileBanned = 25
 number_of OverQuota = 26
 number_of QuotaBelowCharge = 27
 number_of CaseOpen = 28

@@ -6,7 +6,7 @@ use Rattle.index_names.specs.Release.{read_release}
 use Rattle.index_digest.specs.Digest.{read_digest}
 use Rattle.index_rules.specs.declared.call.Call.{Call}
 use Rattle.index_rules.specs.declared.call.Request.{Request}
-use Rattle.index_rules.specs.declared.call.Request.TheVariants.{AddUser, SetToken, SetQuota, Claim, AddOwner, RemoveOwner, Upload, Delete, Yank, Unyank, Relinquish, Prohibit, Allow, OpenCase, RecordAttempt, Transfer, CloseCase, AnswerCase}
+use Rattle.index_rules.specs.declared.call.Request.TheVariants.{AddUser, SetToken, SetQuota, Claim, AddOwner, RemoveOwner, Upload, Delete, BanFile, Yank, Unyank, Relinquish, Prohibit, Allow, OpenCase, RecordAttempt, Transfer, CloseCase, AnswerCase}
 use Rattle.index_rules.specs.declared.keys.Keys.{Keys}
 use Rattle.index_rules.specs.Maps.{Bytes}
 use Rattle.index_rules.specs.Users.{read_user}
@@ -40,6 +40,7 @@ name_key (AddOwner name user) = read_name name
 name_key (RemoveOwner name user) = read_name name
 name_key (Upload file sha256 body requires) = option_map project_of (read_file file)
 name_key (Delete file) = option_map project_of (read_file file)
+name_key (BanFile file) = option_map project_of (read_file file)
 name_key (Yank name release reason) = read_name name
 name_key (Unyank name release) = read_name name
 name_key (Relinquish name) = read_name name
@@ -55,6 +56,7 @@ name_key (AnswerCase name) = read_name name
 abbrev pub file_key : Request → Option Bytes
 file_key (Upload file sha256 body requires) = read_file file
 file_key (Delete file) = read_file file
+file_key (BanFile file) = read_file file
 file_key request = None
 
 -- the release

@@ -1,5 +1,5 @@
 -- Tables whose accounts add up.
-use Rattle.std.specs.Prelude.{◌≡◌, ℕ, ◌≤◌, Bool, true, ◌&&◌, if◌then◌else◌, Some, is_some, length, sum_by, count_by}
+use Rattle.std.specs.Prelude.{◌≡◌, ℕ, ◌≤◌, Bool, true, false, ◌&&◌, if◌then◌else◌, Some, is_some, length, sum_by, count_by}
 use Rattle.std.specs.FinMap.{get, entries}
 use Rattle.index_names.specs.FileName.{read_file_name, project_of, release_of}
 use Rattle.index_digest.specs.Digest.{sha256}
@@ -7,7 +7,7 @@ use Rattle.index_rules.specs.Projects.{Project}
 use Rattle.index_rules.specs.declared.records.FileRecord.{FileRecord}
 use Rattle.index_rules.specs.Maps.{Bytes, same}
 use Rattle.index_rules.specs.Tables.{Tables}
-use Rattle.index_rules.specs.Facts.{HasOneBearer, owns_in, yank_in}
+use Rattle.index_rules.specs.Facts.{HasOneBearer, owns_in, yank_in, is_banned_in}
 use Rattle.index_rules.specs.Verdict.{held_project, is_held, is_undeleted}
 
 -- an undeleted file of this name
@@ -63,3 +63,5 @@ pub record IsSound (T : Tables) : Type 0 where
   pub bodies : (file : Bytes) → is_some (get T.bodies file) ≡ is_undeleted (get T.files file)
   -- each body has the size and the digest of its file's record
   pub bytes : (file body : Bytes) (known : FileRecord) → get T.bodies file ≡ Some body → get T.files file ≡ Some known → IsBodyOf known body
+  -- a banned file is known, and not undeleted
+  pub bans : (file : Bytes) → is_banned_in T file ≡ true → (known : FileRecord) × (get T.files file ≡ Some known) × (known.is_undeleted ≡ false)

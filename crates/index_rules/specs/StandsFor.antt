@@ -10,12 +10,12 @@ use Rattle.index_rules.specs.declared.records.CaseRecord.{CaseRecord}
 use Rattle.index_rules.specs.declared.records.FileRecord.{FileRecord}
 use Rattle.index_rules.specs.Maps.{Bytes}
 use Rattle.index_rules.specs.Tables.{Tables}
-use Rattle.index_rules.specs.Facts.{owns_in, yank_in}
+use Rattle.index_rules.specs.Facts.{owns_in, yank_in, is_banned_in}
 use Rattle.index_rules.specs.History.{History}
 use Rattle.index_rules.specs.PastUsers.{user_after}
 use Rattle.index_rules.specs.PastNames.{State, Free, Held, Prohibited, state_after, shown_after, quota_after, last_upload_after, owns_after, yank_after}
 use Rattle.index_rules.specs.PastCases.{Case, case_after}
-use Rattle.index_rules.specs.PastFiles.{first_upload_after, is_undeleted_after, requires_after, last_body_after, charge_after, undeleted_count_after}
+use Rattle.index_rules.specs.PastFiles.{first_upload_after, is_undeleted_after, is_banned_after, requires_after, last_body_after, charge_after, undeleted_count_after}
 
 -- nothing is kept of a free name, its values of a held one, and no values of a prohibited one
 abbrev pub record_of_state : State → Project → Option NameRecord
@@ -76,3 +76,4 @@ pub record StandsFor (T : Tables) (h : History) : Type 0 where
   pub bodies : (file : Bytes) → get T.bodies file ≡ body_after h file
   pub cases : (name : Bytes) → get T.cases name ≡ case_record_after h name
   pub yanks : (name release : Bytes) → yank_in T name release ≡ yank_after h name release
+  pub bans : (file : Bytes) → is_banned_in T file ≡ is_banned_after h file

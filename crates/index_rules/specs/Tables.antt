@@ -5,7 +5,7 @@ use Rattle.index_rules.specs.declared.records.UserRecord.{UserRecord}
 use Rattle.index_rules.specs.declared.records.NameRecord.{NameRecord}
 use Rattle.index_rules.specs.declared.records.FileRecord.{FileRecord}
 use Rattle.index_rules.specs.declared.records.CaseRecord.{CaseRecord}
-use Rattle.index_rules.specs.Maps.{Bytes, Map, PairMap, Pairs, same}
+use Rattle.index_rules.specs.Maps.{Bytes, Map, PairMap, Pairs, TextSet, same}
 
 -- all that the index keeps
 pub record Tables : Type 0 where
@@ -23,6 +23,8 @@ pub record Tables : Type 0 where
   pub yanks : PairMap Bytes
   -- by name: the open cases
   pub cases : Map CaseRecord
+  -- the names of the banned files
+  pub bans : TextSet
 
 -- the owners of a name, in byte order
 abbrev pub owners_in : Tables → Bytes → List Bytes

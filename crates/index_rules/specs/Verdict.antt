@@ -4,9 +4,9 @@ use Rattle.std.specs.Option.{option_map_or}
 use Rattle.index_digest.specs.Digest.{read_digest, sha256}
 use Rattle.index_rules.specs.declared.call.Call.{Call}
 use Rattle.index_rules.specs.declared.call.Request.{Request}
-use Rattle.index_rules.specs.declared.call.Request.TheVariants.{AddUser, SetToken, SetQuota, Claim, AddOwner, RemoveOwner, Upload, Delete, Yank, Unyank, Relinquish, Prohibit, Allow, OpenCase, RecordAttempt, Transfer, CloseCase, AnswerCase}
+use Rattle.index_rules.specs.declared.call.Request.TheVariants.{AddUser, SetToken, SetQuota, Claim, AddOwner, RemoveOwner, Upload, Delete, BanFile, Yank, Unyank, Relinquish, Prohibit, Allow, OpenCase, RecordAttempt, Transfer, CloseCase, AnswerCase}
 use Rattle.index_rules.specs.declared.answer.Refusal.{Refusal}
-use Rattle.index_rules.specs.declared.answer.Refusal.TheVariants.{BadMoment, BadToken, NotOffice, BadUser, BadName, BadFileName, BadRelease, BadText, BadDigest, TooLarge, DigestMismatch, QuotaTooLarge, NoUser, UserExists, TokenTaken, NameProhibited, NoProject, NotOwner, NameHeld, LastOwner, FilesRemain, NoFile, NoRelease, FileNameTaken, OverQuota, QuotaBelowCharge, CaseOpen, OwnerCandidate, NoCase, AttemptsFull, TooFewAttempts, TooEarly, RecentRelease, HomePageActive}
+use Rattle.index_rules.specs.declared.answer.Refusal.TheVariants.{BadMoment, BadToken, NotOffice, BadUser, BadName, BadFileName, BadRelease, BadText, BadDigest, TooLarge, DigestMismatch, QuotaTooLarge, NoUser, UserExists, TokenTaken, NameProhibited, NoProject, NotOwner, NameHeld, LastOwner, FilesRemain, NoFile, NoRelease, FileNameTaken, FileBanned, OverQuota, QuotaBelowCharge, CaseOpen, OwnerCandidate, NoCase, AttemptsFull, TooFewAttempts, TooEarly, RecentRelease, HomePageActive}
 use Rattle.index_rules.specs.declared.records.UserRecord.{UserRecord}
 use Rattle.index_rules.specs.declared.records.NameRecord.{NameRecord}
 use Rattle.index_rules.specs.declared.records.NameRecord.TheVariants.{Held, Prohibited}
@@ -165,6 +165,7 @@ is_already (AddOwner name user) facts = facts.named_owns
 is_already (RemoveOwner name user) facts = not facts.named_owns
 is_already (Upload file sha256 body requires) facts = is_undeleted facts.file
 is_already (Delete file) facts = not (is_undeleted facts.file)
+is_already (BanFile file) facts = facts.is_banned
 is_already (Yank name release reason) facts = option_map_or (same reason) facts.yank false
 is_already (Unyank name release) facts = is_none facts.yank
 is_already (Relinquish name) facts = false
@@ -202,6 +203,7 @@ applies at request facts FilesRemain = has_files facts.name
 applies at request facts NoFile = is_none facts.file
 applies at request facts NoRelease = not facts.has_release
 applies at request facts FileNameTaken = uploads_other_file request facts
+applies at request facts FileBanned = facts.is_banned
 applies at request facts OverQuota = uploads_over_quota request facts
 applies at request facts QuotaBelowCharge = is_quota_below_charge request facts
 applies at request facts CaseOpen = is_some facts.case
@@ -215,7 +217,7 @@ applies at request facts HomePageActive = hinders at request facts case_fault.Ho
 
 -- those of an upload whose parts are in order
 abbrev pub file_refusals : List Refusal
-file_refusals = NoProject ∷ NotOwner ∷ FileNameTaken ∷ OverQuota ∷ []
+file_refusals = NoProject ∷ NotOwner ∷ FileNameTaken ∷ FileBanned ∷ OverQuota ∷ []
 
 -- the refusals that a request can meet beside BadMoment and BadToken, least first
 abbrev pub refusals_of : Request → List Refusal
@@ -227,6 +229,7 @@ refusals_of (AddOwner name user) = BadUser ∷ BadName ∷ NoUser ∷ NoProject 
 refusals_of (RemoveOwner name user) = BadUser ∷ BadName ∷ NoUser ∷ NoProject ∷ NotOwner ∷ LastOwner ∷ []
 refusals_of (Upload file sha256 body requires) = BadFileName ∷ BadText ∷ BadDigest ∷ TooLarge ∷ DigestMismatch ∷ file_refusals
 refusals_of (Delete file) = BadFileName ∷ NoProject ∷ NotOwner ∷ NoFile ∷ []
+refusals_of (BanFile file) = NotOffice ∷ BadFileName ∷ NoFile ∷ []
 refusals_of (Yank name release reason) = BadName ∷ BadRelease ∷ BadText ∷ NoProject ∷ NotOwner ∷ NoRelease ∷ []
 refusals_of (Unyank name release) = BadName ∷ BadRelease ∷ NoProject ∷ NotOwner ∷ NoRelease ∷ []
 refusals_of (Relinquish name) = BadName ∷ NoProject ∷ NotOwner ∷ FilesRemain ∷ []

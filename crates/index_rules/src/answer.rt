@@ -56,6 +56,8 @@ pub enum Refusal {
     NoRelease,
     /// The file name is bound to another digest or size.
     FileNameTaken,
+    /// The file is banned.
+    FileBanned,
     /// The file is not undeleted, and its size would bring the charge above the quota.
     OverQuota,
     /// The quota is less than the charge.
@@ -126,6 +128,7 @@ impl Refusal {
             Refusal::NoFile => 22,
             Refusal::NoRelease => 23,
             Refusal::FileNameTaken => 24,
+            Refusal::FileBanned => 25,
             Refusal::OverQuota => 26,
             Refusal::QuotaBelowCharge => 27,
             Refusal::CaseOpen => 28,

@@ -47,6 +47,10 @@ pub enum Request {
     Delete {
         file: Bytes,
     },
+    /// The office bans a file that was once accepted, for good. Where it is undeleted, it is deleted.
+    BanFile {
+        file: Bytes,
+    },
     /// An owner yanks a release, for a reason (PEP 592).
     Yank {
         name: Bytes,

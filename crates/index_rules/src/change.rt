@@ -5,8 +5,8 @@ use crate::user::UserId;
 use index_digest::Sealed;
 use index_names::{FileName, NormalName, Release, Text};
 
-/// What an accepted call writes, with the new records whole. All but those on users and quotas, `OpenCase` and
-/// `RecordAttempt` also end the name's open case.
+/// What an accepted call writes, with the new records whole. All but those on users and quotas, `BanFile`, `OpenCase`
+/// and `RecordAttempt` also end the name's open case.
 #[derive(Drop)]
 pub enum Change {
     /// The user has this record.
@@ -49,6 +49,14 @@ pub enum Change {
     Delete {
         name: NormalName,
         project: Project,
+        file: FileName,
+        record: FileRecord,
+    },
+    /// The file is banned and has this record, and its bytes go. Where a ban deletes it, the name has the record
+    /// `project`.
+    BanFile {
+        name: NormalName,
+        project: Option<Project>,
         file: FileName,
         record: FileRecord,
     },

@@ -13,7 +13,7 @@ use crate::change::Change;
 use crate::view::View;
 use cases::{answer_case, close_case, open_case, record_attempt, transfer};
 use context::Context;
-use files::{delete, upload};
+use files::{ban_file, delete, upload};
 use names::{allow, claim, prohibit, relinquish, set_quota};
 use owners::{add_owner, remove_owner};
 use releases::{unyank, yank};
@@ -129,6 +129,7 @@ fn decide_on(context: &Context<'_>, request: &Request) -> Result<Decision, Stop>
         Request::RemoveOwner { name, user } => remove_owner(context, name, user),
         Request::Upload { .. } => unreachable!(),
         Request::Delete { file } => delete(context, file),
+        Request::BanFile { file } => ban_file(context, file),
         Request::Yank {
             name,
             release,

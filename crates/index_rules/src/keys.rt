@@ -86,7 +86,7 @@ impl Call {
             Request::Yank { name, release, .. } | Request::Unyank { name, release } => {
                 release_keys(alloc, caller, name, release)
             }
-            Request::Upload { file, .. } | Request::Delete { file } => {
+            Request::Upload { file, .. } | Request::Delete { file } | Request::BanFile { file } => {
                 file_keys(alloc, caller, file)
             }
         };

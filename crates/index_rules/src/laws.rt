@@ -4,7 +4,7 @@ ghost use Rattle.index_rules.specs.Legal.{IsLegal};
 ghost use Rattle.index_rules.specs.Tables.{Tables};
 ghost use Rattle.index_rules.specs.Sound.{IsSound};
 ghost use Rattle.index_rules.specs.StandsFor.{StandsFor};
-ghost use Rattle.index_rules.specs.Laws.{BindsFiles, HasOneBearerOfEach, MovesAsRecorded, StandsAlone, TransfersWereReady};
+ghost use Rattle.index_rules.specs.Laws.{BindsFiles, HasOneBearerOfEach, KeepsBans, MovesAsRecorded, StandsAlone, TransfersWereReady};
 
 /// A token has one bearer: no two users bear one digest.
 #[tactic(auto, using(crate::proofs::StandsOn::one_bearer_of_each))]
@@ -13,16 +13,17 @@ pub fn tokens_have_one_bearer()
 {}
 
 /// A file name is bound for good: any two uploads of it have the same digest and size, whatever stands between
-/// them, be it a delete or a prohibition of the project.
-#[tactic(auto, using(crate::proofs::BindLemmas::binds_files))]
+/// them, be it a delete or a prohibition of the project. After a ban of it there is none.
+#[tactic(auto, using(crate::proofs::BindLemmas::binds_files, crate::proofs::BindLemmas::keeps_bans))]
 pub fn file_names_are_bound()
-    ensures { (h : History) → IsLegal h → BindsFiles h }
+    ensures bound { (h : History) → IsLegal h → BindsFiles h }
+    ensures bans { (h : History) → IsLegal h → KeepsBans h }
 {}
 
 /// An entry moves what its request says, and only for its own name: an upload adds its size to the charge and is of a
-/// file that is not undeleted, a delete takes the file's size away, and a prohibition brings the charge to nothing; a
-/// claim, a relinquish, a prohibition and an allow alone change the state, and these with a transfer and the requests
-/// on owners alone change who owns the name.
+/// file that is not undeleted, a delete takes the file's size away, a ban that of an undeleted file, and a prohibition
+/// brings the charge to nothing; a claim, a relinquish, a prohibition and an allow alone change the state, and these with
+/// a transfer and the requests on owners alone change who owns the name.
 #[tactic(auto, using(crate::proofs::MoveLemmas::moves_as_recorded))]
 pub fn charges_states_and_owners_move_as_recorded()
     ensures { (h : History) → IsLegal h → MovesAsRecorded h }

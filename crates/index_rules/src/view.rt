@@ -70,6 +70,8 @@ pub struct View {
     /// The owners of the name, in any order.
     pub owners: Owners,
     pub file: Option<FileRecord>,
+    /// Whether the file is banned.
+    pub is_banned: bool,
     /// Why the release is yanked, where it is.
     pub yank: Option<Text>,
     /// Whether the release has an undeleted file.
@@ -87,6 +89,7 @@ impl Drop for View {
             name: _name,
             owners: _owners,
             file: _file,
+            is_banned: _is_banned,
             yank: _yank,
             has_release: _has_release,
             case: _case,

@@ -1,13 +1,14 @@
-//! Owners' requests on files.
-ghost use Rattle.std.specs.Prelude.{◌≡◌, [], Some, IfOk, IsSome, IsTrue};
-ghost use Rattle.index_rules.specs.declared.call.Request.TheVariants.{Delete, Upload};
+//! Requests on files.
+ghost use Rattle.std.specs.Prelude.{◌≡◌, [], Option, Some, IfOk, IsSome, IsTrue};
+ghost use Rattle.index_rules.specs.declared.call.Request.TheVariants.{BanFile, Delete, Upload};
 ghost use Rattle.index_digest.specs.Digest.{read_digest, sha256};
 ghost use Rattle.index_names.specs.FileName.{project_of};
 ghost use Rattle.index_rules.specs.Maps.{Bytes};
 ghost use Rattle.index_rules.specs.Requests.{read_file};
 ghost use Rattle.index_rules.specs.Texts.{is_text as is_text_lem};
+ghost use Rattle.index_rules.specs.Facts.{facts_seen};
 ghost use Rattle.index_rules.specs.Verdict.{Accept, is_other_file};
-ghost use Rattle.index_rules.specs.Effect.{as_deleted as deleted_lem, upload_of, new_file};
+ghost use Rattle.index_rules.specs.Effect.{as_deleted as deleted_lem, project_left as project_left_lem, upload_of, new_file};
 ghost use Rattle.index_rules.specs.Decided.{Decides, DecidesIn, DecidesOnFile, FindsProject, IsOfCaller};
 
 use super::context::Context;
@@ -95,13 +96,15 @@ fn project_with(context: &Context<'_>, body: &Sealed) -> Result<Option<Project>,
     if !context.owns() {
         return Err(Stop::Refused(Refusal::NotOwner));
     }
-    if let Some(record) = &context.view.file {
-        if is_other(record, &body.digest(), size) {
-            return Err(Stop::Refused(Refusal::FileNameTaken));
-        }
-        if record.is_undeleted {
-            return Ok(None);
-        }
+    let known = context.view.file.as_ref();
+    if known.is_some_and(|known| is_other(known, &body.digest(), size)) {
+        return Err(Stop::Refused(Refusal::FileNameTaken));
+    }
+    if context.view.is_banned {
+        return Err(Stop::Refused(Refusal::FileBanned));
+    }
+    if known.is_some_and(|known| known.is_undeleted) {
+        return Ok(None);
     }
     if !project.has_room(size) {
         return Err(Stop::Refused(Refusal::OverQuota));
@@ -217,6 +220,47 @@ pub fn delete(context: &Context<'_>, file: &Bytes) -> Result<Decision, Stop>
         file,
         record,
     }))
+}
+
+pub fn ban_file(context: &Context<'_>, file: &Bytes) -> Result<Decision, Stop>
+    requires { IsOfCaller context.now }
+    ensures { DecidesIn context.now (BanFile file.now) result }
+{
+    if !context.caller.office {
+        return Err(Stop::Refused(Refusal::NotOffice));
+    }
+    if !is_file(file) {
+        return Err(Stop::Refused(Refusal::BadFileName));
+    }
+    let Some(record) = &context.view.file else {
+        return Err(Stop::Refused(Refusal::NoFile));
+    };
+    if context.view.is_banned {
+        return Ok(Decision::Already);
+    }
+    let record = deleted(record)?;
+    let project = project_left(context)?;
+    let file = to_file(context.alloc, file)?;
+    let name = file.project().clone()?;
+    Ok(Decision::Change(Change::BanFile {
+        name,
+        project,
+        file,
+        record,
+    }))
+}
+
+/// The held name without the file, where the file is undeleted.
+fn project_left(context: &Context<'_>) -> Result<Option<Project>, AllocError>
+    ensures { let facts = facts_seen context.now.view.now (BanFile []) in
+        IfOk result (λ left. left ≡ project_left_lem facts) }
+{
+    match (&context.view.file, context.project()) {
+        (Some(known), Some(project)) if known.is_undeleted => {
+            Ok(Some(project.without_file(known.size)?))
+        }
+        _ => Ok(None),
+    }
 }
 
 /// The record of the file once it is deleted.
