@@ -10,6 +10,7 @@ pub mod Facts
 pub mod Verdict
 pub mod Effect
 pub mod Decided
+pub mod Rows
 pub mod Runs
 pub mod Sound
 pub mod Printed

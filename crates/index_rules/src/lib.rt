@@ -13,6 +13,7 @@ mod open;
 mod project;
 mod reading;
 mod records;
+mod rows;
 mod user;
 mod view;
 
@@ -27,5 +28,6 @@ pub use open::{OpenFault, first_user};
 pub use project::Project;
 pub use reading::read_token;
 pub use records::{CaseRecord, FileRecord, NameRecord, UserRecord};
+pub use rows::{FileRow, FileTaker, NameRow, NameTaker};
 pub use user::{UserFault, UserId};
 pub use view::{Caller, Owners, View};

@@ -1,0 +1,20 @@
+-- Rows that are handed to a taker one at a time. What a row makes of a taker is a relation between what it was and what it is.
+use Rattle.std.specs.Prelude.{◌≡◌, ◌⊎◌, List, [], ◌∷◌, ◌++◌}
+
+-- it took these rows in order
+abbrev pub Took : {K R : Type 0} → (K → R → K → Type 0) → List R → K → K → Type 0
+Took takes [] before after = after ≡ before
+Took {K} takes (row ∷ rows) before after = (between : K) × takes before row between × Took takes rows between after
+
+-- it took all but the last of these rows, and stopped at that one
+pub record StoppedAt {K R : Type 0} (takes stops : K → R → K → Type 0) (rows : List R) (before after : K) : Type 0 where
+  pub taken : List R
+  pub row : R
+  pub split : rows ≡ taken ++ row ∷ []
+  pub between : K
+  pub took : Took takes taken before between
+  pub stopped : stops between row after
+
+-- these rows were handed to it: it took them all, or stopped at the last one
+abbrev pub WasGiven : {K R : Type 0} → (K → R → K → Type 0) → (K → R → K → Type 0) → List R → K → K → Type 0
+WasGiven takes stops rows before after = Took takes rows before after ⊎ StoppedAt takes stops rows before after

@@ -1,0 +1,82 @@
+//! Rows of the tables, and what takes them one at a time.
+ghost use Rattle.std.specs.Prelude.{◌≡◌, false, IsTrue};
+
+use crate::records::NameRecord;
+use index_digest::Digest256;
+use index_names::{FileName, NormalName, Release, Text};
+
+/// A name that is not free, with its record.
+#[derive(Clone, Debug)]
+pub struct NameRow {
+    pub name: NormalName,
+    pub record: NameRecord,
+}
+
+// By hand: a drop is then one call at each exit of a function (docs/ARCHITECTURE.md, "What a proof costs").
+impl Drop for NameRow {
+    fn drop(self) {
+        let NameRow {
+            name: _name,
+            record: _record,
+        } = self;
+    }
+}
+
+/// An undeleted file of a project.
+#[derive(Clone, Debug)]
+pub struct FileRow {
+    pub file: FileName,
+    pub release: Release,
+    /// The SHA-256 digest of the body and its size in bytes.
+    pub digest: Digest256,
+    pub size: u64,
+    /// The Python versions that the last upload declared, or nothing.
+    pub requires_python: Text,
+    /// Why the release is yanked, where it is. The reason may be empty (PEP 592).
+    pub yanked: Option<Text>,
+}
+
+impl Drop for FileRow {
+    fn drop(self) {
+        let FileRow {
+            file: _file,
+            release: _release,
+            digest: _digest,
+            size: _size,
+            requires_python: _requires_python,
+            yanked: _yanked,
+        } = self;
+    }
+}
+
+/// What takes rows of names one at a time.
+pub trait NameTaker {
+    ghost use Rattle.index_rules.specs.declared.rows.NameRow.{NameRow};
+
+    /// What a row that is taken makes of it.
+    ghost takes: { Self → NameRow → Self → Type 0 };
+
+    /// What a row that is not taken leaves of it.
+    ghost stops: { Self → NameRow → Self → Type 0 };
+
+    /// Takes a row, or answers `false`. Then it wants no more of them.
+    fn take(&mut self, row: &NameRow) -> bool
+        ensures took { IsTrue result → takes self.old row.now self.new }
+        ensures stopped { result ≡ false → stops self.old row.now self.new };
+}
+
+/// What takes rows of files one at a time.
+pub trait FileTaker {
+    ghost use Rattle.index_rules.specs.declared.rows.FileRow.{FileRow};
+
+    /// What a row that is taken makes of it.
+    ghost takes: { Self → FileRow → Self → Type 0 };
+
+    /// What a row that is not taken leaves of it.
+    ghost stops: { Self → FileRow → Self → Type 0 };
+
+    /// Takes a row, or answers `false`. Then it wants no more of them.
+    fn take(&mut self, row: &FileRow) -> bool
+        ensures took { IsTrue result → takes self.old row.now self.new }
+        ensures stopped { result ≡ false → stops self.old row.now self.new };
+}
