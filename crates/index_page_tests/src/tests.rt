@@ -1,0 +1,2 @@
+//! Choices.
+mod choices;

@@ -1,0 +1,57 @@
+-- How the choice is made: the best claim on each type so far, item by item.
+use Rattle.std.specs.Prelude.{ℕ, Bool, false, ◌||◌, ◌&&◌, List, [], ◌∷◌, map, if◌then◌else◌, ◌==◌, nat_lt, Option}
+use Rattle.std.specs.Option.{option_map_or}
+use Rattle.std.specs.Str.{byte}
+use Rattle.std.specs.Borrow.{Bor}
+use Rattle.index_pages.specs.Accept.{Item, claim, no_claim, is_readable, item_of, cut_at, trim}
+use Rattle.index_pages.specs.declared.item.Item as code
+use Rattle.index_pages.specs.declared.tally.Claim.{Claim}
+use Rattle.index_pages.specs.declared.tally.Tally.{Tally}
+use Rattle.index_pages.specs.declared.served.Served.{Served}
+use Rattle.index_pages.specs.declared.served.Served.TheVariants.{PlainHtml, Html, Json}
+
+abbrev pub is_above : Claim → Claim → Bool
+is_above a b = nat_lt b.specificity a.specificity || ((a.specificity == b.specificity) && nat_lt b.quality a.quality)
+
+-- the second claim where it is above the first
+abbrev pub better : Claim → Claim → Claim
+better a b = if is_above b a then b else a
+
+-- the best of a claim and those of the items
+abbrev pub best_from : Served → Claim → List Item → Claim
+best_from served best [] = best
+best_from served best (item ∷ items) = best_from served (better best (claim served item)) items
+
+-- an item that holds its range by reference, as the definitions see it
+abbrev pub shown : code.Item → Item
+shown item = record { range = item.range.now; quality = item.quality }
+
+-- the pieces that are left of an item
+abbrev pub pieces_left : Option (Bor (List ℕ)) → List (List ℕ)
+pieces_left left = option_map_or (λ rest. map trim (cut_at (byte ";") rest.now)) left []
+
+-- the items that are left of a value
+abbrev pub items_left : Option (Bor (List ℕ)) → List Item
+items_left left = option_map_or (λ rest. map item_of (cut_at (byte ",") rest.now)) left []
+
+-- what no items say
+abbrev pub no_tally : Tally
+no_tally = record { is_readable = false; plain = no_claim; html = no_claim; json = no_claim }
+
+-- with one item more
+abbrev pub after : Tally → Item → Tally
+after tally item = record {
+  is_readable = tally.is_readable || is_readable item;
+  plain = better tally.plain (claim PlainHtml item);
+  html = better tally.html (claim Html item);
+  json = better tally.json (claim Json item);
+}
+
+unfoldable pub after_all : Tally → List Item → Tally
+after_all tally [] = tally
+after_all tally (item ∷ items) = after_all (after tally item) items
+
+abbrev pub quality_on : Tally → Served → ℕ
+quality_on tally PlainHtml = tally.plain.quality
+quality_on tally Html = tally.html.quality
+quality_on tally Json = tally.json.quality

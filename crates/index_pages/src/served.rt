@@ -1,0 +1,34 @@
+//! The types in which a page is served.
+ghost use Rattle.index_pages.specs.Accept.{IsChosen};
+
+use crate::tally::Tally;
+
+/// A type in which a page is served (PEP 691, "Content-Types").
+#[derive(Clone, Copy, Debug, PartialEq, Eq, Hash)]
+pub enum Served {
+    /// `text/html`.
+    PlainHtml,
+    /// `application/vnd.pypi.simple.v1+html`.
+    Html,
+    /// `application/vnd.pypi.simple.v1+json`.
+    Json,
+}
+
+impl Served {
+    /// The type to serve by the values of all `Accept` headers, or `None` where they allow none (RFC 9110, section
+    /// 12.5.1). No header, or none with a readable item, counts as `*/*`. Of equally acceptable types the first of
+    /// those above is chosen. It takes no memory.
+    pub fn choose(accept: &[&[u8]]) -> Option<Served>
+        ensures { IsChosen accept.now result }
+    {
+        let mut tally = Tally::new();
+        for value in accept {
+            tally = tally.with_value(value);
+        }
+        if tally.is_readable {
+            tally.choose()
+        } else {
+            Some(Served::PlainHtml)
+        }
+    }
+}
