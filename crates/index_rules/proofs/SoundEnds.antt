@@ -102,7 +102,7 @@ module _ (T : Tables) (sound : IsSound T) (name : Bytes) (closed : get T.cases n
       let was = sound.bans file banned in (
         as_deleted_of name was.0,
         get-change_values (as_deleted_of name) T.files file ∙ ap (option_map (as_deleted_of name)) was.1,
-        elim (same name was.0.project) as (λ b. (cond b (deleted was.0) was.0).is_undeleted ≡ false) [ true ↦ refl | false ↦ was.2 ],
+        elim (same name was.0.project) as (λ b. (cond b (as_deleted was.0) was.0).is_undeleted ≡ false) [ true ↦ refl | false ↦ was.2 ],
       )
 
   -- ---- the tables, where the name is held no more and the others are as they were
