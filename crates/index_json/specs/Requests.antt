@@ -5,7 +5,7 @@ use Rattle.index_retention.specs.declared.attempts.CaseKind.TheVariants.{Continu
 use Rattle.index_retention.specs.declared.attempts.Means.{Means}
 use Rattle.index_retention.specs.declared.attempts.Means.TheVariants.{Profile, Author, Pages}
 use Rattle.index_rules.specs.declared.call.Request.{Request}
-use Rattle.index_rules.specs.declared.call.Request.TheVariants.{AddUser, SetToken, SetQuota, Claim, AddOwner, RemoveOwner, Upload, Delete, Yank, Unyank, Relinquish, Prohibit, Allow, OpenCase, RecordAttempt, Transfer, CloseCase, AnswerCase}
+use Rattle.index_rules.specs.declared.call.Request.TheVariants.{AddUser, SetToken, SetQuota, Claim, AddOwner, RemoveOwner, Upload, Delete, BanFile, Yank, Unyank, Relinquish, Prohibit, Allow, OpenCase, RecordAttempt, Transfer, CloseCase, AnswerCase}
 use Rattle.index_json.specs.Json.{hex_bytes, json_of}
 use Rattle.index_json.specs.Reading.{Reading, ◌>>=◌, always, flag, maybe, number, read_whole, text, texts}
 
@@ -62,6 +62,11 @@ abbrev pub delete_row : Reading Request
 delete_row = do
   file ← text (codes "file")
   always (Delete file)
+
+abbrev pub ban_file_row : Reading Request
+ban_file_row = do
+  file ← text (codes "file")
+  always (BanFile file)
 
 abbrev pub yank_row : Reading Request
 yank_row = do
@@ -140,6 +145,7 @@ abbrev pub file_row : List ℕ → Reading Request
 file_row word = λ object.
     if bytes_eq word (codes "upload") then upload_row object
     else if bytes_eq word (codes "delete") then delete_row object
+    else if bytes_eq word (codes "ban_file") then ban_file_row object
     else if bytes_eq word (codes "yank") then yank_row object
     else if bytes_eq word (codes "unyank") then unyank_row object
     else case_row word object

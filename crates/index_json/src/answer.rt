@@ -58,6 +58,7 @@ fn refusal_text(refusal: Refusal) -> &'static str
         22 NoFile,
         23 NoRelease,
         24 FileNameTaken,
+        25 FileBanned,
         26 OverQuota,
         27 QuotaBelowCharge,
         28 CaseOpen,

@@ -3,7 +3,7 @@ ghost use Rattle.std.specs.Prelude.{◌≡◌, ◌%◌, length, Err};
 ghost use Rattle.index_json.specs.Json.{hex_bytes};
 ghost use Rattle.index_json.specs.Object.{object_of};
 ghost use Rattle.index_json.specs.Reading.{Reads, ReadsTo};
-ghost use Rattle.index_json.specs.Requests.{body as body_lem, delete_row, file_row, unyank_row, upload_row, yank_row};
+ghost use Rattle.index_json.specs.Requests.{ban_file_row, body as body_lem, delete_row, file_row, unyank_row, upload_row, yank_row};
 
 use super::cases;
 use crate::row::{Row, Unread};
@@ -18,6 +18,7 @@ pub fn request_named(alloc: Global, word: &str, row: &mut Row<'_>) -> Result<Req
     match word {
         "upload" => upload(alloc, row),
         "delete" => delete(alloc, row),
+        "ban_file" => ban_file(alloc, row),
         "yank" => yank(alloc, row),
         "unyank" => unyank(alloc, row),
         word => cases::request_named(alloc, word, row),
@@ -43,6 +44,13 @@ fn delete(alloc: Global, row: &mut Row<'_>) -> Result<Request, Unread>
 {
     row.bytes(alloc, "file")
         .map(|file| Request::Delete { file })
+}
+
+fn ban_file(alloc: Global, row: &mut Row<'_>) -> Result<Request, Unread>
+    ensures { ReadsTo result (ban_file_row (object_of row.old)) (object_of row.new) }
+{
+    row.bytes(alloc, "file")
+        .map(|file| Request::BanFile { file })
 }
 
 fn yank(alloc: Global, row: &mut Row<'_>) -> Result<Request, Unread>
