@@ -2,7 +2,7 @@
 use Rattle.std.specs.Prelude.{◌≡◌, ℕ, ◌<◌, Bool, true, false, vec_len, vec_capacity}
 use Rattle.std.specs.FinMap.{from_entries}
 use Rattle.index_rules.specs.declared.change.Change.{Change}
-use Rattle.index_rules.specs.declared.change.Change.TheVariants.{SetQuota, Claim, AddOwner, RemoveOwner, Upload, Delete, Yank, Unyank, Relinquish, Prohibit, Allow, OpenCase, RecordAttempt, Transfer, CloseCase, AnswerCase}
+use Rattle.index_rules.specs.declared.change.Change.TheVariants.{SetQuota, Claim, AddOwner, RemoveOwner, Upload, Delete, BanFile, Yank, Unyank, Relinquish, Prohibit, Allow, OpenCase, RecordAttempt, Transfer, CloseCase, AnswerCase}
 use Rattle.index_rules.specs.Maps.{bytes_cmp, pair_cmp}
 use Rattle.index_rules.specs.Tables.{Tables}
 use Rattle.index_rules.specs.Effect.{means}
@@ -19,6 +19,7 @@ tables_of b = record {
   bodies = from_entries {R = bytes_cmp} b.bodies.items;
   yanks = from_entries {R = pair_cmp} b.yanks.items;
   cases = from_entries {R = bytes_cmp} b.cases.items;
+  bans = from_entries {R = bytes_cmp} b.bans.items;
 }
 
 -- the tables afterwards are what the change means
@@ -38,11 +39,13 @@ pub record HasRoom (b : PlainBooks) : Type 0 where
   pub bodies : vec_len b.bodies < vec_capacity b.bodies
   pub yanks : vec_len b.yanks < vec_capacity b.yanks
   pub cases : vec_len b.cases < vec_capacity b.cases
+  pub bans : vec_len b.bans < vec_capacity b.bans
 
 -- a change of a release: of its files, or of its yank
 abbrev pub is_of_release : Change → Bool
 is_of_release (Upload name project file known body) = true
 is_of_release (Delete name project file known) = true
+is_of_release (BanFile name project file known) = true
 is_of_release (Yank name release reason) = true
 is_of_release (Unyank name release) = true
 is_of_release change = false

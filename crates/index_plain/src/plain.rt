@@ -29,6 +29,7 @@ pub struct PlainBooks {
     bodies: Vec<(FileName, Sealed)>,
     yanks: Vec<((NormalName, Release), Text)>,
     cases: Vec<(NormalName, CaseRecord)>,
+    bans: Vec<(FileName, ())>,
     failures: u64,
 }
 
@@ -43,6 +44,7 @@ impl Drop for PlainBooks {
             bodies: _bodies,
             yanks: _yanks,
             cases: _cases,
+            bans: _bans,
             failures: _failures,
         } = self;
     }
@@ -91,6 +93,7 @@ impl PlainBooks {
             bodies: Vec::new(alloc),
             yanks: Vec::new(alloc),
             cases: Vec::new(alloc),
+            bans: Vec::new(alloc),
             failures: 0,
         })
     }

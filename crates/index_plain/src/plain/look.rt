@@ -1,14 +1,15 @@
 //! What the tables have at the keys of a call.
-ghost use Rattle.std.specs.Prelude.{◌≡◌, IfOk, option_and_then, option_map};
+ghost use Rattle.std.specs.Prelude.{◌≡◌, IfOk, false, option_and_then, option_map};
+ghost use Rattle.std.specs.Option.{option_map_or};
 ghost use Rattle.std.specs.FinMap.{get};
-ghost use Rattle.index_rules.specs.Facts.{AreOwners, IsBearer, IsBearerAs, Sees, at_both, caller_of, has_release_in, of_both, yank_in};
+ghost use Rattle.index_rules.specs.Facts.{AreOwners, IsBearer, IsBearerAs, Sees, at_both, caller_of, has_release_in, is_banned_in, of_both, yank_in};
 ghost use Rattle.index_rules.specs.Tables.{owners_in};
 ghost use Rattle.index_plain.specs.Plain.{tables_of};
 
 use crate::plain::PlainBooks;
 use crate::{entries, files, owners, sets};
 use index_digest::Digest256;
-use index_names::{NormalName, Release, Text};
+use index_names::{FileName, NormalName, Release, Text};
 use index_rules::{
     Caller, CaseRecord, FileRecord, Keys, NameRecord, Owners, UserId, UserRecord, View,
 };
@@ -34,6 +35,7 @@ struct NameSeen {
 #[derive(Drop)]
 struct FilesSeen {
     file: Option<FileRecord>,
+    is_banned: bool,
     yank: Option<Text>,
     has_release: bool,
 }
@@ -50,6 +52,7 @@ impl PlainBooks {
         } = self.users_at(keys)?;
         let FilesSeen {
             file,
+            is_banned,
             yank,
             has_release,
         } = self.files_at(keys)?;
@@ -65,6 +68,7 @@ impl PlainBooks {
             name: record,
             owners,
             file,
+            is_banned,
             yank,
             has_release,
             case,
@@ -93,16 +97,20 @@ impl PlainBooks {
     fn files_at(&self, keys: &Keys) -> Result<FilesSeen, AllocError>
         ensures file { let T = tables_of self.now in
             IfOk result (λ seen. seen.file ≡ option_and_then (get T.files) keys.now.file) }
+        ensures is_banned { let banned = is_banned_in (tables_of self.now) in
+            IfOk result (λ seen. seen.is_banned ≡ option_map_or banned keys.now.file false) }
         ensures yank { let T = tables_of self.now in let k = keys.now in
             IfOk result (λ seen. seen.yank ≡ at_both (yank_in T) k.name k.release) }
         ensures release { let T = tables_of self.now in let k = keys.now in
             IfOk result (λ seen. seen.has_release ≡ of_both (has_release_in T) k.name k.release) }
     {
         let has_release = self.has_release(&keys.name, &keys.release);
+        let is_banned = self.is_banned(&keys.file);
         let file = entries::copy_at_key(self.files.as_slice(), &keys.file)?;
         let yank = self.yank(&keys.name, &keys.release)?;
         Ok(FilesSeen {
             file,
+            is_banned,
             yank,
             has_release,
         })
@@ -174,6 +182,16 @@ impl PlainBooks {
                 files::has_undeleted(self.files.as_slice(), name, release)
             }
             _ => false,
+        }
+    }
+
+    /// Whether a file is banned.
+    fn is_banned(&self, file: &Option<FileName>) -> bool
+        ensures { result ≡ option_map_or (is_banned_in (tables_of self.now)) file.now false }
+    {
+        match file {
+            Some(file) => entries::find(self.bans.as_slice(), file).is_some(),
+            None => false,
         }
     }
 

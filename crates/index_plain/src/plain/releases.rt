@@ -32,6 +32,12 @@ impl PlainBooks {
                 file,
                 record,
             } => self.delete(name, project, file, record),
+            Change::BanFile {
+                name,
+                project,
+                file,
+                record,
+            } => self.ban_file(name, project, file, record)?,
             Change::Yank {
                 name,
                 release,

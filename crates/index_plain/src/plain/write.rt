@@ -36,6 +36,7 @@ impl PlainBooks {
             }
             change @ (Change::Upload { .. }
             | Change::Delete { .. }
+            | Change::BanFile { .. }
             | Change::Yank { .. }
             | Change::Unyank { .. }) => self.make_of_release(change)?,
             change @ (Change::OpenCase { .. }
@@ -82,6 +83,7 @@ impl PlainBooks {
         ensures files { OnOk result (vec_len self.new.files < vec_capacity self.new.files) }
         ensures bodies { OnOk result (vec_len self.new.bodies < vec_capacity self.new.bodies) }
         ensures yanks { OnOk result (vec_len self.new.yanks < vec_capacity self.new.yanks) }
+        ensures bans { OnOk result (vec_len self.new.bans < vec_capacity self.new.bans) }
         ensures names { self.new.names ≡ self.old.names }
         ensures owners { self.new.owners ≡ self.old.owners }
         ensures cases { self.new.cases ≡ self.old.cases }
@@ -89,6 +91,7 @@ impl PlainBooks {
         self.files.reserve(1)?;
         self.bodies.reserve(1)?;
         self.yanks.reserve(1)?;
+        self.bans.reserve(1)?;
         Ok(())
     }
 }
