@@ -9,6 +9,7 @@ use std::alloc::AllocGlobal;
 use std::fmt;
 use std::process::Abort;
 
+mod bans;
 mod cases;
 mod deletes;
 mod long_runs;

@@ -19,6 +19,7 @@ fn view_of(rt: &(impl Abort + AllocGlobal), name: Option<NameRecord>) -> View {
         name,
         owners: Owners::new(Vec::new(rt.alloc())),
         file: None,
+        is_banned: false,
         yank: None,
         has_release: false,
         case: None,

@@ -26,7 +26,7 @@ fn writes_faults(rt: HostRuntime) {
 }
 
 /// The refusals in the order of their numbers.
-const REFUSALS: [Refusal; 34] = [
+const REFUSALS: [Refusal; 35] = [
     Refusal::BadMoment,
     Refusal::BadToken,
     Refusal::NotOffice,
@@ -51,6 +51,7 @@ const REFUSALS: [Refusal; 34] = [
     Refusal::NoFile,
     Refusal::NoRelease,
     Refusal::FileNameTaken,
+    Refusal::FileBanned,
     Refusal::OverQuota,
     Refusal::QuotaBelowCharge,
     Refusal::CaseOpen,
@@ -64,9 +65,9 @@ const REFUSALS: [Refusal; 34] = [
 ];
 
 /// Their numbers, as `docs/REQUESTS.md` has them.
-const NUMBERS: [u8; 34] = [
-    1, 2, 3, 4, 5, 6, 7, 8, 9, 10, 11, 12, 13, 14, 15, 16, 17, 18, 19, 20, 21, 22, 23, 24, 26, 27,
-    28, 29, 30, 31, 32, 33, 34, 35,
+const NUMBERS: [u8; 35] = [
+    1, 2, 3, 4, 5, 6, 7, 8, 9, 10, 11, 12, 13, 14, 15, 16, 17, 18, 19, 20, 21, 22, 23, 24, 25, 26,
+    27, 28, 29, 30, 31, 32, 33, 34, 35,
 ];
 
 /// Their texts, with their numbers and their names.
@@ -94,6 +95,7 @@ const TEXTS: &str = r#"{"answer":"refused","code":1,"name":"BadMoment"}
 {"answer":"refused","code":22,"name":"NoFile"}
 {"answer":"refused","code":23,"name":"NoRelease"}
 {"answer":"refused","code":24,"name":"FileNameTaken"}
+{"answer":"refused","code":25,"name":"FileBanned"}
 {"answer":"refused","code":26,"name":"OverQuota"}
 {"answer":"refused","code":27,"name":"QuotaBelowCharge"}
 {"answer":"refused","code":28,"name":"CaseOpen"}
@@ -112,7 +114,7 @@ fn assert_refusal(rt: &impl Abort, refusal: Refusal, number: u8, text: &str) {
 
 #[test]
 fn writes_refusals(rt: HostRuntime) {
-    assert_eq!(rt; TEXTS.lines().count(), 34);
+    assert_eq!(rt; TEXTS.lines().count(), 35);
     for ((refusal, number), text) in REFUSALS.into_iter().zip(NUMBERS).zip(TEXTS.lines()) {
         assert_refusal(&rt, refusal, number, text);
     }

@@ -94,6 +94,7 @@ const ROWS: &str = r#""do":"add_user","user":"u","office":true,"token_sha256":"t
 "do":"remove_owner","name":"a","user":"u"
 "do":"upload","file":"f","sha256":"","hex":"","requires_python":""
 "do":"delete","file":"f"
+"do":"ban_file","file":"f"
 "do":"yank","name":"a","release":"1","reason":""
 "do":"unyank","name":"a","release":"1"
 "do":"open_case","name":"a","kind":"continue","contact":"c","work":"w","why":"y"
@@ -130,6 +131,9 @@ const NO_ROWS: &str = r#""do":"add_user","user":"u","token_sha256":"t"
 "do":"delete","name":"a"
 "do":"delete","file":1
 "do":"delete","file":"f","x":1
+"do":"ban_file","name":"a"
+"do":"ban_file","file":null
+"do":"ban_file","file":"f","x":1
 "do":"yank","name":"a","release":"1"
 "do":"yank","name":"a","release":1,"reason":""
 "do":"yank","name":"a","release":"1","reason":"","x":1

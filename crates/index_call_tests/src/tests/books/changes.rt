@@ -1,6 +1,6 @@
 //! The changes that scripts write.
 use super::case_changes::{open_case, record_attempt, transfer};
-use super::file_changes::{delete, unyank, upload, yank};
+use super::file_changes::{ban_file, delete, unyank, upload, yank};
 use crate::tests::{name, text, token, user};
 use index_rules::{Change, Project, UserRecord};
 use std::alloc::AllocGlobal;
@@ -21,6 +21,7 @@ pub(super) fn change_of(rt: &(impl Abort + AllocGlobal), line: &str) -> Change {
 fn change_of_one(rt: &(impl Abort + AllocGlobal), word: &str, text: &str) -> Change {
     match word {
         "delete" => delete(rt, text),
+        "ban_file" => ban_file(rt, None, text),
         "relinquish" => Change::Relinquish {
             name: name(rt, text),
         },
@@ -56,6 +57,7 @@ fn change_of_file_or_case(
 ) -> Change {
     match word {
         "upload" => upload(rt, first, second),
+        "ban_file" => ban_file(rt, Some(project(rt, first)), second),
         "yank" => yank(rt, first, second),
         "unyank" => unyank(rt, first, second),
         "transfer" => transfer(rt, first, second),

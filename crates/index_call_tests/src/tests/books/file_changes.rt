@@ -3,7 +3,7 @@ use super::changes::{QUOTA, project, project_with};
 use crate::tests::{file_name, name, release, text, token};
 use index_digest::Sealed;
 use index_names::{FileName, NormalName};
-use index_rules::{Change, FileRecord};
+use index_rules::{Change, FileRecord, Project};
 use std::alloc::AllocGlobal;
 use std::process::Abort;
 
@@ -48,6 +48,21 @@ pub(super) fn delete(rt: &(impl Abort + AllocGlobal), text: &str) -> Change {
     Change::Delete {
         name: project_of(rt, &file),
         project: project_with(rt, "Flask", QUOTA, 3, 1),
+        record: record(rt, &file, false),
+        file,
+    }
+}
+
+/// The ban of a file, whose name is left as this project, or as it was.
+pub(super) fn ban_file(
+    rt: &(impl Abort + AllocGlobal),
+    project: Option<Project>,
+    text: &str,
+) -> Change {
+    let file = file_name(rt, text);
+    Change::BanFile {
+        name: project_of(rt, &file),
+        project,
         record: record(rt, &file, false),
         file,
     }

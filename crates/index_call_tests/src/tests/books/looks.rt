@@ -34,7 +34,7 @@ fn found_in_view(
 fn keys_of(rt: &(impl Abort + AllocGlobal), word: &str, about: &str) -> Keys {
     match word {
         "bearer" => keys_of_token(about),
-        "file" => keys_of_file(rt, about),
+        "file" | "ban" => keys_of_file(rt, about),
         "release" => keys_of_release(rt, about),
         _ => Keys::of_name(&name(rt, about)).expect(rt, about),
     }
@@ -44,6 +44,7 @@ fn told(alloc: Global, word: &str, view: &View) -> Result<String, AllocError> {
     match word {
         "bearer" => told_bearer(alloc, view),
         "file" => told_file(alloc, view.file.as_ref()),
+        "ban" => format!(in alloc; "{}", view.is_banned),
         "release" => told_release(alloc, view),
         "name" => told_name(alloc, view),
         "charge" => told_charge(alloc, view),

@@ -163,6 +163,35 @@ fn a_deletion_writes_the_charge(rt: HostRuntime) {
     assert_script(&rt, &[YANKS, CHARGE]);
 }
 
+const BANNED: &str = "\
+ban flask-1.0.tar.gz = false
+ban_file Flask flask-1.0.tar.gz
+ban flask-1.0.tar.gz = true
+file flask-1.0.tar.gz = flask 1.0 >=3.9 3 false
+body flask-1.0.tar.gz = -
+charge flask = 0 0
+release flask 1.0 = false broken
+ban django-1.0.tar.gz = false
+body django-1.0.tar.gz = abc";
+
+#[test]
+fn a_banned_file_is_deleted_and_stays_bound(rt: HostRuntime) {
+    assert_script(&rt, &[YANKS, BANNED]);
+}
+
+const BANNED_LATER: &str = "\
+delete flask-1.0.tar.gz
+relinquish flask
+ban_file flask-1.0.tar.gz
+ban flask-1.0.tar.gz = true
+file flask-1.0.tar.gz = flask 1.0 >=3.9 3 false
+name flask = -";
+
+#[test]
+fn a_deleted_file_is_banned(rt: HostRuntime) {
+    assert_script(&rt, &[YANKS, BANNED_LATER]);
+}
+
 const REASONS: &str = "\
 yank flask 1.0 insecure
 yank flask 1.00 typo
