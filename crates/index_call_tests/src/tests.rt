@@ -1,7 +1,8 @@
 //! Names, users and texts from constants.
 use index_digest::Digest256;
-use index_names::{FileName, NormalName, Release, Text, normal, release_key};
+use index_names::{FileName, NormalName, Release, normal, release_key};
 use index_rules::UserId;
+use index_text::Text;
 use std::alloc::AllocGlobal;
 use std::process::Abort;
 

@@ -10,7 +10,7 @@ use crate::cut::cut_of;
 use crate::fault::NameFault;
 use crate::project::NormalName;
 use crate::release::Release;
-use crate::text::{Text, ascii};
+use index_text::{Text, ascii};
 use std::alloc::{AllocError, Global};
 use std::cmp::Ordering;
 use std::marker::Model;

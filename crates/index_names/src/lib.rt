@@ -12,11 +12,9 @@ mod hyphens;
 pub mod laws;
 mod project;
 mod release;
-mod text;
 mod wheel;
 
 pub use fault::NameFault;
 pub use file_name::{FileKind, FileName, is_file_name};
 pub use project::{NormalName, is_name, normal};
 pub use release::{Release, is_version, release_key};
-pub use text::{Text, ascii};

@@ -6,7 +6,7 @@ ghost use Rattle.std.specs.Char.{is_ascii_alphanumeric};
 ghost use Rattle.index_names.specs.Steps.{added};
 
 use crate::fault::NameFault;
-use crate::text::Text;
+use index_text::Text;
 use std::alloc::{AllocError, Global};
 use std::marker::Model;
 

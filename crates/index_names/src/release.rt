@@ -4,7 +4,7 @@ ghost use Rattle.std.specs.List.{list_all};
 ghost use Rattle.index_names.specs.Release.{is_version_byte, is_version_text, release_named_by, read_release, IsRelease};
 
 use crate::fault::NameFault;
-use crate::text::{Text, ascii};
+use index_text::{Text, ascii};
 use std::alloc::{AllocError, Global};
 use std::marker::Model;
 

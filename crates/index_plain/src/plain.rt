@@ -4,11 +4,12 @@ ghost use Rattle.index_io.specs.Counts.{next_count};
 
 use crate::entries;
 use index_digest::{Digest256, Sealed};
-use index_names::{FileName, NormalName, Release, Text};
+use index_names::{FileName, NormalName, Release};
 use index_rules::{
     Books, CaseRecord, Change, Fault, FileRecord, Keys, NameRecord, OpenFault, Owners, UserId,
     UserRecord, View, first_user,
 };
+use index_text::Text;
 use std::alloc::Global;
 
 mod cases;

@@ -4,7 +4,8 @@ ghost use Rattle.std.specs.FinMap.{from_entries};
 ghost use Rattle.index_rules.specs.Effect.{without_name};
 ghost use Rattle.index_rules.specs.Maps.{pair_cmp};
 
-use index_names::{NormalName, Release, Text};
+use index_names::{NormalName, Release};
+use index_text::Text;
 
 /// Takes away all yanks of a name.
 pub fn clear(yanks: &mut Vec<((NormalName, Release), Text)>, name: &NormalName)

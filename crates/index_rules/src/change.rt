@@ -3,7 +3,8 @@ use crate::project::Project;
 use crate::records::{CaseRecord, FileRecord, UserRecord};
 use crate::user::UserId;
 use index_digest::Sealed;
-use index_names::{FileName, NormalName, Release, Text};
+use index_names::{FileName, NormalName, Release};
+use index_text::Text;
 
 /// What an accepted call writes, with the new records whole. All but those on users and quotas, `BanFile`, `OpenCase`
 /// and `RecordAttempt` also end the name's open case.

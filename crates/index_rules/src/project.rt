@@ -3,7 +3,7 @@ ghost use Rattle.std.specs.Prelude.{◌≡◌, ◌<◌, ◌≤◌, ◌+◌, IfOk
 ghost use Rattle.index_rules.specs.Projects.{FitsProject, new_project, largest_quota, most_files};
 ghost use Rattle.index_rules.specs.Effect.{later, with_file, without_file};
 
-use index_names::Text;
+use index_text::Text;
 use std::alloc::AllocError;
 use std::marker::Model;
 

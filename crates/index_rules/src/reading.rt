@@ -13,9 +13,9 @@ use crate::bytes::Bytes;
 use crate::user::{UserFault, UserId, is_user_id};
 use index_digest::Digest256;
 use index_names::{
-    FileName, NameFault, NormalName, Release, Text, ascii, is_file_name, is_version, normal,
-    release_key,
+    FileName, NameFault, NormalName, Release, is_file_name, is_version, normal, release_key,
 };
+use index_text::{Text, ascii};
 use std::alloc::{AllocError, Global};
 
 /// The most bytes of a text.

@@ -2,8 +2,9 @@
 use crate::project::Project;
 use crate::user::UserId;
 use index_digest::Digest256;
-use index_names::{NormalName, Release, Text};
+use index_names::{NormalName, Release};
 use index_retention::{CaseKind, CaseState};
+use index_text::Text;
 
 /// What the index keeps of a user.
 #[derive(Clone, Copy, Debug)]

@@ -3,7 +3,8 @@ ghost use Rattle.std.specs.Prelude.{◌≡◌, false, IsTrue};
 
 use crate::records::NameRecord;
 use index_digest::Digest256;
-use index_names::{FileName, NormalName, Release, Text};
+use index_names::{FileName, NormalName, Release};
+use index_text::Text;
 
 /// A name that is not free, with its record.
 #[derive(Clone, Debug)]

@@ -3,7 +3,7 @@ ghost use Rattle.std.specs.Prelude.{◌≡◌, ◌↔◌, IfOk, Some, None, Err}
 ghost use Rattle.std.specs.List.{list_all};
 ghost use Rattle.index_rules.specs.Users.{IsUserId, is_user_id as is_user_id_lem, is_user_letter as is_user_letter_lem, read_user};
 
-use index_names::{Text, ascii};
+use index_text::{Text, ascii};
 use std::alloc::{AllocError, Global};
 use std::error::Error;
 use std::fmt;

@@ -3,7 +3,7 @@ ghost use Rattle.std.specs.Prelude.{◌≡◌, List, ℕ};
 
 use crate::records::{CaseRecord, FileRecord, NameRecord, UserRecord};
 use crate::user::UserId;
-use index_names::Text;
+use index_text::Text;
 use std::marker::Model;
 
 /// Owners of a name. Contracts see the list of their ids.

@@ -9,10 +9,11 @@ ghost use Rattle.index_plain.specs.Plain.{tables_of};
 use crate::plain::PlainBooks;
 use crate::{entries, files, owners, sets};
 use index_digest::Digest256;
-use index_names::{FileName, NormalName, Release, Text};
+use index_names::{FileName, NormalName, Release};
 use index_rules::{
     Caller, CaseRecord, FileRecord, Keys, NameRecord, Owners, UserId, UserRecord, View,
 };
+use index_text::Text;
 use std::alloc::{AllocError, Global};
 
 /// What the tables have of users at the keys of a call.

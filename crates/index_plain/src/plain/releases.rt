@@ -5,8 +5,9 @@ ghost use Rattle.index_plain.specs.Plain.{HasRoom, Writes, tables_of, failures_o
 
 use crate::entries;
 use crate::plain::PlainBooks;
-use index_names::{NormalName, Release, Text};
+use index_names::{NormalName, Release};
 use index_rules::Change;
+use index_text::Text;
 use std::alloc::AllocError;
 
 impl PlainBooks {

@@ -1,5 +1,6 @@
 //! Texts, and what faults print.
-use index_names::{NameFault, Text};
+use index_names::NameFault;
+use index_text::Text;
 use std::alloc::AllocGlobal;
 use std::process::Abort;
 
