@@ -1,4 +1,5 @@
-pub mod EntryLemmas
-pub mod SetLemmas
+pub mod TreeLemmas
+pub mod PairLemmas
+pub mod ValueLemmas
 pub mod OwnerLemmas
-pub mod FileLemmas
+pub mod UserLemmas

@@ -1,2 +1,3 @@
-pub mod Sets
+pub mod Trees
+pub mod Pairs
 pub mod Plain

@@ -1,25 +1,25 @@
--- The tables that the vectors hold. At a key that stands twice the first entry counts.
-use Rattle.std.specs.Prelude.{◌≡◌, ℕ, ◌<◌, Bool, true, false, vec_len, vec_capacity}
-use Rattle.std.specs.FinMap.{from_entries}
+-- The tables that the ordered maps hold.
+use Rattle.std.specs.Prelude.{◌≡◌, ℕ, Bool, true, false}
 use Rattle.index_rules.specs.declared.change.Change.{Change}
 use Rattle.index_rules.specs.declared.change.Change.TheVariants.{SetQuota, Claim, AddOwner, RemoveOwner, Upload, Delete, BanFile, Yank, Unyank, Relinquish, Prohibit, Allow, OpenCase, RecordAttempt, Transfer, CloseCase, AnswerCase}
-use Rattle.index_rules.specs.Maps.{bytes_cmp, pair_cmp}
+use Rattle.index_rules.specs.Maps.{bytes_cmp}
 use Rattle.index_rules.specs.Tables.{Tables}
 use Rattle.index_rules.specs.Effect.{means}
 use Rattle.index_plain.specs.declared.plain.PlainBooks.{PlainBooks}
-use Rattle.index_plain.specs.Sets.{set_of}
+use Rattle.index_plain.specs.Trees.{map_of}
+use Rattle.index_plain.specs.Pairs.{pairs_of}
 
 -- the tables that are kept here
 abbrev pub tables_of : PlainBooks → Tables
 tables_of b = record {
-  users = from_entries {R = bytes_cmp} b.users.items;
-  names = from_entries {R = bytes_cmp} b.names.items;
-  owners = set_of pair_cmp b.owners.items;
-  files = from_entries {R = bytes_cmp} b.files.items;
-  bodies = from_entries {R = bytes_cmp} b.bodies.items;
-  yanks = from_entries {R = pair_cmp} b.yanks.items;
-  cases = from_entries {R = bytes_cmp} b.cases.items;
-  bans = from_entries {R = bytes_cmp} b.bans.items;
+  users = map_of bytes_cmp b.users;
+  names = map_of bytes_cmp b.names;
+  owners = pairs_of bytes_cmp bytes_cmp (map_of bytes_cmp b.owners);
+  files = map_of bytes_cmp b.files;
+  bodies = map_of bytes_cmp b.bodies;
+  yanks = pairs_of bytes_cmp bytes_cmp (map_of bytes_cmp b.yanks);
+  cases = map_of bytes_cmp b.cases;
+  bans = map_of bytes_cmp b.bans;
 }
 
 -- the tables afterwards are what the change means
@@ -29,17 +29,6 @@ Writes change old new = tables_of new ≡ means change (tables_of old)
 -- how many calls answered a fault
 abbrev pub failures_of : PlainBooks → ℕ
 failures_of b = b.failures
-
--- each vector has room for one more entry
-pub record HasRoom (b : PlainBooks) : Type 0 where
-  pub users : vec_len b.users < vec_capacity b.users
-  pub names : vec_len b.names < vec_capacity b.names
-  pub owners : vec_len b.owners < vec_capacity b.owners
-  pub files : vec_len b.files < vec_capacity b.files
-  pub bodies : vec_len b.bodies < vec_capacity b.bodies
-  pub yanks : vec_len b.yanks < vec_capacity b.yanks
-  pub cases : vec_len b.cases < vec_capacity b.cases
-  pub bans : vec_len b.bans < vec_capacity b.bans
 
 -- a change of a release: of its files, or of its yank
 abbrev pub is_of_release : Change → Bool

@@ -1,12 +1,10 @@
-//! The tables of the index as plain vectors in memory.
+//! The tables of the index as ordered maps in memory.
 #![tactic(auto)]
 
-mod entries;
-mod files;
 mod key;
-mod owners;
+mod name_files;
+mod pairs;
 mod plain;
-mod sets;
-mod yanks;
+mod table;
 
 pub use plain::PlainBooks;

@@ -2,7 +2,7 @@
 ghost use Rattle.std.specs.Prelude.{◌≡◌, ◌⊎◌, ◌↔◌, IfOk, IfErr, IsErrOf, OnOk, OnErr, is_ok, false};
 ghost use Rattle.index_io.specs.Counts.{next_count};
 
-use crate::entries;
+use crate::table;
 use index_digest::{Digest256, Sealed};
 use index_names::{FileName, NormalName, Release};
 use index_rules::{
@@ -11,6 +11,7 @@ use index_rules::{
 };
 use index_text::Text;
 use std::alloc::Global;
+use std::collections::BTreeMap;
 
 mod cases;
 mod files;
@@ -20,17 +21,17 @@ mod owners;
 mod releases;
 mod write;
 
-/// The tables in memory, as vectors in any order. A fault of theirs is always `OutOfMemory`.
+/// The tables in memory, as ordered maps. A fault of theirs is always `OutOfMemory`.
 #[derive(Debug)]
 pub struct PlainBooks {
-    users: Vec<(UserId, UserRecord)>,
-    names: Vec<(NormalName, NameRecord)>,
-    owners: Vec<(NormalName, UserId)>,
-    files: Vec<(FileName, FileRecord)>,
-    bodies: Vec<(FileName, Sealed)>,
-    yanks: Vec<((NormalName, Release), Text)>,
-    cases: Vec<(NormalName, CaseRecord)>,
-    bans: Vec<(FileName, ())>,
+    users: BTreeMap<UserId, UserRecord>,
+    names: BTreeMap<NormalName, NameRecord>,
+    owners: BTreeMap<NormalName, BTreeMap<UserId, ()>>,
+    files: BTreeMap<FileName, FileRecord>,
+    bodies: BTreeMap<FileName, Sealed>,
+    yanks: BTreeMap<NormalName, BTreeMap<Release, Text>>,
+    cases: BTreeMap<NormalName, CaseRecord>,
+    bans: BTreeMap<FileName, ()>,
     failures: u64,
 }
 
@@ -85,16 +86,16 @@ impl PlainBooks {
             (fault ≡ OpenFault.BadFirstUser) ⊎ (fault ≡ OpenFault.OutOfMemory)) }
     {
         let (user, record) = first_user(alloc, user, token)?;
-        let users = entries::single(alloc, user, record)?;
+        let users = table::one(alloc, &user, record)?;
         Ok(PlainBooks {
             users,
-            names: Vec::new(alloc),
-            owners: Vec::new(alloc),
-            files: Vec::new(alloc),
-            bodies: Vec::new(alloc),
-            yanks: Vec::new(alloc),
-            cases: Vec::new(alloc),
-            bans: Vec::new(alloc),
+            names: BTreeMap::new(alloc),
+            owners: BTreeMap::new(alloc),
+            files: BTreeMap::new(alloc),
+            bodies: BTreeMap::new(alloc),
+            yanks: BTreeMap::new(alloc),
+            cases: BTreeMap::new(alloc),
+            bans: BTreeMap::new(alloc),
             failures: 0,
         })
     }
@@ -136,13 +137,13 @@ impl Books for PlainBooks {
         }
     }
 
-    fn write(&mut self, _alloc: Global, change: Change) -> Result<(), Fault>
+    fn write(&mut self, alloc: Global, change: Change) -> Result<(), Fault>
         ensures written { OnOk result (tables_of self.new ≡ means change (tables_of self.old)) }
         ensures unchanged { OnErr result (tables_of self.new ≡ tables_of self.old) }
         ensures failures { failures_of self.new ≡ next_count (failures_of self.old) (is_ok result) }
         ensures memory { IfErr result (λ fault. fault ≡ Fault.OutOfMemory) }
     {
-        match self.make(change) {
+        match self.make(alloc, change) {
             Ok(()) => Ok(()),
             Err(_) => Err(self.failed()),
         }
@@ -166,7 +167,7 @@ impl Books for PlainBooks {
         ensures failures { failures_of self.new ≡ next_count (failures_of self.old) (is_ok result) }
         ensures memory { IfErr result (λ fault. fault ≡ Fault.OutOfMemory) }
     {
-        match entries::copy_at(self.bodies.as_slice(), file) {
+        match table::copy_at(&self.bodies, file) {
             Ok(body) => Ok(body),
             Err(_) => Err(self.failed()),
         }

@@ -1,28 +1,32 @@
-//! What is written where a case ends.
-ghost use Rattle.std.specs.Prelude.{◌≡◌, ◌<◌, true, vec_len, vec_capacity};
+//! What is written where a case is opened, goes on or ends.
+ghost use Rattle.std.specs.Prelude.{◌≡◌, OnOk, OnErr, true};
 ghost use Rattle.std.specs.FinMap.{remove};
 ghost use Rattle.index_rules.specs.declared.change.Change.TheVariants.{Transfer};
-ghost use Rattle.index_plain.specs.Plain.{HasRoom, Writes, tables_of, failures_of, is_of_case};
+ghost use Rattle.index_plain.specs.Plain.{Writes, tables_of, failures_of, is_of_case};
 
 use crate::plain::PlainBooks;
-use crate::{entries, owners};
+use crate::{pairs, table};
 use index_names::NormalName;
 use index_rules::{Change, UserId};
+use std::alloc::{AllocError, Global};
 
 impl PlainBooks {
-    /// Makes a change of a case.
-    pub(super) fn make_of_case(&mut self, change: Change)
+    /// Makes a change of a case, or leaves the tables as they were.
+    pub(super) fn make_of_case(&mut self, alloc: Global, change: Change) -> Result<(), AllocError>
         requires case { is_of_case change ≡ true }
-        requires room { HasRoom self.old }
-        ensures tables { Writes change self.old self.new }
+        ensures written { OnOk result (Writes change self.old self.new) }
+        ensures unchanged { OnErr result (tables_of self.new ≡ tables_of self.old) }
         ensures failures { failures_of self.new ≡ failures_of self.old }
     {
         match change {
             Change::OpenCase { name, case } | Change::RecordAttempt { name, case } => {
-                entries::put(&mut self.cases, name, case);
+                table::put(&mut self.cases, &name, case)
             }
-            Change::Transfer { name, candidate } => self.transfer(name, candidate),
-            Change::CloseCase { name } | Change::AnswerCase { name } => self.end_case(&name),
+            Change::Transfer { name, candidate } => self.transfer(alloc, &name, &candidate),
+            Change::CloseCase { name } | Change::AnswerCase { name } => {
+                self.end_case(&name);
+                Ok(())
+            }
             _ => unreachable!(),
         }
     }
@@ -33,17 +37,22 @@ impl PlainBooks {
             tables_of self.new ≡ record T { cases = remove T.cases name.now } }
         ensures rest { self.new ≡ record self.old { cases = self.new.cases } }
     {
-        entries::remove(&mut self.cases, name);
+        table::remove(&mut self.cases, name);
     }
 
     /// The candidate alone owns the name, and the case ends.
-    fn transfer(&mut self, name: NormalName, candidate: UserId)
-        requires { vec_len self.old.owners < vec_capacity self.old.owners }
-        ensures tables { Writes (Transfer name candidate) self.old self.new }
+    fn transfer(
+        &mut self,
+        alloc: Global,
+        name: &NormalName,
+        candidate: &UserId,
+    ) -> Result<(), AllocError>
+        ensures written { OnOk result (Writes (Transfer name.now candidate.now) self.old self.new) }
+        ensures unchanged { OnErr result (tables_of self.new ≡ tables_of self.old) }
         ensures failures { failures_of self.new ≡ failures_of self.old }
     {
-        self.end_case(&name);
-        owners::clear(&mut self.owners, &name);
-        owners::add(&mut self.owners, name, candidate);
+        pairs::put_alone(alloc, &mut self.owners, name, candidate, ())?;
+        self.end_case(name);
+        Ok(())
     }
 }

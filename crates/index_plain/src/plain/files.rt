@@ -1,82 +1,116 @@
 //! What is written where a file is uploaded, deleted or banned.
-ghost use Rattle.std.specs.Prelude.{◌≡◌, ◌<◌, Option, OnOk, OnErr, vec_len, vec_capacity};
+ghost use Rattle.std.specs.Prelude.{◌≡◌, None, Option, OnOk, OnErr, Some};
 ghost use Rattle.index_rules.specs.declared.change.Change.TheVariants.{BanFile, Delete, Upload};
+ghost use Rattle.index_rules.specs.Maps.{Bytes};
 ghost use Rattle.index_plain.specs.Plain.{Writes, tables_of, failures_of};
 
-use crate::entries;
 use crate::plain::PlainBooks;
+use crate::table;
 use index_digest::Sealed;
 use index_names::{FileName, NormalName};
-use index_rules::{FileRecord, Project};
+use index_rules::{FileRecord, NameRecord, Project};
 use std::alloc::AllocError;
 
 impl PlainBooks {
     /// The name and the file have these records, the bytes are kept, and the case ends.
     pub(super) fn upload(
         &mut self,
-        name: NormalName,
+        name: &NormalName,
         project: Project,
-        file: FileName,
+        file: &FileName,
         known: FileRecord,
         body: Sealed,
     ) -> Result<(), AllocError>
-        requires names { vec_len self.old.names < vec_capacity self.old.names }
-        requires files { vec_len self.old.files < vec_capacity self.old.files }
-        requires bodies { vec_len self.old.bodies < vec_capacity self.old.bodies }
-        ensures written { let change = Upload name project file known body in
+        ensures written { let change = Upload name.now project file.now known body in
             OnOk result (Writes change self.old self.new) }
         ensures unchanged { OnErr result (tables_of self.new ≡ tables_of self.old) }
         ensures failures { failures_of self.new ≡ failures_of self.old }
     {
-        let key = file.clone()?;
-        self.end_case(&name);
-        entries::put(&mut self.files, key, known);
-        entries::put(&mut self.bodies, file, body);
-        self.hold(name, project);
-        Ok(())
+        let former = table::replace(&mut self.names, name, NameRecord::Held(project))?;
+        match table::put_both(&mut self.files, file, known, &mut self.bodies, file, body) {
+            Ok(()) => {
+                self.end_case(name);
+                Ok(())
+            }
+            Err(error) => {
+                table::put_back(&mut self.names, name, former);
+                Err(error)
+            }
+        }
     }
 
     /// The name and the file have these records, the bytes go, and the case ends.
     pub(super) fn delete(
         &mut self,
-        name: NormalName,
+        name: &NormalName,
         project: Project,
-        file: FileName,
+        file: &FileName,
         known: FileRecord,
-    )
-        requires names { vec_len self.old.names < vec_capacity self.old.names }
-        requires files { vec_len self.old.files < vec_capacity self.old.files }
-        ensures tables { Writes (Delete name project file known) self.old self.new }
+    ) -> Result<(), AllocError>
+        ensures written { let change = Delete name.now project file.now known in
+            OnOk result (Writes change self.old self.new) }
+        ensures unchanged { OnErr result (tables_of self.new ≡ tables_of self.old) }
         ensures failures { failures_of self.new ≡ failures_of self.old }
     {
-        self.end_case(&name);
-        entries::remove(&mut self.bodies, &file);
-        entries::put(&mut self.files, file, known);
-        self.hold(name, project);
+        let held = NameRecord::Held(project);
+        table::put_both(&mut self.names, name, held, &mut self.files, file, known)?;
+        table::remove(&mut self.bodies, file);
+        self.end_case(name);
+        Ok(())
     }
 
     /// The file is banned and has this record, and its bytes go. Where a project is handed in, the name has this record.
     pub(super) fn ban_file(
         &mut self,
-        name: NormalName,
+        name: &NormalName,
         project: Option<Project>,
-        file: FileName,
+        file: &FileName,
         known: FileRecord,
     ) -> Result<(), AllocError>
-        requires names { vec_len self.old.names < vec_capacity self.old.names }
-        requires files { vec_len self.old.files < vec_capacity self.old.files }
-        requires bans { vec_len self.old.bans < vec_capacity self.old.bans }
-        ensures written { OnOk result (Writes (BanFile name project file known) self.old self.new) }
+        ensures written { let change = BanFile name.now project file.now known in
+            OnOk result (Writes change self.old self.new) }
         ensures unchanged { OnErr result (tables_of self.new ≡ tables_of self.old) }
         ensures failures { failures_of self.new ≡ failures_of self.old }
     {
-        let key = file.clone()?;
-        entries::remove(&mut self.bodies, &key);
-        entries::put(&mut self.files, key, known);
-        entries::put(&mut self.bans, file, ());
-        if let Some(project) = project {
-            self.hold(name, project);
+        match project {
+            Some(project) => self.ban_charged(name, project, file, known),
+            None => self.ban_alone(file, known),
         }
+    }
+
+    fn ban_charged(
+        &mut self,
+        name: &NormalName,
+        project: Project,
+        file: &FileName,
+        known: FileRecord,
+    ) -> Result<(), AllocError>
+        ensures written { let change = BanFile name.now (Some project) file.now known in
+            OnOk result (Writes change self.old self.new) }
+        ensures unchanged { OnErr result (tables_of self.new ≡ tables_of self.old) }
+        ensures failures { failures_of self.new ≡ failures_of self.old }
+    {
+        let before = table::replace(&mut self.names, name, NameRecord::Held(project))?;
+        match table::put_both(&mut self.files, file, known, &mut self.bans, file, ()) {
+            Ok(()) => {
+                table::remove(&mut self.bodies, file);
+                Ok(())
+            }
+            Err(error) => {
+                table::put_back(&mut self.names, name, before);
+                Err(error)
+            }
+        }
+    }
+
+    fn ban_alone(&mut self, file: &FileName, known: FileRecord) -> Result<(), AllocError>
+        ensures written { (name : Bytes)
+            → OnOk result (Writes (BanFile name None file.now known) self.old self.new) }
+        ensures unchanged { OnErr result (tables_of self.new ≡ tables_of self.old) }
+        ensures failures { failures_of self.new ≡ failures_of self.old }
+    {
+        table::put_both(&mut self.files, file, known, &mut self.bans, file, ())?;
+        table::remove(&mut self.bodies, file);
         Ok(())
     }
 }

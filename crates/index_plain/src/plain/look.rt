@@ -2,12 +2,14 @@
 ghost use Rattle.std.specs.Prelude.{◌≡◌, IfOk, false, option_and_then, option_map};
 ghost use Rattle.std.specs.Option.{option_map_or};
 ghost use Rattle.std.specs.FinMap.{get};
+ghost use Rattle.std.specs.BTreeMap.{IsOrdered, keys};
 ghost use Rattle.index_rules.specs.Facts.{AreOwners, IsBearer, IsBearerAs, Sees, at_both, caller_of, has_release_in, is_banned_in, of_both, yank_in};
+ghost use Rattle.index_rules.specs.Maps.{bytes_cmp};
 ghost use Rattle.index_rules.specs.Tables.{owners_in};
 ghost use Rattle.index_plain.specs.Plain.{tables_of};
 
 use crate::plain::PlainBooks;
-use crate::{entries, files, owners, sets};
+use crate::{name_files, pairs, table};
 use index_digest::Digest256;
 use index_names::{FileName, NormalName, Release};
 use index_rules::{
@@ -15,6 +17,7 @@ use index_rules::{
 };
 use index_text::Text;
 use std::alloc::{AllocError, Global};
+use std::collections::BTreeMap;
 
 /// What the tables have of users at the keys of a call.
 #[derive(Drop)]
@@ -85,7 +88,7 @@ impl PlainBooks {
             let T = tables_of self.now in
             IfOk result (λ seen. IsBearerAs (λ user. user.0) T k.token seen.bearer) }
     {
-        let user = entries::copy_at_key(self.users.as_slice(), &keys.user)?;
+        let user = table::copy_at_key(&self.users, &keys.user)?;
         let caller = self.caller(keys.caller)?;
         let bearer = self.bearer_id(keys.token)?;
         Ok(UsersSeen {
@@ -107,7 +110,7 @@ impl PlainBooks {
     {
         let has_release = self.has_release(&keys.name, &keys.release);
         let is_banned = self.is_banned(&keys.file);
-        let file = entries::copy_at_key(self.files.as_slice(), &keys.file)?;
+        let file = table::copy_at_key(&self.files, &keys.file)?;
         let yank = self.yank(&keys.name, &keys.release)?;
         Ok(FilesSeen {
             file,
@@ -124,9 +127,9 @@ impl PlainBooks {
         ensures case { let T = tables_of self.now in
             IfOk result (λ seen. seen.case ≡ option_and_then (get T.cases) name.now) }
     {
-        let case = entries::copy_at_key(self.cases.as_slice(), name)?;
+        let case = table::copy_at_key(&self.cases, name)?;
         let owners = self.owners_by_key(alloc, name)?;
-        let record = entries::copy_at_key(self.names.as_slice(), name)?;
+        let record = table::copy_at_key(&self.names, name)?;
         Ok(NameSeen {
             record,
             owners,
@@ -142,9 +145,10 @@ impl PlainBooks {
     ) -> Result<Owners, AllocError>
         ensures { IfOk result (λ owners. owners ≡ owners_in (tables_of self.now) name.now) }
     {
-        let mut users = owners::paired(alloc, self.owners.as_slice(), name)?;
-        sets::sort(&mut users);
-        Ok(Owners::new(users))
+        match self.owners.get(name) {
+            Some(users) => owners_from(alloc, users),
+            None => Ok(Owners::new(Vec::new(alloc))),
+        }
     }
 
     fn owners_by_key(&self, alloc: Global, name: &Option<NormalName>) -> Result<Owners, AllocError>
@@ -166,10 +170,7 @@ impl PlainBooks {
             IfOk result (λ reason. reason ≡ at_both (yank_in T) name.now release.now) }
     {
         match (name, release) {
-            (Some(name), Some(release)) => {
-                let key = (name.clone()?, release.clone()?);
-                entries::copy_at(self.yanks.as_slice(), &key)
-            }
+            (Some(name), Some(release)) => pairs::find(&self.yanks, name, release).cloned(),
             _ => Ok(None),
         }
     }
@@ -179,9 +180,7 @@ impl PlainBooks {
         ensures { result ≡ of_both (has_release_in (tables_of self.now)) name.now release.now }
     {
         match (name, release) {
-            (Some(name), Some(release)) => {
-                files::has_undeleted(self.files.as_slice(), name, release)
-            }
+            (Some(name), Some(release)) => name_files::has_undeleted(&self.files, name, release),
             _ => false,
         }
     }
@@ -191,26 +190,17 @@ impl PlainBooks {
         ensures { result ≡ option_map_or (is_banned_in (tables_of self.now)) file.now false }
     {
         match file {
-            Some(file) => entries::find(self.bans.as_slice(), file).is_some(),
+            Some(file) => table::find(&self.bans, file).is_some(),
             None => false,
         }
     }
 
-    /// Who bears the token with this digest. An entry counts where it is the first with its key.
-    fn bearer(&self, token: Digest256) -> Option<(&UserId, UserRecord)>
-        ensures { let bearer = option_map (λ user. (user.0.now, user.1)) result in
+    /// Who bears the token with this digest. It looks at all users.
+    fn bearer(&self, token: Digest256) -> Option<(&UserId, &UserRecord)>
+        ensures { let bearer = option_map (λ user. (user.0.now, user.1.now)) result in
             IsBearer (tables_of self.now) token bearer }
     {
-        let users = self.users.as_slice();
-        for entry in users {
-            if token == entry.1.token {
-                match entries::find(users, &entry.0) {
-                    Some(record) if token == record.token => return Some((&entry.0, *record)),
-                    _ => {}
-                }
-            }
-        }
-        None
+        self.users.iter().find(|(_, record)| token == record.token)
     }
 
     fn caller(&self, token: Option<Digest256>) -> Result<Option<Caller>, AllocError>
@@ -239,4 +229,16 @@ impl PlainBooks {
             None => Ok(None),
         }
     }
+}
+
+/// These users in byte order.
+fn owners_from(alloc: Global, users: &BTreeMap<UserId, ()>) -> Result<Owners, AllocError>
+    ensures owners { IfOk result (λ owners. owners ≡ keys users.now) }
+    ensures rising { IsOrdered bytes_cmp users.now }
+{
+    let mut copies = Vec::new(alloc);
+    for user in users.keys() {
+        copies.push(user.clone()?)?;
+    }
+    Ok(Owners::new(copies))
 }

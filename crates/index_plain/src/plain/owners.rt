@@ -1,36 +1,46 @@
 //! What is written where a name gets or loses an owner.
-ghost use Rattle.std.specs.Prelude.{◌≡◌, ◌<◌, true, vec_len, vec_capacity};
+ghost use Rattle.std.specs.Prelude.{◌≡◌, OnOk, OnErr, true};
 ghost use Rattle.index_rules.specs.declared.change.Change.TheVariants.{AddOwner, RemoveOwner};
-ghost use Rattle.index_plain.specs.Plain.{HasRoom, Writes, tables_of, failures_of, is_of_owner};
+ghost use Rattle.index_plain.specs.Plain.{Writes, tables_of, failures_of, is_of_owner};
 
-use crate::owners;
+use crate::pairs;
 use crate::plain::PlainBooks;
 use index_names::NormalName;
 use index_rules::{Change, UserId};
+use std::alloc::{AllocError, Global};
 
 impl PlainBooks {
-    /// Makes a change of who owns a name.
-    pub(super) fn make_of_owner(&mut self, change: Change)
+    /// Makes a change of who owns a name, or leaves the tables as they were.
+    pub(super) fn make_of_owner(&mut self, alloc: Global, change: Change) -> Result<(), AllocError>
         requires owner { is_of_owner change ≡ true }
-        requires room { HasRoom self.old }
-        ensures tables { Writes change self.old self.new }
+        ensures written { OnOk result (Writes change self.old self.new) }
+        ensures unchanged { OnErr result (tables_of self.new ≡ tables_of self.old) }
         ensures failures { failures_of self.new ≡ failures_of self.old }
     {
         match change {
-            Change::AddOwner { name, user } => self.add_owner(name, user),
-            Change::RemoveOwner { name, user } => self.remove_owner(&name, &user),
+            Change::AddOwner { name, user } => self.add_owner(alloc, &name, &user),
+            Change::RemoveOwner { name, user } => {
+                self.remove_owner(&name, &user);
+                Ok(())
+            }
             _ => unreachable!(),
         }
     }
 
     /// The user owns the name too, and the case ends.
-    fn add_owner(&mut self, name: NormalName, user: UserId)
-        requires { vec_len self.old.owners < vec_capacity self.old.owners }
-        ensures tables { Writes (AddOwner name user) self.old self.new }
+    fn add_owner(
+        &mut self,
+        alloc: Global,
+        name: &NormalName,
+        user: &UserId,
+    ) -> Result<(), AllocError>
+        ensures written { OnOk result (Writes (AddOwner name.now user.now) self.old self.new) }
+        ensures unchanged { OnErr result (tables_of self.new ≡ tables_of self.old) }
         ensures failures { failures_of self.new ≡ failures_of self.old }
     {
-        self.end_case(&name);
-        owners::add(&mut self.owners, name, user);
+        pairs::put(alloc, &mut self.owners, name, user, ())?;
+        self.end_case(name);
+        Ok(())
     }
 
     /// The user owns the name no more, and the case ends.
@@ -39,6 +49,6 @@ impl PlainBooks {
         ensures failures { failures_of self.new ≡ failures_of self.old }
     {
         self.end_case(name);
-        owners::remove(&mut self.owners, name, user);
+        pairs::remove(&mut self.owners, name, user);
     }
 }

@@ -1,20 +1,23 @@
 //! What is written of a release: of its files and its yank.
-ghost use Rattle.std.specs.Prelude.{◌≡◌, ◌<◌, OnOk, OnErr, true, vec_len, vec_capacity};
+ghost use Rattle.std.specs.Prelude.{◌≡◌, OnOk, OnErr, true};
 ghost use Rattle.index_rules.specs.declared.change.Change.TheVariants.{Unyank, Yank};
-ghost use Rattle.index_plain.specs.Plain.{HasRoom, Writes, tables_of, failures_of, is_of_release};
+ghost use Rattle.index_plain.specs.Plain.{Writes, tables_of, failures_of, is_of_release};
 
-use crate::entries;
+use crate::pairs;
 use crate::plain::PlainBooks;
 use index_names::{NormalName, Release};
 use index_rules::Change;
 use index_text::Text;
-use std::alloc::AllocError;
+use std::alloc::{AllocError, Global};
 
 impl PlainBooks {
     /// Makes a change of a release, or leaves the tables as they were.
-    pub(super) fn make_of_release(&mut self, change: Change) -> Result<(), AllocError>
+    pub(super) fn make_of_release(
+        &mut self,
+        alloc: Global,
+        change: Change,
+    ) -> Result<(), AllocError>
         requires release { is_of_release change ≡ true }
-        requires room { HasRoom self.old }
         ensures written { OnOk result (Writes change self.old self.new) }
         ensures unchanged { OnErr result (tables_of self.new ≡ tables_of self.old) }
         ensures failures { failures_of self.new ≡ failures_of self.old }
@@ -26,46 +29,56 @@ impl PlainBooks {
                 file,
                 record,
                 body,
-            } => self.upload(name, project, file, record, body)?,
+            } => self.upload(&name, project, &file, record, body),
             Change::Delete {
                 name,
                 project,
                 file,
                 record,
-            } => self.delete(name, project, file, record),
+            } => self.delete(&name, project, &file, record),
             Change::BanFile {
                 name,
                 project,
                 file,
                 record,
-            } => self.ban_file(name, project, file, record)?,
+            } => self.ban_file(&name, project, &file, record),
             Change::Yank {
                 name,
                 release,
                 reason,
-            } => self.add_yank(name, release, reason),
-            Change::Unyank { name, release } => self.remove_yank(name, release),
+            } => self.add_yank(alloc, &name, &release, reason),
+            Change::Unyank { name, release } => {
+                self.remove_yank(&name, &release);
+                Ok(())
+            }
             _ => unreachable!(),
         }
-        Ok(())
     }
 
     /// The release is yanked, for this reason, and the case ends.
-    fn add_yank(&mut self, name: NormalName, release: Release, reason: Text)
-        requires { vec_len self.old.yanks < vec_capacity self.old.yanks }
-        ensures tables { Writes (Yank name release reason) self.old self.new }
+    fn add_yank(
+        &mut self,
+        alloc: Global,
+        name: &NormalName,
+        release: &Release,
+        reason: Text,
+    ) -> Result<(), AllocError>
+        ensures written { let change = Yank name.now release.now reason in
+            OnOk result (Writes change self.old self.new) }
+        ensures unchanged { OnErr result (tables_of self.new ≡ tables_of self.old) }
         ensures failures { failures_of self.new ≡ failures_of self.old }
     {
-        self.end_case(&name);
-        entries::put(&mut self.yanks, (name, release), reason);
+        pairs::put(alloc, &mut self.yanks, name, release, reason)?;
+        self.end_case(name);
+        Ok(())
     }
 
     /// The release is yanked no more, and the case ends.
-    fn remove_yank(&mut self, name: NormalName, release: Release)
-        ensures tables { Writes (Unyank name release) self.old self.new }
+    fn remove_yank(&mut self, name: &NormalName, release: &Release)
+        ensures tables { Writes (Unyank name.now release.now) self.old self.new }
         ensures failures { failures_of self.new ≡ failures_of self.old }
     {
-        self.end_case(&name);
-        entries::remove(&mut self.yanks, &(name, release));
+        self.end_case(name);
+        pairs::remove(&mut self.yanks, name, release);
     }
 }

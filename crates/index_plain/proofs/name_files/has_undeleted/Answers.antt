@@ -1,0 +1,18 @@
+use Rattle.std.proofs.Common.{sym, ap, ◌∙◌, rules, tests}
+use Rattle.std.specs.List.{list_any}
+use Rattle.std.proofs.lemmas.Cmp.{nat_list_cmp_total}
+use Rattle.std.proofs.lemmas.Map.Lookups.{exact_bytes}
+use Rattle.std.proofs.lemmas.Iterator.Consumers.{YieldsList-from_rest}
+use Rattle.std.proofs.lemmas.Iterator.Search.{any_from_yields_List}
+use Rattle.index_rules.specs.declared.records.FileRecord.{FileRecord}
+use Rattle.index_rules.specs.Facts.{is_undeleted_of_release}
+use Rattle.index_rules.specs.Maps.{Bytes}
+use Rattle.index_plain.proofs.TreeLemmas.{entries_map}
+use Rattle.index_plain.proofs.name_files.has_undeleted.Goals as goal
+
+pub returns : goal.returns
+returns c =
+    let files = c.args.files.now in
+    let test = λ (file : Bytes × FileRecord). is_undeleted_of_release c.args.name.now c.args.release.now file.1 in
+    any_from_yields_List test _ _ _ c.any.ensures.ran (YieldsList-from_rest files.entries c.iter.ensures.rest) (λ x b q k. search (rules, tests))
+    ∙ ap (list_any test) (sym (entries_map nat_list_cmp_total exact_bytes files c.iter.ensures.ordered))

@@ -1,0 +1,30 @@
+-- Maps of maps as maps from pairs.
+use Rattle.std.specs.Prelude.{not, List, [], ◌∷◌, ◌++◌, map}
+use Rattle.std.specs.declared.cmp.Ordering.{Ordering}
+use Rattle.std.specs.Ordering.{ordering_then, eq_by_cmp}
+use Rattle.std.specs.BTreeMap.{BTreeMap}
+use Rattle.std.specs.FinMap.{FinMap, entries, from_entries, retain_keys}
+use Rattle.std.specs.FinMap.Entries.{where_key}
+
+module _ {A B : Type 0} (P : A → A → Ordering) (Q : B → B → Ordering) where
+  -- by the first, and then by the second
+  abbrev pub by_both : A × B → A × B → Ordering
+  by_both p q = ordering_then (P p.0 q.0) (Q p.1 q.1)
+
+  module _ {X : Type 0} where
+    -- the entries of an inner map, each with the key at which that map stands before its own
+    abbrev pub entries_at : A → List (B × X) → List ((A × B) × X)
+    entries_at a inner = map (λ e. ((a, e.0), e.1)) inner
+
+    -- the entries of all inner maps; of those at one key the first counts
+    abbrev pub entries_of_all : List (A × BTreeMap B X) → List ((A × B) × X)
+    entries_of_all [] = []
+    entries_of_all (e ∷ es) = entries_at e.0 e.1.entries ++ where_key by_both (λ p. not (eq_by_cmp P e.0 p.0)) (entries_of_all es)
+
+    -- the map from pairs that a map of maps is
+    abbrev pub pairs_of : FinMap P (BTreeMap B X) → FinMap by_both X
+    pairs_of m = from_entries (entries_of_all (entries m))
+
+    -- the map without what stands at this first key
+    abbrev pub without_first : A → FinMap by_both X → FinMap by_both X
+    without_first a m = retain_keys m (λ p. not (eq_by_cmp P a p.0))

@@ -1,0 +1,83 @@
+//! A table by pairs, as a map of maps: what stands at a first key goes with one call.
+ghost use Rattle.std.specs.Prelude.{◌≡◌, OnOk, OnErr, option_copied};
+ghost use Rattle.std.specs.FinMap.{get, insert, remove};
+ghost use Rattle.index_plain.specs.Trees.{map_of};
+ghost use Rattle.index_plain.specs.Pairs.{pairs_of, without_first};
+
+use crate::key::Key;
+use crate::table;
+use std::alloc::{AllocError, Global};
+use std::collections::BTreeMap;
+
+/// The value at a pair.
+pub fn find<'a, A: Key, B: Key, V>(
+    map: &'a BTreeMap<A, BTreeMap<B, V>>,
+    first: &A,
+    second: &B,
+) -> Option<&'a V>
+    ensures { let pairs = pairs_of A.cmp B.cmp (map_of A.cmp map.now) in
+        option_copied result ≡ get pairs (first.now, second.now) }
+{
+    match table::find(map, first) {
+        Some(inner) => table::find(inner, second),
+        None => None,
+    }
+}
+
+/// Takes away all that stands at a first key.
+#[tactic(auto, using(crate::proofs::PairLemmas::pairs_remove))]
+pub fn clear<A: Key, B: Key, V: Drop>(map: &mut BTreeMap<A, BTreeMap<B, V>>, first: &A)
+    ensures { let before = pairs_of A.cmp B.cmp (map_of A.cmp map.old) in
+        pairs_of A.cmp B.cmp (map_of A.cmp map.new)
+        ≡ without_first A.cmp B.cmp first.now before }
+{
+    table::remove(map, first);
+}
+
+/// Puts a value at a pair, in place of the one that stood there. Without memory the map stays as it was.
+pub fn put<A: Key, B: Key, V: Drop>(
+    alloc: Global,
+    map: &mut BTreeMap<A, BTreeMap<B, V>>,
+    first: &A,
+    second: &B,
+    value: V,
+) -> Result<(), AllocError>
+    ensures written { let before = pairs_of A.cmp B.cmp (map_of A.cmp map.old) in
+        OnOk result (pairs_of A.cmp B.cmp (map_of A.cmp map.new)
+        ≡ insert before (first.now, second.now) value) }
+    ensures unchanged { let before = pairs_of A.cmp B.cmp (map_of A.cmp map.old) in
+        OnErr result (pairs_of A.cmp B.cmp (map_of A.cmp map.new) ≡ before) }
+{
+    match map.get_mut(first) {
+        Some(inner) => table::put(inner, second, value),
+        None => put_alone(alloc, map, first, second, value),
+    }
+}
+
+/// Puts a pair with its value, in place of all that stood at its first key. Without memory the map stays as it was.
+pub fn put_alone<A: Key, B: Key, V: Drop>(
+    alloc: Global,
+    map: &mut BTreeMap<A, BTreeMap<B, V>>,
+    first: &A,
+    second: &B,
+    value: V,
+) -> Result<(), AllocError>
+    ensures written { let before = pairs_of A.cmp B.cmp (map_of A.cmp map.old) in
+        OnOk result (pairs_of A.cmp B.cmp (map_of A.cmp map.new)
+        ≡ insert (without_first A.cmp B.cmp first.now before) (first.now, second.now) value) }
+    ensures unchanged { let before = pairs_of A.cmp B.cmp (map_of A.cmp map.old) in
+        OnErr result (pairs_of A.cmp B.cmp (map_of A.cmp map.new) ≡ before) }
+{
+    let alone = table::one(alloc, second, value)?;
+    table::put(map, first, alone)
+}
+
+/// Takes a pair away with its value.
+pub fn remove<A: Key, B: Key, V: Drop>(map: &mut BTreeMap<A, BTreeMap<B, V>>, first: &A, second: &B)
+    ensures { let before = pairs_of A.cmp B.cmp (map_of A.cmp map.old) in
+        pairs_of A.cmp B.cmp (map_of A.cmp map.new) ≡ remove before (first.now, second.now) }
+{
+    if let Some(inner) = map.get_mut(first) {
+        table::remove(inner, second);
+    }
+}

@@ -1,0 +1,123 @@
+//! A table as one ordered map.
+#![tactic(auto, using(crate::proofs::TreeLemmas::trees))]
+
+ghost use Rattle.std.specs.Prelude.{◌≡◌, IfOk, OnOk, OnErr, IsSome, option_and_then, option_copied};
+ghost use Rattle.std.specs.FinMap.{empty, get, insert, remove};
+ghost use Rattle.index_plain.specs.Trees.{map_of, with_at};
+
+use crate::key::Key;
+use std::alloc::{AllocError, Global};
+use std::collections::BTreeMap;
+
+/// A map of one entry.
+pub fn one<K: Key, V: Drop>(alloc: Global, key: &K, value: V) -> Result<BTreeMap<K, V>, AllocError>
+    ensures { IfOk result (λ map. map_of K.cmp map ≡ insert empty key.now value) }
+{
+    let mut map = BTreeMap::new(alloc);
+    put(&mut map, key, value)?;
+    Ok(map)
+}
+
+/// The value at a key.
+pub fn find<'a, K: Key, V>(map: &'a BTreeMap<K, V>, key: &K) -> Option<&'a V>
+    ensures { option_copied result ≡ get (map_of K.cmp map.now) key.now }
+{
+    map.get(key)
+}
+
+/// A copy of the value at a key.
+pub fn copy_at<K: Key, V: Clone>(map: &BTreeMap<K, V>, key: &K) -> Result<Option<V>, AllocError>
+    requires exact { (value copy : V) → V.is_clone value copy → copy ≡ value }
+    ensures { IfOk result (λ found. found ≡ get (map_of K.cmp map.now) key.now) }
+{
+    find(map, key).cloned()
+}
+
+/// A copy of the value at a key, where there is a key.
+pub fn copy_at_key<K: Key, V: Clone>(
+    map: &BTreeMap<K, V>,
+    key: &Option<K>,
+) -> Result<Option<V>, AllocError>
+    requires exact { (value copy : V) → V.is_clone value copy → copy ≡ value }
+    ensures { let table = map_of K.cmp map.now in
+        IfOk result (λ found. found ≡ option_and_then (get table) key.now) }
+{
+    match key {
+        Some(key) => copy_at(map, key),
+        None => Ok(None),
+    }
+}
+
+/// Takes a key away with its value.
+pub fn remove<K: Key, V: Drop>(map: &mut BTreeMap<K, V>, key: &K)
+    ensures { map_of K.cmp map.new ≡ remove (map_of K.cmp map.old) key.now }
+{
+    map.remove(key);
+}
+
+/// Puts a value at a key, in place of the one that stood there. Without memory the map stays as it was.
+pub fn put<K: Key, V: Drop>(map: &mut BTreeMap<K, V>, key: &K, value: V) -> Result<(), AllocError>
+    ensures written { let before = map_of K.cmp map.old in
+        OnOk result (map_of K.cmp map.new ≡ insert before key.now value) }
+    ensures unchanged { OnErr result (map_of K.cmp map.new ≡ map_of K.cmp map.old) }
+{
+    replace(map, key, value)?;
+    Ok(())
+}
+
+/// Puts a value at a key, and gives the one that stood there. Without memory the map stays as it was.
+pub fn replace<K: Key, V: Drop>(
+    map: &mut BTreeMap<K, V>,
+    key: &K,
+    value: V,
+) -> Result<Option<V>, AllocError>
+    ensures former { IfOk result (λ former. former ≡ get (map_of K.cmp map.old) key.now) }
+    ensures written { let before = map_of K.cmp map.old in
+        OnOk result (map_of K.cmp map.new ≡ insert before key.now value) }
+    ensures unchanged { OnErr result (map_of K.cmp map.new ≡ map_of K.cmp map.old) }
+{
+    Ok(map.insert(key.clone()?, value)?)
+}
+
+/// Undoes `replace`: what stood at the key before comes back. It takes no memory.
+pub fn put_back<K: Key, V: Drop>(map: &mut BTreeMap<K, V>, key: &K, former: Option<V>)
+    requires { IsSome (get (map_of K.cmp map.old) key.now) }
+    ensures { map_of K.cmp map.new ≡ with_at (map_of K.cmp map.old) key.now former }
+{
+    match former {
+        Some(value) => {
+            if let Some(place) = map.get_mut(key) {
+                *place = value;
+            }
+        }
+        None => {
+            map.remove(key);
+        }
+    }
+}
+
+/// Puts a value at a key of each of two maps. Without memory both stay as they were.
+pub fn put_both<K: Key, V: Drop, L: Key, W: Drop>(
+    map: &mut BTreeMap<K, V>,
+    key: &K,
+    value: V,
+    other: &mut BTreeMap<L, W>,
+    other_key: &L,
+    other_value: W,
+) -> Result<(), AllocError>
+    ensures written { let before = map_of K.cmp map.old in
+        OnOk result (map_of K.cmp map.new ≡ insert before key.now value) }
+    ensures other_written { let before = map_of L.cmp other.old in
+        OnOk result (map_of L.cmp other.new ≡ insert before other_key.now other_value) }
+    ensures unchanged { OnErr result (map_of K.cmp map.new ≡ map_of K.cmp map.old) }
+    ensures other_unchanged { OnErr result (map_of L.cmp other.new ≡ map_of L.cmp other.old) }
+{
+    let former = replace(map, key, value)?;
+    match put(other, other_key, other_value) {
+        Ok(()) => Ok(()),
+        Err(error) => {
+            put_back(map, key, former);
+            Err(error)
+        }
+    }
+}
