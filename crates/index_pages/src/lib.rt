@@ -1,9 +1,27 @@
 //! The pages that pip reads, in HTML and JSON, and the choice between them.
 #![tactic(auto)]
 
+mod bytes;
 mod cut;
+mod end;
+mod html;
 mod item;
+mod json;
+pub mod laws;
+mod length;
+mod page;
+mod project;
+mod root;
 mod served;
 mod tally;
+mod text;
+mod whole;
 
+pub use end::PageEnd;
+pub use length::PageLength;
+pub use page::Page;
+pub use project::ProjectPage;
+pub use root::RootPage;
 pub use served::Served;
+pub use text::PageText;
+pub use whole::{project_page, root_page};

@@ -1,5 +1,7 @@
 //! The types in which a page is served.
+ghost use Rattle.std.specs.Prelude.{◌≡◌};
 ghost use Rattle.index_pages.specs.Accept.{IsChosen};
+ghost use Rattle.index_pages.specs.Pages.{is_json};
 
 use crate::tally::Tally;
 
@@ -30,5 +32,11 @@ impl Served {
         } else {
             Some(Served::PlainHtml)
         }
+    }
+
+    pub(crate) fn is_json(self) -> bool
+        ensures { result ≡ is_json self }
+    {
+        matches!(self, Served::Json)
     }
 }

@@ -1,0 +1,92 @@
+//! Pages that end early.
+use super::{file_row, name};
+use index_io::Output;
+use index_pages::{PageEnd, PageText, Served};
+use index_rules::FileTaker;
+use std::alloc::AllocGlobal;
+use std::io;
+use std::io::Write;
+use std::process::Abort;
+
+const PAGE: &str =
+    r#"{"files":[{"filename":"frob-1.0.tar.gz","hashes":{"sha256":"ba7816bf8f01cfea414140de5dae2223b00361a396177a9cb410ff61f20015ad"},"size":3,"url":"/files/frob/frob-1.0.tar.gz"}],"meta":{"api-version":"1.1"},"name":"frob","versions":["1.0"]}"#;
+
+/// How many of its bytes stand before the bracket behind the files.
+const FIRST_ROW: usize = 172;
+
+/// Takes so many bytes, and then none.
+struct FullWriter {
+    taken: Vec<u8>,
+    room: usize,
+}
+
+impl Drop for FullWriter {
+    fn drop(self) {
+        let FullWriter {
+            taken: _taken,
+            room: _room,
+        } = self;
+    }
+}
+
+impl Write for FullWriter {
+    fn write(&mut self, buf: &[u8]) -> io::Result<usize> {
+        let count = buf.len().min(self.room);
+        self.taken.extend_from_slice(&buf[..count])?;
+        self.room -= count;
+        Ok(count)
+    }
+
+    fn flush(&mut self) -> io::Result<()> {
+        Ok(())
+    }
+}
+
+fn full_output(rt: &impl AllocGlobal, size: usize) -> Output<FullWriter> {
+    Output::new(FullWriter {
+        taken: Vec::new(rt.alloc()),
+        room: size,
+    })
+}
+
+/// What went out is a front of the page, of so many bytes, and one write failed.
+fn assert_front(rt: &impl Abort, output: &Output<FullWriter>, size: usize) {
+    assert_eq!(rt; output.failures, 1);
+    assert_eq!(rt; output.writer.taken.len(), size);
+    assert!(rt; PAGE.as_bytes().starts_with(output.writer.taken.as_slice()));
+}
+
+/// A writer that takes so many bytes cuts the page there.
+fn assert_cut(rt: &(impl Abort + AllocGlobal), size: usize) {
+    let frob = name(rt, "frob");
+    let row = file_row(rt, "frob-1.0.tar.gz", "", None);
+    let mut output = full_output(rt, size);
+    let mut page = PageText::project(rt.alloc(), &frob, Served::Json, &mut output);
+    assert_eq!(rt; page.take(&row), size >= FIRST_ROW);
+    assert_eq!(rt; page.written(), size.min(FIRST_ROW) as u64);
+    assert_eq!(rt; page.finish(), Err(PageEnd::WriteFault(size as u64)));
+    assert_front(rt, &output, size);
+}
+
+#[test]
+fn cut_at_each_byte(rt: HostRuntime) {
+    for size in 0..PAGE.len() {
+        assert_cut(&rt, size);
+    }
+}
+
+/// After a row that was not taken no other is, and nothing more is written.
+#[test]
+fn stopped_for_good(rt: HostRuntime) {
+    let frob = name(&rt, "frob");
+    let row = file_row(&rt, "frob-1.0.tar.gz", "", None);
+    let mut output = full_output(&rt, 120);
+    let mut page = PageText::project(rt.alloc(), &frob, Served::Json, &mut output);
+    assert!(rt; !page.take(&row));
+    assert!(rt; !page.take(&row));
+    assert_eq!(rt; page.written(), 120);
+    let ended = page.finish();
+    assert_eq!(rt; ended, Err(PageEnd::WriteFault(120)));
+    assert_eq!(rt; PageEnd::WriteFault(120).count(), 120);
+    assert_front(&rt, &output, 120);
+}

@@ -1,0 +1,92 @@
+//! The page of the names.
+use super::{assert_names, held, name, text};
+use index_pages::Served;
+use index_rules::{NameRecord, NameRow, Project};
+
+const NO_NAMES: &str = r#"<!DOCTYPE html>
+<html>
+<head>
+<meta charset="utf-8">
+<meta name="pypi:repository-version" content="1.0">
+<title>Simple index</title>
+</head>
+<body>
+</body>
+</html>
+"#;
+
+const NAMES: &str = r#"<!DOCTYPE html>
+<html>
+<head>
+<meta charset="utf-8">
+<meta name="pypi:repository-version" content="1.0">
+<title>Simple index</title>
+</head>
+<body>
+<a href="/simple/frob-nest/">Frob._-Nest</a><br>
+<a href="/simple/holygrail/">HolyGrail</a><br>
+</body>
+</html>
+"#;
+
+const NO_NAMES_IN_JSON: &str = r#"{"meta":{"api-version":"1.1"},"projects":[]}"#;
+
+const NAMES_IN_JSON: &str =
+    r#"{"meta":{"api-version":"1.1"},"projects":[{"name":"Frob._-Nest"},{"name":"HolyGrail"}]}"#;
+
+#[test]
+fn no_names(rt: HostRuntime) {
+    assert_eq!(rt; NO_NAMES.len(), 164);
+    assert_eq!(rt; NO_NAMES_IN_JSON.len(), 44);
+    assert_names(&rt, &[], Served::PlainHtml, NO_NAMES);
+    assert_names(&rt, &[], Served::Html, NO_NAMES);
+    assert_names(&rt, &[], Served::Json, NO_NAMES_IN_JSON);
+}
+
+/// Prohibited names are passed over, wherever they stand.
+#[test]
+fn some_names(rt: HostRuntime) {
+    let banned = NameRow {
+        name: name(&rt, "aaa"),
+        record: NameRecord::Prohibited,
+    };
+    let last = banned.clone().expect(&rt, "a copy");
+    let rows = [
+        banned,
+        held(&rt, "Frob._-Nest"),
+        held(&rt, "HolyGrail"),
+        last,
+    ];
+    assert_names(&rt, &rows, Served::PlainHtml, NAMES);
+    assert_names(&rt, &rows, Served::Html, NAMES);
+    assert_names(&rt, &rows, Served::Json, NAMES_IN_JSON);
+}
+
+const ESCAPED_NAME: &str = r#"<!DOCTYPE html>
+<html>
+<head>
+<meta charset="utf-8">
+<meta name="pypi:repository-version" content="1.0">
+<title>Simple index</title>
+</head>
+<body>
+<a href="/simple/frob/">&lt;&amp;&gt;&quot;'\é</a><br>
+</body>
+</html>
+"#;
+
+const ESCAPED_NAME_IN_JSON: &str =
+    r#"{"meta":{"api-version":"1.1"},"projects":[{"name":"<&>\"'\\é"}]}"#;
+
+/// A spelling with each byte that one of the two pages escapes. No claim accepts one.
+#[test]
+fn escaped_name(rt: HostRuntime) {
+    let shown = text(&rt, "<&>\"'\\é");
+    let project = Project::from_parts(shown, 0, 0, 0, None).expect(&rt, "a project");
+    let rows = [NameRow {
+        name: name(&rt, "frob"),
+        record: NameRecord::Held(project),
+    }];
+    assert_names(&rt, &rows, Served::PlainHtml, ESCAPED_NAME);
+    assert_names(&rt, &rows, Served::Json, ESCAPED_NAME_IN_JSON);
+}

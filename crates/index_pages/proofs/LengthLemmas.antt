@@ -1,0 +1,55 @@
+-- The length of a page is that of its text.
+use Rattle.std.proofs.Common.{◌≡◌, ℕ, [], ◌∙◌, ap, refl, Ok, Err, Option, None, Some, IsSome}
+use Rattle.std.specs.Prelude.{Result, option_map}
+use Rattle.index_rules.specs.Maps.{Bytes}
+use Rattle.index_rules.specs.declared.answer.Fault.{Fault}
+use Rattle.index_rules.specs.declared.answer.Fault.TheVariants as fault
+use Rattle.index_pages.specs.Rest.{Rest}
+use Rattle.index_pages.specs.Ends.{Closes, Ends, Measures, SendsRowFront, SinkState, count_of}
+use Rattle.index_pages.specs.States.{MeasuresPage, StopsText, end_at, ended_at, length_state, no_sink}
+use Rattle.index_pages.specs.declared.end.PageEnd.{PageEnd}
+use Rattle.index_pages.proofs.TextLemmas.{page_ends}
+
+count-end_at : (count : ℕ) (end : Fault) → count_of (end_at count end) ≡ count
+count-end_at count fault.OutOfMemory = refl
+count-end_at count fault.Store = refl
+
+-- a row that is not counted ends the page, or leaves one that had ended
+pub stops_length : {R : Type 0} (rest : Rest R) (row : R) (later : Rest R) (old new : ℕ) (before after : Option Fault)
+    → (before ≡ None → (end : Fault) × (after ≡ Some end) × (new ≡ old) × SendsRowFront rest row no_sink no_sink old (end_at old end))
+    → (IsSome before → length_state later new after ≡ length_state rest old before)
+    → StopsText (length_state rest old before) row (length_state later new after)
+stops_length rest row later old new None after stops stays = record {
+  stopped = λ ongoing.
+      let stop = stops refl in
+      record {
+        end = end_at old stop.0;
+        is = rw (stop.1, stop.2) refl;
+        count = rw stop.2 (count-end_at old stop.0);
+        sends = stop.3;
+      };
+  ended = λ none. cc none;
+}
+stops_length rest row later old new (Some end) after stops stays = record { stopped = λ ongoing. cc ongoing; ended = λ some. stays some }
+
+measured : (length : ℕ) (page : Bytes) (before after : SinkState) (result : Result ℕ Fault) → Ends page before after (ended_at length result) → Measures page result
+measured length page before after (Ok count) ends = (ends.size, ends.within)
+measured length page before after (Err end) ends = λ store. ends.past length (ap (end_at length) store)
+
+told : (length : ℕ) (end : Option Fault) (result : Result ℕ Fault) → ((fault : Fault) → end ≡ Some fault → result ≡ Err fault)
+    → (page_end : PageEnd) → option_map (end_at length) end ≡ Some page_end → (ended_at length result ≡ Err page_end) × (no_sink ≡ no_sink)
+told length None result ended page_end is = cc is
+told length (Some end) result ended page_end is = let same : end_at length end ≡ page_end = cc is in (ap (ended_at length) (ended end refl) ∙ ap Err same, refl)
+
+ongoing_of : (length : ℕ) (end : Option Fault) → option_map (end_at length) end ≡ None → end ≡ None
+ongoing_of length None is = refl
+ongoing_of length (Some end) is = cc is
+
+-- the length is told, or why there is none
+pub measures : {R : Type 0} (rest : Rest R) (length : ℕ) (end : Option Fault) (result : Result ℕ Fault)
+    → ((fault : Fault) → end ≡ Some fault → result ≡ Err fault)
+    → (end ≡ None → Closes (rest []) no_sink no_sink length (ended_at length result))
+    → MeasuresPage (length_state rest length end) result
+measures rest length end result ended closed start rows fresh given =
+    measured length (start.rest rows) start.sink no_sink result
+    (page_ends (length_state rest length end) no_sink (ended_at length result) (told length end result ended) (λ is. closed (ongoing_of length end is)) start rows fresh given)

@@ -1,0 +1,7 @@
+use Rattle.std.proofs.Common.{◌≡◌, ◌++◌, take}
+use Rattle.index_pages.specs.Html.{text_of_pieces}
+use Rattle.index_pages.proofs.bytes.append.Given as goal
+
+-- the pieces so far were added
+abbrev pub invariant-loop-piece : goal.invariant-loop-piece
+invariant-loop-piece l = l.out.items ≡ l.fn.out.items ++ text_of_pieces (take l.piece-index l.pieces)

@@ -1,0 +1,88 @@
+-- The pages in JSON (PEP 691, "JSON Serialization"), of version 1.1 (PEP 700, "Specification"): compact, with keys in byte order.
+use Rattle.std.specs.Prelude.{true, List, [], ◌∷◌, map, codes, Option, Some, None, if◌then◌else◌, ◌==◌, length}
+use Rattle.std.specs.List.{flat_map, concat}
+use Rattle.serde_json.specs.Data.{Data, boolean, number, unsigned, string, array, object, Members, no_members, member, put}
+use Rattle.serde_json.specs.View.{items_of}
+use Rattle.serde_json.specs.Written.{compact_text}
+use Rattle.index_digest.specs.Digest.{text_of}
+use Rattle.index_rules.specs.Maps.{Bytes}
+use Rattle.index_rules.specs.declared.records.NameRecord.{NameRecord}
+use Rattle.index_rules.specs.declared.records.NameRecord.TheVariants.{Held, Prohibited}
+use Rattle.index_rules.specs.declared.rows.FileRow.{FileRow}
+use Rattle.index_rules.specs.declared.rows.NameRow.{NameRow}
+use Rattle.index_pages.specs.Versions.{versions_of}
+
+-- the version of the interface (PEP 629, "Specification")
+abbrev pub meta : Data
+meta = object (member (codes "api-version") (string (codes "1.1")) no_members)
+
+abbrev pub hashes : Bytes → Data
+hashes digest = object (member (codes "sha256") (string (text_of digest)) no_members)
+
+-- the Python versions that a file is for, left out where nothing was declared
+abbrev pub requires_member : Bytes → Members → Members
+requires_member requires later = if length requires == 0 then later else member (codes "requires-python") (string requires) later
+
+-- why a file is yanked: the reason as a text, or true where it is empty
+abbrev pub reason_data : Bytes → Data
+reason_data reason = if length reason == 0 then boolean true else string reason
+
+-- left out where the file is not yanked
+abbrev pub yanked_member : Option Bytes → Members
+yanked_member None = no_members
+yanked_member (Some reason) = member (codes "yanked") (reason_data reason) no_members
+
+abbrev pub url_of : Bytes → Bytes → Bytes
+url_of project file = concat (codes "/files/" ∷ project ∷ codes "/" ∷ file ∷ [])
+
+-- a file, with its size in bytes
+unfoldable pub file_data : Bytes → FileRow → Data
+file_data project row = object
+    (member (codes "filename") (string row.file)
+    (member (codes "hashes") (hashes row.digest)
+    (requires_member row.requires_python
+    (member (codes "size") (number (unsigned row.size))
+    (member (codes "url") (string (url_of project row.file))
+    (yanked_member row.yanked))))))
+
+-- the page of a project's files
+unfoldable pub project_json : Bytes → List FileRow → Bytes
+project_json project rows = compact_text (object
+    (member (codes "files") (array (items_of (map (file_data project) rows)))
+    (member (codes "meta") meta
+    (member (codes "name") (string project)
+    (member (codes "versions") (array (items_of (map string (versions_of rows))))
+    no_members)))))
+
+abbrev pub name_data : Bytes → Data
+name_data shown = object (member (codes "name") (string shown) no_members)
+
+-- a name that is held, and nothing for a prohibited one
+abbrev pub names_by : NameRecord → List Data
+names_by (Held project) = name_data project.shown ∷ []
+names_by Prohibited = []
+
+-- the page of the names
+unfoldable pub root_json : List NameRow → Bytes
+root_json rows = compact_text (object
+    (member (codes "meta") meta
+    (member (codes "projects") (array (items_of (flat_map (λ row. names_by row.record) rows)))
+    no_members)))
+
+-- ---- the same of a file by what is put into an object, whatever the order
+
+abbrev pub requires_put : Bytes → Members → Members
+requires_put requires members = if length requires == 0 then members else put (codes "requires-python") (string requires) members
+
+abbrev pub yanked_put : Option Bytes → Members → Members
+yanked_put None members = members
+yanked_put (Some reason) members = put (codes "yanked") (reason_data reason) members
+
+abbrev pub file_put : Bytes → FileRow → Members → Members
+file_put project row members =
+    yanked_put row.yanked
+    (put (codes "url") (string (url_of project row.file))
+    (put (codes "size") (number (unsigned row.size))
+    (requires_put row.requires_python
+    (put (codes "hashes") (hashes row.digest)
+    (put (codes "filename") (string row.file) members)))))

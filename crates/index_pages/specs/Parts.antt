@@ -1,0 +1,76 @@
+-- What is still to be written of each page: by whether it is in JSON, whether a row came, the releases so far, and the rows that are still to come.
+use Rattle.std.specs.Prelude.{Bool, true, false, List, [], ◌∷◌, ◌++◌, map, codes, if◌then◌else◌}
+use Rattle.std.specs.List.{flat_map}
+use Rattle.serde_json.specs.Data.{string}
+use Rattle.serde_json.specs.View.{items_of}
+use Rattle.serde_json.specs.Written.{compact_text, comma_if, items_text}
+use Rattle.index_rules.specs.Maps.{Bytes}
+use Rattle.index_rules.specs.declared.records.NameRecord.{NameRecord}
+use Rattle.index_rules.specs.declared.records.NameRecord.TheVariants.{Held, Prohibited}
+use Rattle.index_rules.specs.declared.rows.FileRow.{FileRow}
+use Rattle.index_rules.specs.declared.rows.NameRow.{NameRow}
+use Rattle.index_pages.specs.Html.{bottom, file_anchor, name_anchor, project_top, root_top}
+use Rattle.index_pages.specs.Json.{file_data, name_data}
+use Rattle.index_pages.specs.Versions.{releases_after}
+
+-- a text that stands before the first row
+abbrev pub once : Bool → Bytes → Bytes
+once is_started top = if is_started then [] else top
+
+-- ---- a project's page
+
+abbrev pub html_rest : Bytes → Bool → List FileRow → Bytes
+html_rest project is_started rows = once is_started (project_top project) ++ (flat_map (file_anchor project) rows ++ bottom)
+
+unfoldable pub file_text : Bytes → FileRow → Bytes
+file_text project row = compact_text (file_data project row)
+
+unfoldable pub json_text : Bytes → Bytes
+json_text text = compact_text (string text)
+
+unfoldable pub files_top : Bytes
+files_top = codes "{\"files\":["
+
+-- the releases behind those that stand already, and the bracket behind them
+abbrev pub releases_text : Bool → List Bytes → Bytes
+releases_text is_later releases = items_text is_later (items_of (map string releases))
+
+-- what stands behind the files and their bracket
+unfoldable pub files_bottom : Bytes → List Bytes → Bytes
+files_bottom project releases =
+    codes ",\"meta\":{\"api-version\":\"1.1\"},\"name\":" ++ (json_text project ++ (codes ",\"versions\":[" ++ (releases_text false releases ++ codes "}")))
+
+abbrev pub json_rest : Bytes → Bool → List Bytes → List FileRow → Bytes
+json_rest project is_started releases rows =
+    once is_started files_top ++ (items_text is_started (items_of (map (file_data project) rows)) ++ files_bottom project (releases_after releases rows))
+
+abbrev pub project_rest : Bool → Bytes → Bool → List Bytes → List FileRow → Bytes
+project_rest as_json project is_started releases rows =
+    if as_json then json_rest project is_started releases rows else html_rest project is_started rows
+
+-- ---- the root page
+
+unfoldable pub names_top : Bytes
+names_top = codes "{\"meta\":{\"api-version\":\"1.1\"},\"projects\":["
+
+abbrev pub root_start : Bool → Bool → Bytes
+root_start as_json is_started = once is_started (if as_json then names_top else root_top)
+
+unfoldable pub name_text : Bytes → Bytes
+name_text shown = compact_text (name_data shown)
+
+-- the text of a held name, behind the names that stand already
+abbrev pub name_line : Bool → Bool → Bytes → Bytes → Bytes
+name_line as_json is_started name shown = if as_json then comma_if is_started ++ name_text shown else name_anchor name shown
+
+abbrev pub root_bottom : Bool → Bytes
+root_bottom as_json = if as_json then codes "]}" else bottom
+
+-- a held name is written, and a prohibited one is passed over
+abbrev pub root_step : Bool → Bool → Bytes → NameRecord → (Bool → Bytes) → Bytes
+root_step as_json is_started name (Held project) later = (root_start as_json is_started ++ name_line as_json is_started name project.shown) ++ later true
+root_step as_json is_started name Prohibited later = later is_started
+
+abbrev pub root_rest : Bool → Bool → List NameRow → Bytes
+root_rest as_json is_started [] = root_start as_json is_started ++ root_bottom as_json
+root_rest as_json is_started (row ∷ rows) = root_step as_json is_started row.name row.record (λ is_started. root_rest as_json is_started rows)

@@ -1,0 +1,97 @@
+-- A page that is written row by row, as contracts see it.
+use Rattle.std.specs.Prelude.{◌≡◌, ℕ, List, ◌++◌, length, Option, Some, None, IsSome, Result, Ok, Err, option_map}
+use Rattle.std.specs.Io.KnownBytes.{Appends}
+use Rattle.index_rules.specs.Maps.{Bytes}
+use Rattle.index_rules.specs.Rows.{StoppedAt, WasGiven}
+use Rattle.index_rules.specs.declared.answer.Fault.{Fault}
+use Rattle.index_rules.specs.declared.answer.Fault.TheVariants as fault
+use Rattle.index_pages.specs.Rest.{Rest}
+use Rattle.index_pages.specs.Ends.{SinkState, SendsRow, SendsRowFront, count_of, Ends, Measures}
+use Rattle.index_pages.specs.declared.end.PageEnd.{PageEnd}
+use Rattle.index_pages.specs.declared.end.PageEnd.TheVariants.{OutOfMemory, Store}
+
+abbrev pub sink_state : Option Bytes → ℕ → SinkState
+sink_state contents failures = record { contents = contents; failures = failures }
+
+-- the text that is still to come, what the sink has, how much of that is the page's, and how the page ended
+pub record TextState (R : Type 0) : Type 0 where
+  pub rest : Rest R
+  pub sink : SinkState
+  pub written : ℕ
+  pub end : Option PageEnd
+
+abbrev pub text_state : {R : Type 0} → Rest R → SinkState → ℕ → Option PageEnd → TextState R
+text_state rest sink written end = record { rest = rest; sink = sink; written = written; end = end }
+
+-- a row was taken: its text went out
+pub record TakesText {R : Type 0} (before : TextState R) (row : R) (after : TextState R) : Type 0 where
+  pub ongoing : before.end ≡ None
+  pub goes_on : after.end ≡ None
+  pub sends : SendsRow before.rest row after.rest before.sink after.sink before.written after.written
+
+-- the page ended within a row
+pub record EndsAtRow {R : Type 0} (before : TextState R) (row : R) (after : TextState R) : Type 0 where
+  pub end : PageEnd
+  pub is : after.end ≡ Some end
+  pub count : count_of end ≡ after.written
+  pub sends : SendsRowFront before.rest row before.sink after.sink before.written end
+
+-- a row was not taken: the page ended within it, or had ended before and is what it was
+pub record StopsText {R : Type 0} (before : TextState R) (row : R) (after : TextState R) : Type 0 where
+  pub stopped : before.end ≡ None → EndsAtRow before row after
+  pub ended : IsSome before.end → after ≡ before
+
+-- a page of which nothing was written
+pub record IsFresh {R : Type 0} (start : TextState R) : Type 0 where
+  pub none : start.written ≡ 0
+  pub ongoing : start.end ≡ None
+
+-- where these rows were given to a fresh page, what was made of it is so
+abbrev pub AfterRows : {R : Type 0} → TextState R → (TextState R → List R → Type 0) → Type 0
+AfterRows {R} now P = (start : TextState R) (rows : List R) → IsFresh start → WasGiven TakesText StopsText rows start now → P start rows
+
+-- the page of the rows that were given is written, or as many of its first bytes as the end tells
+abbrev pub EndsPage : {R : Type 0} → TextState R → SinkState → Result ℕ PageEnd → Type 0
+EndsPage now after result = AfterRows now (λ start rows. Ends (start.rest rows) start.sink after result)
+
+-- so many bytes were written, and the page of any rows that begin with these begins with them
+pub record IsFront {R : Type 0} (page : Rest R) (rows : List R) (before after : Option Bytes) (count : ℕ) : Type 0 where
+  pub bytes : Bytes
+  pub wrote : Appends before after bytes
+  pub size : count ≡ length bytes
+  pub begins : (more : List R) → (left : Bytes) × (page (rows ++ more) ≡ bytes ++ left)
+
+abbrev pub IsWritten : {R : Type 0} → TextState R → Type 0
+IsWritten now = AfterRows now (λ start rows. IsFront start.rest rows start.sink.contents now.sink.contents now.written)
+
+-- no write failed where the page has not ended
+abbrev pub IsSteady : {R : Type 0} → TextState R → Type 0
+IsSteady now = AfterRows now (λ start rows. now.end ≡ None → now.sink.failures ≡ start.sink.failures)
+
+-- where a row was not taken: the end is told, and what was written is a front of the page
+abbrev pub StopsPage : {R : Type 0} → TextState R → SinkState → Result ℕ PageEnd → Type 0
+StopsPage {R} now after result = (start : TextState R) (rows : List R) → IsFresh start → StoppedAt TakesText StopsText rows start now
+    → (end : PageEnd) × (result ≡ Err end) × IsFront start.rest rows start.sink.contents after.contents (count_of end)
+
+-- ---- lengths
+
+-- nothing is written where a length alone is asked
+abbrev pub no_sink : SinkState
+no_sink = record { contents = None; failures = 0 }
+
+-- a fault after so many bytes
+abbrev pub end_at : ℕ → Fault → PageEnd
+end_at count fault.OutOfMemory = OutOfMemory count
+end_at count fault.Store = Store count
+
+abbrev pub ended_at : ℕ → Result ℕ Fault → Result ℕ PageEnd
+ended_at count (Ok length) = Ok length
+ended_at count (Err fault) = Err (end_at count fault)
+
+-- a page whose length is counted, row by row
+abbrev pub length_state : {R : Type 0} → Rest R → ℕ → Option Fault → TextState R
+length_state rest length end = text_state rest no_sink length (option_map (end_at length) end)
+
+-- the length of the page of the rows that were given
+abbrev pub MeasuresPage : {R : Type 0} → TextState R → Result ℕ Fault → Type 0
+MeasuresPage now result = AfterRows now (λ start rows. Measures (start.rest rows) result)

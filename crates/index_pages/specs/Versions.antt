@@ -1,0 +1,25 @@
+-- The releases of a project's files (PEP 700, "Specification").
+use Rattle.std.specs.Prelude.{◌≡◌, List, [], ◌∷◌}
+use Rattle.std.specs.List.{list_any}
+use Rattle.std.specs.BTreeSet.{insert_key}
+use Rattle.std.specs.List.Sorted.{IsStrictlySortedBy}
+use Rattle.index_rules.specs.Maps.{Bytes, bytes_cmp, same}
+use Rattle.index_rules.specs.declared.rows.FileRow.{FileRow}
+
+-- a release at its place in byte order, unless it is there
+abbrev pub with_release : List Bytes → Bytes → List Bytes
+with_release held release = insert_key bytes_cmp held release
+
+-- the releases of files, each at its place among those that were there
+abbrev pub releases_after : List Bytes → List FileRow → List Bytes
+releases_after held [] = held
+releases_after held (row ∷ rows) = releases_after (with_release held row.release) rows
+
+-- the releases of files
+abbrev pub versions_of : List FileRow → List Bytes
+versions_of rows = releases_after [] rows
+
+-- they rise strictly in byte order, so each stands once, and they are exactly the releases of the files
+pub record ListsReleases (rows : List FileRow) : Type 0 where
+  pub rising : IsStrictlySortedBy bytes_cmp (versions_of rows)
+  pub exact : (release : Bytes) → list_any (same release) (versions_of rows) ≡ list_any (λ row. same release row.release) rows

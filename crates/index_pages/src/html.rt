@@ -1,0 +1,114 @@
+//! The texts of HTML pages.
+ghost use Rattle.std.specs.Prelude.{◌≡◌, ◌++◌, OnOk};
+ghost use Rattle.index_pages.specs.Html.{attribute, bottom, file_anchor, name_anchor, project_top, reference, requires_attribute, root_top, yanked_attribute};
+
+use crate::bytes::{append, append_escaped};
+use index_digest::Digest256;
+use index_rules::FileRow;
+use index_text::Text;
+use std::alloc::AllocError;
+
+/// What stands before the files of a project.
+#[tactic(auto, unfolding(crate::specs::Html::project_top, crate::specs::Html::head))]
+pub fn append_project_top(out: &mut Vec<u8>, project: &[u8]) -> Result<(), AllocError>
+    ensures { OnOk result (out.new.items ≡ out.old.items ++ project_top project.now) }
+{
+    append(
+        out,
+        &[
+            b"<!DOCTYPE html>\n<html>\n<head>\n<meta charset=\"utf-8\">\n<meta name=\"pypi:repository-version\" content=\"1.0\">\n<title>",
+            b"Links for ",
+            project,
+            b"</title>\n</head>\n<body>\n<h1>Links for ",
+            project,
+            b"</h1>\n",
+        ],
+    )
+}
+
+/// What stands before the names.
+#[tactic(auto, unfolding(crate::specs::Html::root_top, crate::specs::Html::head))]
+pub fn append_root_top(out: &mut Vec<u8>) -> Result<(), AllocError>
+    ensures { OnOk result (out.new.items ≡ out.old.items ++ root_top) }
+{
+    append(
+        out,
+        &[
+            b"<!DOCTYPE html>\n<html>\n<head>\n<meta charset=\"utf-8\">\n<meta name=\"pypi:repository-version\" content=\"1.0\">\n<title>",
+            b"Simple index</title>\n</head>\n<body>\n",
+        ],
+    )
+}
+
+/// What stands behind the rows.
+pub fn append_bottom(out: &mut Vec<u8>) -> Result<(), AllocError>
+    ensures { OnOk result (out.new.items ≡ out.old.items ++ bottom) }
+{
+    append(out, &[b"</body>\n</html>\n"])
+}
+
+/// The line of a held name.
+pub fn append_name(out: &mut Vec<u8>, name: &[u8], shown: &[u8]) -> Result<(), AllocError>
+    ensures { OnOk result (out.new.items ≡ out.old.items ++ name_anchor name.now shown.now) }
+{
+    append(out, &[b"<a href=\"/simple/", name, b"/\">"])?;
+    append_escaped(out, shown)?;
+    append(out, &[b"</a><br>\n"])?;
+    Ok(())
+}
+
+/// The line of a file.
+pub fn append_file(out: &mut Vec<u8>, project: &[u8], row: &FileRow) -> Result<(), AllocError>
+    ensures { OnOk result (out.new.items ≡ out.old.items ++ file_anchor project.now row.now) }
+{
+    append_reference(out, project, row.file.text().as_bytes(), &row.digest)?;
+    append_requires(out, row.requires_python.as_str().as_bytes())?;
+    append_yanked(out, &row.yanked)?;
+    append(out, &[b">", row.file.text().as_bytes(), b"</a><br>\n"])?;
+    Ok(())
+}
+
+/// An anchor's begin, up to the reference to a file with its digest.
+fn append_reference(
+    out: &mut Vec<u8>,
+    project: &[u8],
+    file: &[u8],
+    digest: &Digest256,
+) -> Result<(), AllocError>
+    ensures { OnOk result (out.new.items ≡ out.old.items ++ reference project.now file.now digest.now) }
+{
+    let mut digits = [0u8; 64];
+    digest.hex_into(&mut digits);
+    append(out, &[b"<a href=\"/files/", project, b"/"])?;
+    append(out, &[file, b"#sha256="])?;
+    append(out, &[&digits, b"\""])?;
+    Ok(())
+}
+
+fn append_requires(out: &mut Vec<u8>, requires_python: &[u8]) -> Result<(), AllocError>
+    ensures { OnOk result
+        (out.new.items ≡ out.old.items ++ requires_attribute requires_python.now) }
+{
+    if requires_python.is_empty() {
+        return Ok(());
+    }
+    append_attribute(out, b"data-requires-python", requires_python)
+}
+
+fn append_yanked(out: &mut Vec<u8>, yanked: &Option<Text>) -> Result<(), AllocError>
+    ensures { OnOk result (out.new.items ≡ out.old.items ++ yanked_attribute yanked.now) }
+{
+    match yanked {
+        Some(reason) => append_attribute(out, b"data-yanked", reason.as_str().as_bytes()),
+        None => Ok(()),
+    }
+}
+
+fn append_attribute(out: &mut Vec<u8>, name: &[u8], value: &[u8]) -> Result<(), AllocError>
+    ensures { OnOk result (out.new.items ≡ out.old.items ++ attribute name.now value.now) }
+{
+    append(out, &[b" ", name, b"=\""])?;
+    append_escaped(out, value)?;
+    append(out, &[b"\""])?;
+    Ok(())
+}

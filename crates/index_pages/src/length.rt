@@ -1,0 +1,191 @@
+//! The length of a page, row by row.
+ghost use Rattle.std.specs.Prelude.{◌≡◌, List, [], false, Err, None, Some, IfErr, IfOk, IsSome, IsTrue};
+ghost use Rattle.index_rules.specs.declared.rows.FileRow.{FileRow as FileRowData};
+ghost use Rattle.index_rules.specs.declared.rows.NameRow.{NameRow as NameRowData};
+ghost use Rattle.index_pages.specs.Ends.{Closes, SendsRow, SendsRowFront};
+ghost use Rattle.index_pages.specs.Pages.{project_page_of, root_page_of};
+ghost use Rattle.index_pages.specs.Parts.{project_rest, root_rest};
+ghost use Rattle.index_pages.specs.States.{end_at, ended_at, length_state, no_sink, MeasuresPage};
+
+use crate::page::Page;
+use crate::project::ProjectPage;
+use crate::root::RootPage;
+use crate::served::Served;
+use crate::text::total;
+use index_names::NormalName;
+use index_rules::{Fault, FileRow, FileTaker, NameRow, NameTaker};
+use std::alloc::Global;
+
+/// The length of a page, as far as its rows came. After a row that it could not count it takes no more.
+#[derive(Drop)]
+pub struct PageLength<'p, P> {
+    name: &'p str,
+    page: P,
+    length: u64,
+    end: Option<Fault>,
+}
+
+impl PageLength<'static, RootPage> {
+    /// The length of the page of the names, of which nothing was counted. It takes rows of names. It takes no memory
+    /// itself.
+    pub fn root(alloc: Global, served: Served) -> PageLength<'static, RootPage>
+        ensures page { (rows : List NameRowData)
+            → root_rest result.page.as_json result.page.is_started rows ≡ root_page_of served rows }
+        ensures none { (result.length ≡ 0) × (result.end ≡ None) }
+    {
+        PageLength::new("", RootPage::new(alloc, served))
+    }
+}
+
+impl<'p> PageLength<'p, ProjectPage> {
+    /// The length of the page of a project, of which nothing was counted. It takes rows of files. It takes no memory
+    /// itself.
+    pub fn project(
+        alloc: Global,
+        name: &'p NormalName,
+        served: Served,
+    ) -> PageLength<'p, ProjectPage>
+        ensures page { (rows : List FileRowData) → let page = result.page in
+            project_rest page.as_json result.name.now page.is_started page.releases.keys rows
+            ≡ project_page_of served name.now rows }
+        ensures none { (result.length ≡ 0) × (result.end ≡ None) }
+    {
+        PageLength::new(name.text(), ProjectPage::new(alloc, served))
+    }
+}
+
+impl<'p, P: Page> PageLength<'p, P> {
+    /// A page of which nothing was counted.
+    fn new(name: &'p str, page: P) -> PageLength<'p, P>
+        ensures page { (result.page ≡ page) × (result.name.now ≡ name.now) }
+        ensures none { (result.length ≡ 0) × (result.end ≡ None) }
+    {
+        PageLength {
+            name,
+            page,
+            length: 0,
+            end: None,
+        }
+    }
+
+    /// How many bytes the page of the rows that were given has. `Store` where they are more than
+    /// 9,223,372,036,854,775,807; the other fault is `OutOfMemory`.
+    pub fn finish(self) -> Result<u64, Fault>
+        ensures { let rest = P.rest self.entry.page self.entry.name.now in
+            MeasuresPage (length_state rest self.entry.length self.entry.end) result }
+    {
+        self.close()
+    }
+
+    /// Counts what stands behind the rows, where the page has not ended.
+    fn close(self) -> Result<u64, Fault>
+        ensures ended { (end : _) → self.entry.end ≡ Some end → result ≡ Err end }
+        ensures closed { self.entry.end ≡ None
+            → Closes (P.rest self.entry.page self.entry.name.now []) no_sink no_sink
+            self.entry.length (ended_at self.entry.length result) }
+    {
+        let PageLength {
+            name,
+            page,
+            length,
+            end,
+        } = self;
+        match end {
+            Some(end) => Err(end),
+            None => add_last(name, &page, length),
+        }
+    }
+
+    /// Counts the text of a row, or answers `false` where there is no count.
+    fn take_row(&mut self, row: &P::Row) -> bool
+        ensures taken { IsTrue result → (self.old.end ≡ None) × (self.new.end ≡ None)
+            × SendsRow (P.rest self.old.page self.old.name.now) row.now
+            (P.rest self.new.page self.new.name.now) no_sink no_sink
+            self.old.length self.new.length }
+        ensures stopped { result ≡ false → self.old.end ≡ None → (end : _)
+            × (self.new.end ≡ Some end) × (self.new.length ≡ self.old.length)
+            × SendsRowFront (P.rest self.old.page self.old.name.now) row.now no_sink no_sink
+            self.old.length (end_at self.old.length end) }
+        ensures ended { IsSome self.old.end → (result ≡ false) × (self.new ≡ self.old) }
+    {
+        if self.end.is_some() {
+            return false;
+        }
+        match self.add_row(row) {
+            Ok(length) => {
+                self.length = length;
+                true
+            }
+            Err(end) => {
+                self.end = Some(end);
+                false
+            }
+        }
+    }
+
+    /// The length with the text of a row.
+    fn add_row(&mut self, row: &P::Row) -> Result<u64, Fault>
+        ensures kept { (self.new.length ≡ self.old.length) × (self.new.end ≡ self.old.end) }
+        ensures sent { IfOk result (λ length.
+            SendsRow (P.rest self.old.page self.old.name.now) row.now
+            (P.rest self.new.page self.new.name.now) no_sink no_sink self.old.length length) }
+        ensures stopped { IfErr result (λ end.
+            SendsRowFront (P.rest self.old.page self.old.name.now) row.now no_sink no_sink
+            self.old.length (end_at self.old.length end)) }
+    {
+        let text = self.page.row_text(self.name, row)?;
+        add(self.length, &text)
+    }
+}
+
+impl NameTaker for PageLength<'_, RootPage> {
+    ghost use Rattle.index_pages.specs.Parts.{root_rest};
+    ghost use Rattle.index_pages.specs.States.{length_state, StopsText, TakesText};
+
+    ghost takes = { λ s row t.
+        TakesText (length_state (root_rest s.page.as_json s.page.is_started) s.length s.end) row
+        (length_state (root_rest t.page.as_json t.page.is_started) t.length t.end) };
+
+    ghost stops = { λ s row t.
+        StopsText (length_state (root_rest s.page.as_json s.page.is_started) s.length s.end) row
+        (length_state (root_rest t.page.as_json t.page.is_started) t.length t.end) };
+
+    fn take(&mut self, row: &NameRow) -> bool {
+        self.take_row(row)
+    }
+}
+
+impl FileTaker for PageLength<'_, ProjectPage> {
+    ghost use Rattle.index_pages.specs.Parts.{project_rest};
+    ghost use Rattle.index_pages.specs.States.{length_state, StopsText, TakesText};
+
+    ghost takes = { λ s row t.
+        TakesText (length_state (project_rest s.page.as_json s.name.now s.page.is_started s.page.releases.keys) s.length s.end) row
+        (length_state (project_rest t.page.as_json t.name.now t.page.is_started t.page.releases.keys) t.length t.end) };
+
+    ghost stops = { λ s row t.
+        StopsText (length_state (project_rest s.page.as_json s.name.now s.page.is_started s.page.releases.keys) s.length s.end) row
+        (length_state (project_rest t.page.as_json t.name.now t.page.is_started t.page.releases.keys) t.length t.end) };
+
+    fn take(&mut self, row: &FileRow) -> bool {
+        self.take_row(row)
+    }
+}
+
+/// The length with one text more.
+fn add(length: u64, text: &[u8]) -> Result<u64, Fault>
+    ensures { Closes text.now no_sink no_sink length (ended_at length result) }
+{
+    match total(length, text.len()) {
+        Some(sum) => Ok(sum),
+        None => Err(Fault::Store),
+    }
+}
+
+/// The length with what stands behind the rows.
+fn add_last<P: Page>(name: &str, page: &P, length: u64) -> Result<u64, Fault>
+    ensures { Closes (P.rest page.now name.now []) no_sink no_sink length (ended_at length result) }
+{
+    let text = page.last_text(name)?;
+    add(length, &text)
+}

@@ -1,0 +1,275 @@
+//! A page that is written row by row.
+ghost use Rattle.std.specs.Prelude.{◌≡◌, ◌+◌, ◌<◌, ◌≤◌, List, [], false, Err, None, Some, IfErr, IfOk, IfSome, IsSome, IsTrue};
+ghost use Rattle.index_rules.specs.declared.rows.FileRow.{FileRow as FileRowData};
+ghost use Rattle.index_rules.specs.declared.rows.NameRow.{NameRow as NameRowData};
+ghost use Rattle.index_pages.specs.Ends.{count_of, most_bytes, Closes, SendsRow, SendsRowFront};
+ghost use Rattle.index_pages.specs.Pages.{project_page_of, root_page_of};
+ghost use Rattle.index_pages.specs.Parts.{project_rest, root_rest};
+ghost use Rattle.index_pages.specs.States.{sink_state, text_state, EndsPage, IsSteady, IsWritten, StopsPage};
+
+use crate::end::PageEnd;
+use crate::page::Page;
+use crate::project::ProjectPage;
+use crate::root::RootPage;
+use crate::served::Served;
+use index_io::{Sink, write_bytes};
+use index_names::NormalName;
+use index_rules::{FileRow, FileTaker, NameRow, NameTaker};
+use std::alloc::Global;
+
+/// The most bytes of a page.
+const MOST_BYTES: u64 = 9_223_372_036_854_775_807;
+
+/// A page that is written to a sink as its rows come. After a row that it could not write whole it takes no more, and
+/// writes nothing more.
+#[derive(Drop)]
+pub struct PageText<'a, 'p, K, P> {
+    sink: &'a mut K,
+    name: &'p str,
+    page: P,
+    written: u64,
+    end: Option<PageEnd>,
+}
+
+impl<'a, K: Sink> PageText<'a, 'static, K, RootPage> {
+    /// The page of the names, of which nothing was written. It takes rows of names and lists those that are held. It
+    /// takes no memory itself.
+    pub fn root(
+        alloc: Global,
+        served: Served,
+        sink: &'a mut K,
+    ) -> PageText<'a, 'static, K, RootPage>
+        ensures sink { result.sink.ghost_name ≡ sink.entry.ghost_name }
+        ensures kept { result.sink.now ≡ sink.old }
+        ensures page { (rows : List NameRowData)
+            → root_rest result.page.as_json result.page.is_started rows ≡ root_page_of served rows }
+        ensures none { (result.written ≡ 0) × (result.end ≡ None) }
+    {
+        PageText::new("", RootPage::new(alloc, served), sink)
+    }
+}
+
+impl<'a, 'p, K: Sink> PageText<'a, 'p, K, ProjectPage> {
+    /// The page of a project, of which nothing was written. It takes rows of files. It takes no memory itself.
+    pub fn project(
+        alloc: Global,
+        name: &'p NormalName,
+        served: Served,
+        sink: &'a mut K,
+    ) -> PageText<'a, 'p, K, ProjectPage>
+        ensures sink { result.sink.ghost_name ≡ sink.entry.ghost_name }
+        ensures kept { result.sink.now ≡ sink.old }
+        ensures page { (rows : List FileRowData) → let page = result.page in
+            project_rest page.as_json result.name.now page.is_started page.releases.keys rows
+            ≡ project_page_of served name.now rows }
+        ensures none { (result.written ≡ 0) × (result.end ≡ None) }
+    {
+        PageText::new(name.text(), ProjectPage::new(alloc, served), sink)
+    }
+}
+
+impl<'a, 'p, K: Sink, P: Page> PageText<'a, 'p, K, P> {
+    /// A page of which nothing was written.
+    fn new(name: &'p str, page: P, sink: &'a mut K) -> PageText<'a, 'p, K, P>
+        ensures sink { result.sink.ghost_name ≡ sink.entry.ghost_name }
+        ensures kept { result.sink.now ≡ sink.old }
+        ensures page { (result.page ≡ page) × (result.name.now ≡ name.now) }
+        ensures none { (result.written ≡ 0) × (result.end ≡ None) }
+    {
+        PageText {
+            sink,
+            name,
+            page,
+            written: 0,
+            end: None,
+        }
+    }
+
+    /// How many bytes were written: a front of the page of all rows that begin with those that were given. It takes no
+    /// memory.
+    pub fn written(&self) -> u64
+        ensures count { result ≡ self.now.written }
+        ensures front { let sink = sink_state (K.contents self.now.sink.now) (K.failures self.now.sink.now) in
+            let rest = P.rest self.now.page self.now.name.now in
+            IsWritten (text_state rest sink self.now.written self.now.end) }
+        ensures steady { let sink = sink_state (K.contents self.now.sink.now) (K.failures self.now.sink.now) in
+            let rest = P.rest self.now.page self.now.name.now in
+            IsSteady (text_state rest sink self.now.written self.now.end) }
+    {
+        self.written
+    }
+
+    /// Writes what stands behind the rows, and tells how many bytes the page has.
+    ///
+    /// The end tells why the page was not finished and how many of its bytes went out: `OutOfMemory`; `Store` where it
+    /// would have more than 9,223,372,036,854,775,807 bytes; `WriteFault` where a write failed or took no byte. Where a
+    /// row was not taken it is the end of that row, and nothing more is written.
+    pub fn finish(self) -> Result<u64, PageEnd>
+        ensures page { let old = self.entry.sink.now in
+            let sink = sink_state (K.contents old) (K.failures old) in
+            let after = sink_state (K.contents self.exit.0.now) (K.failures self.exit.0.now) in
+            let rest = P.rest self.entry.page self.entry.name.now in
+            EndsPage (text_state rest sink self.entry.written self.entry.end) after result }
+        ensures stopped { let old = self.entry.sink.now in
+            let sink = sink_state (K.contents old) (K.failures old) in
+            let after = sink_state (K.contents self.exit.0.now) (K.failures self.exit.0.now) in
+            let rest = P.rest self.entry.page self.entry.name.now in
+            StopsPage (text_state rest sink self.entry.written self.entry.end) after result }
+    {
+        self.close()
+    }
+
+    /// Writes what stands behind the rows, where the page has not ended.
+    fn close(self) -> Result<u64, PageEnd>
+        ensures ended { (end : _) → self.entry.end ≡ Some end
+            → (result ≡ Err end) × (self.exit.0.now ≡ self.entry.sink.now) }
+        ensures closed { let old = self.entry.sink.now in
+            let sink = sink_state (K.contents old) (K.failures old) in
+            let after = sink_state (K.contents self.exit.0.now) (K.failures self.exit.0.now) in
+            let text = P.rest self.entry.page self.entry.name.now [] in
+            self.entry.end ≡ None → Closes text sink after self.entry.written result }
+    {
+        let PageText {
+            sink,
+            name,
+            page,
+            written,
+            end,
+        } = self;
+        match end {
+            Some(end) => Err(end),
+            None => send_last(sink, name, &page, written),
+        }
+    }
+
+    /// Writes the text of a row, or answers `false` where it could not be written whole.
+    fn take_row(&mut self, row: &P::Row) -> bool
+        ensures sink { self.new.sink.ghost_name ≡ self.old.sink.ghost_name }
+        ensures taken { IsTrue result → (self.old.end ≡ None) × (self.new.end ≡ None)
+            × SendsRow (P.rest self.old.page self.old.name.now) row.now
+            (P.rest self.new.page self.new.name.now)
+            (sink_state (K.contents self.old.sink.now) (K.failures self.old.sink.now))
+            (sink_state (K.contents self.new.sink.now) (K.failures self.new.sink.now))
+            self.old.written self.new.written }
+        ensures stopped { result ≡ false → self.old.end ≡ None → (end : _)
+            × (self.new.end ≡ Some end) × (count_of end ≡ self.new.written)
+            × SendsRowFront (P.rest self.old.page self.old.name.now) row.now
+            (sink_state (K.contents self.old.sink.now) (K.failures self.old.sink.now))
+            (sink_state (K.contents self.new.sink.now) (K.failures self.new.sink.now))
+            self.old.written end }
+        ensures ended { IsSome self.old.end → (result ≡ false) × (self.new ≡ self.old) }
+    {
+        if self.end.is_some() {
+            return false;
+        }
+        match self.send_row(row) {
+            Ok(written) => {
+                self.written = written;
+                true
+            }
+            Err(end) => {
+                self.written = end.count();
+                self.end = Some(end);
+                false
+            }
+        }
+    }
+
+    /// Sends the text of a row.
+    fn send_row(&mut self, row: &P::Row) -> Result<u64, PageEnd>
+        ensures sink { self.new.sink.ghost_name ≡ self.old.sink.ghost_name }
+        ensures kept { (self.new.written ≡ self.old.written) × (self.new.end ≡ self.old.end) }
+        ensures sent { IfOk result (λ written.
+            SendsRow (P.rest self.old.page self.old.name.now) row.now
+            (P.rest self.new.page self.new.name.now)
+            (sink_state (K.contents self.old.sink.now) (K.failures self.old.sink.now))
+            (sink_state (K.contents self.new.sink.now) (K.failures self.new.sink.now))
+            self.old.written written) }
+        ensures stopped { IfErr result (λ end.
+            SendsRowFront (P.rest self.old.page self.old.name.now) row.now
+            (sink_state (K.contents self.old.sink.now) (K.failures self.old.sink.now))
+            (sink_state (K.contents self.new.sink.now) (K.failures self.new.sink.now))
+            self.old.written end) }
+    {
+        match self.page.row_text(self.name, row) {
+            Ok(text) => send(self.sink, self.written, &text),
+            Err(_) => Err(PageEnd::OutOfMemory(self.written)),
+        }
+    }
+}
+
+impl<K: Sink> NameTaker for PageText<'_, '_, K, RootPage> {
+    ghost use Rattle.std.specs.Prelude.{◌≡◌};
+    ghost use Rattle.index_pages.specs.Parts.{root_rest};
+    ghost use Rattle.index_pages.specs.States.{sink_state, text_state, StopsText, TakesText};
+
+    ghost takes = { λ s row t. (t.sink.ghost_name ≡ s.sink.ghost_name)
+        × TakesText (text_state (root_rest s.page.as_json s.page.is_started) (sink_state (K.contents s.sink.now) (K.failures s.sink.now)) s.written s.end) row
+        (text_state (root_rest t.page.as_json t.page.is_started) (sink_state (K.contents t.sink.now) (K.failures t.sink.now)) t.written t.end) };
+
+    ghost stops = { λ s row t. (t.sink.ghost_name ≡ s.sink.ghost_name)
+        × StopsText (text_state (root_rest s.page.as_json s.page.is_started) (sink_state (K.contents s.sink.now) (K.failures s.sink.now)) s.written s.end) row
+        (text_state (root_rest t.page.as_json t.page.is_started) (sink_state (K.contents t.sink.now) (K.failures t.sink.now)) t.written t.end) };
+
+    fn take(&mut self, row: &NameRow) -> bool {
+        self.take_row(row)
+    }
+}
+
+impl<K: Sink> FileTaker for PageText<'_, '_, K, ProjectPage> {
+    ghost use Rattle.std.specs.Prelude.{◌≡◌};
+    ghost use Rattle.index_pages.specs.Parts.{project_rest};
+    ghost use Rattle.index_pages.specs.States.{sink_state, text_state, StopsText, TakesText};
+
+    ghost takes = { λ s row t. (t.sink.ghost_name ≡ s.sink.ghost_name)
+        × TakesText (text_state (project_rest s.page.as_json s.name.now s.page.is_started s.page.releases.keys) (sink_state (K.contents s.sink.now) (K.failures s.sink.now)) s.written s.end) row
+        (text_state (project_rest t.page.as_json t.name.now t.page.is_started t.page.releases.keys) (sink_state (K.contents t.sink.now) (K.failures t.sink.now)) t.written t.end) };
+
+    ghost stops = { λ s row t. (t.sink.ghost_name ≡ s.sink.ghost_name)
+        × StopsText (text_state (project_rest s.page.as_json s.name.now s.page.is_started s.page.releases.keys) (sink_state (K.contents s.sink.now) (K.failures s.sink.now)) s.written s.end) row
+        (text_state (project_rest t.page.as_json t.name.now t.page.is_started t.page.releases.keys) (sink_state (K.contents t.sink.now) (K.failures t.sink.now)) t.written t.end) };
+
+    fn take(&mut self, row: &FileRow) -> bool {
+        self.take_row(row)
+    }
+}
+
+/// The sum, where a page may have so many bytes.
+pub(crate) fn total(length: u64, more: usize) -> Option<u64>
+    ensures sum { IfSome result (λ sum. (sum ≡ length + more) × (sum ≤ most_bytes)) }
+    ensures past { result ≡ None → most_bytes < length + more }
+{
+    let sum = length.checked_add(more as u64)?;
+    if sum > MOST_BYTES { None } else { Some(sum) }
+}
+
+/// Writes a text that follows the first bytes of a page, of which so many were written.
+fn send<K: Sink>(sink: &mut K, written: u64, text: &[u8]) -> Result<u64, PageEnd>
+    ensures { Closes text.now (sink_state (K.contents sink.old) (K.failures sink.old))
+        (sink_state (K.contents sink.new) (K.failures sink.new)) written result }
+{
+    let Some(sum) = total(written, text.len()) else {
+        return Err(PageEnd::Store(written));
+    };
+    match write_bytes(sink, text) {
+        Ok(()) => Ok(sum),
+        Err(count) => Err(PageEnd::WriteFault(written + count as u64)),
+    }
+}
+
+/// Writes what stands behind the rows.
+fn send_last<K: Sink, P: Page>(
+    sink: &mut K,
+    name: &str,
+    page: &P,
+    written: u64,
+) -> Result<u64, PageEnd>
+    ensures { Closes (P.rest page.now name.now [])
+        (sink_state (K.contents sink.old) (K.failures sink.old))
+        (sink_state (K.contents sink.new) (K.failures sink.new)) written result }
+{
+    match page.last_text(name) {
+        Ok(text) => send(sink, written, &text),
+        Err(_) => Err(PageEnd::OutOfMemory(written)),
+    }
+}

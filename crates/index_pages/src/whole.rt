@@ -1,0 +1,78 @@
+//! Whole pages, for callers that have all rows.
+ghost use Rattle.std.specs.Prelude.{◌≡◌, ◌++◌, List, [], ◌∷◌, IfErr, IfOk, OnOk};
+ghost use Rattle.index_pages.specs.Pages.{project_page_of, root_page_of};
+
+use crate::page::Page;
+use crate::project::ProjectPage;
+use crate::root::RootPage;
+use crate::served::Served;
+use index_names::NormalName;
+use index_rules::{Fault, FileRow, NameRow};
+use std::alloc::{AllocError, Global};
+
+/// The page of the held names among these, which stand in the order of the rows. The one fault is `OutOfMemory`.
+pub fn root_page(alloc: Global, rows: &[NameRow], served: Served) -> Result<Vec<u8>, Fault>
+    ensures page { IfOk result (λ text. text.items ≡ root_page_of served rows.now) }
+    ensures memory { IfErr result (λ fault. fault ≡ Fault.OutOfMemory) }
+{
+    let mut text = Vec::new(alloc);
+    let mut page = RootPage::new(alloc, served);
+    append_page(&mut text, "", &mut page, rows)?;
+    Ok(text)
+}
+
+/// The page of a project with these files, which stand in the order of the rows. The one fault is `OutOfMemory`.
+pub fn project_page(
+    alloc: Global,
+    name: &NormalName,
+    rows: &[FileRow],
+    served: Served,
+) -> Result<Vec<u8>, Fault>
+    ensures page { IfOk result (λ text. text.items ≡ project_page_of served name.now rows.now) }
+    ensures memory { IfErr result (λ fault. fault ≡ Fault.OutOfMemory) }
+{
+    let mut text = Vec::new(alloc);
+    let mut page = ProjectPage::new(alloc, served);
+    append_page(&mut text, name.text(), &mut page, rows)?;
+    Ok(text)
+}
+
+/// The text that a page still has before it, by these rows.
+fn append_page<P: Page>(
+    out: &mut Vec<u8>,
+    name: &str,
+    page: &mut P,
+    rows: &[P::Row],
+) -> Result<(), AllocError>
+    ensures { OnOk result (out.new.items ≡ out.old.items ++ P.rest page.old name.now rows.now) }
+{
+    for row in rows {
+        append_row(out, name, page, row)?;
+    }
+    append_last(out, name, page)
+}
+
+/// The text of a row.
+fn append_row<P: Page>(
+    out: &mut Vec<u8>,
+    name: &str,
+    page: &mut P,
+    row: &P::Row,
+) -> Result<(), AllocError>
+    ensures { OnOk result ((rows : List P.Row)
+        → out.new.items ++ P.rest page.new name.now rows
+        ≡ out.old.items ++ P.rest page.old name.now (row.now ∷ rows)) }
+{
+    let text = page.row_text(name, row)?;
+    out.extend_from_slice(&text)?;
+    Ok(())
+}
+
+/// The text behind the rows.
+fn append_last<P: Page>(out: &mut Vec<u8>, name: &str, page: &P) -> Result<(), AllocError>
+    ensures { OnOk result (out.new.items ≡ out.old.items ++ P.rest page.now name.now []) }
+{
+    let text = page.last_text(name)?;
+    out.extend_from_slice(&text)?;
+    Ok(())
+}
