@@ -11,8 +11,10 @@ pub mod Verdict
 pub mod Effect
 pub mod Decided
 pub mod Rows
+pub mod Walks
 pub mod Runs
 pub mod Sound
+pub mod TableRows
 pub mod Printed
 pub mod History
 pub mod PastUsers

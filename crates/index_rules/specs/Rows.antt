@@ -18,3 +18,11 @@ pub record StoppedAt {K R : Type 0} (takes stops : K → R → K → Type 0) (ro
 -- these rows were handed to it: it took them all, or stopped at the last one
 abbrev pub WasGiven : {K R : Type 0} → (K → R → K → Type 0) → (K → R → K → Type 0) → List R → K → K → Type 0
 WasGiven takes stops rows before after = Took takes rows before after ⊎ StoppedAt takes stops rows before after
+
+-- it took a front of these rows
+abbrev pub TookFront : {K R : Type 0} → (K → R → K → Type 0) → List R → K → K → Type 0
+TookFront {K} {R} takes rows before after = (taken left : List R) × (rows ≡ taken ++ left) × Took takes taken before after
+
+-- it took those before one of these rows, and stopped at that one
+abbrev pub StoppedAmong : {K R : Type 0} → (K → R → K → Type 0) → (K → R → K → Type 0) → List R → K → K → Type 0
+StoppedAmong {K} {R} takes stops rows before after = (given left : List R) × (rows ≡ given ++ left) × StoppedAt takes stops given before after

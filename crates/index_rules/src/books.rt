@@ -1,26 +1,36 @@
 //! The tables behind a trait.
-ghost use Rattle.std.specs.Prelude.{◌≡◌, ℕ, IfOk, OnOk, OnErr, is_ok};
+ghost use Rattle.std.specs.Prelude.{◌≡◌, ◌⊎◌, ℕ, IfOk, OnOk, OnErr, is_ok, false, not};
 ghost use Rattle.std.specs.FinMap.{get};
 ghost use Rattle.index_io.specs.Counts.{next_count};
 ghost use Rattle.index_rules.specs.Tables.{Tables, owners_in};
 ghost use Rattle.index_rules.specs.Facts.{Sees};
 ghost use Rattle.index_rules.specs.Effect.{means};
+ghost use Rattle.index_rules.specs.TableRows.{file_rows_in, held_rows_in, name_rows_in};
+ghost use Rattle.index_rules.specs.Walks.{Walks, has_fault};
 
 use crate::answer::Fault;
 use crate::change::Change;
 use crate::keys::Keys;
+use crate::rows::{FileRow, FileTaker, NameRow, NameTaker, WalkEnd};
 use crate::view::{Owners, View};
 use index_digest::Sealed;
 use index_names::{FileName, NormalName};
 use std::alloc::Global;
 
-/// The tables, however they are kept. A store that is honest as a call ends was honest before it.
+/// The tables, however they are kept. A store that is honest as a call ends was honest before it. One that is honest
+/// as a look at the tables begins is so as it ends, where the look succeeds and the store is still clean.
 pub trait Books {
     /// What the tables hold.
     ghost tables: { Self → Tables };
 
-    /// Whether what keeps the tables did what it was told.
+    /// Whether what keeps the tables did what it was told, and is open.
     ghost IsHonest: { Self → Type 0 };
+
+    /// Whether it did what it was told, where a fault may have shut it since.
+    ghost IsClean: { Self → Type 0 };
+
+    /// The tables that a crash may leave.
+    ghost may_leave: { Self → Tables → Type 0 };
 
     /// How many calls answered a fault, up to 18,446,744,073,709,551,615.
     ghost failures: { Self → ℕ };
@@ -30,14 +40,24 @@ pub trait Books {
         ensures found { IsHonest self.new → IfOk result (Sees (tables self.old) keys.now) }
         ensures unchanged { IsHonest self.new → tables self.new ≡ tables self.old }
         ensures honest { IsHonest self.new → IsHonest self.old }
+        ensures clean { IsClean self.new → IsClean self.old }
+        ensures lasts { OnOk result (IsHonest self.old → IsClean self.new → IsHonest self.new) }
+        ensures crash { IsHonest self.old → (T : Tables) → may_leave self.new T →
+            may_leave self.old T }
         ensures failures { failures self.new ≡ next_count (failures self.old) (is_ok result) };
 
-    /// Writes a change. After a fault the tables are what they were.
+    /// Writes a change. After a fault the tables are what they were, and a crash may leave them as they were or with
+    /// the change.
     fn write(&mut self, alloc: Global, change: Change) -> Result<(), Fault>
         ensures written { IsHonest self.new
             → OnOk result (tables self.new ≡ means change (tables self.old)) }
         ensures unchanged { IsHonest self.new → OnErr result (tables self.new ≡ tables self.old) }
         ensures honest { IsHonest self.new → IsHonest self.old }
+        ensures clean { IsClean self.new → IsClean self.old }
+        ensures crash { IsHonest self.old → (T : Tables) → may_leave self.new T →
+            may_leave self.old T ⊎ (T ≡ means change (tables self.old)) }
+        ensures alone { IsHonest self.old → OnOk result ((T : Tables) → may_leave self.new T →
+            T ≡ means change (tables self.old)) }
         ensures failures { failures self.new ≡ next_count (failures self.old) (is_ok result) };
 
     /// The owners of a name in byte order. It changes no table.
@@ -46,6 +66,10 @@ pub trait Books {
             → IfOk result (λ owners. owners ≡ owners_in (tables self.old) name.now) }
         ensures unchanged { IsHonest self.new → tables self.new ≡ tables self.old }
         ensures honest { IsHonest self.new → IsHonest self.old }
+        ensures clean { IsClean self.new → IsClean self.old }
+        ensures lasts { OnOk result (IsHonest self.old → IsClean self.new → IsHonest self.new) }
+        ensures crash { IsHonest self.old → (T : Tables) → may_leave self.new T →
+            may_leave self.old T }
         ensures failures { failures self.new ≡ next_count (failures self.old) (is_ok result) };
 
     /// The bytes that are kept of a file, or `None` where none are: in sound tables, where it is not undeleted. It changes
@@ -55,5 +79,76 @@ pub trait Books {
             → IfOk result (λ body. body ≡ get (tables self.old).bodies file.now) }
         ensures unchanged { IsHonest self.new → tables self.new ≡ tables self.old }
         ensures honest { IsHonest self.new → IsHonest self.old }
+        ensures clean { IsClean self.new → IsClean self.old }
+        ensures lasts { OnOk result (IsHonest self.old → IsClean self.new → IsHonest self.new) }
+        ensures crash { IsHonest self.old → (T : Tables) → may_leave self.new T →
+            may_leave self.old T }
         ensures failures { failures self.new ≡ next_count (failures self.old) (is_ok result) };
+
+    /// The held names and the prohibited ones with their records, in byte order. It changes no table.
+    fn names(&mut self, alloc: Global) -> Result<Vec<NameRow>, Fault>
+        ensures found { IsHonest self.new
+            → IfOk result (λ rows. rows.items ≡ name_rows_in (tables self.old)) }
+        ensures unchanged { IsHonest self.new → tables self.new ≡ tables self.old }
+        ensures honest { IsHonest self.new → IsHonest self.old }
+        ensures clean { IsClean self.new → IsClean self.old }
+        ensures lasts { OnOk result (IsHonest self.old → IsClean self.new → IsHonest self.new) }
+        ensures crash { IsHonest self.old → (T : Tables) → may_leave self.new T →
+            may_leave self.old T }
+        ensures failures { failures self.new ≡ next_count (failures self.old) (is_ok result) };
+
+    /// The undeleted files of a name, in byte order. It changes no table.
+    fn files_of(&mut self, alloc: Global, name: &NormalName) -> Result<Vec<FileRow>, Fault>
+        ensures found { IsHonest self.new
+            → IfOk result (λ rows. rows.items ≡ file_rows_in (tables self.old) name.now) }
+        ensures unchanged { IsHonest self.new → tables self.new ≡ tables self.old }
+        ensures honest { IsHonest self.new → IsHonest self.old }
+        ensures clean { IsClean self.new → IsClean self.old }
+        ensures lasts { OnOk result (IsHonest self.old → IsClean self.new → IsHonest self.new) }
+        ensures crash { IsHonest self.old → (T : Tables) → may_leave self.new T →
+            may_leave self.old T }
+        ensures failures { failures self.new ≡ next_count (failures self.old) (is_ok result) };
+
+    /// Hands the held names to a taker one at a time, in byte order, until it wants no more. It changes no table.
+    ///
+    /// `Stopped` exactly where the taker answered `false`. It is no fault, and is not counted.
+    fn walk_held<K: NameTaker>(&mut self, alloc: Global, taker: &mut K) -> Result<(), WalkEnd>
+        ensures walked { IsHonest self.old → IsClean self.new →
+            let rows = held_rows_in (tables self.old) in
+            Walks K.takes K.stops rows taker.old taker.new result }
+        ensures unchanged { IsHonest self.new → tables self.new ≡ tables self.old }
+        ensures honest { IsHonest self.new → IsHonest self.old }
+        ensures clean { IsClean self.new → IsClean self.old }
+        ensures lasts { has_fault result ≡ false →
+            IsHonest self.old → IsClean self.new → IsHonest self.new }
+        ensures crash { IsHonest self.old → (T : Tables) → may_leave self.new T →
+            may_leave self.old T }
+        ensures failures { let is_right = not (has_fault result) in
+            failures self.new ≡ next_count (failures self.old) is_right };
+
+    /// Hands the undeleted files of a name to a taker one at a time, in byte order, until it wants no more. It changes
+    /// no table.
+    ///
+    /// `Stopped` exactly where the taker answered `false`. It is no fault, and is not counted.
+    fn walk_files<K: FileTaker>(
+        &mut self,
+        alloc: Global,
+        name: &NormalName,
+        taker: &mut K,
+    ) -> Result<(), WalkEnd>
+        ensures walked { IsHonest self.old → IsClean self.new →
+            let rows = file_rows_in (tables self.old) name.now in
+            Walks K.takes K.stops rows taker.old taker.new result }
+        ensures unchanged { IsHonest self.new → tables self.new ≡ tables self.old }
+        ensures honest { IsHonest self.new → IsHonest self.old }
+        ensures clean { IsClean self.new → IsClean self.old }
+        ensures lasts { has_fault result ≡ false →
+            IsHonest self.old → IsClean self.new → IsHonest self.new }
+        ensures crash { IsHonest self.old → (T : Tables) → may_leave self.new T →
+            may_leave self.old T }
+        ensures failures { let is_right = not (has_fault result) in
+            failures self.new ≡ next_count (failures self.old) is_right };
+
+    /// An honest store is clean.
+    ghost honest_is_clean: { (books : Self) → IsHonest books → IsClean books };
 }

@@ -1,10 +1,12 @@
 //! Rows of the tables, and what takes them one at a time.
 ghost use Rattle.std.specs.Prelude.{◌≡◌, false, IsTrue};
 
+use crate::answer::Fault;
 use crate::records::NameRecord;
 use index_digest::Digest256;
 use index_names::{FileName, NormalName, Release};
 use index_text::Text;
+use std::alloc::AllocError;
 
 /// A name that is not free, with its record.
 #[derive(Clone, Debug)]
@@ -80,4 +82,36 @@ pub trait FileTaker {
     fn take(&mut self, row: &FileRow) -> bool
         ensures took { IsTrue result → takes self.old row.now self.new }
         ensures stopped { result ≡ false → stops self.old row.now self.new };
+}
+
+/// Why a walk over rows ended before the last of them was taken.
+#[derive(Clone, Copy, Debug, PartialEq, Eq, Hash)]
+pub enum WalkEnd {
+    /// The taker wanted no more rows.
+    Stopped,
+    OutOfMemory,
+    Store,
+}
+
+impl From<Fault> for WalkEnd {
+    ghost use Rattle.index_rules.specs.Walks.{end_by};
+
+    ghost from_gives = { λ fault end. end ≡ end_by fault };
+
+    fn from(fault: Fault) -> WalkEnd {
+        match fault {
+            Fault::OutOfMemory => WalkEnd::OutOfMemory,
+            Fault::Store => WalkEnd::Store,
+        }
+    }
+}
+
+impl From<AllocError> for WalkEnd {
+    ghost use Rattle.index_rules.specs.declared.rows.WalkEnd.TheVariants.{OutOfMemory};
+
+    ghost from_gives = { λ _ end. end ≡ OutOfMemory };
+
+    fn from(_error: AllocError) -> WalkEnd {
+        WalkEnd::OutOfMemory
+    }
 }

@@ -1,0 +1,34 @@
+-- How a walk over rows ends, and what it makes of the taker of the rows.
+use Rattle.std.specs.Prelude.{Bool, true, false, List, Result, Ok, Err}
+use Rattle.index_rules.specs.declared.answer.Fault.{Fault}
+use Rattle.index_rules.specs.declared.answer.Fault.TheVariants as fault
+use Rattle.index_rules.specs.declared.rows.WalkEnd.{WalkEnd}
+use Rattle.index_rules.specs.declared.rows.WalkEnd.TheVariants.{Stopped, OutOfMemory, Store}
+use Rattle.index_rules.specs.Rows.{Took, TookFront, StoppedAmong}
+
+-- a taker that wants no more rows is no fault
+abbrev pub is_fault : WalkEnd → Bool
+is_fault Stopped = false
+is_fault OutOfMemory = true
+is_fault Store = true
+
+-- a fault ended the walk
+abbrev pub has_fault : {A : Type 0} → Result A WalkEnd → Bool
+has_fault (Ok done) = false
+has_fault (Err end) = is_fault end
+
+-- the end of a walk by a fault of another look at the tables
+abbrev pub end_by : Fault → WalkEnd
+end_by fault.OutOfMemory = OutOfMemory
+end_by fault.Store = Store
+
+-- what is left of a taker at an early end: it stopped among the rows, or it took a front of them
+abbrev pub EndsEarly : {K R : Type 0} → (K → R → K → Type 0) → (K → R → K → Type 0) → List R → K → K → WalkEnd → Type 0
+EndsEarly takes stops rows before after Stopped = StoppedAmong takes stops rows before after
+EndsEarly takes stops rows before after OutOfMemory = TookFront takes rows before after
+EndsEarly takes stops rows before after Store = TookFront takes rows before after
+
+-- a walk that does not end early gave the taker all rows, and it took them
+abbrev pub Walks : {K R A : Type 0} → (K → R → K → Type 0) → (K → R → K → Type 0) → List R → K → K → Result A WalkEnd → Type 0
+Walks takes stops rows before after (Ok done) = Took takes rows before after
+Walks takes stops rows before after (Err end) = EndsEarly takes stops rows before after end
