@@ -39,3 +39,4 @@ pub mod MoveLemmas
 pub mod TransferLemmas
 pub mod AloneWords
 pub mod AloneLemmas
+pub mod WalkLemmas
