@@ -1,18 +1,17 @@
 -- The standing of a name.
 use Rattle.std.specs.Prelude.{◌≡◌, List, Option, Some, None}
-use Rattle.std.specs.List.{list_any}
-use Rattle.std.specs.List.Sorted.{IsStrictlySortedBy}
 use Rattle.std.specs.FinMap.{get}
 use Rattle.index_rules.specs.declared.records.NameRecord.{NameRecord}
 use Rattle.index_rules.specs.declared.records.NameRecord.TheVariants.{Held, Prohibited}
 use Rattle.index_rules.specs.Projects.{Project}
 use Rattle.index_rules.specs.declared.records.CaseRecord.{CaseRecord}
-use Rattle.index_rules.specs.Maps.{Bytes, same, bytes_cmp}
+use Rattle.index_rules.specs.Maps.{Bytes}
 use Rattle.index_rules.specs.Tables.{Tables, owners_in}
 use Rattle.index_rules.specs.History.{History}
 use Rattle.index_rules.specs.PastNames.{state_after, owns_after}
 use Rattle.index_rules.specs.PastNames as past
 use Rattle.index_rules.specs.StandsFor.{case_record_after, project_after}
+use Rattle.index_desk.specs.Lists.{AreThose}
 use Rattle.index_desk.specs.declared.standing.Standing.{Standing}
 use Rattle.index_desk.specs.declared.standing.Standing.TheVariants as standing
 
@@ -34,7 +33,7 @@ standing_in T name = standing_of_record T name (get T.names name)
 
 -- the owners of a name, each once, in byte order
 abbrev pub AreOwnersAfter : History → Bytes → List Bytes → Type 0
-AreOwnersAfter h name users = IsStrictlySortedBy bytes_cmp users × ((user : Bytes) → list_any (same user) users ≡ owns_after h name user)
+AreOwnersAfter h name users = AreThose (owns_after h name) users
 
 -- what stands of a name after a history
 abbrev pub IsStandingAfter : History → Bytes → Standing → Type 0

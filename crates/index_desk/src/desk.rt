@@ -4,15 +4,16 @@ ghost use Rattle.std.specs.FinMap.{get};
 ghost use Rattle.index_io.specs.Counts.{FailsAtMostOnce, HasFailed};
 ghost use Rattle.index_rules.specs.Runs.{Answers, Runs, tables_after, tables_after_change};
 ghost use Rattle.index_rules.specs.Decided.{Decides};
-ghost use Rattle.index_rules.specs.Effect.{effect};
-ghost use Rattle.index_rules.specs.Verdict.{Verdict, verdict_now};
+ghost use Rattle.index_rules.specs.Effect.{effect, means};
+ghost use Rattle.index_rules.specs.Tables.{Tables, owners_in};
+ghost use Rattle.index_rules.specs.Verdict.{Accept, Verdict, verdict_now};
 ghost use Rattle.index_rules.specs.Facts.{HasOneBearer, Sees, facts_in};
 ghost use Rattle.index_rules.specs.Requests.{keys_of};
 ghost use Rattle.index_rules.specs.Sound.{IsSound};
-ghost use Rattle.index_rules.specs.Tables.{owners_in};
 ghost use Rattle.index_rules.specs.History.{History};
 ghost use Rattle.index_rules.specs.StandsFor.{StandsFor, body_after};
 ghost use Rattle.index_rules.specs.Legal.{CarriesOn, CarriesOnAll, IsLegal};
+ghost use Rattle.index_desk.specs.Crashes.{IsWithCall, Leaves};
 ghost use Rattle.index_desk.specs.Looks.{Looks};
 ghost use Rattle.index_desk.specs.Standings.{IsStandingAfter, held_with, standing_in};
 
@@ -25,6 +26,12 @@ use index_rules::{
 };
 use std::alloc::Global;
 use std::marker::Model;
+
+mod check;
+mod report;
+mod rows;
+
+pub use report::ReportFault;
 
 /// A desk that takes calls over books. Contracts see the books.
 #[derive(Drop)]
@@ -79,10 +86,22 @@ impl<B: Books> Desk<B> {
         // Tables that stood for a legal history stand for it with the call, where it was accepted, and else for the same.
         ensures history { B.IsHonest self.new → (h : History) → IsLegal h →
             StandsFor (B.tables self.old) h → CarriesOn h call result (B.tables self.new) }
+
+        // A crash leaves the tables after the call where it was accepted, and else what it could leave before; after a
+        // fault one or the other.
+        ensures crash { B.IsHonest self.old → B.IsClean self.new → HasOneBearer (B.tables self.old) →
+            (T : Tables) → B.may_leave self.new T →
+            Leaves (B.may_leave self.old) (IsWithCall (B.tables self.old) call) result T }
+
+        // The former stand for the legal history with the call, for which the tables stood without it.
+        ensures crash_history { B.IsHonest self.old → B.IsClean self.new → (h : History) → IsLegal h →
+            StandsFor (B.tables self.old) h → (T : Tables) → B.may_leave self.new T →
+            Leaves (B.may_leave self.old) (CarriesOn h call Answer.Accepted) result T }
         ensures store { result ≡ Answer.Fault Fault.Store →
             HasFailed (B.failures self.old) (B.failures self.new) }
         ensures failures { FailsAtMostOnce (B.failures self.old) (B.failures self.new) }
         ensures honest { B.IsHonest self.new → B.IsHonest self.old }
+        ensures clean { B.IsClean self.new → B.IsClean self.old }
     {
         match consider(&mut self.books, alloc, call) {
             Ok(decision) => settle(&mut self.books, alloc, decision),
@@ -193,7 +212,8 @@ fn consider<B: Books>(
         let f = facts_in (B.tables books.old) call in
         let verdict = verdict_now (B.tables books.old) call in
         IfOk result (λ decision. Decides decision verdict (effect call.at call.request f)) }
-    ensures look { Looks B.IsHonest B.tables B.failures books.old books.new result }
+    ensures look { Looks B.IsHonest B.IsClean B.tables B.failures B.may_leave
+        books.old books.new result }
 {
     match seen(books, alloc, &call) {
         Ok(view) => {
@@ -212,7 +232,8 @@ fn consider<B: Books>(
 fn seen<B: Books>(books: &mut B, alloc: Global, call: &Call) -> Result<View, Fault>
     ensures found { B.IsHonest books.new →
         IfOk result (Sees (B.tables books.old) (keys_of call.now)) }
-    ensures look { Looks B.IsHonest B.tables B.failures books.old books.new result }
+    ensures look { Looks B.IsHonest B.IsClean B.tables B.failures B.may_leave
+        books.old books.new result }
 {
     let keys = call.keys(alloc)?;
     books.view(alloc, &keys)
@@ -227,10 +248,15 @@ fn settle<B: Books>(books: &mut B, alloc: Global, decision: Result<Decision, Sto
         B.tables books.new ≡ tables_after_change (B.tables books.old) change result }
     ensures unchanged { B.IsHonest books.new → result ≢ Answer.Accepted →
         B.tables books.new ≡ B.tables books.old }
+    ensures crash { B.IsHonest books.old → (verdict : Verdict) (change : Change) →
+        Decides decision verdict change → (T : Tables) → B.may_leave books.new T →
+        let after = means change (B.tables books.old) in
+        Leaves (B.may_leave books.old) (λ T'. (verdict ≡ Accept) × (T' ≡ after)) result T }
     ensures store { result ≡ Answer.Fault Fault.Store →
         HasFailed (B.failures books.old) (B.failures books.new) }
     ensures failures { FailsAtMostOnce (B.failures books.old) (B.failures books.new) }
     ensures honest { B.IsHonest books.new → B.IsHonest books.old }
+    ensures clean { B.IsClean books.new → B.IsClean books.old }
 {
     match decision {
         Ok(Decision::Already) => Answer::Already,
@@ -249,7 +275,8 @@ fn seen_name<B: Books>(books: &mut B, alloc: Global, name: &NormalName) -> Resul
         IfOk result (λ view. view.name ≡ get (B.tables books.old).names name.now) }
     ensures case { B.IsHonest books.new →
         IfOk result (λ view. view.case ≡ get (B.tables books.old).cases name.now) }
-    ensures look { Looks B.IsHonest B.tables B.failures books.old books.new result }
+    ensures look { Looks B.IsHonest B.IsClean B.tables B.failures B.may_leave
+        books.old books.new result }
 {
     let keys = Keys::of_name(name)?;
     books.view(alloc, &keys)
@@ -282,7 +309,8 @@ fn held_name<B: Books>(
     ensures held { B.IsHonest books.new →
         let owners = owners_in (B.tables books.old) name.now in
         IfOk result (λ standing. standing ≡ held_with name.now project owners case) }
-    ensures look { Looks B.IsHonest B.tables B.failures books.old books.new result }
+    ensures look { Looks B.IsHonest B.IsClean B.tables B.failures B.may_leave
+        books.old books.new result }
 {
     let owners = books.owners_of(alloc, name)?;
     let name = name.clone()?;

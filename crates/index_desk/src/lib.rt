@@ -4,5 +4,5 @@
 mod desk;
 mod standing;
 
-pub use desk::Desk;
+pub use desk::{Desk, ReportFault};
 pub use standing::{HeldName, Standing};

@@ -1,12 +1,16 @@
-use Rattle.std.proofs.Common.{◌≡◌, subst, sym}
-use Rattle.index_rules.specs.Effect.{effect}
+use Rattle.std.proofs.Common.{◌≡◌, ◌∙◌, ap, subst, sym}
+use Rattle.index_rules.specs.declared.answer.Answer.TheVariants.{Accepted}
+use Rattle.index_rules.specs.Tables.{Tables}
+use Rattle.index_rules.specs.Effect.{effect, means}
 use Rattle.index_rules.specs.Facts.{HasOneBearer, facts_in}
 use Rattle.index_rules.specs.Verdict.{verdict_now}
 use Rattle.index_rules.specs.Runs.{Answers, tables_after, tables_after_change}
 use Rattle.index_rules.specs.Sound.{IsSound}
-use Rattle.index_rules.proofs.StandsOn.{CarriesOn-answer}
+use Rattle.index_rules.proofs.StandsOn.{CarriesOn-answer, sound_when_legal}
 use Rattle.index_rules.proofs.OneBearer.{HasOneBearer-tables_after}
 use Rattle.index_rules.proofs.SoundLemmas.{IsSound-tables_after}
+use Rattle.index_desk.specs.Crashes.{IsWithCall, Leaves}
+use Rattle.index_desk.proofs.CrashLemmas.{Leaves-weaker}
 use Rattle.index_desk.proofs.desk.Desk.apply.Goals as goal
 
 pub returns-in-Ok-clause-answer : goal.returns-in-Ok-clause-answer
@@ -42,3 +46,28 @@ pub returns-in-Ok-clause-history : goal.returns-in-Ok-clause-history
 returns-in-Ok-clause-history g c = λ honest h legal stands.
     CarriesOn-answer h legal (g.B.Books.tables c.args.self.now) stands c.args.call c.settle.result (g.B.Books.tables c.settle.new.books)
     (returns-in-Ok-clause-answer g c honest) (returns-in-Ok-clause-tables g c honest)
+
+pub returns-in-Ok-clause-crash : goal.returns-in-Ok-clause-crash
+returns-in-Ok-clause-crash g c =
+    let tables = g.B.Books.tables in
+    let may_leave = g.B.Books.may_leave in
+    let call = c.args.call in
+    subst (λ x. g.B.Books.IsHonest x → g.B.Books.IsClean c.settle.new.books → HasOneBearer (tables x) → (T : Tables) → may_leave c.settle.new.books T → Leaves (may_leave x) (IsWithCall (tables x) call) c.settle.result T) c.self.view_is
+    (λ honest clean one T left.
+    let before = tables c.self.inside.books in
+    let change = effect call.at call.request (facts_in before call) in
+    let look = c.in-Ok.ensures.look in
+    let clean_then = c.settle.ensures.clean clean in
+    let honest_then = look.lasts honest clean_then in
+    Leaves-weaker _ _ _ _ (look.crash honest clean_then)
+    (λ T' after. (after.0, after.1 ∙ ap (means change) (look.unchanged honest_then)))
+    c.settle.result T
+    (c.settle.ensures.crash honest_then (verdict_now before call) change (c.in-Ok.ensures.decision honest_then one) T left))
+
+pub returns-in-Ok-clause-crash_history : goal.returns-in-Ok-clause-crash_history
+returns-in-Ok-clause-crash_history g c = λ honest clean h legal stands T left.
+    let before = g.B.Books.tables c.args.self.now in
+    Leaves-weaker _ _ _ _ (λ T' was. was)
+    (λ T' after. CarriesOn-answer h legal before stands c.args.call Accepted T' (λ _. after.0) (λ _. after.1))
+    c.settle.result T
+    (returns-in-Ok-clause-crash g c honest clean (sound_when_legal h legal before stands).one_bearer T left)

@@ -1,0 +1,69 @@
+-- The report: a line for each held or prohibited name.
+use Rattle.std.specs.Prelude.{ℕ, ◌-◌, ◌<◌, List, [], ◌∷◌, ◌++◌, length, take, replicate, Option, Result, Ok, Err, codes}
+use Rattle.std.specs.Fmt.{decimal}
+use Rattle.std.specs.Io.KnownBytes.{Appends, Keeps}
+use Rattle.index_rules.specs.declared.records.NameRecord.{NameRecord}
+use Rattle.index_rules.specs.declared.records.NameRecord.TheVariants.{Held, Prohibited}
+use Rattle.index_rules.specs.declared.rows.NameRow.{NameRow}
+use Rattle.index_rules.specs.Maps.{Bytes}
+use Rattle.index_rules.specs.Tables.{Tables}
+use Rattle.index_rules.specs.TableRows.{name_rows_in}
+use Rattle.index_desk.specs.Checks.{charge_of}
+use Rattle.index_rules.specs.declared.answer.Fault.{Fault}
+use Rattle.index_rules.specs.declared.answer.Fault.TheVariants as fault
+use Rattle.index_desk.specs.declared.desk.report.ReportFault.{ReportFault}
+use Rattle.index_desk.specs.declared.desk.report.ReportFault.TheVariants.{OutOfMemory, Store, WriteFault}
+
+-- a text at the left of so many places: a longer one is not cut
+abbrev pub at_left : ℕ → Bytes → Bytes
+at_left width text = text ++ replicate (width - length text) 32
+
+-- a number at the right of so many places
+abbrev pub at_right : ℕ → ℕ → Bytes
+at_right width number = replicate (width - length (decimal number)) 32 ++ decimal number
+
+abbrev pub state_text : NameRecord → Bytes
+state_text (Held project) = codes "held"
+state_text Prohibited = codes "prohibited"
+
+-- the number of undeleted files, and the quota: a prohibited name has neither
+abbrev pub undeleted_of : NameRecord → ℕ
+undeleted_of (Held project) = project.undeleted
+undeleted_of Prohibited = 0
+
+abbrev pub quota_of : NameRecord → ℕ
+quota_of (Held project) = project.quota
+quota_of Prohibited = 0
+
+-- the name and the state, with a space after each
+abbrev pub name_columns : NameRow → Bytes
+name_columns row = at_left 24 row.name ++ 32 ∷ at_left 10 (state_text row.record) ++ 32 ∷ []
+
+-- the number of undeleted files, the charge and the quota, with a space between them
+abbrev pub number_columns : NameRecord → Bytes
+number_columns known =
+    at_right 8 (undeleted_of known) ++ 32 ∷ at_right 14 (charge_of known) ++ 32 ∷ at_right 14 (quota_of known)
+
+-- a line with its line feed
+abbrev pub report_line : NameRow → Bytes
+report_line row = name_columns row ++ number_columns row.record ++ 10 ∷ []
+
+abbrev pub report_of : List NameRow → Bytes
+report_of [] = []
+report_of (row ∷ rows) = report_line row ++ report_of rows
+
+-- the lines by name in byte order
+abbrev pub report_in : Tables → Bytes
+report_in T = report_of (name_rows_in T)
+
+-- the end of a report by a fault of a look at the tables
+abbrev pub report_fault_by : Fault → ReportFault
+report_fault_by fault.OutOfMemory = OutOfMemory
+report_fault_by fault.Store = Store
+
+-- what went out of a text, by how writing it ended
+abbrev pub Reports : Bytes → Option Bytes → Option Bytes → Result (Unit {0}) ReportFault → Type 0
+Reports text before after (Ok done) = Appends before after text
+Reports text before after (Err OutOfMemory) = Keeps before after
+Reports text before after (Err Store) = Keeps before after
+Reports text before after (Err (WriteFault count)) = (count < length text) × Appends before after (take count text)

@@ -1,0 +1,75 @@
+//! How many names have a wrong charge.
+ghost use Rattle.std.specs.Prelude.{◌≡◌, ◌==◌, not, IfOk, count_by, sum_by};
+ghost use Rattle.index_rules.specs.Sound.{IsSound};
+ghost use Rattle.index_desk.specs.Checks.{charge_of as charge_of_lem, is_charged_wrong_in, wrong_charges_in};
+ghost use Rattle.index_desk.specs.Looks.{Looks};
+
+use super::Desk;
+use index_rules::{Books, Fault, FileRow, NameRecord, NameRow};
+use std::alloc::Global;
+
+impl<B: Books> Desk<B> {
+    /// How many names have a charge that is not the sum of the sizes of their undeleted files: none in sound tables. It
+    /// changes no table.
+    pub fn check(&mut self, alloc: Global) -> Result<u64, Fault>
+        ensures count { B.IsHonest self.new →
+            IfOk result (λ count. count ≡ wrong_charges_in (B.tables self.old)) }
+        ensures sound { B.IsHonest self.new → IsSound (B.tables self.old) →
+            IfOk result (λ count. count ≡ 0) }
+        ensures look { Looks B.IsHonest B.IsClean B.tables B.failures B.may_leave
+            self.old self.new result }
+    {
+        let rows = self.books.names(alloc)?;
+        wrong_charges(&mut self.books, alloc, rows.as_slice())
+    }
+}
+
+/// How many of these names have a wrong charge. It changes no table.
+fn wrong_charges<B: Books>(books: &mut B, alloc: Global, rows: &[NameRow]) -> Result<u64, Fault>
+    ensures count { B.IsHonest books.new → IfOk result (λ count.
+        count ≡ count_by (is_charged_wrong_in (B.tables books.old)) rows.now) }
+    ensures look { Looks B.IsHonest B.IsClean B.tables B.failures B.may_leave
+        books.old books.new result }
+{
+    let mut count = 0;
+    for row in rows {
+        if is_charged_wrong(books, alloc, row)? {
+            count += 1;
+        }
+    }
+    Ok(count)
+}
+
+/// Whether a name's charge is not the sum of the sizes of its undeleted files. It changes no table.
+fn is_charged_wrong<B: Books>(books: &mut B, alloc: Global, row: &NameRow) -> Result<bool, Fault>
+    ensures wrong { B.IsHonest books.new → IfOk result (λ wrong.
+        wrong ≡ is_charged_wrong_in (B.tables books.old) row.now) }
+    ensures look { Looks B.IsHonest B.IsClean B.tables B.failures B.may_leave
+        books.old books.new result }
+{
+    let files = books.files_of(alloc, &row.name)?;
+    Ok(!is_sum(charge_of(row), files.as_slice()))
+}
+
+fn charge_of(row: &NameRow) -> u64
+    ensures { result ≡ charge_of_lem row.now.record }
+{
+    match &row.record {
+        NameRecord::Held(project) => project.charge(),
+        NameRecord::Prohibited => 0,
+    }
+}
+
+/// Whether the charge is the sum of the sizes of these files, however large that is.
+fn is_sum(charge: u64, files: &[FileRow]) -> bool
+    ensures { result ≡ (charge == sum_by (λ file. file.size) files.now) }
+{
+    let mut left = charge;
+    for file in files {
+        match left.checked_sub(file.size) {
+            Some(rest) => left = rest,
+            None => return false,
+        }
+    }
+    left == 0
+}

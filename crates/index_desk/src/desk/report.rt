@@ -1,0 +1,156 @@
+//! The report: a line for each held or prohibited name.
+ghost use Rattle.std.specs.Prelude.{◌≡◌, ◌++◌, ℕ, IfErr, IfOk, OnOk, replicate};
+ghost use Rattle.index_io.specs.Counts.{FailsAtMostOnce, HasFailed};
+ghost use Rattle.index_rules.specs.Tables.{Tables};
+ghost use Rattle.index_desk.specs.Looks.{Looks};
+ghost use Rattle.index_desk.specs.Reports.{Reports, at_left, at_right, name_columns, number_columns, report_in, report_line, report_of, state_text as state_text_lem};
+
+use super::Desk;
+use index_io::{Sink, write_bytes};
+use index_rules::{Books, Fault, NameRecord, NameRow};
+use std::alloc::{AllocError, Global};
+
+/// Why a report is not written whole.
+#[derive(Clone, Copy, Debug, PartialEq, Eq, Hash)]
+pub enum ReportFault {
+    OutOfMemory,
+    Store,
+    /// A write failed or took no byte, after so many bytes went out.
+    WriteFault(u64),
+}
+
+impl From<Fault> for ReportFault {
+    ghost use Rattle.index_desk.specs.Reports.{report_fault_by};
+
+    ghost from_gives = { λ fault end. end ≡ report_fault_by fault };
+
+    fn from(fault: Fault) -> ReportFault {
+        match fault {
+            Fault::OutOfMemory => ReportFault::OutOfMemory,
+            Fault::Store => ReportFault::Store,
+        }
+    }
+}
+
+impl<B: Books> Desk<B> {
+    /// Writes a line for each held or prohibited name, by name in byte order: the name, its state, how many undeleted
+    /// files it has, its charge and its quota, the last two in bytes. It changes no table.
+    ///
+    /// All of it is made before the first byte goes out. So after `OutOfMemory` and `Store` nothing was written, and
+    /// after `WriteFault` so many bytes were.
+    pub fn report<S: Sink>(&mut self, alloc: Global, sink: &mut S) -> Result<(), ReportFault>
+        ensures report { B.IsHonest self.new →
+            let text = report_in (B.tables self.old) in
+            Reports text (S.contents sink.old) (S.contents sink.new) result }
+        ensures write_fault { IfErr result (λ fault. (count : ℕ) →
+            fault ≡ ReportFault.WriteFault count →
+            HasFailed (S.failures sink.old) (S.failures sink.new)) }
+        ensures store { IfErr result (λ fault. fault ≡ ReportFault.Store →
+            HasFailed (B.failures self.old) (B.failures self.new)) }
+        ensures unchanged { B.IsHonest self.new → B.tables self.new ≡ B.tables self.old }
+        ensures kept { OnOk result (B.failures self.new ≡ B.failures self.old) }
+        ensures failures { FailsAtMostOnce (B.failures self.old) (B.failures self.new) }
+        ensures honest { B.IsHonest self.new → B.IsHonest self.old }
+        ensures clean { B.IsClean self.new → B.IsClean self.old }
+        ensures crash { B.IsHonest self.old → B.IsClean self.new → (T : Tables) →
+            B.may_leave self.new T → B.may_leave self.old T }
+    {
+        let text = report_text(&mut self.books, alloc)?;
+        match write_bytes(sink, text.as_slice()) {
+            Ok(()) => Ok(()),
+            Err(count) => Err(ReportFault::WriteFault(count as u64)),
+        }
+    }
+}
+
+/// The report. It changes no table.
+fn report_text<B: Books>(books: &mut B, alloc: Global) -> Result<Vec<u8>, Fault>
+    ensures text { B.IsHonest books.new →
+        IfOk result (λ text. text.items ≡ report_in (B.tables books.old)) }
+    ensures look { Looks B.IsHonest B.IsClean B.tables B.failures B.may_leave
+        books.old books.new result }
+{
+    let rows = books.names(alloc)?;
+    let text = lines_of(alloc, rows.as_slice())?;
+    Ok(text)
+}
+
+fn lines_of(alloc: Global, rows: &[NameRow]) -> Result<Vec<u8>, AllocError>
+    ensures { IfOk result (λ text. text.items ≡ report_of rows.now) }
+{
+    let mut text = Vec::new(alloc);
+    for row in rows {
+        add_line(&mut text, alloc, row)?;
+    }
+    Ok(text)
+}
+
+fn add_line(text: &mut Vec<u8>, alloc: Global, row: &NameRow) -> Result<(), AllocError>
+    ensures { OnOk result (text.new.items ≡ text.old.items ++ report_line row.now) }
+{
+    add_name(text, row)?;
+    add_numbers(text, alloc, &row.record)?;
+    text.push(b'\n')?;
+    Ok(())
+}
+
+/// The name and its state, with a space after each.
+fn add_name(text: &mut Vec<u8>, row: &NameRow) -> Result<(), AllocError>
+    ensures { OnOk result (text.new.items ≡ text.old.items ++ name_columns row.now) }
+{
+    add_left(text, row.name.text().as_bytes(), 24)?;
+    text.push(b' ')?;
+    add_left(text, state_text(&row.record), 10)?;
+    text.push(b' ')?;
+    Ok(())
+}
+
+fn state_text(known: &NameRecord) -> &'static [u8]
+    ensures { result.now ≡ state_text_lem known.now }
+{
+    match known {
+        NameRecord::Held(_) => b"held",
+        NameRecord::Prohibited => b"prohibited",
+    }
+}
+
+/// The count of undeleted files, the charge and the quota, with a space between them.
+fn add_numbers(text: &mut Vec<u8>, alloc: Global, known: &NameRecord) -> Result<(), AllocError>
+    ensures { OnOk result (text.new.items ≡ text.old.items ++ number_columns known.now) }
+{
+    let (undeleted, charge, quota) = match known {
+        NameRecord::Held(project) => (project.undeleted(), project.charge(), project.quota()),
+        NameRecord::Prohibited => (0, 0, 0),
+    };
+    add_right(text, alloc, undeleted, 8)?;
+    text.push(b' ')?;
+    add_right(text, alloc, charge, 14)?;
+    text.push(b' ')?;
+    add_right(text, alloc, quota, 14)
+}
+
+/// A text at the left of so many places.
+fn add_left(text: &mut Vec<u8>, piece: &[u8], width: usize) -> Result<(), AllocError>
+    ensures { OnOk result (text.new.items ≡ text.old.items ++ at_left width piece.now) }
+{
+    text.extend_from_slice(piece)?;
+    add_spaces(text, width.saturating_sub(piece.len()))
+}
+
+/// A number at the right of so many places.
+fn add_right(text: &mut Vec<u8>, alloc: Global, number: u64, width: usize) -> Result<(), AllocError>
+    ensures { OnOk result (text.new.items ≡ text.old.items ++ at_right width number) }
+{
+    let digits = number.to_string(alloc)?;
+    add_spaces(text, width.saturating_sub(digits.len()))?;
+    text.extend_from_slice(digits.as_bytes())
+}
+
+fn add_spaces(text: &mut Vec<u8>, count: usize) -> Result<(), AllocError>
+    ensures { OnOk result (text.new.items ≡ text.old.items ++ replicate count 32) }
+{
+    for _ in 0..count {
+        text.push(b' ')?;
+    }
+    Ok(())
+}
