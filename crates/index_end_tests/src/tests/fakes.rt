@@ -2,7 +2,9 @@
 use index_digest::Sealed;
 use index_names::{FileName, NormalName};
 use index_plain::PlainBooks;
-use index_rules::{Books, Change, Fault, Keys, Owners, View};
+use index_rules::{
+    Books, Change, Fault, FileRow, FileTaker, Keys, NameRow, NameTaker, Owners, View, WalkEnd,
+};
 use std::alloc::Global;
 use std::io;
 use std::io::{Error, ErrorKind, Read, Write};
@@ -110,6 +112,10 @@ pub(super) enum BooksCall {
     Write,
     OwnersOf,
     BytesOf,
+    Names,
+    FilesOf,
+    WalkHeld,
+    WalkFiles,
 }
 
 /// Books of which one call fails, or none. No contract knows what they hold.
@@ -133,9 +139,22 @@ impl Books for FailingBooks {
     ghost use Rattle.std.specs.FinMap.{empty};
     ghost use Rattle.index_io.specs.Counts.{last_count};
 
-    ghost tables = { λ _. record { users = empty; names = empty; owners = empty; files = empty; bodies = empty; yanks = empty; cases = empty } };
+    ghost tables = { λ _. record {
+      users = empty;
+      names = empty;
+      owners = empty;
+      files = empty;
+      bodies = empty;
+      yanks = empty;
+      cases = empty;
+      bans = empty;
+    } };
 
     ghost IsHonest = { λ _. ⊥ };
+
+    ghost IsClean = { λ _. ⊥ };
+
+    ghost may_leave = { λ _ _. ⊥ };
 
     ghost failures = { λ _. last_count };
 
@@ -167,4 +186,39 @@ impl Books for FailingBooks {
         }
         self.books.bytes_of(alloc, file)
     }
+
+    fn names(&mut self, alloc: Global) -> Result<Vec<NameRow>, Fault> {
+        if self.failing == Some(BooksCall::Names) {
+            return Err(self.fault);
+        }
+        self.books.names(alloc)
+    }
+
+    fn files_of(&mut self, alloc: Global, name: &NormalName) -> Result<Vec<FileRow>, Fault> {
+        if self.failing == Some(BooksCall::FilesOf) {
+            return Err(self.fault);
+        }
+        self.books.files_of(alloc, name)
+    }
+
+    fn walk_held<K: NameTaker>(&mut self, alloc: Global, taker: &mut K) -> Result<(), WalkEnd> {
+        if self.failing == Some(BooksCall::WalkHeld) {
+            return Err(WalkEnd::from(self.fault));
+        }
+        self.books.walk_held(alloc, taker)
+    }
+
+    fn walk_files<K: FileTaker>(
+        &mut self,
+        alloc: Global,
+        name: &NormalName,
+        taker: &mut K,
+    ) -> Result<(), WalkEnd> {
+        if self.failing == Some(BooksCall::WalkFiles) {
+            return Err(WalkEnd::from(self.fault));
+        }
+        self.books.walk_files(alloc, name, taker)
+    }
+
+    ghost honest_is_clean = { λ _ honest. honest };
 }
