@@ -29,6 +29,7 @@ cut_at separator bytes = slice_split (λ c. c == separator) bytes
 
 -- ---- qualities (RFC 9110, section 12.4.2), in thousandths
 
+-- the value of a digit
 abbrev pub digit_value : ℕ → ℕ
 digit_value c = c - byte "0"
 
@@ -74,6 +75,7 @@ pub record Item : Type 0 where
   pub range : List ℕ
   pub quality : Option ℕ
 
+-- the item whose pieces these are: the first is its range
 abbrev pub item_from : List (List ℕ) → Item
 item_from [] = record { range = []; quality = None }
 item_from (range ∷ pieces) = record { range = range; quality = quality_in pieces }
@@ -82,10 +84,12 @@ item_from (range ∷ pieces) = record { range = range; quality = quality_in piec
 abbrev pub item_of : List ℕ → Item
 item_of text = item_from (map trim (cut_at (byte ";") text))
 
+-- there is a byte
 abbrev pub is_nonempty : List ℕ → Bool
 is_nonempty [] = false
 is_nonempty (c ∷ bytes) = true
 
+-- two pieces, none of them empty
 abbrev pub are_two : List (List ℕ) → Bool
 are_two [] = false
 are_two (a ∷ []) = false
@@ -131,6 +135,7 @@ specificity served range =
 abbrev pub no_claim : Claim
 no_claim = record { specificity = 0; quality = 0 }
 
+-- the claim of a range with this quality: nothing where the range does not cover the type, or the quality is malformed
 abbrev pub claim_of : ℕ → Option ℕ → Claim
 claim_of specificity None = no_claim
 claim_of specificity (Some quality) = if specificity == 0 then no_claim else record { specificity = specificity; quality = quality }

@@ -17,6 +17,7 @@ pub record SinkState : Type 0 where
   pub contents : Option Bytes
   pub failures : ℕ
 
+-- how many bytes an end tells
 abbrev pub count_of : PageEnd → ℕ
 count_of (OutOfMemory n) = n
 count_of (Store n) = n
@@ -86,6 +87,7 @@ pub record IsCut (page : Bytes) (before after : SinkState) (end : PageEnd) : Typ
   pub past : Passes end (length page)
   pub caused : IsCaused end before.failures after.failures
 
+-- the page was written whole, or as many of its first bytes as the end tells
 abbrev pub Ends : Bytes → SinkState → SinkState → Result ℕ PageEnd → Type 0
 Ends page before after (Ok count) = IsWhole page before after count
 Ends page before after (Err end) = IsCut page before after end

@@ -20,6 +20,7 @@ escape_byte c =
     if c == byte "&" then codes "&amp;" else if c == byte "<" then codes "&lt;" else if c == byte ">" then codes "&gt;"
     else if c == 34 then codes "&quot;" else c ∷ []
 
+-- a text with these four bytes escaped
 unfoldable pub escape : Bytes → Bytes
 escape text = flat_map escape_byte text
 
@@ -57,6 +58,7 @@ unfoldable pub project_top : Bytes → Bytes
 project_top project = concat (
     head ∷ codes "Links for " ∷ project ∷ codes "</title>\n</head>\n<body>\n<h1>Links for " ∷ project ∷ codes "</h1>\n" ∷ [])
 
+-- what stands behind the rows
 abbrev pub bottom : Bytes
 bottom = codes "</body>\n</html>\n"
 

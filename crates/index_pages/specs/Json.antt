@@ -16,6 +16,7 @@ use Rattle.index_pages.specs.Versions.{versions_of}
 abbrev pub meta : Data
 meta = object (member (codes "api-version") (string (codes "1.1")) no_members)
 
+-- the digest of a file, under the name of its algorithm
 abbrev pub hashes : Bytes → Data
 hashes digest = object (member (codes "sha256") (string (text_of digest)) no_members)
 
@@ -32,6 +33,7 @@ abbrev pub yanked_member : Option Bytes → Members
 yanked_member None = no_members
 yanked_member (Some reason) = member (codes "yanked") (reason_data reason) no_members
 
+-- where a file is served
 abbrev pub url_of : Bytes → Bytes → Bytes
 url_of project file = concat (codes "/files/" ∷ project ∷ codes "/" ∷ file ∷ [])
 
@@ -54,6 +56,7 @@ project_json project rows = compact_text (object
     (member (codes "versions") (array (items_of (map string (versions_of rows))))
     no_members)))))
 
+-- a name, in the spelling of its last claim
 abbrev pub name_data : Bytes → Data
 name_data shown = object (member (codes "name") (string shown) no_members)
 
@@ -71,13 +74,16 @@ root_json rows = compact_text (object
 
 -- ---- the same of a file by what is put into an object, whatever the order
 
+-- the Python versions, where any were declared
 abbrev pub requires_put : Bytes → Members → Members
 requires_put requires members = if length requires == 0 then members else put (codes "requires-python") (string requires) members
 
+-- the reason, where the file is yanked
 abbrev pub yanked_put : Option Bytes → Members → Members
 yanked_put None members = members
 yanked_put (Some reason) members = put (codes "yanked") (reason_data reason) members
 
+-- the members of a file
 abbrev pub file_put : Bytes → FileRow → Members → Members
 file_put project row members =
     yanked_put row.yanked

@@ -8,6 +8,7 @@ use Rattle.index_pages.specs.Json.{project_json, root_json}
 use Rattle.index_pages.specs.declared.served.Served.{Served}
 use Rattle.index_pages.specs.declared.served.Served.TheVariants.{PlainHtml, Html, Json}
 
+-- whether a page of this type is in JSON
 abbrev pub is_json : Served → Bool
 is_json PlainHtml = false
 is_json Html = false

@@ -19,15 +19,19 @@ once is_started top = if is_started then [] else top
 
 -- ---- a project's page
 
+-- in HTML
 abbrev pub html_rest : Bytes → Bool → List FileRow → Bytes
 html_rest project is_started rows = once is_started (project_top project) ++ (flat_map (file_anchor project) rows ++ bottom)
 
+-- the text of a file
 unfoldable pub file_text : Bytes → FileRow → Bytes
 file_text project row = compact_text (file_data project row)
 
+-- a text in quotes
 unfoldable pub json_text : Bytes → Bytes
 json_text text = compact_text (string text)
 
+-- what stands before the files
 unfoldable pub files_top : Bytes
 files_top = codes "{\"files\":["
 
@@ -40,22 +44,27 @@ unfoldable pub files_bottom : Bytes → List Bytes → Bytes
 files_bottom project releases =
     codes ",\"meta\":{\"api-version\":\"1.1\"},\"name\":" ++ (json_text project ++ (codes ",\"versions\":[" ++ (releases_text false releases ++ codes "}")))
 
+-- in JSON, where the releases stand behind the files
 abbrev pub json_rest : Bytes → Bool → List Bytes → List FileRow → Bytes
 json_rest project is_started releases rows =
     once is_started files_top ++ (items_text is_started (items_of (map (file_data project) rows)) ++ files_bottom project (releases_after releases rows))
 
+-- in the one or the other
 abbrev pub project_rest : Bool → Bytes → Bool → List Bytes → List FileRow → Bytes
 project_rest as_json project is_started releases rows =
     if as_json then json_rest project is_started releases rows else html_rest project is_started rows
 
 -- ---- the root page
 
+-- what stands before the names in JSON
 unfoldable pub names_top : Bytes
 names_top = codes "{\"meta\":{\"api-version\":\"1.1\"},\"projects\":["
 
+-- what stands before the names, unless it was written
 abbrev pub root_start : Bool → Bool → Bytes
 root_start as_json is_started = once is_started (if as_json then names_top else root_top)
 
+-- the text of a name
 unfoldable pub name_text : Bytes → Bytes
 name_text shown = compact_text (name_data shown)
 
@@ -63,6 +72,7 @@ name_text shown = compact_text (name_data shown)
 abbrev pub name_line : Bool → Bool → Bytes → Bytes → Bytes
 name_line as_json is_started name shown = if as_json then comma_if is_started ++ name_text shown else name_anchor name shown
 
+-- what stands behind the names
 abbrev pub root_bottom : Bool → Bytes
 root_bottom as_json = if as_json then codes "]}" else bottom
 
@@ -71,6 +81,7 @@ abbrev pub root_step : Bool → Bool → Bytes → NameRecord → (Bool → Byte
 root_step as_json is_started name (Held project) later = (root_start as_json is_started ++ name_line as_json is_started name project.shown) ++ later true
 root_step as_json is_started name Prohibited later = later is_started
 
+-- name by name
 abbrev pub root_rest : Bool → Bool → List NameRow → Bytes
 root_rest as_json is_started [] = root_start as_json is_started ++ root_bottom as_json
 root_rest as_json is_started (row ∷ rows) = root_step as_json is_started row.name row.record (λ is_started. root_rest as_json is_started rows)

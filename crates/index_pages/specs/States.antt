@@ -10,6 +10,7 @@ use Rattle.index_pages.specs.Ends.{SinkState, SendsRow, SendsRowFront, count_of,
 use Rattle.index_pages.specs.declared.end.PageEnd.{PageEnd}
 use Rattle.index_pages.specs.declared.end.PageEnd.TheVariants.{OutOfMemory, Store}
 
+-- a sink by what it has and how many of its writes failed
 abbrev pub sink_state : Option Bytes → ℕ → SinkState
 sink_state contents failures = record { contents = contents; failures = failures }
 
@@ -20,6 +21,7 @@ pub record TextState (R : Type 0) : Type 0 where
   pub written : ℕ
   pub end : Option PageEnd
 
+-- a page by its four parts
 abbrev pub text_state : {R : Type 0} → Rest R → SinkState → ℕ → Option PageEnd → TextState R
 text_state rest sink written end = record { rest = rest; sink = sink; written = written; end = end }
 
@@ -61,6 +63,7 @@ pub record IsFront {R : Type 0} (page : Rest R) (rows : List R) (before after : 
   pub size : count ≡ length bytes
   pub begins : (more : List R) → (left : Bytes) × (page (rows ++ more) ≡ bytes ++ left)
 
+-- what was written is a front of the page of the rows that were given
 abbrev pub IsWritten : {R : Type 0} → TextState R → Type 0
 IsWritten now = AfterRows now (λ start rows. IsFront start.rest rows start.sink.contents now.sink.contents now.written)
 
@@ -84,6 +87,7 @@ abbrev pub end_at : ℕ → Fault → PageEnd
 end_at count fault.OutOfMemory = OutOfMemory count
 end_at count fault.Store = Store count
 
+-- how a count ended, as the end of a page of which so many bytes were counted
 abbrev pub ended_at : ℕ → Result ℕ Fault → Result ℕ PageEnd
 ended_at count (Ok length) = Ok length
 ended_at count (Err fault) = Err (end_at count fault)

@@ -10,6 +10,7 @@ use Rattle.index_pages.specs.declared.tally.Tally.{Tally}
 use Rattle.index_pages.specs.declared.served.Served.{Served}
 use Rattle.index_pages.specs.declared.served.Served.TheVariants.{PlainHtml, Html, Json}
 
+-- the first claim is more specific, or as specific and of a greater quality
 abbrev pub is_above : Claim → Claim → Bool
 is_above a b = nat_lt b.specificity a.specificity || ((a.specificity == b.specificity) && nat_lt b.quality a.quality)
 
@@ -47,10 +48,12 @@ after tally item = record {
   json = better tally.json (claim Json item);
 }
 
+-- with these items more
 unfoldable pub after_all : Tally → List Item → Tally
 after_all tally [] = tally
 after_all tally (item ∷ items) = after_all (after tally item) items
 
+-- the quality of the best claim on a type
 abbrev pub quality_on : Tally → Served → ℕ
 quality_on tally PlainHtml = tally.plain.quality
 quality_on tally Html = tally.html.quality

@@ -8,6 +8,10 @@ use index_rules::FileRow;
 use index_text::Text;
 use std::alloc::AllocError;
 
+/// What stands before a page's title.
+const HEAD: &[u8] =
+    b"<!DOCTYPE html>\n<html>\n<head>\n<meta charset=\"utf-8\">\n<meta name=\"pypi:repository-version\" content=\"1.0\">\n<title>";
+
 /// What stands before the files of a project.
 #[tactic(auto, unfolding(crate::specs::Html::project_top, crate::specs::Html::head))]
 pub fn append_project_top(out: &mut Vec<u8>, project: &[u8]) -> Result<(), AllocError>
@@ -16,7 +20,7 @@ pub fn append_project_top(out: &mut Vec<u8>, project: &[u8]) -> Result<(), Alloc
     append(
         out,
         &[
-            b"<!DOCTYPE html>\n<html>\n<head>\n<meta charset=\"utf-8\">\n<meta name=\"pypi:repository-version\" content=\"1.0\">\n<title>",
+            HEAD,
             b"Links for ",
             project,
             b"</title>\n</head>\n<body>\n<h1>Links for ",
@@ -31,13 +35,7 @@ pub fn append_project_top(out: &mut Vec<u8>, project: &[u8]) -> Result<(), Alloc
 pub fn append_root_top(out: &mut Vec<u8>) -> Result<(), AllocError>
     ensures { OnOk result (out.new.items ≡ out.old.items ++ root_top) }
 {
-    append(
-        out,
-        &[
-            b"<!DOCTYPE html>\n<html>\n<head>\n<meta charset=\"utf-8\">\n<meta name=\"pypi:repository-version\" content=\"1.0\">\n<title>",
-            b"Simple index</title>\n</head>\n<body>\n",
-        ],
-    )
+    append(out, &[HEAD, b"Simple index</title>\n</head>\n<body>\n"])
 }
 
 /// What stands behind the rows.
@@ -75,7 +73,8 @@ fn append_reference(
     file: &[u8],
     digest: &Digest256,
 ) -> Result<(), AllocError>
-    ensures { OnOk result (out.new.items ≡ out.old.items ++ reference project.now file.now digest.now) }
+    ensures { OnOk result
+        (out.new.items ≡ out.old.items ++ reference project.now file.now digest.now) }
 {
     let mut digits = [0u8; 64];
     digest.hex_into(&mut digits);

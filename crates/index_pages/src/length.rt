@@ -142,13 +142,17 @@ impl NameTaker for PageLength<'_, RootPage> {
     ghost use Rattle.index_pages.specs.Parts.{root_rest};
     ghost use Rattle.index_pages.specs.States.{length_state, StopsText, TakesText};
 
-    ghost takes = { λ s row t.
-        TakesText (length_state (root_rest s.page.as_json s.page.is_started) s.length s.end) row
-        (length_state (root_rest t.page.as_json t.page.is_started) t.length t.end) };
+    ghost takes = { λ before row after.
+        TakesText (length_state (root_rest before.page.as_json before.page.is_started)
+        before.length before.end) row
+        (length_state (root_rest after.page.as_json after.page.is_started)
+        after.length after.end) };
 
-    ghost stops = { λ s row t.
-        StopsText (length_state (root_rest s.page.as_json s.page.is_started) s.length s.end) row
-        (length_state (root_rest t.page.as_json t.page.is_started) t.length t.end) };
+    ghost stops = { λ before row after.
+        StopsText (length_state (root_rest before.page.as_json before.page.is_started)
+        before.length before.end) row
+        (length_state (root_rest after.page.as_json after.page.is_started)
+        after.length after.end) };
 
     fn take(&mut self, row: &NameRow) -> bool {
         self.take_row(row)
@@ -159,13 +163,17 @@ impl FileTaker for PageLength<'_, ProjectPage> {
     ghost use Rattle.index_pages.specs.Parts.{project_rest};
     ghost use Rattle.index_pages.specs.States.{length_state, StopsText, TakesText};
 
-    ghost takes = { λ s row t.
-        TakesText (length_state (project_rest s.page.as_json s.name.now s.page.is_started s.page.releases.keys) s.length s.end) row
-        (length_state (project_rest t.page.as_json t.name.now t.page.is_started t.page.releases.keys) t.length t.end) };
+    ghost takes = { λ before row after.
+        TakesText (length_state (project_rest before.page.as_json before.name.now
+        before.page.is_started before.page.releases.keys) before.length before.end) row
+        (length_state (project_rest after.page.as_json after.name.now
+        after.page.is_started after.page.releases.keys) after.length after.end) };
 
-    ghost stops = { λ s row t.
-        StopsText (length_state (project_rest s.page.as_json s.name.now s.page.is_started s.page.releases.keys) s.length s.end) row
-        (length_state (project_rest t.page.as_json t.name.now t.page.is_started t.page.releases.keys) t.length t.end) };
+    ghost stops = { λ before row after.
+        StopsText (length_state (project_rest before.page.as_json before.name.now
+        before.page.is_started before.page.releases.keys) before.length before.end) row
+        (length_state (project_rest after.page.as_json after.name.now
+        after.page.is_started after.page.releases.keys) after.length after.end) };
 
     fn take(&mut self, row: &FileRow) -> bool {
         self.take_row(row)

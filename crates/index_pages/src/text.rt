@@ -89,10 +89,12 @@ impl<'a, 'p, K: Sink, P: Page> PageText<'a, 'p, K, P> {
     /// memory.
     pub fn written(&self) -> u64
         ensures count { result ≡ self.now.written }
-        ensures front { let sink = sink_state (K.contents self.now.sink.now) (K.failures self.now.sink.now) in
+        ensures front { let now = self.now.sink.now in
+            let sink = sink_state (K.contents now) (K.failures now) in
             let rest = P.rest self.now.page self.now.name.now in
             IsWritten (text_state rest sink self.now.written self.now.end) }
-        ensures steady { let sink = sink_state (K.contents self.now.sink.now) (K.failures self.now.sink.now) in
+        ensures steady { let now = self.now.sink.now in
+            let sink = sink_state (K.contents now) (K.failures now) in
             let rest = P.rest self.now.page self.now.name.now in
             IsSteady (text_state rest sink self.now.written self.now.end) }
     {
@@ -203,13 +205,23 @@ impl<K: Sink> NameTaker for PageText<'_, '_, K, RootPage> {
     ghost use Rattle.index_pages.specs.Parts.{root_rest};
     ghost use Rattle.index_pages.specs.States.{sink_state, text_state, StopsText, TakesText};
 
-    ghost takes = { λ s row t. (t.sink.ghost_name ≡ s.sink.ghost_name)
-        × TakesText (text_state (root_rest s.page.as_json s.page.is_started) (sink_state (K.contents s.sink.now) (K.failures s.sink.now)) s.written s.end) row
-        (text_state (root_rest t.page.as_json t.page.is_started) (sink_state (K.contents t.sink.now) (K.failures t.sink.now)) t.written t.end) };
+    ghost takes = { λ before row after.
+        (after.sink.ghost_name ≡ before.sink.ghost_name)
+        × TakesText (text_state (root_rest before.page.as_json before.page.is_started)
+        (sink_state (K.contents before.sink.now) (K.failures before.sink.now))
+        before.written before.end) row
+        (text_state (root_rest after.page.as_json after.page.is_started)
+        (sink_state (K.contents after.sink.now) (K.failures after.sink.now))
+        after.written after.end) };
 
-    ghost stops = { λ s row t. (t.sink.ghost_name ≡ s.sink.ghost_name)
-        × StopsText (text_state (root_rest s.page.as_json s.page.is_started) (sink_state (K.contents s.sink.now) (K.failures s.sink.now)) s.written s.end) row
-        (text_state (root_rest t.page.as_json t.page.is_started) (sink_state (K.contents t.sink.now) (K.failures t.sink.now)) t.written t.end) };
+    ghost stops = { λ before row after.
+        (after.sink.ghost_name ≡ before.sink.ghost_name)
+        × StopsText (text_state (root_rest before.page.as_json before.page.is_started)
+        (sink_state (K.contents before.sink.now) (K.failures before.sink.now))
+        before.written before.end) row
+        (text_state (root_rest after.page.as_json after.page.is_started)
+        (sink_state (K.contents after.sink.now) (K.failures after.sink.now))
+        after.written after.end) };
 
     fn take(&mut self, row: &NameRow) -> bool {
         self.take_row(row)
@@ -221,13 +233,27 @@ impl<K: Sink> FileTaker for PageText<'_, '_, K, ProjectPage> {
     ghost use Rattle.index_pages.specs.Parts.{project_rest};
     ghost use Rattle.index_pages.specs.States.{sink_state, text_state, StopsText, TakesText};
 
-    ghost takes = { λ s row t. (t.sink.ghost_name ≡ s.sink.ghost_name)
-        × TakesText (text_state (project_rest s.page.as_json s.name.now s.page.is_started s.page.releases.keys) (sink_state (K.contents s.sink.now) (K.failures s.sink.now)) s.written s.end) row
-        (text_state (project_rest t.page.as_json t.name.now t.page.is_started t.page.releases.keys) (sink_state (K.contents t.sink.now) (K.failures t.sink.now)) t.written t.end) };
+    ghost takes = { λ before row after.
+        (after.sink.ghost_name ≡ before.sink.ghost_name)
+        × TakesText (text_state (project_rest before.page.as_json before.name.now
+        before.page.is_started before.page.releases.keys)
+        (sink_state (K.contents before.sink.now) (K.failures before.sink.now))
+        before.written before.end) row
+        (text_state (project_rest after.page.as_json after.name.now
+        after.page.is_started after.page.releases.keys)
+        (sink_state (K.contents after.sink.now) (K.failures after.sink.now))
+        after.written after.end) };
 
-    ghost stops = { λ s row t. (t.sink.ghost_name ≡ s.sink.ghost_name)
-        × StopsText (text_state (project_rest s.page.as_json s.name.now s.page.is_started s.page.releases.keys) (sink_state (K.contents s.sink.now) (K.failures s.sink.now)) s.written s.end) row
-        (text_state (project_rest t.page.as_json t.name.now t.page.is_started t.page.releases.keys) (sink_state (K.contents t.sink.now) (K.failures t.sink.now)) t.written t.end) };
+    ghost stops = { λ before row after.
+        (after.sink.ghost_name ≡ before.sink.ghost_name)
+        × StopsText (text_state (project_rest before.page.as_json before.name.now
+        before.page.is_started before.page.releases.keys)
+        (sink_state (K.contents before.sink.now) (K.failures before.sink.now))
+        before.written before.end) row
+        (text_state (project_rest after.page.as_json after.name.now
+        after.page.is_started after.page.releases.keys)
+        (sink_state (K.contents after.sink.now) (K.failures after.sink.now))
+        after.written after.end) };
 
     fn take(&mut self, row: &FileRow) -> bool {
         self.take_row(row)
