@@ -2,9 +2,9 @@
 use index_digest::Digest256;
 use index_io::Output;
 use index_names::{FileName, NormalName, normal};
-use index_pages::{PageLength, PageText, Served, project_page, root_page};
-use index_rules::{FileRow, FileTaker, NameRecord, NameRow, NameTaker, Project};
 use index_text::Text;
+use index_pages::{PageLength, PageText, ProjectPage, RootPage, Served, project_page, root_page};
+use index_rules::{Fault, FileRow, FileTaker, NameRecord, NameRow, NameTaker, Project};
 use std::alloc::AllocGlobal;
 use std::process::Abort;
 
@@ -52,11 +52,32 @@ fn file_row(
 fn assert_names(rt: &(impl Abort + AllocGlobal), rows: &[NameRow], served: Served, expected: &str) {
     let whole = root_page(rt.alloc(), rows, served).expect(rt, "a page");
     assert_eq!(rt; whole.as_slice(), expected.as_bytes());
-    let mut length = PageLength::root(rt.alloc(), served);
+    let length = PageLength::root(rt.alloc(), served);
+    assert_eq!(rt;
+        length_of_names(rt, length, rows),
+        Ok(expected.len() as u64)
+    );
+    assert_names_written(rt, rows, served, expected);
+}
+
+fn length_of_names(
+    rt: &impl Abort,
+    length: PageLength<'_, RootPage>,
+    rows: &[NameRow],
+) -> Result<u64, Fault> {
+    let mut length = length;
     for row in rows {
         assert!(rt; length.take(row));
     }
-    assert_eq!(rt; length.finish(), Ok(expected.len() as u64));
+    length.finish()
+}
+
+fn assert_names_written(
+    rt: &(impl Abort + AllocGlobal),
+    rows: &[NameRow],
+    served: Served,
+    expected: &str,
+) {
     let mut output = Output::new(Vec::new(rt.alloc()));
     let mut page = PageText::root(rt.alloc(), served, &mut output);
     for row in rows {
@@ -66,18 +87,45 @@ fn assert_names(rt: &(impl Abort + AllocGlobal), rows: &[NameRow], served: Serve
     assert_eq!(rt; output.writer.as_slice(), expected.as_bytes());
 }
 
-/// The page of `frob` with these files is this text: made whole, counted row by row, and written row by row.
-fn assert_files(rt: &(impl Abort + AllocGlobal), rows: &[FileRow], served: Served, expected: &str) {
-    let frob = name(rt, "frob");
-    let whole = project_page(rt.alloc(), &frob, rows, served).expect(rt, "a page");
+/// The page of a project with these files is this text: made whole, counted row by row, and written row by row.
+fn assert_files(
+    rt: &(impl Abort + AllocGlobal),
+    project: &NormalName,
+    rows: &[FileRow],
+    served: Served,
+    expected: &str,
+) {
+    let whole = project_page(rt.alloc(), project, rows, served).expect(rt, "a page");
     assert_eq!(rt; whole.as_slice(), expected.as_bytes());
-    let mut length = PageLength::project(rt.alloc(), &frob, served);
+    let length = PageLength::project(rt.alloc(), project, served);
+    assert_eq!(rt;
+        length_of_files(rt, length, rows),
+        Ok(expected.len() as u64)
+    );
+    assert_files_written(rt, project, rows, served, expected);
+}
+
+fn length_of_files(
+    rt: &impl Abort,
+    length: PageLength<'_, ProjectPage>,
+    rows: &[FileRow],
+) -> Result<u64, Fault> {
+    let mut length = length;
     for row in rows {
         assert!(rt; length.take(row));
     }
-    assert_eq!(rt; length.finish(), Ok(expected.len() as u64));
+    length.finish()
+}
+
+fn assert_files_written(
+    rt: &(impl Abort + AllocGlobal),
+    project: &NormalName,
+    rows: &[FileRow],
+    served: Served,
+    expected: &str,
+) {
     let mut output = Output::new(Vec::new(rt.alloc()));
-    let mut page = PageText::project(rt.alloc(), &frob, served, &mut output);
+    let mut page = PageText::project(rt.alloc(), project, served, &mut output);
     for row in rows {
         assert!(rt; page.take(row));
     }

@@ -1,8 +1,9 @@
 //! Pages that end early.
 use super::{file_row, name};
 use index_io::Output;
-use index_pages::{PageEnd, PageText, Served};
-use index_rules::FileTaker;
+use index_names::NormalName;
+use index_pages::{PageEnd, PageText, ProjectPage, Served};
+use index_rules::{FileRow, FileTaker};
 use std::alloc::AllocGlobal;
 use std::io;
 use std::io::Write;
@@ -56,37 +57,57 @@ fn assert_front(rt: &impl Abort, output: &Output<FullWriter>, size: usize) {
     assert!(rt; PAGE.as_bytes().starts_with(output.writer.taken.as_slice()));
 }
 
-/// A writer that takes so many bytes cuts the page there.
-fn assert_cut(rt: &(impl Abort + AllocGlobal), size: usize) {
-    let frob = name(rt, "frob");
-    let row = file_row(rt, "frob-1.0.tar.gz", "", None);
-    let mut output = full_output(rt, size);
-    let mut page = PageText::project(rt.alloc(), &frob, Served::Json, &mut output);
-    assert_eq!(rt; page.take(&row), size >= FIRST_ROW);
+/// A page of one file ends as its writer's room does, once the row was taken or not.
+fn assert_ends(
+    rt: &impl Abort,
+    page: PageText<'_, '_, Output<FullWriter>, ProjectPage>,
+    row: &FileRow,
+    size: usize,
+) {
+    let mut page = page;
+    assert_eq!(rt; page.take(row), size >= FIRST_ROW);
     assert_eq!(rt; page.written(), size.min(FIRST_ROW) as u64);
     assert_eq!(rt; page.finish(), Err(PageEnd::WriteFault(size as u64)));
+}
+
+/// A writer that takes so many bytes cuts the page there.
+fn assert_cut(rt: &(impl Abort + AllocGlobal), frob: &NormalName, row: &FileRow, size: usize) {
+    let mut output = full_output(rt, size);
+    let page = PageText::project(rt.alloc(), frob, Served::Json, &mut output);
+    assert_ends(rt, page, row, size);
     assert_front(rt, &output, size);
 }
 
 #[test]
 fn cut_at_each_byte(rt: HostRuntime) {
+    let frob = name(&rt, "frob");
+    let row = file_row(&rt, "frob-1.0.tar.gz", "", None);
     for size in 0..PAGE.len() {
-        assert_cut(&rt, size);
+        assert_cut(&rt, &frob, &row, size);
     }
 }
 
 /// After a row that was not taken no other is, and nothing more is written.
+fn assert_stopped(rt: &(impl Abort + AllocGlobal), frob: &NormalName, row: &FileRow) {
+    let mut output = full_output(rt, 120);
+    let mut page = PageText::project(rt.alloc(), frob, Served::Json, &mut output);
+    assert!(rt; !page.take(row));
+    assert!(rt; !page.take(row));
+    let ended = page.finish();
+    assert_eq!(rt; ended, Err(PageEnd::WriteFault(120)));
+    assert_front(rt, &output, 120);
+}
+
 #[test]
 fn stopped_for_good(rt: HostRuntime) {
     let frob = name(&rt, "frob");
     let row = file_row(&rt, "frob-1.0.tar.gz", "", None);
-    let mut output = full_output(&rt, 120);
-    let mut page = PageText::project(rt.alloc(), &frob, Served::Json, &mut output);
-    assert!(rt; !page.take(&row));
-    assert!(rt; !page.take(&row));
-    assert_eq!(rt; page.written(), 120);
-    let ended = page.finish();
-    assert_eq!(rt; ended, Err(PageEnd::WriteFault(120)));
-    assert_eq!(rt; PageEnd::WriteFault(120).count(), 120);
-    assert_front(&rt, &output, 120);
+    assert_stopped(&rt, &frob, &row);
+}
+
+#[test]
+fn counts_of_ends(rt: HostRuntime) {
+    assert_eq!(rt; PageEnd::OutOfMemory(1).count(), 1);
+    assert_eq!(rt; PageEnd::Store(2).count(), 2);
+    assert_eq!(rt; PageEnd::WriteFault(3).count(), 3);
 }

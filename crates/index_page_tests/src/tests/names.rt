@@ -24,7 +24,7 @@ const NAMES: &str = r#"<!DOCTYPE html>
 </head>
 <body>
 <a href="/simple/frob-nest/">Frob._-Nest</a><br>
-<a href="/simple/holygrail/">HolyGrail</a><br>
+<a href="/simple/spamspamspam/">spamspamspam</a><br>
 </body>
 </html>
 "#;
@@ -32,7 +32,7 @@ const NAMES: &str = r#"<!DOCTYPE html>
 const NO_NAMES_IN_JSON: &str = r#"{"meta":{"api-version":"1.1"},"projects":[]}"#;
 
 const NAMES_IN_JSON: &str =
-    r#"{"meta":{"api-version":"1.1"},"projects":[{"name":"Frob._-Nest"},{"name":"HolyGrail"}]}"#;
+    r#"{"meta":{"api-version":"1.1"},"projects":[{"name":"Frob._-Nest"},{"name":"spamspamspam"}]}"#;
 
 #[test]
 fn no_names(rt: HostRuntime) {
@@ -41,6 +41,16 @@ fn no_names(rt: HostRuntime) {
     assert_names(&rt, &[], Served::PlainHtml, NO_NAMES);
     assert_names(&rt, &[], Served::Html, NO_NAMES);
     assert_names(&rt, &[], Served::Json, NO_NAMES_IN_JSON);
+}
+
+/// The example of PEP 691, "Project List", with the version of this index.
+const EXAMPLE: &str =
+    r#"{"meta":{"api-version":"1.1"},"projects":[{"name":"Frob"},{"name":"spamspamspam"}]}"#;
+
+#[test]
+fn example_names(rt: HostRuntime) {
+    let rows = [held(&rt, "Frob"), held(&rt, "spamspamspam")];
+    assert_names(&rt, &rows, Served::Json, EXAMPLE);
 }
 
 /// Prohibited names are passed over, wherever they stand.
@@ -54,7 +64,7 @@ fn some_names(rt: HostRuntime) {
     let rows = [
         banned,
         held(&rt, "Frob._-Nest"),
-        held(&rt, "HolyGrail"),
+        held(&rt, "spamspamspam"),
         last,
     ];
     assert_names(&rt, &rows, Served::PlainHtml, NAMES);

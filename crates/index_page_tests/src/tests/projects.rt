@@ -1,5 +1,5 @@
 //! The page of a project.
-use super::{assert_files, file_row, text};
+use super::{assert_files, file_row, name, text};
 use index_pages::Served;
 use index_rules::FileRow;
 use std::alloc::AllocGlobal;
@@ -18,6 +18,12 @@ macro_rules! page {
     };
 }
 
+/// The page of `frob` with these files is this text.
+fn assert_page(rt: &(impl Abort + AllocGlobal), rows: &[FileRow], served: Served, expected: &str) {
+    let frob = name(rt, "frob");
+    assert_files(rt, &frob, rows, served, expected);
+}
+
 const NO_FILES: &str = page!();
 
 const NO_FILES_IN_JSON: &str =
@@ -25,9 +31,9 @@ const NO_FILES_IN_JSON: &str =
 
 #[test]
 fn no_files(rt: HostRuntime) {
-    assert_files(&rt, &[], Served::PlainHtml, NO_FILES);
-    assert_files(&rt, &[], Served::Html, NO_FILES);
-    assert_files(&rt, &[], Served::Json, NO_FILES_IN_JSON);
+    assert_page(&rt, &[], Served::PlainHtml, NO_FILES);
+    assert_page(&rt, &[], Served::Html, NO_FILES);
+    assert_page(&rt, &[], Served::Json, NO_FILES_IN_JSON);
 }
 
 const ONE_FILE: &str = page!(
@@ -40,9 +46,9 @@ const ONE_FILE_IN_JSON: &str =
 #[test]
 fn one_file(rt: HostRuntime) {
     let rows = [file_row(&rt, "frob-1.0.tar.gz", "", None)];
-    assert_files(&rt, &rows, Served::PlainHtml, ONE_FILE);
-    assert_files(&rt, &rows, Served::Html, ONE_FILE);
-    assert_files(&rt, &rows, Served::Json, ONE_FILE_IN_JSON);
+    assert_page(&rt, &rows, Served::PlainHtml, ONE_FILE);
+    assert_page(&rt, &rows, Served::Html, ONE_FILE);
+    assert_page(&rt, &rows, Served::Json, ONE_FILE_IN_JSON);
 }
 
 /// Two files of one release and one of another, whose name has another letter case.
@@ -60,13 +66,13 @@ fn versions(rt: HostRuntime) {
         file_row(&rt, "frob-1.0.tar.gz", "", None),
         file_row(&rt, "frob-1.0RC1.tar.gz", "", None),
     ];
-    assert_files(&rt, &rows, Served::Json, VERSIONS);
+    assert_page(&rt, &rows, Served::Json, VERSIONS);
     let rows = [
         file_row(&rt, "frob-9.tar.gz", "", None),
         file_row(&rt, "frob-10.tar.gz", "", None),
         file_row(&rt, "frob-9-py3-none-any.whl", "", None),
     ];
-    assert_files(&rt, &rows, Served::Json, VERSIONS_IN_ORDER);
+    assert_page(&rt, &rows, Served::Json, VERSIONS_IN_ORDER);
 }
 
 /// A wheel and a source archive of a release that is yanked for this reason.
@@ -96,11 +102,11 @@ const YANKED_FOR_NO_REASON_IN_JSON: &str =
 #[test]
 fn yanked_files(rt: HostRuntime) {
     let rows = yanked_rows(&rt, "<3 & \"x\"");
-    assert_files(&rt, &rows, Served::PlainHtml, YANKED);
-    assert_files(&rt, &rows, Served::Json, YANKED_IN_JSON);
+    assert_page(&rt, &rows, Served::PlainHtml, YANKED);
+    assert_page(&rt, &rows, Served::Json, YANKED_IN_JSON);
     let rows = yanked_rows(&rt, "");
-    assert_files(&rt, &rows, Served::Html, YANKED_FOR_NO_REASON);
-    assert_files(&rt, &rows, Served::Json, YANKED_FOR_NO_REASON_IN_JSON);
+    assert_page(&rt, &rows, Served::Html, YANKED_FOR_NO_REASON);
+    assert_page(&rt, &rows, Served::Json, YANKED_FOR_NO_REASON_IN_JSON);
 }
 
 /// The Python versions of the examples of PEP 503 and PEP 440, and each byte that one of the two pages escapes.
@@ -130,6 +136,21 @@ fn requires_python(rt: HostRuntime) {
             Some(text(&rt, "broken")),
         ),
     ];
-    assert_files(&rt, &rows, Served::PlainHtml, REQUIRES);
-    assert_files(&rt, &rows, Served::Json, REQUIRES_IN_JSON);
+    assert_page(&rt, &rows, Served::PlainHtml, REQUIRES);
+    assert_page(&rt, &rows, Served::Json, REQUIRES_IN_JSON);
+}
+
+/// The example of PEP 691, "Project Detail", with the addresses and digests of this index.
+const HOLYGRAIL: &str =
+    r#"{"files":[{"filename":"holygrail-1.0-py3-none-any.whl","hashes":{"sha256":"ba7816bf8f01cfea414140de5dae2223b00361a396177a9cb410ff61f20015ad"},"requires-python":">=3.7","size":3,"url":"/files/holygrail/holygrail-1.0-py3-none-any.whl"},{"filename":"holygrail-1.0.tar.gz","hashes":{"sha256":"ba7816bf8f01cfea414140de5dae2223b00361a396177a9cb410ff61f20015ad"},"requires-python":">=3.7","size":3,"url":"/files/holygrail/holygrail-1.0.tar.gz","yanked":"Had a vulnerability"}],"meta":{"api-version":"1.1"},"name":"holygrail","versions":["1.0"]}"#;
+
+#[test]
+fn example_of_a_project(rt: HostRuntime) {
+    let reason = text(&rt, "Had a vulnerability");
+    let rows = [
+        file_row(&rt, "holygrail-1.0-py3-none-any.whl", ">=3.7", None),
+        file_row(&rt, "holygrail-1.0.tar.gz", ">=3.7", Some(reason)),
+    ];
+    let holygrail = name(&rt, "HolyGrail");
+    assert_files(&rt, &holygrail, &rows, Served::Json, HOLYGRAIL);
 }
