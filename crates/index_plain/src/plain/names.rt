@@ -86,6 +86,7 @@ impl PlainBooks {
     }
 
     /// Takes away the owners, the yanks and the case of a name.
+    #[tactic(auto, using(crate::proofs::OwnerLemmas::name_gone))]
     fn clear(&mut self, name: &NormalName)
         ensures tables { let T = tables_of self.old in
             tables_of self.new ≡ record T {
@@ -100,6 +101,7 @@ impl PlainBooks {
     }
 
     /// Takes away the yanks and the case of a name.
+    #[tactic(auto, using(crate::proofs::OwnerLemmas::name_gone))]
     fn end_yanks_and_case(&mut self, name: &NormalName)
         ensures tables { let T = tables_of self.old in
             tables_of self.new ≡ record T {
