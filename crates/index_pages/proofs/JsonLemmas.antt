@@ -13,7 +13,7 @@ use Rattle.index_digest.specs.Digest.{read_digest, is_digest_text, is_text_digit
 use Rattle.index_rules.specs.Maps.{Bytes}
 use Rattle.index_rules.specs.declared.rows.FileRow.{FileRow}
 use Rattle.index_rules.specs.declared.rows.NameRow.{NameRow}
-use Rattle.index_pages.specs.Json.{file_data, file_put, hashes, names_by, project_json, root_json, url_of, yanked_member, yanked_put}
+use Rattle.index_pages.specs.Json.{file_data, file_put, hashes, names_of, project_json, root_json, url_of, yanked_member, yanked_put}
 use Rattle.index_pages.specs.Parts.{file_text, files_bottom, files_top, json_rest, json_text, name_text, names_top, once}
 use Rattle.index_pages.specs.Versions.{with_release}
 
@@ -102,6 +102,6 @@ unfolding name_text json_text serde_json_on_literals
 name_text-is shown = refl
 
 pub names-whole : (rows : List NameRow)
-    → names_top ++ (items_text false (items_of (flat_map (λ row. names_by row.record) rows)) ++ codes "}") ≡ root_json rows
+    → names_top ++ (items_text false (items_of (flat_map (λ row. names_of row.record) rows)) ++ codes "}") ≡ root_json rows
 unfolding root_json names_top serde_json_on_literals
 names-whole rows = refl

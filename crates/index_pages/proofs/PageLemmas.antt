@@ -11,8 +11,8 @@ use Rattle.index_rules.specs.declared.records.NameRecord.{NameRecord}
 use Rattle.index_rules.specs.declared.records.NameRecord.TheVariants.{Held, Prohibited}
 use Rattle.index_rules.specs.declared.rows.FileRow.{FileRow}
 use Rattle.index_rules.specs.declared.rows.NameRow.{NameRow}
-use Rattle.index_pages.specs.Html.{anchor_by, bottom, name_anchor, project_html, root_html}
-use Rattle.index_pages.specs.Json.{name_data, names_by, project_json, root_json}
+use Rattle.index_pages.specs.Html.{anchor_of_name, bottom, name_anchor, project_html, root_html}
+use Rattle.index_pages.specs.Json.{name_data, names_of, project_json, root_json}
 use Rattle.index_pages.specs.Parts.{name_line, name_text, project_rest, root_rest, root_start, root_step}
 use Rattle.index_pages.proofs.JsonLemmas.{json-whole, names-whole}
 
@@ -29,21 +29,21 @@ project-whole false project rows = refl
 
 -- the lines of the names, and the text behind them
 abbrev pub html_lines : List NameRow → Bytes
-html_lines rows = flat_map (λ row. anchor_by row.name row.record) rows ++ bottom
+html_lines rows = flat_map (λ row. anchor_of_name row.name row.record) rows ++ bottom
 
 abbrev pub json_lines_of : Bool → List Data → Bytes
 json_lines_of is_started names = items_text is_started (items_of names) ++ codes "}"
 
 abbrev pub json_lines : Bool → List NameRow → Bytes
-json_lines is_started rows = json_lines_of is_started (flat_map (λ row. names_by row.record) rows)
+json_lines is_started rows = json_lines_of is_started (flat_map (λ row. names_of row.record) rows)
 
 html-by : (is_started : Bool) (name : Bytes) (kept : NameRecord) (rows : List NameRow)
     → ((b : Bool) → root_rest false b rows ≡ root_start false b ++ html_lines rows)
     → root_step false is_started name kept (λ b. root_rest false b rows)
-    ≡ root_start false is_started ++ ((anchor_by name kept ++ flat_map (λ row. anchor_by row.name row.record) rows) ++ bottom)
+    ≡ root_start false is_started ++ ((anchor_of_name name kept ++ flat_map (λ row. anchor_of_name row.name row.record) rows) ++ bottom)
 html-by is_started name (Held project) rows later =
     let line = name_anchor name project.shown in
-    let lines = flat_map (λ row. anchor_by row.name row.record) rows in
+    let lines = flat_map (λ row. anchor_of_name row.name row.record) rows in
     ap (λ x. (root_start false is_started ++ line) ++ x) (later true)
     ∙ append_assoc (root_start false is_started) line (lines ++ bottom)
     ∙ ap (λ x. root_start false is_started ++ x) (sym (append_assoc line lines bottom))
@@ -59,12 +59,12 @@ moved a b c d = simp append_assoc refl
 json-by : (is_started : Bool) (name : Bytes) (kept : NameRecord) (rows : List NameRow)
     → ((b : Bool) → root_rest true b rows ≡ root_start true b ++ json_lines b rows)
     → root_step true is_started name kept (λ b. root_rest true b rows)
-    ≡ root_start true is_started ++ json_lines_of is_started (names_by kept ++ flat_map (λ row. names_by row.record) rows)
+    ≡ root_start true is_started ++ json_lines_of is_started (names_of kept ++ flat_map (λ row. names_of row.record) rows)
 unfolding name_text
 json-by is_started name (Held project) rows later =
     let comma = comma_if is_started in
     let text = compact_text (name_data project.shown) in
-    let items = items_text true (items_of (flat_map (λ row. names_by row.record) rows)) in
+    let items = items_text true (items_of (flat_map (λ row. names_of row.record) rows)) in
     ap (λ x. (root_start true is_started ++ (comma ++ text)) ++ x) (later true)
     ∙ append_assoc (root_start true is_started) (comma ++ text) (items ++ codes "}")
     ∙ ap (λ x. root_start true is_started ++ x) (moved comma text items (codes "}"))

@@ -9,7 +9,7 @@ use Rattle.std.proofs.lemmas.Cmp.{nat_list_cmp_total}
 use Rattle.std.proofs.lemmas.Map.Lookups.{exact_bytes}
 use Rattle.index_rules.specs.Maps.{Bytes, bytes_cmp, same}
 use Rattle.index_rules.specs.declared.rows.FileRow.{FileRow}
-use Rattle.index_pages.specs.Versions.{releases_after, with_release, ListsReleases}
+use Rattle.index_pages.specs.Versions.{with_releases, with_release, ListsReleases}
 
 -- ---- the order
 
@@ -47,7 +47,7 @@ unfolding IsStrictlySortedBy
 rising-with [] release rising = (tt, tt)
 rising-with (x ∷ held) release rising = rising_by (bytes_cmp release x) release x held refl rising (rising-with held release rising.1)
 
-rising-after : (held : List Bytes) (rows : List FileRow) → IsStrictlySortedBy bytes_cmp held → IsStrictlySortedBy bytes_cmp (releases_after held rows)
+rising-after : (held : List Bytes) (rows : List FileRow) → IsStrictlySortedBy bytes_cmp held → IsStrictlySortedBy bytes_cmp (with_releases held rows)
 rising-after held [] rising = rising
 rising-after held (row ∷ rows) rising = rising-after (with_release held row.release) rows (rising-with held row.release rising)
 
@@ -86,7 +86,7 @@ has-with asked release [] = refl
 has-with asked release (x ∷ held) = has_by (bytes_cmp release x) asked release x held refl (has-with asked release held)
 
 has-after : (asked : Bytes) (held : List Bytes) (rows : List FileRow)
-    → list_any (same asked) (releases_after held rows) ≡ (list_any (same asked) held || list_any (λ row. same asked row.release) rows)
+    → list_any (same asked) (with_releases held rows) ≡ (list_any (same asked) held || list_any (λ row. same asked row.release) rows)
 has-after asked held [] = or-false (list_any (same asked) held)
 has-after asked held (row ∷ rows) =
     has-after asked (with_release held row.release) rows ∙ ap (λ b. b || list_any (λ row. same asked row.release) rows) (has-with asked row.release held)

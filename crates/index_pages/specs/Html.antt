@@ -71,9 +71,9 @@ unfoldable pub name_anchor : Bytes → Bytes → Bytes
 name_anchor name shown = concat (codes "<a href=\"/simple/" ∷ name ∷ codes "/\">" ∷ escape shown ∷ codes "</a><br>\n" ∷ [])
 
 -- the line of a name that is held, and nothing for a prohibited one
-abbrev pub anchor_by : Bytes → NameRecord → Bytes
-anchor_by name (Held project) = name_anchor name project.shown
-anchor_by name Prohibited = []
+abbrev pub anchor_of_name : Bytes → NameRecord → Bytes
+anchor_of_name name (Held project) = name_anchor name project.shown
+anchor_of_name name Prohibited = []
 
 -- what stands before the names
 unfoldable pub root_top : Bytes
@@ -81,4 +81,4 @@ root_top = concat (head ∷ codes "Simple index</title>\n</head>\n<body>\n" ∷ 
 
 -- the page of the names
 unfoldable pub root_html : List NameRow → Bytes
-root_html rows = root_top ++ (flat_map (λ row. anchor_by row.name row.record) rows ++ bottom)
+root_html rows = root_top ++ (flat_map (λ row. anchor_of_name row.name row.record) rows ++ bottom)

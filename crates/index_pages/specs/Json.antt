@@ -61,15 +61,15 @@ abbrev pub name_data : Bytes → Data
 name_data shown = object (member (codes "name") (string shown) no_members)
 
 -- a name that is held, and nothing for a prohibited one
-abbrev pub names_by : NameRecord → List Data
-names_by (Held project) = name_data project.shown ∷ []
-names_by Prohibited = []
+abbrev pub names_of : NameRecord → List Data
+names_of (Held project) = name_data project.shown ∷ []
+names_of Prohibited = []
 
 -- the page of the names
 unfoldable pub root_json : List NameRow → Bytes
 root_json rows = compact_text (object
     (member (codes "meta") meta
-    (member (codes "projects") (array (items_of (flat_map (λ row. names_by row.record) rows)))
+    (member (codes "projects") (array (items_of (flat_map (λ row. names_of row.record) rows)))
     no_members)))
 
 -- ---- the same of a file by what is put into an object, whatever the order

@@ -11,7 +11,7 @@ use Rattle.index_rules.specs.declared.rows.FileRow.{FileRow}
 use Rattle.index_rules.specs.declared.rows.NameRow.{NameRow}
 use Rattle.index_pages.specs.Html.{bottom, file_anchor, name_anchor, project_top, root_top}
 use Rattle.index_pages.specs.Json.{file_data, name_data}
-use Rattle.index_pages.specs.Versions.{releases_after}
+use Rattle.index_pages.specs.Versions.{with_releases}
 
 -- a text that stands before the first row
 abbrev pub once : Bool → Bytes → Bytes
@@ -47,7 +47,7 @@ files_bottom project releases =
 -- in JSON, where the releases stand behind the files
 abbrev pub json_rest : Bytes → Bool → List Bytes → List FileRow → Bytes
 json_rest project is_started releases rows =
-    once is_started files_top ++ (items_text is_started (items_of (map (file_data project) rows)) ++ files_bottom project (releases_after releases rows))
+    once is_started files_top ++ (items_text is_started (items_of (map (file_data project) rows)) ++ files_bottom project (with_releases releases rows))
 
 -- in the one or the other
 abbrev pub project_rest : Bool → Bytes → Bool → List Bytes → List FileRow → Bytes

@@ -11,13 +11,13 @@ abbrev pub with_release : List Bytes → Bytes → List Bytes
 with_release held release = insert_key bytes_cmp held release
 
 -- the releases of files, each at its place among those that were there
-abbrev pub releases_after : List Bytes → List FileRow → List Bytes
-releases_after held [] = held
-releases_after held (row ∷ rows) = releases_after (with_release held row.release) rows
+abbrev pub with_releases : List Bytes → List FileRow → List Bytes
+with_releases held [] = held
+with_releases held (row ∷ rows) = with_releases (with_release held row.release) rows
 
 -- the releases of files
 abbrev pub versions_of : List FileRow → List Bytes
-versions_of rows = releases_after [] rows
+versions_of rows = with_releases [] rows
 
 -- they rise strictly in byte order, so each stands once, and they are exactly the releases of the files
 pub record ListsReleases (rows : List FileRow) : Type 0 where
