@@ -2,9 +2,9 @@
 use index_digest::Digest256;
 use index_io::Output;
 use index_names::{FileName, NormalName, normal};
+use index_pages::{PageLength, PageText, Served, project_page, root_page};
+use index_rules::{FileRow, FileTaker, NameRecord, NameRow, NameTaker, Project};
 use index_text::Text;
-use index_pages::{PageLength, PageText, ProjectPage, RootPage, Served, project_page, root_page};
-use index_rules::{Fault, FileRow, FileTaker, NameRecord, NameRow, NameTaker, Project};
 use std::alloc::AllocGlobal;
 use std::process::Abort;
 
@@ -48,28 +48,35 @@ fn file_row(
     }
 }
 
+fn take_names<K: NameTaker>(rt: &impl Abort, taker: &mut K, rows: &[NameRow]) {
+    for row in rows {
+        assert!(rt; taker.take(row));
+    }
+}
+
+fn take_files<K: FileTaker>(rt: &impl Abort, taker: &mut K, rows: &[FileRow]) {
+    for row in rows {
+        assert!(rt; taker.take(row));
+    }
+}
+
 /// The page of the names is this text: made whole, counted row by row, and written row by row.
 fn assert_names(rt: &(impl Abort + AllocGlobal), rows: &[NameRow], served: Served, expected: &str) {
-    let whole = root_page(rt.alloc(), rows, served).expect(rt, "a page");
-    assert_eq!(rt; whole.as_slice(), expected.as_bytes());
-    let length = PageLength::root(rt.alloc(), served);
-    assert_eq!(rt;
-        length_of_names(rt, length, rows),
-        Ok(expected.len() as u64)
-    );
+    assert_names_whole(rt, rows, served, expected);
+    let mut length = PageLength::root(rt.alloc(), served);
+    take_names(rt, &mut length, rows);
+    assert_eq!(rt; length.finish(), Ok(expected.len() as u64));
     assert_names_written(rt, rows, served, expected);
 }
 
-fn length_of_names(
-    rt: &impl Abort,
-    length: PageLength<'_, RootPage>,
+fn assert_names_whole(
+    rt: &(impl Abort + AllocGlobal),
     rows: &[NameRow],
-) -> Result<u64, Fault> {
-    let mut length = length;
-    for row in rows {
-        assert!(rt; length.take(row));
-    }
-    length.finish()
+    served: Served,
+    expected: &str,
+) {
+    let whole = root_page(rt.alloc(), rows, served).expect(rt, "a page");
+    assert_eq!(rt; whole.as_slice(), expected.as_bytes());
 }
 
 fn assert_names_written(
@@ -80,9 +87,7 @@ fn assert_names_written(
 ) {
     let mut output = Output::new(Vec::new(rt.alloc()));
     let mut page = PageText::root(rt.alloc(), served, &mut output);
-    for row in rows {
-        assert!(rt; page.take(row));
-    }
+    take_names(rt, &mut page, rows);
     assert_eq!(rt; page.finish(), Ok(expected.len() as u64));
     assert_eq!(rt; output.writer.as_slice(), expected.as_bytes());
 }
@@ -95,26 +100,22 @@ fn assert_files(
     served: Served,
     expected: &str,
 ) {
-    let whole = project_page(rt.alloc(), project, rows, served).expect(rt, "a page");
-    assert_eq!(rt; whole.as_slice(), expected.as_bytes());
-    let length = PageLength::project(rt.alloc(), project, served);
-    assert_eq!(rt;
-        length_of_files(rt, length, rows),
-        Ok(expected.len() as u64)
-    );
+    assert_files_whole(rt, project, rows, served, expected);
+    let mut length = PageLength::project(rt.alloc(), project, served);
+    take_files(rt, &mut length, rows);
+    assert_eq!(rt; length.finish(), Ok(expected.len() as u64));
     assert_files_written(rt, project, rows, served, expected);
 }
 
-fn length_of_files(
-    rt: &impl Abort,
-    length: PageLength<'_, ProjectPage>,
+fn assert_files_whole(
+    rt: &(impl Abort + AllocGlobal),
+    project: &NormalName,
     rows: &[FileRow],
-) -> Result<u64, Fault> {
-    let mut length = length;
-    for row in rows {
-        assert!(rt; length.take(row));
-    }
-    length.finish()
+    served: Served,
+    expected: &str,
+) {
+    let whole = project_page(rt.alloc(), project, rows, served).expect(rt, "a page");
+    assert_eq!(rt; whole.as_slice(), expected.as_bytes());
 }
 
 fn assert_files_written(
@@ -126,9 +127,7 @@ fn assert_files_written(
 ) {
     let mut output = Output::new(Vec::new(rt.alloc()));
     let mut page = PageText::project(rt.alloc(), project, served, &mut output);
-    for row in rows {
-        assert!(rt; page.take(row));
-    }
+    take_files(rt, &mut page, rows);
     assert_eq!(rt; page.finish(), Ok(expected.len() as u64));
     assert_eq!(rt; output.writer.as_slice(), expected.as_bytes());
 }
