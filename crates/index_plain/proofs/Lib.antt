@@ -3,3 +3,4 @@ pub mod PairLemmas
 pub mod ValueLemmas
 pub mod OwnerLemmas
 pub mod UserLemmas
+pub mod RowLemmas

@@ -1,13 +1,14 @@
 //! The tables in memory.
-ghost use Rattle.std.specs.Prelude.{◌≡◌, ◌⊎◌, ◌↔◌, IfOk, IfErr, IsErrOf, OnOk, OnErr, is_ok, false};
+ghost use Rattle.std.specs.Prelude.{◌≡◌, ◌≢◌, ◌⊎◌, ◌↔◌, IfOk, IfErr, IsErrOf, OnOk, OnErr, is_ok, false, not};
 ghost use Rattle.index_io.specs.Counts.{next_count};
+ghost use Rattle.index_rules.specs.Walks.{Walks, has_fault};
 
 use crate::table;
 use index_digest::{Digest256, Sealed};
 use index_names::{FileName, NormalName, Release};
 use index_rules::{
-    Books, CaseRecord, Change, Fault, FileRecord, Keys, NameRecord, OpenFault, Owners, UserId,
-    UserRecord, View, first_user,
+    Books, CaseRecord, Change, Fault, FileRecord, FileRow, FileTaker, Keys, NameRecord, NameRow,
+    NameTaker, OpenFault, Owners, UserId, UserRecord, View, WalkEnd, first_user,
 };
 use index_text::Text;
 use std::alloc::Global;
@@ -19,6 +20,7 @@ mod look;
 mod names;
 mod owners;
 mod releases;
+mod rows;
 mod write;
 
 /// The tables in memory, as ordered maps. A fault of theirs is always `OutOfMemory`.
@@ -109,6 +111,20 @@ impl PlainBooks {
         self.failures = self.failures.saturating_add(1);
         Fault::OutOfMemory
     }
+
+    /// Counts a walk that a fault ended.
+    fn count_walk(&mut self, ended: &Result<(), WalkEnd>)
+        ensures tables { tables_of self.new ≡ tables_of self.old }
+        ensures failures { let is_right = not (has_fault ended.now) in
+            failures_of self.new ≡ next_count (failures_of self.old) is_right }
+    {
+        match ended {
+            Ok(()) | Err(WalkEnd::Stopped) => {}
+            Err(WalkEnd::OutOfMemory | WalkEnd::Store) => {
+                self.failures = self.failures.saturating_add(1);
+            }
+        }
+    }
 }
 
 impl Books for PlainBooks {
@@ -117,11 +133,16 @@ impl Books for PlainBooks {
     ghost use Rattle.index_rules.specs.Tables.{owners_in};
     ghost use Rattle.index_rules.specs.Facts.{Sees};
     ghost use Rattle.index_rules.specs.Effect.{means};
+    ghost use Rattle.index_rules.specs.TableRows.{file_rows_in, held_rows_in, name_rows_in};
     ghost use Rattle.index_plain.specs.Plain.{tables_of, failures_of};
 
     ghost tables = { tables_of };
 
     ghost IsHonest = { λ books. ⊤ };
+
+    ghost IsClean = { λ books. ⊤ };
+
+    ghost may_leave = { λ books T. ⊥ };
 
     ghost failures = { failures_of };
 
@@ -172,4 +193,62 @@ impl Books for PlainBooks {
             Err(_) => Err(self.failed()),
         }
     }
+
+    fn names(&mut self, alloc: Global) -> Result<Vec<NameRow>, Fault>
+        ensures found { IfOk result (λ rows. rows.items ≡ name_rows_in (tables_of self.old)) }
+        ensures unchanged { tables_of self.new ≡ tables_of self.old }
+        ensures failures { failures_of self.new ≡ next_count (failures_of self.old) (is_ok result) }
+        ensures memory { IfErr result (λ fault. fault ≡ Fault.OutOfMemory) }
+    {
+        match self.name_rows(alloc) {
+            Ok(rows) => Ok(rows),
+            Err(_) => Err(self.failed()),
+        }
+    }
+
+    fn files_of(&mut self, alloc: Global, name: &NormalName) -> Result<Vec<FileRow>, Fault>
+        ensures found { let T = tables_of self.old in
+            IfOk result (λ rows. rows.items ≡ file_rows_in T name.now) }
+        ensures unchanged { tables_of self.new ≡ tables_of self.old }
+        ensures failures { failures_of self.new ≡ next_count (failures_of self.old) (is_ok result) }
+        ensures memory { IfErr result (λ fault. fault ≡ Fault.OutOfMemory) }
+    {
+        match self.file_rows(alloc, name) {
+            Ok(rows) => Ok(rows),
+            Err(_) => Err(self.failed()),
+        }
+    }
+
+    fn walk_held<K: NameTaker>(&mut self, _alloc: Global, taker: &mut K) -> Result<(), WalkEnd>
+        ensures walked { let rows = held_rows_in (tables_of self.old) in
+            Walks K.takes K.stops rows taker.old taker.new result }
+        ensures unchanged { tables_of self.new ≡ tables_of self.old }
+        ensures failures { let is_right = not (has_fault result) in
+            failures_of self.new ≡ next_count (failures_of self.old) is_right }
+        ensures memory { IfErr result (λ end. end ≢ WalkEnd.Store) }
+    {
+        let ended = self.hand_names(taker);
+        self.count_walk(&ended);
+        ended
+    }
+
+    fn walk_files<K: FileTaker>(
+        &mut self,
+        _alloc: Global,
+        name: &NormalName,
+        taker: &mut K,
+    ) -> Result<(), WalkEnd>
+        ensures walked { let rows = file_rows_in (tables_of self.old) name.now in
+            Walks K.takes K.stops rows taker.old taker.new result }
+        ensures unchanged { tables_of self.new ≡ tables_of self.old }
+        ensures failures { let is_right = not (has_fault result) in
+            failures_of self.new ≡ next_count (failures_of self.old) is_right }
+        ensures memory { IfErr result (λ end. end ≢ WalkEnd.Store) }
+    {
+        let ended = self.hand_files(name, taker);
+        self.count_walk(&ended);
+        ended
+    }
+
+    ghost honest_is_clean = { λ books honest. honest };
 }

@@ -1,0 +1,155 @@
+//! The rows of the tables: whole lists of them, and walks that hand them to a taker one at a time.
+ghost use Rattle.std.specs.Prelude.{◌≡◌, ◌≢◌, ◌∷◌, [], IfErr, IfOk, filter, if◌then◌else◌};
+ghost use Rattle.index_rules.specs.Sound.{is_undeleted_of as is_undeleted_of_lem};
+ghost use Rattle.index_rules.specs.TableRows.{file_row_in, file_rows_in, held_rows_in, is_held_row, name_row as name_row_lem, name_rows_in};
+ghost use Rattle.index_rules.specs.Walks.{Walks};
+ghost use Rattle.index_plain.specs.Plain.{tables_of};
+
+use crate::pairs;
+use crate::plain::PlainBooks;
+use index_names::{FileName, NormalName};
+use index_rules::{FileRecord, FileRow, FileTaker, NameRecord, NameRow, NameTaker, WalkEnd};
+use std::alloc::{AllocError, Global};
+
+impl PlainBooks {
+    /// The held names and the prohibited ones, in byte order.
+    pub(crate) fn name_rows(&self, alloc: Global) -> Result<Vec<NameRow>, AllocError>
+        ensures { IfOk result (λ rows. rows.items ≡ name_rows_in (tables_of self.now)) }
+    {
+        let mut rows = Vec::new(alloc);
+        for (name, known) in self.names.iter() {
+            rows.push(name_row(name, known)?)?;
+        }
+        Ok(rows)
+    }
+
+    /// The undeleted files of a name, in byte order. It looks at all files.
+    pub(crate) fn file_rows(
+        &self,
+        alloc: Global,
+        name: &NormalName,
+    ) -> Result<Vec<FileRow>, AllocError>
+        ensures { IfOk result (λ rows. rows.items ≡ file_rows_in (tables_of self.now) name.now) }
+    {
+        let mut rows = Vec::new(alloc);
+        for (file, known) in self.files.iter() {
+            if is_undeleted_of(known, name) {
+                rows.push(self.file_row(name, file, known)?)?;
+            }
+        }
+        Ok(rows)
+    }
+
+    /// Hands the held names to a taker, in byte order.
+    pub(crate) fn hand_names<K: NameTaker>(&self, taker: &mut K) -> Result<(), WalkEnd>
+        ensures walked { let rows = held_rows_in (tables_of self.now) in
+            Walks K.takes K.stops rows taker.old taker.new result }
+        ensures memory { IfErr result (λ end. end ≢ WalkEnd.Store) }
+    {
+        for (name, known) in self.names.iter() {
+            hand_name(taker, name, known)?;
+        }
+        Ok(())
+    }
+
+    /// Hands the undeleted files of a name to a taker, in byte order. It looks at all files.
+    pub(crate) fn hand_files<K: FileTaker>(
+        &self,
+        name: &NormalName,
+        taker: &mut K,
+    ) -> Result<(), WalkEnd>
+        ensures walked { let rows = file_rows_in (tables_of self.now) name.now in
+            Walks K.takes K.stops rows taker.old taker.new result }
+        ensures memory { IfErr result (λ end. end ≢ WalkEnd.Store) }
+    {
+        for (file, known) in self.files.iter() {
+            self.hand_file(name, file, known, taker)?;
+        }
+        Ok(())
+    }
+
+    /// Hands the row of a file to a taker, where it is an undeleted one of the name.
+    fn hand_file<K: FileTaker>(
+        &self,
+        name: &NormalName,
+        file: &FileName,
+        known: &FileRecord,
+        taker: &mut K,
+    ) -> Result<(), WalkEnd>
+        ensures walked { let T = tables_of self.now in
+            let row = file_row_in T name.now (file.now, known.now) in
+            let rows = if is_undeleted_of_lem name.now known.now then row ∷ [] else [] in
+            Walks K.takes K.stops rows taker.old taker.new result }
+        ensures memory { IfErr result (λ end. end ≢ WalkEnd.Store) }
+    {
+        if !is_undeleted_of(known, name) {
+            return Ok(());
+        }
+        let row = self.file_row(name, file, known)?;
+        if taker.take(&row) {
+            Ok(())
+        } else {
+            Err(WalkEnd::Stopped)
+        }
+    }
+
+    /// A file's row. It is yanked where its release of the name is.
+    fn file_row(
+        &self,
+        name: &NormalName,
+        file: &FileName,
+        known: &FileRecord,
+    ) -> Result<FileRow, AllocError>
+        ensures { let T = tables_of self.now in
+            IfOk result (λ row. row ≡ file_row_in T name.now (file.now, known.now)) }
+    {
+        let release = known.release.clone()?;
+        let requires_python = known.requires_python.clone()?;
+        let yanked = pairs::find(&self.yanks, name, &known.release).cloned()?;
+        let file = file.clone()?;
+        Ok(FileRow {
+            file,
+            release,
+            digest: known.digest,
+            size: known.size,
+            requires_python,
+            yanked,
+        })
+    }
+}
+
+fn name_row(name: &NormalName, known: &NameRecord) -> Result<NameRow, AllocError>
+    ensures { IfOk result (λ row. row ≡ name_row_lem (name.now, known.now)) }
+{
+    let record = known.clone()?;
+    let name = name.clone()?;
+    Ok(NameRow { name, record })
+}
+
+/// Whether a file is an undeleted one of the name.
+fn is_undeleted_of(known: &FileRecord, name: &NormalName) -> bool
+    ensures { result ≡ is_undeleted_of_lem name.now known.now }
+{
+    known.is_undeleted && *name == known.project
+}
+
+/// Hands the row of a name to a taker, where the name is held.
+fn hand_name<K: NameTaker>(
+    taker: &mut K,
+    name: &NormalName,
+    known: &NameRecord,
+) -> Result<(), WalkEnd>
+    ensures walked { let rows = filter is_held_row (name_row_lem (name.now, known.now) ∷ []) in
+        Walks K.takes K.stops rows taker.old taker.new result }
+    ensures memory { IfErr result (λ end. end ≢ WalkEnd.Store) }
+{
+    if let NameRecord::Prohibited = known {
+        return Ok(());
+    }
+    let row = name_row(name, known)?;
+    if taker.take(&row) {
+        Ok(())
+    } else {
+        Err(WalkEnd::Stopped)
+    }
+}
