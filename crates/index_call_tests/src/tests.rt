@@ -12,6 +12,7 @@ mod desk;
 mod keys;
 mod output;
 mod requests;
+mod rows;
 mod rules;
 
 /// The SHA-256 digest of `abc`, an example of FIPS 180-4.

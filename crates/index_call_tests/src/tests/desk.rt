@@ -8,7 +8,7 @@ use std::alloc::AllocGlobal;
 use std::process::Abort;
 
 /// The answer to a request by the bearer of a token.
-fn assert_answer(
+pub(super) fn assert_answer(
     rt: &(impl Abort + AllocGlobal),
     desk: &mut Desk<PlainBooks>,
     token: &str,
@@ -20,7 +20,7 @@ fn assert_answer(
 }
 
 /// A desk with the user ann, whose token is `abc` and who has claimed `frob`.
-fn desk_with_frob(rt: &(impl Abort + AllocGlobal)) -> Desk<PlainBooks> {
+pub(super) fn desk_with_frob(rt: &(impl Abort + AllocGlobal)) -> Desk<PlainBooks> {
     let books = PlainBooks::new(rt.alloc(), b"office", token("office"));
     let mut desk = Desk::new(books.expect(rt, "books"));
     let request = add_user(rt, "ann", false, OF_ABC);

@@ -6,11 +6,11 @@ use std::io::{Error, ErrorKind, Write};
 use std::process::Abort;
 
 /// Takes so many bytes at a time, and so many in all; from then on no byte, or a failure.
-struct Short {
-    taken: Vec<u8>,
-    room: usize,
-    at_a_time: usize,
-    fails: bool,
+pub(super) struct Short {
+    pub(super) taken: Vec<u8>,
+    pub(super) room: usize,
+    pub(super) at_a_time: usize,
+    pub(super) fails: bool,
 }
 
 impl Drop for Short {

@@ -43,6 +43,12 @@ pub(super) fn claim(rt: &(impl Abort + AllocGlobal), name: &str) -> Request {
     }
 }
 
+pub(super) fn prohibit(rt: &(impl Abort + AllocGlobal), name: &str) -> Request {
+    Request::Prohibit {
+        name: bytes(rt, name.as_bytes()),
+    }
+}
+
 pub(super) fn remove_owner(rt: &(impl Abort + AllocGlobal), name: &str, user: &str) -> Request {
     Request::RemoveOwner {
         name: bytes(rt, name.as_bytes()),
