@@ -222,3 +222,31 @@ impl Books for FailingBooks {
 
     ghost honest_is_clean = { λ _ honest. honest };
 }
+
+/// Takes each row.
+#[derive(Drop)]
+pub(super) struct TakesAll;
+
+impl NameTaker for TakesAll {
+    ghost use Rattle.std.specs.Prelude.{⊤};
+
+    ghost takes = { λ _ _ _. ⊤ };
+
+    ghost stops = { λ _ _ _. ⊤ };
+
+    fn take(&mut self, _row: &NameRow) -> bool {
+        true
+    }
+}
+
+impl FileTaker for TakesAll {
+    ghost use Rattle.std.specs.Prelude.{⊤};
+
+    ghost takes = { λ _ _ _. ⊤ };
+
+    ghost stops = { λ _ _ _. ⊤ };
+
+    fn take(&mut self, _row: &FileRow) -> bool {
+        true
+    }
+}

@@ -1,13 +1,14 @@
 //! Each fault of the books is told as itself, and nothing changed.
-use super::fakes::{BooksCall, FailingBooks};
+use super::fakes::{BooksCall, FailingBooks, FullWriter, TakesAll};
 use super::{
     ACCEPTED, ALREADY, CLAIM, NEST_IS_FREE, STANDING_OF_NEST, TWICE_ACCEPTED, USERS,
     assert_answers, new_books,
 };
-use index_desk::Desk;
+use index_desk::{Desk, ReportFault};
 use index_digest::Digest256;
+use index_io::Output;
 use index_names::{FileName, normal};
-use index_rules::{Answer, Bytes, Call, Fault, Request};
+use index_rules::{Answer, Bytes, Call, Fault, Request, WalkEnd};
 use std::alloc::AllocGlobal;
 use std::process::Abort;
 
@@ -174,5 +175,88 @@ fn a_question_is_answered_by_the_fault(rt: HostRuntime) {
         assert_faults(&rt, BooksCall::Write, fault, None, None);
         assert_faults(&rt, BooksCall::OwnersOf, fault, Some(fault), None);
         assert_faults(&rt, BooksCall::BytesOf, fault, None, Some(fault));
+    }
+}
+
+/// Where this call of the books fails, these are the faults in place of the rows of the held names and of `frob`.
+fn assert_rows(
+    rt: &(impl Abort + AllocGlobal),
+    call: BooksCall,
+    fault: Fault,
+    root: Option<Fault>,
+    project: Option<Fault>,
+) {
+    let mut desk = failing_desk(rt, call, fault);
+    let rows = desk.root_rows(rt.alloc());
+    let of_root = rows.as_ref().err().copied();
+    drop(rows);
+    let name = normal(rt.alloc(), b"frob").expect(rt, "frob");
+    let rows = desk.project_rows(rt.alloc(), &name);
+    let of_project = rows.as_ref().err().copied();
+    drop(rows);
+    assert!(rt; of_root == root && of_project == project, "{fault}");
+}
+
+#[test]
+fn rows_are_answered_by_the_fault(rt: HostRuntime) {
+    for fault in [Fault::Store, Fault::OutOfMemory] {
+        assert_rows(&rt, BooksCall::Names, fault, Some(fault), None);
+        assert_rows(&rt, BooksCall::FilesOf, fault, None, Some(fault));
+        assert_rows(&rt, BooksCall::View, fault, None, Some(fault));
+        assert_rows(&rt, BooksCall::WalkHeld, fault, None, None);
+    }
+}
+
+/// Where this call of the books fails, the walks over the held names and over the files of `frob` end so.
+fn assert_walks(
+    rt: &(impl Abort + AllocGlobal),
+    call: BooksCall,
+    fault: Fault,
+    root: Result<(), WalkEnd>,
+    project: Result<bool, WalkEnd>,
+) {
+    let mut desk = failing_desk(rt, call, fault);
+    let of_root = desk.walk_root(rt.alloc(), &mut TakesAll);
+    let name = normal(rt.alloc(), b"frob").expect(rt, "frob");
+    let of_project = desk.walk_project(rt.alloc(), &name, &mut TakesAll);
+    assert!(rt; of_root == root && of_project == project, "{fault}");
+}
+
+#[test]
+fn walks_end_by_the_fault(rt: HostRuntime) {
+    for fault in [Fault::Store, Fault::OutOfMemory] {
+        let end = WalkEnd::from(fault);
+        assert_walks(&rt, BooksCall::WalkHeld, fault, Err(end), Ok(true));
+        assert_walks(&rt, BooksCall::WalkFiles, fault, Ok(()), Err(end));
+        assert_walks(&rt, BooksCall::View, fault, Ok(()), Err(end));
+    }
+}
+
+/// Where this call of the books fails, the check and the report end so. A report that ends so wrote nothing.
+fn assert_sums(
+    rt: &(impl Abort + AllocGlobal),
+    call: BooksCall,
+    fault: Fault,
+    check: Result<u64, Fault>,
+    report: Result<(), ReportFault>,
+) {
+    let mut desk = failing_desk(rt, call, fault);
+    let of_check = desk.check(rt.alloc());
+    let mut output = Output::new(FullWriter {
+        taken: Vec::new(rt.alloc()),
+        room: 1000,
+        fails: true,
+    });
+    let of_report = desk.report(rt.alloc(), &mut output);
+    let is_empty = output.writer.taken.is_empty();
+    assert!(rt; of_check == check && of_report == report && is_empty == report.is_err());
+}
+
+#[test]
+fn a_check_and_a_report_end_by_the_fault(rt: HostRuntime) {
+    for fault in [Fault::Store, Fault::OutOfMemory] {
+        let end = Err(ReportFault::from(fault));
+        assert_sums(&rt, BooksCall::Names, fault, Err(fault), end);
+        assert_sums(&rt, BooksCall::FilesOf, fault, Err(fault), Ok(()));
     }
 }
