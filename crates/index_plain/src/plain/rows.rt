@@ -62,8 +62,8 @@ impl PlainBooks {
             Walks K.takes K.stops rows taker.old taker.new result }
         ensures memory { IfErr result (λ end. end ≢ WalkEnd.Store) }
     {
-        for (file, known) in self.files.iter() {
-            self.hand_file(name, file, known, taker)?;
+        for (file, entry) in self.files.iter() {
+            self.hand_file(name, file, entry, taker)?;
         }
         Ok(())
     }

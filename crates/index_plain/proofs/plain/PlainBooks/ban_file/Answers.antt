@@ -6,6 +6,6 @@ use Rattle.index_plain.proofs.plain.PlainBooks.ban_file.Goals as goal
 pub returns-in-None-clause-written : goal.returns-in-None-clause-written
 returns-in-None-clause-written c =
     subst
-        (λ project. OnOk c.ban_alone.result (Writes (BanFile c.args.name.now project c.args.file.now c.args.known) c.args.self.now c.ban_alone.new.self))
-        (sym c.in-None.is)
-        (c.ban_alone.ensures.written c.args.name.now)
+    (λ project. OnOk c.ban_alone.result (Writes (BanFile c.args.name.now project c.args.file.now c.args.known) c.args.self.now c.ban_alone.new.self))
+    (sym c.in-None.is)
+    (c.ban_alone.ensures.written c.args.name.now)

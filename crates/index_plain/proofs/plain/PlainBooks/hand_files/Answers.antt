@@ -22,10 +22,10 @@ loop-file-preserved g c =
     let all = books.files.entries in
     let rest = c.loop-file.file-iterator in
     let left = c.next.new.self in
-    let entry : Bytes × FileRecord = (c.in-Some.file.now, c.in-Some.known.now) in
+    let entry : Bytes × FileRecord = (c.in-Some.file.now, c.in-Some.entry.now) in
     GoesOn-more g.K.FileTaker.takes g.K.FileTaker.stops (rows all) (rows rest) (file_row_alone (tables_of books) c.args.name.now entry) (rows left)
     c.args.taker.now c.loop-file.taker c.hand_file.new.taker c.loop-file.invariant
-    (file_rows_first (tables_of books) c.args.name.now rest left entry (rest_more deref_pair _ _ _ (c.in-Some.file, c.in-Some.known) c.in-Some.is c.next.ensures.steps))
+    (file_rows_first (tables_of books) c.args.name.now rest left entry (rest_more deref_pair _ _ _ (c.in-Some.file, c.in-Some.entry) c.in-Some.is c.next.ensures.steps))
     c.in_ok-hand_file.ensures.walked
 
 pub returns-in_err-hand_file-clause-walked : goal.returns-in_err-hand_file-clause-walked
@@ -37,14 +37,14 @@ returns-in_err-hand_file-clause-walked g c =
     let files = books.files in
     let rest = c.loop-file.file-iterator in
     let left = c.next.new.self in
-    let entry : Bytes × FileRecord = (c.in-Some.file.now, c.in-Some.known.now) in
+    let entry : Bytes × FileRecord = (c.in-Some.file.now, c.in-Some.entry.now) in
     let end = c.in_err-hand_file.field-0.0 in
     let told : c.from_residual.result ≡ Err end = search rules in
     subst (λ result. Walks takes stops (rows (entries (map_of bytes_cmp files))) c.args.taker.now c.hand_file.new.taker result) (sym told)
     (subst (λ es. EndsEarly takes stops (rows es) c.args.taker.now c.hand_file.new.taker end) (sym (entries_map nat_list_cmp_total exact_bytes files c.iter-file-items.ensures.ordered))
     (GoesOn-early takes stops (rows files.entries) (rows rest) (file_row_alone (tables_of books) c.args.name.now entry) (rows left)
     c.args.taker.now c.loop-file.taker c.hand_file.new.taker end c.loop-file.invariant
-    (file_rows_first (tables_of books) c.args.name.now rest left entry (rest_more deref_pair _ _ _ (c.in-Some.file, c.in-Some.known) c.in-Some.is c.next.ensures.steps))
+    (file_rows_first (tables_of books) c.args.name.now rest left entry (rest_more deref_pair _ _ _ (c.in-Some.file, c.in-Some.entry) c.in-Some.is c.next.ensures.steps))
     c.in_err-hand_file.ensures.walked))
 
 pub returns-clause-walked : goal.returns-clause-walked
