@@ -12,7 +12,9 @@ ghost use Rattle.index_rules.specs.Texts.{is_evidence as is_evidence_lem, is_tex
 use crate::bytes::Bytes;
 use crate::user::{UserFault, UserId, is_user_id};
 use index_digest::Digest256;
-use index_names::{FileName, NameFault, NormalName, Release, is_file_name, is_version, normal, release_key};
+use index_names::{
+    FileName, NameFault, NormalName, Release, is_file_name, is_version, normal, release_key,
+};
 use index_text::{Text, ascii};
 use std::alloc::{AllocError, Global};
 
