@@ -89,13 +89,14 @@ impl<B: Books> Desk<B> {
 
         // A crash leaves the tables after the call where it was accepted, and else what it could leave before; after a
         // fault one or the other.
-        ensures crash { B.IsHonest self.old → B.IsClean self.new → HasOneBearer (B.tables self.old) →
-            (T : Tables) → B.may_leave self.new T →
+        ensures crash { B.IsHonest self.old → B.IsClean self.new →
+            HasOneBearer (B.tables self.old) → (T : Tables) → B.may_leave self.new T →
             Leaves (B.may_leave self.old) (IsWithCall (B.tables self.old) call) result T }
 
         // The former stand for the legal history with the call, for which the tables stood without it.
-        ensures crash_history { B.IsHonest self.old → B.IsClean self.new → (h : History) → IsLegal h →
-            StandsFor (B.tables self.old) h → (T : Tables) → B.may_leave self.new T →
+        ensures crash_history { B.IsHonest self.old → B.IsClean self.new →
+            (h : History) → IsLegal h → StandsFor (B.tables self.old) h →
+            (T : Tables) → B.may_leave self.new T →
             Leaves (B.may_leave self.old) (CarriesOn h call Answer.Accepted) result T }
         ensures store { result ≡ Answer.Fault Fault.Store →
             HasFailed (B.failures self.old) (B.failures self.new) }

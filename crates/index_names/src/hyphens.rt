@@ -7,7 +7,8 @@ ghost use Rattle.index_names.specs.Spelling.{is_hyphen};
 pub fn split_at_first_hyphen(text: &[u8]) -> Option<(&[u8], &[u8])>
     ensures { MatchOption result
         (slice_split is_hyphen text.now ≡ text.now ∷ [])
-        (λ parts. slice_split is_hyphen text.now ≡ parts.0.now ∷ slice_split is_hyphen parts.1.now) }
+        (λ parts. slice_split is_hyphen text.now
+        ≡ parts.0.now ∷ slice_split is_hyphen parts.1.now) }
 {
     let hyphen = text.iter().position(|&byte| byte == b'-')?;
     Some((&text[..hyphen], &text[hyphen + 1..]))
@@ -17,7 +18,8 @@ pub fn split_at_first_hyphen(text: &[u8]) -> Option<(&[u8], &[u8])>
 pub fn split_at_last_hyphen(text: &[u8]) -> Option<(&[u8], &[u8])>
     ensures { MatchOption result
         (list_any is_hyphen text.now ≡ false)
-        (λ parts. (parts.0.now ≡ before_last is_hyphen text.now) × (parts.1.now ≡ after_last is_hyphen text.now)) }
+        (λ parts. (parts.0.now ≡ before_last is_hyphen text.now)
+        × (parts.1.now ≡ after_last is_hyphen text.now)) }
 {
     let hyphen = text.iter().rposition(|&byte| byte == b'-')?;
     Some((&text[..hyphen], &text[hyphen + 1..]))

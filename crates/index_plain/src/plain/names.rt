@@ -52,7 +52,8 @@ impl PlainBooks {
         project: Project,
         owner: &UserId,
     ) -> Result<(), AllocError>
-        ensures written { OnOk result (Writes (Claim name.now project owner.now) self.old self.new) }
+        ensures written { let change = Claim name.now project owner.now in
+            OnOk result (Writes change self.old self.new) }
         ensures unchanged { OnErr result (tables_of self.new ≡ tables_of self.old) }
         ensures failures { failures_of self.new ≡ failures_of self.old }
     {

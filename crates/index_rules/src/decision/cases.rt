@@ -5,7 +5,7 @@ ghost use Rattle.index_rules.specs.declared.call.Request.TheVariants.{AnswerCase
 ghost use Rattle.index_rules.specs.Maps.{same};
 ghost use Rattle.index_rules.specs.Texts.{is_evidence as is_evidence_lem};
 ghost use Rattle.index_rules.specs.Verdict.{refusal_of};
-ghost use Rattle.index_rules.specs.Effect.{new_case as opened_case_lem};
+ghost use Rattle.index_rules.specs.Effect.{new_case as new_case_lem};
 ghost use Rattle.index_rules.specs.Decided.{DecidesIn, IsOfCaller};
 
 use super::context::Context;
@@ -61,7 +61,8 @@ fn opened_case(
     requires work { IsTrue (is_evidence_lem work.now) }
     requires why { IsTrue (is_evidence_lem why.now) }
     ensures { let user = context.now.caller.now.user in
-        IfOk result (λ case. case ≡ opened_case_lem context.now.at user kind contact.now work.now why.now) }
+        IfOk result (λ case.
+        case ≡ new_case_lem context.now.at user kind contact.now work.now why.now) }
 {
     let candidate = context.caller.user.clone()?;
     let contact = to_text(context.alloc, contact)?;
