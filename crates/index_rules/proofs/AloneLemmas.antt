@@ -27,7 +27,7 @@ use Rattle.index_rules.proofs.EntryLemmas.{list_all-at, list_all-from}
 use Rattle.index_rules.proofs.ListTotals.{HasKeys, total-listed, any-listed}
 use Rattle.index_rules.proofs.Totals.{total_of}
 use Rattle.index_rules.proofs.PastWords.{received, Apart-uploaded, known_is_uploaded}
-use Rattle.index_rules.proofs.PastTotals.{is_some-map, counted, charged_at, counted_at, released_at}
+use Rattle.index_rules.proofs.PastTotals.{is_some-map, one_if_undeleted, charged_at, one_if_undeleted_at, released_at}
 use Rattle.index_rules.proofs.Agree.{agree_at}
 use Rattle.index_rules.proofs.AloneWords.{user-only, bearer-only, state-only, shown-only, quota-only, uploads-only, case-only, given-only, yanked-only, known-only, undeleted-only, banned-only, requires-only}
 use Rattle.index_rules.proofs.StandsOn.{tables_of, legal_made}
@@ -66,10 +66,10 @@ module _ (n : Bytes) (h : History) (legal : IsLegal h) where
         (λ i. sum_by (λ f. part_at (charged_size n) 0 (λ f. cond (is_charged_after g n f) (size_after g f) 0) (charged_at g n) (λ f other. ap (λ b. cond b (size_after g f) 0) (and_right _ _ other)) f i) (uploaded_files_after g))
         ∙ total-listed (charged_size n) files_of_name (uploaded_files_after g) (Apart-uploaded g) has_keys
 
-    count_of_name : undeleted_count_after g n ≡ total_of (counted n) (entries files_of_name)
+    count_of_name : undeleted_count_after g n ≡ total_of (one_if_undeleted n) (entries files_of_name)
     count_of_name =
-        (λ i. sum_by (λ f. part_at (counted n) 0 (λ f. cond (is_charged_after g n f) 1 0) (counted_at g n) (λ f other. ap (λ b. cond b 1 0) (and_right _ _ other)) f i) (uploaded_files_after g))
-        ∙ total-listed (counted n) files_of_name (uploaded_files_after g) (Apart-uploaded g) has_keys
+        (λ i. sum_by (λ f. part_at (one_if_undeleted n) 0 (λ f. cond (is_charged_after g n f) 1 0) (one_if_undeleted_at g n) (λ f other. ap (λ b. cond b 1 0) (and_right _ _ other)) f i) (uploaded_files_after g))
+        ∙ total-listed (one_if_undeleted n) files_of_name (uploaded_files_after g) (Apart-uploaded g) has_keys
 
     release_of_name : (r : Bytes) → has_release_after g n r ≡ list_any (λ e. is_undeleted_of_release n r e.1) (entries files_of_name)
     release_of_name r =

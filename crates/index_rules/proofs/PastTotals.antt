@@ -23,8 +23,8 @@ is_some-map part (Some x) = refl
 -- ---- what one file counts for
 
 -- an undeleted file of the name is one
-abbrev pub counted : Bytes → FileRecord → ℕ
-counted n known = cond (is_undeleted_of n known) 1 0
+abbrev pub one_if_undeleted : Bytes → FileRecord → ℕ
+one_if_undeleted n known = cond (is_undeleted_of n known) 1 0
 
 module _ (h : History) (n f : Bytes) where
   pub charged_at : option_map_or (charged_size n) (file_after h f) 0 ≡ cond (is_charged_after h n f) (size_after h f) 0
@@ -36,11 +36,11 @@ module _ (h : History) (n f : Bytes) where
       by None false there = refl
       by (Some first) b there = refl
 
-  pub counted_at : option_map_or (counted n) (file_after h f) 0 ≡ cond (is_charged_after h n f) 1 0
-  counted_at = by (first_upload_after h f) (is_undeleted_after h f) (undeleted_known h f)
+  pub one_if_undeleted_at : option_map_or (one_if_undeleted n) (file_after h f) 0 ≡ cond (is_charged_after h n f) 1 0
+  one_if_undeleted_at = by (first_upload_after h f) (is_undeleted_after h f) (undeleted_known h f)
     where
       by : (o : Option (Bytes × ℕ)) (b : Bool) → (b ≡ true → is_some o ≡ true)
-          → option_map_or (counted n) (option_map (file_of_upload f (requires_after h f) b) o) 0 ≡ cond (b && same n (project_of f)) 1 0
+          → option_map_or (one_if_undeleted n) (option_map (file_of_upload f (requires_after h f) b) o) 0 ≡ cond (b && same n (project_of f)) 1 0
       by None true there = absurd (false≢true (there refl))
       by None false there = refl
       by (Some first) b there = refl
@@ -70,8 +70,8 @@ module _ (T : Tables) (h : History) (files : (f : Bytes) → get T.files f ≡ f
   -- how many undeleted files it has
   pub count_agrees : (n : Bytes) → undeleted_count_in T n ≡ undeleted_count_after h n
   count_agrees n =
-      sym (total-listed (counted n) T.files (uploaded_files_after h) (Apart-uploaded h) has_keys)
-      ∙ (λ i. sum_by (λ f. (ap (λ o. option_map_or (counted n) o 0) (files f) ∙ counted_at h n f) i) (uploaded_files_after h))
+      sym (total-listed (one_if_undeleted n) T.files (uploaded_files_after h) (Apart-uploaded h) has_keys)
+      ∙ (λ i. sum_by (λ f. (ap (λ o. option_map_or (one_if_undeleted n) o 0) (files f) ∙ one_if_undeleted_at h n f) i) (uploaded_files_after h))
 
   -- whether a release of it has one
   pub has_release_agrees : (n r : Bytes) → has_release_in T n r ≡ has_release_after h n r
