@@ -22,15 +22,17 @@ at_left width text = text ++ replicate (width - length text) 32
 abbrev pub at_right : ℕ → ℕ → Bytes
 at_right width number = replicate (width - length (decimal number)) 32 ++ decimal number
 
+-- the state of a name, by its word
 abbrev pub state_text : NameRecord → Bytes
 state_text (Held project) = codes "held"
 state_text Prohibited = codes "prohibited"
 
--- the number of undeleted files, and the quota: a prohibited name has neither
+-- the number of a name's undeleted files: a prohibited one has none
 abbrev pub undeleted_of : NameRecord → ℕ
 undeleted_of (Held project) = project.undeleted
 undeleted_of Prohibited = 0
 
+-- the quota of a name, in bytes: a prohibited one has none
 abbrev pub quota_of : NameRecord → ℕ
 quota_of (Held project) = project.quota
 quota_of Prohibited = 0
@@ -48,6 +50,7 @@ number_columns known =
 abbrev pub report_line : NameRow → Bytes
 report_line row = name_columns row ++ number_columns row.record ++ 10 ∷ []
 
+-- a line for each row, in their order
 abbrev pub report_of : List NameRow → Bytes
 report_of [] = []
 report_of (row ∷ rows) = report_line row ++ report_of rows

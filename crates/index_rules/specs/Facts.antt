@@ -82,6 +82,7 @@ at_both found (Some name) (Some release) = found name release
 abbrev pub yank_in : Tables → Bytes → Bytes → Option Bytes
 yank_in T name release = get T.yanks (name, release)
 
+-- whether the file is banned
 abbrev pub is_banned_in : Tables → Bytes → Bool
 is_banned_in T file = contains_key T.bans file
 
