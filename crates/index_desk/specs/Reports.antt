@@ -60,9 +60,9 @@ abbrev pub report_in : Tables → Bytes
 report_in T = report_of (name_rows_in T)
 
 -- the end of a report by a fault of a look at the tables
-abbrev pub report_fault_by : Fault → ReportFault
-report_fault_by fault.OutOfMemory = OutOfMemory
-report_fault_by fault.Store = Store
+abbrev pub report_fault_of : Fault → ReportFault
+report_fault_of fault.OutOfMemory = OutOfMemory
+report_fault_of fault.Store = Store
 
 -- what went out of a text, by how writing it ended
 abbrev pub Reports : Bytes → Option Bytes → Option Bytes → Result (Unit {0}) ReportFault → Type 0

@@ -13,7 +13,7 @@ use Rattle.std.proofs.lemmas.Slice.Eq.{bytes_eq-Decides}
 use Rattle.index_names.specs.declared.file_name.FileKind.{FileKind}
 use Rattle.index_names.specs.declared.file_name.FileKind.TheVariants.{Wheel, Source}
 use Rattle.index_names.specs.Project.{is_project_name, normal_form}
-use Rattle.index_names.specs.Release.{is_version_byte, is_version_text, release_named_by}
+use Rattle.index_names.specs.Release.{is_version_byte, is_version_text, named_release}
 use Rattle.index_names.specs.FileName.{Spelled, wheel_cut_of, spelled_by_wheel, spelled_by_source, read_wheel, read_source, strip_suffix, read_stem, read_file_name}
 use Rattle.index_names.specs.Spelling.{WheelCut, SourceCut, Spells, is_hyphen, is_tag_byte, is_tag, is_build_tag, is_wheel_cut, is_source_cut, with_build, parts_of, wheel_name, source_name}
 use Rattle.index_names.proofs.HyphenLemmas.{LacksHyphen, LacksHyphen-list_all, before_last-split, after_last-split, join-last, slice_split-join}
@@ -100,7 +100,7 @@ parts_from_cut (a ∷ b ∷ c ∷ d ∷ e ∷ []) cut is = ap parts_of (same_Som
 parts_from_cut (a ∷ b ∷ c ∷ d ∷ e ∷ f ∷ []) cut is = ap parts_of (same_Some _ cut is)
 parts_from_cut (a ∷ b ∷ c ∷ d ∷ e ∷ f ∷ g ∷ more) cut is = absurd (none-some cut is)
 
-read_wheel-cut : (cut : WheelCut) → is_wheel_cut cut ≡ true → read_wheel (join_with_byte 45 (parts_of cut)) ≡ Some (record { project = normal_form cut.distribution; release = release_named_by cut.version; kind = Wheel })
+read_wheel-cut : (cut : WheelCut) → is_wheel_cut cut ≡ true → read_wheel (join_with_byte 45 (parts_of cut)) ≡ Some (record { project = normal_form cut.distribution; release = named_release cut.version; kind = Wheel })
 read_wheel-cut cut passes =
     ap (λ parts. option_and_then spelled_by_wheel (wheel_cut_of parts)) (slice_split-join cut.distribution (cut.version ∷ with_build cut.build (cut.python ∷ cut.abi ∷ cut.platform ∷ [])) (LacksHyphen-parts cut (HasWheelParts-cut cut passes)))
     ∙ ap (option_and_then spelled_by_wheel) (cut_from_parts cut cut.build refl)
@@ -111,7 +111,7 @@ IsSpelled-wheel f stem spelled short is reads =
     option_and_then_some spelled_by_wheel (wheel_cut_of (slice_split is_hyphen stem)) spelled reads (λ cut found spells.
     elim (cases_Bool (is_wheel_cut cut)) [
       | inl passes ↦
-          let same : record { project = normal_form cut.distribution; release = release_named_by cut.version; kind = Wheel } ≡ spelled =
+          let same : record { project = normal_form cut.distribution; release = named_release cut.version; kind = Wheel } ≡ spelled =
           same_Some _ spelled (sym (spelled_by_wheel-passing cut passes) ∙ spells) in
           let joined : stem ≡ join_with_byte 45 (parts_of cut) =
           sym (join_with_byte-slice_split 45 stem) ∙ ap (join_with_byte 45) (parts_from_cut (slice_split is_hyphen stem) cut found) in
@@ -122,11 +122,11 @@ IsSpelled-wheel f stem spelled short is reads =
 
 -- ---- the parts of a source archive's name
 
-spelled_by_source-passing : (cut : SourceCut) → is_source_cut cut ≡ true → spelled_by_source cut ≡ Some (record { project = normal_form cut.name; release = release_named_by cut.version; kind = Source })
+spelled_by_source-passing : (cut : SourceCut) → is_source_cut cut ≡ true → spelled_by_source cut ≡ Some (record { project = normal_form cut.name; release = named_release cut.version; kind = Source })
 spelled_by_source-passing cut passes =
-    ap (λ b. cond b (Some (record { project = normal_form cut.name; release = release_named_by cut.version; kind = Source })) None) passes
+    ap (λ b. cond b (Some (record { project = normal_form cut.name; release = named_release cut.version; kind = Source })) None) passes
 
-read_source-cut : (cut : SourceCut) → is_source_cut cut ≡ true → read_source (cut.name ++ 45 ∷ cut.version) ≡ Some (record { project = normal_form cut.name; release = release_named_by cut.version; kind = Source })
+read_source-cut : (cut : SourceCut) → is_source_cut cut ≡ true → read_source (cut.name ++ 45 ∷ cut.version) ≡ Some (record { project = normal_form cut.name; release = named_release cut.version; kind = Source })
 read_source-cut cut passes =
     let lacks : LacksHyphen cut.version = LacksHyphen-version cut.version (and_parts _ _ passes).1 in
     let before = before_last-split cut.name cut.version lacks in
@@ -142,7 +142,7 @@ IsSpelled-source f stem spelled short is reads =
     let cut : SourceCut = record { name = before_last is_hyphen stem; version = after_last is_hyphen stem } in
     elim (cases_Bool (is_source_cut cut)) [
       | inl passes ↦
-          let same : record { project = normal_form cut.name; release = release_named_by cut.version; kind = Source } ≡ spelled =
+          let same : record { project = normal_form cut.name; release = named_release cut.version; kind = Source } ≡ spelled =
           same_Some _ spelled (sym (spelled_by_source-passing cut passes) ∙ reads) in
           let something : before_last is_hyphen stem ≢ [] = λ none. false≢true (ap is_project_name (sym none) ∙ (and_parts _ _ passes).0) in
           let joined : stem ≡ cut.name ++ codes "-" ++ cut.version = join-last stem something ∙ sym (source_stem cut.name cut.version) in

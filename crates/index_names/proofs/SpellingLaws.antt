@@ -6,11 +6,11 @@ use Rattle.std.proofs.lemmas.Option.{none-some, same_Some}
 use Rattle.index_names.specs.declared.file_name.FileKind.{FileKind}
 use Rattle.index_names.specs.declared.file_name.FileKind.TheVariants.{Wheel, Source}
 use Rattle.index_names.specs.Project.{is_project_name, normal_form, IsNormalName}
-use Rattle.index_names.specs.Release.{is_version_text, release_named_by, IsRelease}
+use Rattle.index_names.specs.Release.{is_version_text, named_release, IsRelease}
 use Rattle.index_names.specs.FileName.{Spelled, SpellsAtMostOne, IsReadAsSpelled, IsUnreadWhereUnspelled, read_file_name, project_of, release_of, kind_of}
 use Rattle.index_names.specs.Spelling.{Spells}
 use Rattle.index_names.proofs.NormalFormLaws.{IsNormalName-normal_form}
-use Rattle.index_names.proofs.ReleaseLaws.{IsRelease-release_named_by}
+use Rattle.index_names.proofs.ReleaseLaws.{IsRelease-named_release}
 use Rattle.index_names.proofs.Spelling.{IsSpelled-read, read-Spells}
 use Rattle.index_names.proofs.WheelCuts.{HasWheelParts-cut}
 
@@ -38,10 +38,10 @@ unread_where_unspelled f = (
 
 -- ---- the project and the release of a file name are read as themselves
 
-parts-read : (name version project release : List ℕ) → is_project_name name ≡ true → is_version_text version ≡ true → project ≡ normal_form name → release ≡ release_named_by version → IsNormalName project × IsRelease release
+parts-read : (name version project release : List ℕ) → is_project_name name ≡ true → is_version_text version ≡ true → project ≡ normal_form name → release ≡ named_release version → IsNormalName project × IsRelease release
 parts-read name version project release is_name is_version is_project is_release = (
   subst IsNormalName (sym is_project) (IsNormalName-normal_form name is_name),
-  subst IsRelease (sym is_release) (IsRelease-release_named_by version is_version),
+  subst IsRelease (sym is_release) (IsRelease-named_release version is_version),
 )
 
 spelled_parts-read : (f project release : List ℕ) (kind : FileKind) → Spells f project release kind → IsNormalName project × IsRelease release

@@ -3,13 +3,13 @@ use Rattle.std.specs.Prelude.{◌≡◌, Option, Some, None, option_copied, IsTr
 use Rattle.index_names.specs.declared.cut.Cut.{Cut}
 use Rattle.index_names.specs.declared.wheel.WheelParts.{WheelParts}
 use Rattle.index_names.specs.Project.{is_project_name, normal_form}
-use Rattle.index_names.specs.Release.{is_version_text, release_named_by}
+use Rattle.index_names.specs.Release.{is_version_text, named_release}
 use Rattle.index_names.specs.FileName.{Spelled}
 use Rattle.index_names.specs.Spelling.{WheelCut}
 
 -- the name and the version of a cut are such, and what is read are their project, their release and the kind
 pub record IsReadAs (cut : Cut) (spelled : Option Spelled) : Type 0 where
-  pub value : spelled ≡ Some (record { project = normal_form cut.name.now; release = release_named_by cut.version.now; kind = cut.kind })
+  pub value : spelled ≡ Some (record { project = normal_form cut.name.now; release = named_release cut.version.now; kind = cut.kind })
   pub name : IsTrue (is_project_name cut.name.now)
   pub version : IsTrue (is_version_text cut.version.now)
 

@@ -5,7 +5,7 @@ use Rattle.std.specs.Option.{option_map_or}
 use Rattle.index_names.specs.declared.file_name.FileKind.{FileKind}
 use Rattle.index_names.specs.declared.file_name.FileKind.TheVariants.{Wheel, Source}
 use Rattle.index_names.specs.Project.{normal_form}
-use Rattle.index_names.specs.Release.{release_named_by}
+use Rattle.index_names.specs.Release.{named_release}
 use Rattle.index_names.specs.Spelling.{WheelCut, SourceCut, is_hyphen, is_wheel_cut, is_source_cut, Spells, longest_file_name}
 
 -- what a file name spells
@@ -25,12 +25,12 @@ wheel_cut_of _ = None
 -- what the name of a wheel spells, where its name and version are in order
 abbrev pub spelled_by_wheel : WheelCut → Option Spelled
 spelled_by_wheel cut =
-    if is_wheel_cut cut then Some (record { project = normal_form cut.distribution; release = release_named_by cut.version; kind = Wheel }) else None
+    if is_wheel_cut cut then Some (record { project = normal_form cut.distribution; release = named_release cut.version; kind = Wheel }) else None
 
 -- the same of a source archive
 abbrev pub spelled_by_source : SourceCut → Option Spelled
 spelled_by_source cut =
-    if is_source_cut cut then Some (record { project = normal_form cut.name; release = release_named_by cut.version; kind = Source }) else None
+    if is_source_cut cut then Some (record { project = normal_form cut.name; release = named_release cut.version; kind = Source }) else None
 
 -- a wheel's name without its end, cut at each hyphen
 abbrev pub read_wheel : List ℕ → Option Spelled

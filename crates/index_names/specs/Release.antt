@@ -20,12 +20,12 @@ is_version_text x =
     && is_ascii_alphanumeric (slice_index x (length x - 1))
 
 -- the release that a version text names: the text in lower case
-abbrev pub release_named_by : List ℕ → List ℕ
-release_named_by version = map to_ascii_lowercase version
+abbrev pub named_release : List ℕ → List ℕ
+named_release version = map to_ascii_lowercase version
 
 -- what a text is read as: the release of a version text, and nothing of any other text
 unfoldable pub read_release : List ℕ → Option (List ℕ)
-read_release x = if is_version_text x then Some (release_named_by x) else None
+read_release x = if is_version_text x then Some (named_release x) else None
 
 -- a release: it is read as itself
 abbrev pub IsRelease : List ℕ → Type 0

@@ -8,7 +8,7 @@ use Rattle.std.specs.Str.{byte}
 use Rattle.index_names.specs.declared.file_name.FileKind.{FileKind}
 use Rattle.index_names.specs.declared.file_name.FileKind.TheVariants.{Wheel, Source}
 use Rattle.index_names.specs.Project.{is_project_name, normal_form}
-use Rattle.index_names.specs.Release.{is_version_text, release_named_by}
+use Rattle.index_names.specs.Release.{is_version_text, named_release}
 
 -- the parts of a wheel's name
 pub record WheelCut : Type 0 where
@@ -80,7 +80,7 @@ pub record IsWheelOf (f project release : List ℕ) : Type 0 where
   pub is_name : f ≡ wheel_name cut
   pub is_cut : IsTrue (is_wheel_cut cut)
   pub is_project : project ≡ normal_form cut.distribution
-  pub is_release : release ≡ release_named_by cut.version
+  pub is_release : release ≡ named_release cut.version
 
 -- some cut of this source archive's name has the project and the release
 pub record IsSourceOf (f project release : List ℕ) : Type 0 where
@@ -88,7 +88,7 @@ pub record IsSourceOf (f project release : List ℕ) : Type 0 where
   pub is_name : f ≡ source_name cut
   pub is_cut : IsTrue (is_source_cut cut)
   pub is_project : project ≡ normal_form cut.name
-  pub is_release : release ≡ release_named_by cut.version
+  pub is_release : release ≡ named_release cut.version
 
 -- the most bytes of a file name
 abbrev pub longest_file_name : ℕ

@@ -1,7 +1,7 @@
 //! Releases: version texts in lower case.
 ghost use Rattle.std.specs.Prelude.{◌≡◌, ◌||◌, ◌⊎◌, ◌↔◌, None, Some, IfOk, IfErr, IsErrOf, IsSome, IsTrue};
 ghost use Rattle.std.specs.List.{list_all};
-ghost use Rattle.index_names.specs.Release.{is_version_byte, is_version_text, release_named_by, read_release, IsRelease};
+ghost use Rattle.index_names.specs.Release.{is_version_byte, is_version_text, named_release, read_release, IsRelease};
 
 use crate::fault::NameFault;
 use index_text::{Text, ascii};
@@ -44,7 +44,7 @@ impl Release {
     #[tactic(auto, using(crate::proofs::AsciiLemmas::texts, crate::proofs::ReleaseLaws::releases))]
     pub(crate) fn of(alloc: Global, version: &[u8]) -> Result<Release, AllocError>
         requires { IsTrue (is_version_text version.now) }
-        ensures { IfOk result (λ release. release ≡ release_named_by version.now) }
+        ensures { IfOk result (λ release. release ≡ named_release version.now) }
     {
         let mut text = String::from_str(alloc, ascii(version))?;
         text.make_ascii_lowercase();

@@ -64,9 +64,9 @@ is_quality (a ∷ []) = false
 is_quality (a ∷ b ∷ more) = ((a == byte "q") || (a == byte "Q")) && (b == byte "=")
 
 -- the quality that the first of the pieces with `q=` gives, and 1 without one
-abbrev pub quality_in : List (List ℕ) → Option ℕ
-quality_in [] = Some 1000
-quality_in (piece ∷ pieces) = if is_quality piece then quality_of (drop 2 piece) else quality_in pieces
+abbrev pub first_quality : List (List ℕ) → Option ℕ
+first_quality [] = Some 1000
+first_quality (piece ∷ pieces) = if is_quality piece then quality_of (drop 2 piece) else first_quality pieces
 
 -- ---- items
 
@@ -78,7 +78,7 @@ pub record Item : Type 0 where
 -- the item whose pieces these are: the first is its range
 abbrev pub item_from : List (List ℕ) → Item
 item_from [] = record { range = []; quality = None }
-item_from (range ∷ pieces) = record { range = range; quality = quality_in pieces }
+item_from (range ∷ pieces) = record { range = range; quality = first_quality pieces }
 
 -- the item that the text between two commas is
 abbrev pub item_of : List ℕ → Item

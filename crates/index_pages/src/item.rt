@@ -1,7 +1,7 @@
 //! An item of an `Accept` header: a media range with its quality.
 ghost use Rattle.std.specs.Prelude.{◌≡◌, ◌+◌, ◌≤◌, drop, is_some, IfSome};
 ghost use Rattle.std.specs.Str.{byte};
-ghost use Rattle.index_pages.specs.Accept.{are_two, cut_at, fraction as fraction_lem, is_quality, is_readable, item_of, quality_in, quality_of, thousandths as thousandths_lem};
+ghost use Rattle.index_pages.specs.Accept.{are_two, cut_at, fraction as fraction_lem, is_quality, is_readable, item_of, first_quality, quality_of, thousandths as thousandths_lem};
 ghost use Rattle.index_pages.specs.Tally.{pieces_left, shown};
 
 use crate::cut::{cut, trim};
@@ -50,7 +50,7 @@ fn is_media_range(range: &[u8]) -> bool
 
 /// The quality that the first piece with `q=` gives, and 1,000 thousandths without one.
 fn quality_among(pieces: Option<&[u8]>) -> Option<u16>
-    ensures { result ≡ quality_in (pieces_left pieces.entry) }
+    ensures { result ≡ first_quality (pieces_left pieces.entry) }
 {
     let mut left = pieces;
     while let Some(rest) = left {

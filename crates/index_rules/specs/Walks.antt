@@ -18,9 +18,9 @@ has_fault (Ok done) = false
 has_fault (Err end) = is_fault end
 
 -- the end of a walk by a fault of another look at the tables
-abbrev pub end_by : Fault → WalkEnd
-end_by fault.OutOfMemory = OutOfMemory
-end_by fault.Store = Store
+abbrev pub walk_end_of : Fault → WalkEnd
+walk_end_of fault.OutOfMemory = OutOfMemory
+walk_end_of fault.Store = Store
 
 -- what is left of a taker at an early end: it stopped among the rows, or it took a front of them
 abbrev pub EndsEarly : {K R : Type 0} → (K → R → K → Type 0) → (K → R → K → Type 0) → List R → K → K → WalkEnd → Type 0

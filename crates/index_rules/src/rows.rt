@@ -94,9 +94,9 @@ pub enum WalkEnd {
 }
 
 impl From<Fault> for WalkEnd {
-    ghost use Rattle.index_rules.specs.Walks.{end_by};
+    ghost use Rattle.index_rules.specs.Walks.{walk_end_of};
 
-    ghost from_gives = { λ fault end. end ≡ end_by fault };
+    ghost from_gives = { λ fault end. end ≡ walk_end_of fault };
 
     fn from(fault: Fault) -> WalkEnd {
         match fault {

@@ -20,9 +20,9 @@ pub enum ReportFault {
 }
 
 impl From<Fault> for ReportFault {
-    ghost use Rattle.index_desk.specs.Reports.{report_fault_by};
+    ghost use Rattle.index_desk.specs.Reports.{report_fault_of};
 
-    ghost from_gives = { λ fault end. end ≡ report_fault_by fault };
+    ghost from_gives = { λ fault end. end ≡ report_fault_of fault };
 
     fn from(fault: Fault) -> ReportFault {
         match fault {
