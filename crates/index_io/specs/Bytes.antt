@@ -1,6 +1,13 @@
 -- What a read takes and a write adds, where the bytes are known.
-use Rattle.std.specs.Prelude.{ℕ, ◌<◌, ◌≤◌, List, [], ◌∷◌, length, take, Option, Some, None}
+use Rattle.std.specs.Prelude.{◌≡◌, ℕ, ◌<◌, ◌≤◌, List, [], ◌∷◌, length, take, Option, Some, None, ⊤}
+use Rattle.std.specs.Borrow.{Bor}
 use Rattle.std.specs.Io.KnownBytes.{Appends, Consumes, IsAtEnd}
+use Rattle.std.specs.List.{flat_map}
+
+-- the input agrees with what a reader tells of the bytes that it has left
+abbrev pub IsInput : Option (List ℕ) → List ℕ → Type 0
+IsInput None input = ⊤
+IsInput (Some bytes) input = input ≡ bytes
 
 -- a byte was taken, or the input was at its end
 abbrev pub TakesByte : Option ℕ → Option (List ℕ) → Option (List ℕ) → Type 0
@@ -12,3 +19,7 @@ pub record AppendsFront (bytes : List ℕ) (old new : Option (List ℕ)) (count 
   pub some : 0 < count
   pub within : count ≤ length bytes
   pub sent : Appends old new (take count bytes)
+
+-- the bytes of pieces, one piece after another
+abbrev pub joined : List (Bor (List ℕ)) → List ℕ
+joined pieces = flat_map (λ piece. piece.now) pieces

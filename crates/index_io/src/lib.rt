@@ -4,5 +4,5 @@
 mod sink;
 mod source;
 
-pub use sink::{Output, Sink, write_bytes};
+pub use sink::{Output, Sink, write_bytes, write_pieces};
 pub use source::{Failed, Input, Source, next_byte};

@@ -1,7 +1,7 @@
 //! What takes bytes.
-ghost use Rattle.std.specs.Prelude.{◌≡◌, ◌<◌, ℕ, List, Option, length, take, is_ok, IfErr, IfOk, OnErr, OnOk};
+ghost use Rattle.std.specs.Prelude.{◌≡◌, ◌<◌, ◌^◌, ℕ, List, Option, length, take, is_ok, IfErr, IfOk, OnErr, OnOk};
 ghost use Rattle.std.specs.Io.KnownBytes.{Appends, Keeps};
-ghost use Rattle.index_io.specs.Bytes.{AppendsFront};
+ghost use Rattle.index_io.specs.Bytes.{AppendsFront, joined};
 ghost use Rattle.index_io.specs.Counts.{next_count, HasFailed};
 
 use crate::source::Failed;
@@ -89,6 +89,27 @@ pub fn write_bytes<K: Sink>(sink: &mut K, bytes: &[u8]) -> Result<(), usize>
             return Err(written);
         };
         written += count;
+    }
+    Ok(())
+}
+
+/// Writes pieces one after another. An error tells how many of their bytes went out, before a write failed or took no
+/// byte.
+pub fn write_pieces<K: Sink>(sink: &mut K, pieces: &[&[u8]]) -> Result<(), u64>
+    requires { length (joined pieces.now) < 2 ^ 64 }
+    ensures whole { OnOk result
+        (Appends (K.contents sink.old) (K.contents sink.new) (joined pieces.now)) }
+    ensures front { IfErr result (λ count. (count < length (joined pieces.now))
+        × Appends (K.contents sink.old) (K.contents sink.new) (take count (joined pieces.now))) }
+    ensures kept { OnOk result (K.failures sink.new ≡ K.failures sink.old) }
+    ensures failed { OnErr result (HasFailed (K.failures sink.old) (K.failures sink.new)) }
+{
+    let mut written = 0u64;
+    for piece in pieces {
+        if let Err(count) = write_bytes(sink, piece) {
+            return Err(written + count as u64);
+        }
+        written += piece.len() as u64;
     }
     Ok(())
 }

@@ -1,5 +1,5 @@
-//! What no clause says of `write_bytes`: which ends come.
-use index_io::{Output, write_bytes};
+//! What no clause says of `write_bytes` and `write_pieces`: which ends come.
+use index_io::{Output, write_bytes, write_pieces};
 use std::alloc::AllocGlobal;
 use std::io;
 use std::io::{Error, ErrorKind, Write};
@@ -77,4 +77,38 @@ fn bytes_go_out_as_far_as_they_are_taken(rt: HostRuntime) {
     assert_taken(&rt, "accepted", 5, 1, true, "accep");
     assert_taken(&rt, "accepted", 0, 1, false, "");
     assert_taken(&rt, "", 0, 1, true, "");
+}
+
+/// Just these bytes of the pieces `no`, none and `record` go out, as `assert_taken` says of one text.
+fn assert_pieces_taken(
+    rt: &(impl Abort + AllocGlobal),
+    room: usize,
+    at_a_time: usize,
+    fails: bool,
+    taken: &str,
+) {
+    let mut output = Output::new(Short {
+        taken: Vec::new(rt.alloc()),
+        room,
+        at_a_time,
+        fails,
+    });
+    let ended = write_pieces(&mut output, &[b"no".as_slice(), b"", b"record"]);
+    let is_taken = output.writer.taken.as_slice() == taken.as_bytes();
+    let wanted = if taken == "norecord" {
+        Ok(())
+    } else {
+        Err(taken.len() as u64)
+    };
+    assert!(rt; is_taken && ended == wanted);
+}
+
+#[test]
+fn pieces_go_out_as_far_as_they_are_taken(rt: HostRuntime) {
+    assert_pieces_taken(&rt, 100, 100, true, "norecord");
+    assert_pieces_taken(&rt, 8, 1, true, "norecord");
+    assert_pieces_taken(&rt, 5, 100, false, "norec");
+    assert_pieces_taken(&rt, 2, 1, true, "no");
+    assert_pieces_taken(&rt, 1, 100, false, "n");
+    assert_pieces_taken(&rt, 0, 1, false, "");
 }
