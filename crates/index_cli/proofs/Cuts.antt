@@ -5,7 +5,8 @@ use Rattle.std.specs.Io.KnownBytes.{Consumes, IsAtEnd}
 use Rattle.std.proofs.KnownBytes.{Consumes-nil, Consumes-trans}
 use Rattle.std.proofs.lemmas.List.{take-append-le}
 use Rattle.std.proofs.lemmas.List.Elements.{All-head, All-nil, All-push, All-tail}
-use Rattle.index_cli.specs.Lines.{line_feed, longest_line, lines_of, onto_first, Charges, HasNoFeed, IsInput, IsKept, Passes, TakesLine, TakesLines, TakesPart, TakesWithin}
+use Rattle.index_io.specs.Bytes.{IsInput}
+use Rattle.index_cli.specs.Lines.{line_feed, longest_line, lines_of, onto_first, Charges, HasNoFeed, IsKept, Passes, TakesLine, TakesLines, TakesPart, TakesWithin}
 
 -- ---- the lines of what begins with a line
 

@@ -7,21 +7,21 @@ use Rattle.index_rules.specs.History.{History}
 use Rattle.index_rules.specs.StandsFor.{StandsFor}
 use Rattle.index_rules.specs.Legal.{history_after, IsLegal}
 use Rattle.index_rules.proofs.StandsOn.{CarriesOn-answer}
-use Rattle.index_desk.specs.Standings.{IsStandingAfter}
-use Rattle.index_desk.proofs.StandingLemmas.{IsStandingAfter-standing_in}
+use Rattle.index_desk.specs.Rules.{by_history, by_tables}
+use Rattle.index_desk.proofs.RulesLemmas.{standing_by_history}
 use Rattle.index_json.specs.Line.{line_of}
 use Rattle.index_json.specs.declared.line.Line.{Line}
 use Rattle.index_json.specs.declared.line.Line.TheVariants as line
 use Rattle.index_cli.specs.Ends.{TellsAll, TellsBefore, TellsDuring}
 use Rattle.index_cli.specs.Lines.{longest_line}
-use Rattle.index_cli.specs.Telling.{by_history, by_tables, TellsAsked, TellsLine, TellsLines, TellsStanding}
+use Rattle.index_cli.specs.Telling.{TellsAsked, TellsLine, TellsLines, TellsStanding}
 use Rattle.index_cli.specs.TellsHistory.{TellsHistory}
 
 standing_after : (h : History) (T : Tables) → StandsFor T h → (name : Option (List ℕ)) (text : List ℕ)
     → TellsStanding by_tables T name text → TellsStanding by_history h name text
 standing_after h T stands None text tells = tells
 standing_after h T stands (Some name) text (inl (standing, is, told)) =
-    inl (standing, subst (λ s. IsStandingAfter h name s) (sym is) (IsStandingAfter-standing_in h T stands name), told)
+    inl (standing, standing_by_history h T stands name standing is, told)
 standing_after h T stands (Some name) text (inr fault) = inr fault
 
 -- one line: what was told, and the history for which the tables stand then

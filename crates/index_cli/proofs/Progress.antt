@@ -4,12 +4,13 @@ use Rattle.std.specs.Io.KnownBytes.{Appends, Consumes, IsAtEnd}
 use Rattle.std.proofs.KnownBytes.{Appends-trans, Appends-nil}
 use Rattle.std.proofs.Math.Seq.{take-append-add}
 use Rattle.index_rules.specs.Tables.{Tables}
+use Rattle.index_desk.specs.Rules.{by_tables}
 use Rattle.index_json.specs.AnswerText.{bad_body_text}
 use Rattle.index_json.specs.Line.{line_of}
 use Rattle.index_cli.specs.Ends.{TellsAll, TellsBefore, TellsDuring}
 use Rattle.index_cli.specs.Lines.{line_feed, longest_line, TakesLine, TakesPart}
 use Rattle.index_cli.specs.Replies.{TellsKept}
-use Rattle.index_cli.specs.Telling.{by_tables, TellsAsked, TellsLine, TellsLines}
+use Rattle.index_cli.specs.Telling.{TellsAsked, TellsLine, TellsLines}
 use Rattle.index_cli.proofs.Cuts.{Cuts, Cuts-input, Cuts-nil, Cuts-part, Cuts-push, Cuts-taken, Cuts-whole}
 
 -- ---- one line

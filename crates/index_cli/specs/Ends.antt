@@ -1,8 +1,9 @@
 -- What is known at each end of a run over lines.
 use Rattle.std.specs.Prelude.{◌≡◌, ℕ, ◌<◌, List, [], ◌∷◌, ◌++◌, length, take, Option, Result, Ok, Err}
 use Rattle.std.specs.Io.KnownBytes.{Appends, Consumes, IsAtEnd}
+use Rattle.index_io.specs.Bytes.{IsInput}
 use Rattle.index_rules.specs.Tables.{Tables}
-use Rattle.index_cli.specs.Lines.{lines_of, IsInput, TakesLines, TakesWithin}
+use Rattle.index_cli.specs.Lines.{lines_of, TakesLines, TakesWithin}
 use Rattle.index_cli.specs.declared.end.LineEnd.{LineEnd}
 use Rattle.index_cli.specs.declared.end.LineEnd.TheVariants.{ReadFault, WriteFault, OutOfMemory}
 

@@ -1,5 +1,5 @@
 -- The lines of an input, and what a reader has left once some were taken.
-use Rattle.std.specs.Prelude.{◌≡◌, ◌≢◌, ℕ, ◌+◌, ◌<◌, ◌==◌, ◌⊎◌, List, [], ◌∷◌, ◌++◌, length, take, Option, Some, None, if◌then◌else◌, ⊤}
+use Rattle.std.specs.Prelude.{◌≡◌, ◌≢◌, ℕ, ◌+◌, ◌<◌, ◌==◌, ◌⊎◌, List, [], ◌∷◌, ◌++◌, length, take, Option, Some, None, if◌then◌else◌}
 use Rattle.std.specs.List.{All}
 use Rattle.std.specs.Io.KnownBytes.{Consumes, IsAtEnd}
 
@@ -21,11 +21,6 @@ abbrev pub lines_of : List ℕ → List (List ℕ)
 lines_of [] = []
 lines_of (byte ∷ input) =
     if byte == line_feed then [] ∷ lines_of input else onto_first byte (lines_of input)
-
--- the input agrees with what a reader tells of the bytes that it has left
-abbrev pub IsInput : Option (List ℕ) → List ℕ → Type 0
-IsInput None input = ⊤
-IsInput (Some bytes) input = input ≡ bytes
 
 -- no byte of the line is a line feed
 abbrev pub HasNoFeed : List ℕ → Type 0

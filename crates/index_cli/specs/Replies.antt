@@ -1,8 +1,9 @@
 -- The reply to a line.
 use Rattle.std.specs.Prelude.{◌≡◌, ℕ, List, length, take, string_bytes}
 use Rattle.index_rules.specs.Tables.{Tables}
+use Rattle.index_desk.specs.Rules.{by_tables}
 use Rattle.index_cli.specs.Lines.{longest_line}
-use Rattle.index_cli.specs.Telling.{by_tables, TellsLine}
+use Rattle.index_cli.specs.Telling.{TellsLine}
 use Rattle.index_cli.specs.declared.reply.Reply.{Reply}
 use Rattle.index_cli.specs.declared.reply.Reply.TheVariants.{Fixed, Made}
 

@@ -5,38 +5,15 @@ use Rattle.index_rules.specs.declared.answer.Answer.{Answer}
 use Rattle.index_rules.specs.declared.answer.Answer.TheVariants as answer
 use Rattle.index_rules.specs.declared.answer.Fault.{Fault}
 use Rattle.index_rules.specs.declared.answer.Refusal.TheVariants.{BadName}
-use Rattle.index_rules.specs.declared.call.Call.{Call}
-use Rattle.index_rules.specs.Tables.{Tables}
-use Rattle.index_rules.specs.Verdict.{Verdict, verdict_now}
-use Rattle.index_rules.specs.Runs.{Answers, tables_after}
-use Rattle.index_rules.specs.History.{History}
-use Rattle.index_rules.specs.Legal.{verdict_after, history_after}
+use Rattle.index_rules.specs.Runs.{Answers}
 use Rattle.index_desk.specs.declared.standing.Standing.{Standing}
-use Rattle.index_desk.specs.Standings.{standing_in, IsStandingAfter}
+use Rattle.index_desk.specs.Rules.{Rules}
 use Rattle.index_json.specs.AnswerText.{answer_text_of, bad_body_text}
 use Rattle.index_json.specs.StandingText.{standing_text_of}
 use Rattle.index_json.specs.Line.{line_of}
 use Rattle.index_json.specs.declared.line.Line.{Line}
 use Rattle.index_json.specs.declared.line.Line.TheVariants as line
 use Rattle.index_cli.specs.Lines.{line_feed, longest_line}
-
--- the verdict on a call in a state, the state after its answer, and what stands of a name
-pub record Rules (S : Type 0) : Type 1 where
-  pub verdict : S → Call → Verdict
-  pub next : S → Call → Answer → S
-  pub Stands : S → List ℕ → Standing → Type 0
-
--- the rules by the tables
-abbrev pub by_tables : Rules Tables
-by_tables = record {
-  verdict = verdict_now;
-  next = tables_after;
-  Stands = λ T name standing. standing ≡ standing_in T name;
-}
-
--- the rules by a history
-abbrev pub by_history : Rules History
-by_history = record { verdict = verdict_after; next = history_after; Stands = IsStandingAfter }
 
 -- what is told of the standing of a name, where it can be read: the standing, or a fault
 abbrev pub TellsStanding : {S : Type 0} → Rules S → S → Option (List ℕ) → List ℕ → Type 0

@@ -4,7 +4,8 @@ use Rattle.index_rules.specs.Tables.{Tables}
 use Rattle.index_rules.specs.History.{History}
 use Rattle.index_rules.specs.StandsFor.{StandsFor}
 use Rattle.index_rules.specs.Legal.{IsLegal}
-use Rattle.index_cli.specs.Telling.{by_history, TellsLines}
+use Rattle.index_desk.specs.Rules.{by_history}
+use Rattle.index_cli.specs.Telling.{TellsLines}
 
 -- the text is what the history gives of these lines, and the tables stand for the history then
 pub record TellsHistory (h : History)

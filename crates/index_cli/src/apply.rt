@@ -6,9 +6,10 @@ ghost use Rattle.index_rules.specs.Sound.{IsSound};
 ghost use Rattle.index_rules.specs.History.{History};
 ghost use Rattle.index_rules.specs.StandsFor.{StandsFor};
 ghost use Rattle.index_rules.specs.Legal.{IsLegal};
+ghost use Rattle.index_desk.specs.Rules.{by_tables};
 ghost use Rattle.index_cli.specs.Ends.{Ends};
 ghost use Rattle.index_cli.specs.Lines.{Charges};
-ghost use Rattle.index_cli.specs.Telling.{by_tables, TellsLines};
+ghost use Rattle.index_cli.specs.Telling.{TellsLines};
 ghost use Rattle.index_cli.specs.TellsHistory.{TellsHistory};
 
 use crate::end::LineEnd;

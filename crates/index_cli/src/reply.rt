@@ -3,9 +3,10 @@ ghost use Rattle.std.specs.Prelude.{◌≡◌, Some, IfErr, IfOk, OnErr};
 ghost use Rattle.index_names.specs.Project.{read_name};
 ghost use Rattle.index_rules.specs.Facts.{HasOneBearer};
 ghost use Rattle.index_rules.specs.Sound.{IsSound};
+ghost use Rattle.index_desk.specs.Rules.{by_tables};
 ghost use Rattle.index_json.specs.Line.{line_of};
 ghost use Rattle.index_cli.specs.Replies.{reply_text, TellsKept};
-ghost use Rattle.index_cli.specs.Telling.{by_tables, TellsAsked, TellsStanding};
+ghost use Rattle.index_cli.specs.Telling.{TellsAsked, TellsStanding};
 
 use crate::end::LineEnd;
 use crate::input::LONGEST_LINE;

@@ -4,5 +4,6 @@ pub mod Looks
 pub mod Crashes
 pub mod Projects
 pub mod PastRows
+pub mod Rules
 pub mod Checks
 pub mod Reports

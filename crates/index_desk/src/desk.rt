@@ -163,12 +163,8 @@ impl<B: Books> Desk<B> {
         ensures history { B.IsHonest self.new →
             IfOk result (λ standing. (h : History) → StandsFor (B.tables self.old) h →
             IsStandingAfter h name.now standing) }
-        ensures unchanged { B.IsHonest self.new → B.tables self.new ≡ B.tables self.old }
-        ensures kept { OnOk result (B.failures self.new ≡ B.failures self.old) }
-        ensures store { IfErr result (λ fault. fault ≡ Fault.Store →
-            HasFailed (B.failures self.old) (B.failures self.new)) }
-        ensures failures { FailsAtMostOnce (B.failures self.old) (B.failures self.new) }
-        ensures honest { B.IsHonest self.new → B.IsHonest self.old }
+        ensures look { Looks B.IsHonest B.IsClean B.tables B.failures B.may_leave
+            self.old self.new result }
     {
         let mut view = seen_name(&mut self.books, alloc, name)?;
         match view.name.take() {
@@ -192,12 +188,8 @@ impl<B: Books> Desk<B> {
         ensures history { B.IsHonest self.new →
             IfOk result (λ body. (h : History) → StandsFor (B.tables self.old) h →
             body ≡ body_after h file.now) }
-        ensures unchanged { B.IsHonest self.new → B.tables self.new ≡ B.tables self.old }
-        ensures kept { OnOk result (B.failures self.new ≡ B.failures self.old) }
-        ensures store { IfErr result (λ fault. fault ≡ Fault.Store →
-            HasFailed (B.failures self.old) (B.failures self.new)) }
-        ensures failures { FailsAtMostOnce (B.failures self.old) (B.failures self.new) }
-        ensures honest { B.IsHonest self.new → B.IsHonest self.old }
+        ensures look { Looks B.IsHonest B.IsClean B.tables B.failures B.may_leave
+            self.old self.new result }
     {
         self.books.bytes_of(alloc, file)
     }

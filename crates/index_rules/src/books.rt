@@ -1,7 +1,9 @@
 //! The tables behind a trait.
-ghost use Rattle.std.specs.Prelude.{◌≡◌, ◌⊎◌, ℕ, IfOk, OnOk, OnErr, is_ok, false, not};
+ghost use Rattle.std.specs.Prelude.{◌≡◌, ◌⊎◌, ℕ, List, IfOk, OnOk, OnErr, is_ok, false, not};
 ghost use Rattle.std.specs.FinMap.{get};
 ghost use Rattle.index_io.specs.Counts.{next_count};
+ghost use Rattle.index_rules.specs.declared.rows.FileRow.{FileRow as FileRowData};
+ghost use Rattle.index_rules.specs.declared.rows.NameRow.{NameRow as NameRowData};
 ghost use Rattle.index_rules.specs.Tables.{Tables, owners_in};
 ghost use Rattle.index_rules.specs.Facts.{Sees};
 ghost use Rattle.index_rules.specs.Effect.{means};
@@ -111,10 +113,13 @@ pub trait Books {
 
     /// Hands the held names to a taker one at a time, in byte order, until it wants no more. It changes no table.
     ///
-    /// `Stopped` exactly where the taker answered `false`. It is no fault, and is not counted.
+    /// `Stopped` exactly where the taker answered `false`. It is no fault, and is not counted. Whatever the store does,
+    /// the taker is given some rows in this way, and nothing else is done to it.
     fn walk_held<K: NameTaker>(&mut self, alloc: Global, taker: &mut K) -> Result<(), WalkEnd>
         ensures walked { IsHonest self.old → IsClean self.new →
             let rows = held_rows_in (tables self.old) in
+            Walks K.takes K.stops rows taker.old taker.new result }
+        ensures given { (rows : List NameRowData) ×
             Walks K.takes K.stops rows taker.old taker.new result }
         ensures unchanged { IsHonest self.new → tables self.new ≡ tables self.old }
         ensures honest { IsHonest self.new → IsHonest self.old }
@@ -129,7 +134,8 @@ pub trait Books {
     /// Hands the undeleted files of a name to a taker one at a time, in byte order, until it wants no more. It changes
     /// no table.
     ///
-    /// `Stopped` exactly where the taker answered `false`. It is no fault, and is not counted.
+    /// `Stopped` exactly where the taker answered `false`. It is no fault, and is not counted. Whatever the store does,
+    /// the taker is given some rows in this way, and nothing else is done to it.
     fn walk_files<K: FileTaker>(
         &mut self,
         alloc: Global,
@@ -138,6 +144,8 @@ pub trait Books {
     ) -> Result<(), WalkEnd>
         ensures walked { IsHonest self.old → IsClean self.new →
             let rows = file_rows_in (tables self.old) name.now in
+            Walks K.takes K.stops rows taker.old taker.new result }
+        ensures given { (rows : List FileRowData) ×
             Walks K.takes K.stops rows taker.old taker.new result }
         ensures unchanged { IsHonest self.new → tables self.new ≡ tables self.old }
         ensures honest { IsHonest self.new → IsHonest self.old }

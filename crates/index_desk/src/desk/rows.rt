@@ -7,6 +7,7 @@ ghost use Rattle.index_rules.specs.TableRows.{held_rows_in, is_held_row as is_he
 ghost use Rattle.index_rules.specs.Verdict.{is_held as is_held_lem};
 ghost use Rattle.index_rules.specs.Walks.{Walks};
 ghost use Rattle.index_rules.specs.History.{History};
+ghost use Rattle.index_rules.specs.PastNames.{is_held_now, state_after};
 ghost use Rattle.index_rules.specs.StandsFor.{StandsFor};
 ghost use Rattle.index_desk.specs.Looks.{Looks, LooksInWalk};
 ghost use Rattle.index_desk.specs.PastRows.{AreHeldRowsAfter, AreProjectRowsAfter};
@@ -18,6 +19,20 @@ use index_rules::{Books, Fault, FileRow, FileTaker, NameRecord, NameRow, NameTak
 use std::alloc::Global;
 
 impl<B: Books> Desk<B> {
+    /// Whether a name is held. It changes no table.
+    pub fn is_held(&mut self, alloc: Global, name: &NormalName) -> Result<bool, Fault>
+        ensures held { B.IsHonest self.new →
+            IfOk result (λ held. held ≡ is_held_lem (get (B.tables self.old).names name.now)) }
+
+        // It is so after each history for which the tables stand.
+        ensures history { B.IsHonest self.new → IfOk result (λ held. (h : History) →
+            StandsFor (B.tables self.old) h → held ≡ is_held_now (state_after h name.now)) }
+        ensures look { Looks B.IsHonest B.IsClean B.tables B.failures B.may_leave
+            self.old self.new result }
+    {
+        is_held(&mut self.books, alloc, name)
+    }
+
     /// The held names with their records, in byte order. It changes no table.
     pub fn root_rows(&mut self, alloc: Global) -> Result<Vec<NameRow>, Fault>
         ensures rows { B.IsHonest self.new →
@@ -68,6 +83,10 @@ impl<B: Books> Desk<B> {
         ensures history { B.IsHonest self.old → B.IsClean self.new → (h : History) →
             StandsFor (B.tables self.old) h → (rows : List NameRowData) ×
             AreHeldRowsAfter h rows × Walks K.takes K.stops rows taker.old taker.new result }
+
+        // Whatever the store did, the taker was given some rows in this way.
+        ensures given { (rows : List NameRowData) ×
+            Walks K.takes K.stops rows taker.old taker.new result }
         ensures look { LooksInWalk B.IsHonest B.IsClean B.tables B.failures B.may_leave
             self.old self.new result }
     {
@@ -88,6 +107,10 @@ impl<B: Books> Desk<B> {
         ensures history { B.IsHonest self.old → B.IsClean self.new → (h : History) →
             StandsFor (B.tables self.old) h → (rows : Option (List FileRowData)) ×
             AreProjectRowsAfter h name.now rows ×
+            WalksProject K.takes K.stops rows taker.old taker.new result }
+
+        // Whatever the store did, the taker was given some rows in this way, or nothing.
+        ensures given { (rows : Option (List FileRowData)) ×
             WalksProject K.takes K.stops rows taker.old taker.new result }
         ensures look { LooksInWalk B.IsHonest B.IsClean B.tables B.failures B.may_leave
             self.old self.new result }

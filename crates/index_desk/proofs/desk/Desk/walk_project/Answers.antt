@@ -1,4 +1,4 @@
-use Rattle.std.proofs.Common.{arith}
+use Rattle.std.proofs.Common.{Some, arith, refl}
 use Rattle.std.proofs.lemmas.Grind.{common_steps}
 use Rattle.index_desk.specs.Projects.{project_rows_in}
 use Rattle.index_desk.proofs.RowLemmas.{AreProjectRowsAfter-project_rows_in}
@@ -30,3 +30,11 @@ returns-clause-history g c = λ honest clean h stands.
     let T = g.B.Books.tables c.args.self.now in
     let name = c.args.name.now in
     (project_rows_in T name, AreProjectRowsAfter-project_rows_in h T stands name, returns-clause-walked g c honest clean)
+
+pub returns-in_err-walk_files-clause-given : goal.returns-in_err-walk_files-clause-given
+returns-in_err-walk_files-clause-given g c =
+    let given = c.in_err-walk_files.ensures.given in
+    (Some given.0, grind (arith, common_steps))
+
+pub returns-clause-given : goal.returns-clause-given
+returns-clause-given g c = let given = c.in_ok-walk_files.ensures.given in (Some given.0, (given.1, refl))
