@@ -74,6 +74,10 @@ answer_value (answer.Fault fault) = kind_value (codes "fault") (name_member (fau
 unfoldable pub answer_text_of : Answer → List ℕ
 answer_text_of answer = compact_text (answer_value answer)
 
+-- the answer to a message that is none, by the name of its fault
+unfoldable pub message_text_of : List ℕ → List ℕ
+message_text_of name = compact_text (kind_value (codes "message") (name_member name))
+
 -- the answer to what asks nothing
 unfoldable pub bad_body_text : List ℕ
-bad_body_text = compact_text (kind_value (codes "message") (name_member (codes "BadBody")))
+bad_body_text = message_text_of (codes "BadBody")
