@@ -1,14 +1,14 @@
 -- The length of a page is that of its text.
-use Rattle.std.proofs.Common.{◌≡◌, ℕ, [], ◌∙◌, ap, refl, Ok, Err, Option, None, Some, IsSome}
+use Rattle.std.proofs.Common.{◌≡◌, ℕ, [], ◌∙◌, ap, refl, sym, Ok, Err, Option, None, Some, IsSome}
 use Rattle.std.specs.Prelude.{Result, option_map}
 use Rattle.index_rules.specs.Maps.{Bytes}
 use Rattle.index_rules.specs.declared.answer.Fault.{Fault}
 use Rattle.index_rules.specs.declared.answer.Fault.TheVariants as fault
 use Rattle.index_pages.specs.Rest.{Rest}
 use Rattle.index_pages.specs.Ends.{Closes, Ends, Measures, SendsRowFront, SinkState, count_of}
-use Rattle.index_pages.specs.States.{MeasuresPage, StopsText, end_at, ended_at, length_state, no_sink}
+use Rattle.index_pages.specs.States.{MeasuresPage, StopsLength, StopsText, end_at, ended_at, length_state, no_sink}
 use Rattle.index_pages.specs.declared.end.PageEnd.{PageEnd}
-use Rattle.index_pages.proofs.TextLemmas.{page_ends}
+use Rattle.index_pages.proofs.TextLemmas.{broken_of, page_ends}
 
 count-end_at : (count : ℕ) (end : Fault) → count_of (end_at count end) ≡ count
 count-end_at count fault.OutOfMemory = refl
@@ -53,3 +53,15 @@ pub measures : {R : Type 0} (rest : Rest R) (length : ℕ) (end : Option Fault) 
 measures rest length end result ended closed start rows fresh given =
     measured length (start.rest rows) start.sink no_sink result
     (page_ends (length_state rest length end) no_sink (ended_at length result) (told length end result ended) (λ is. closed (ongoing_of length end is)) start rows fresh given)
+
+-- where a row was not taken the fault at that row is told
+pub stops : {R : Type 0} (rest : Rest R) (length : ℕ) (end : Option Fault) (result : Result ℕ Fault)
+    → ((fault : Fault) → end ≡ Some fault → result ≡ Err fault)
+    → StopsLength (length_state rest length end) result
+stops rest length None result ended start rows fresh given =
+    let broken = broken_of rows start (length_state rest length None) fresh given in
+    cc broken.is
+stops rest length (Some end) result ended start rows fresh given =
+    let broken = broken_of rows start (length_state rest length (Some end)) fresh given in
+    let same : end_at length end ≡ broken.end = cc broken.is in
+    (end, ended end refl, λ more store. broken.past more length (sym same ∙ ap (end_at length) store))

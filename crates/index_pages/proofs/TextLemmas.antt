@@ -123,17 +123,18 @@ pub record Broken {R : Type 0} (start : TextState R) (rows : List R) (now : Text
   pub is : now.end ≡ Some end
   pub count : count_of end ≡ now.written
   pub front : IsFront start.rest rows start.sink.contents now.sink.contents now.written
-  pub past : Passes end (length (start.rest rows))
+  pub past : (more : List R) → Passes end (length (start.rest (rows ++ more)))
   pub caused : IsCaused end start.sink.failures now.sink.failures
 
 pub broken_of : {R : Type 0} (rows : List R) (start now : TextState R) → IsFresh start → StoppedAt TakesText StopsText rows start now → Broken start rows now
-broken_of rows start now fresh h =
+broken_of {R} rows start now fresh h =
     let taken = taken_of h.taken start h.between fresh.ongoing h.took in
     let stop = h.stopped.stopped taken.ongoing in
     let end = stop.end in
     let cut = stop.sends in
     let all = all_given h.taken start h.between cut.bytes (count_of end) now.sink fresh taken cut.sends in
-    let page : start.rest rows ≡ taken.text ++ h.between.rest (h.row ∷ []) = ap start.rest h.split ∙ taken.next (h.row ∷ []) in
+    let split : (more : List R) → start.rest (rows ++ more) ≡ taken.text ++ h.between.rest (h.row ∷ more) = λ more.
+    ap (λ x. start.rest (x ++ more)) h.split ∙ ap start.rest (append_assoc h.taken (h.row ∷ []) more) ∙ taken.next (h.row ∷ more) in
     record {
       end = end;
       is = stop.is;
@@ -144,11 +145,10 @@ broken_of rows start now fresh h =
         size = sym stop.count ∙ all.count ∙ zero-add (length (taken.text ++ cut.bytes));
         begins = λ more. let left = cut.begins more in (
           left.0,
-          ap (λ x. start.rest (x ++ more)) h.split ∙ ap start.rest (append_assoc h.taken (h.row ∷ []) more)
-              ∙ taken.next (h.row ∷ more) ∙ ap (λ x. taken.text ++ x) left.1 ∙ sym (append_assoc taken.text cut.bytes left.0),
+          split more ∙ ap (λ x. taken.text ++ x) left.1 ∙ sym (append_assoc taken.text cut.bytes left.0),
         );
       };
-      past = λ n e. passed (start.rest rows) taken.text (h.between.rest (h.row ∷ [])) h.between.written page (given_count start h.taken h.between fresh taken) (cut.past [] n e);
+      past = λ more n e. passed (start.rest (rows ++ more)) taken.text (h.between.rest (h.row ∷ more)) h.between.written (split more) (given_count start h.taken h.between fresh taken) (cut.past more n e);
       caused = subst (λ n. IsCaused end n now.sink.failures) taken.steady cut.caused;
     }
 
@@ -179,7 +179,7 @@ ends_broken rows start now after result broken e same =
     let page = ap start.rest (sym (append-nil rows)) ∙ left.1 in
     let sends : Sends start.sink now.sink 0 (count_of broken.end) front.bytes = record { wrote = front.wrote; count = broken.count ∙ front.size ∙ sym (zero-add (length front.bytes)) } in
     let ends = front_ends (start.rest rows) front.bytes left.0 start.sink now.sink (count_of broken.end) sends page in
-    rw (e, same) (record { wrote = ends.0; within = ends.1; past = broken.past; caused = broken.caused })
+    rw (e, same) (record { wrote = ends.0; within = ends.1; past = rw append-nil at (broken.past []); caused = broken.caused })
 
 -- the page is finished
 pub page_ends : {R : Type 0} (now : TextState R) (after : SinkState) (result : Result ℕ PageEnd)

@@ -1,12 +1,12 @@
 -- A page that is written row by row, as contracts see it.
-use Rattle.std.specs.Prelude.{◌≡◌, ℕ, List, ◌++◌, length, Option, Some, None, IsSome, Result, Ok, Err, option_map}
+use Rattle.std.specs.Prelude.{◌≡◌, ℕ, ◌<◌, List, ◌++◌, length, Option, Some, None, IsSome, Result, Ok, Err, option_map}
 use Rattle.std.specs.Io.KnownBytes.{Appends}
 use Rattle.index_rules.specs.Maps.{Bytes}
 use Rattle.index_rules.specs.Rows.{StoppedAt, WasGiven}
 use Rattle.index_rules.specs.declared.answer.Fault.{Fault}
 use Rattle.index_rules.specs.declared.answer.Fault.TheVariants as fault
 use Rattle.index_pages.specs.Rest.{Rest}
-use Rattle.index_pages.specs.Ends.{SinkState, SendsRow, SendsRowFront, count_of, Ends, Measures}
+use Rattle.index_pages.specs.Ends.{SinkState, SendsRow, SendsRowFront, count_of, most_bytes, Ends, Measures}
 use Rattle.index_pages.specs.declared.end.PageEnd.{PageEnd}
 use Rattle.index_pages.specs.declared.end.PageEnd.TheVariants.{OutOfMemory, Store}
 
@@ -99,3 +99,8 @@ length_state rest length end = text_state rest no_sink length (option_map (end_a
 -- the length of the page of the rows that were given
 abbrev pub MeasuresPage : {R : Type 0} → TextState R → Result ℕ Fault → Type 0
 MeasuresPage now result = AfterRows now (λ start rows. Measures (start.rest rows) result)
+
+-- where a row was not taken there is no length, and `Store` is told only where every page that begins with these rows is too long
+abbrev pub StopsLength : {R : Type 0} → TextState R → Result ℕ Fault → Type 0
+StopsLength {R} now result = (start : TextState R) (rows : List R) → IsFresh start → StoppedAt TakesText StopsText rows start now
+    → (end : Fault) × (result ≡ Err end) × ((more : List R) → end ≡ fault.Store → most_bytes < length (start.rest (rows ++ more)))

@@ -5,7 +5,7 @@ ghost use Rattle.index_rules.specs.declared.rows.NameRow.{NameRow as NameRowData
 ghost use Rattle.index_pages.specs.Ends.{Closes, SendsRow, SendsRowFront};
 ghost use Rattle.index_pages.specs.Pages.{project_page_of, root_page_of};
 ghost use Rattle.index_pages.specs.Parts.{project_rest, root_rest};
-ghost use Rattle.index_pages.specs.States.{end_at, ended_at, length_state, no_sink, MeasuresPage};
+ghost use Rattle.index_pages.specs.States.{end_at, ended_at, length_state, no_sink, MeasuresPage, StopsLength};
 
 use crate::page::Page;
 use crate::project::ProjectPage;
@@ -69,10 +69,12 @@ impl<'p, P: Page> PageLength<'p, P> {
     }
 
     /// How many bytes the page of the rows that were given has. `Store` where they are more than
-    /// 9,223,372,036,854,775,807; the other fault is `OutOfMemory`.
+    /// 9,223,372,036,854,775,807; the other fault is `OutOfMemory`. Where a row was not taken it is the fault at that row.
     pub fn finish(self) -> Result<u64, Fault>
-        ensures { let rest = P.rest self.entry.page self.entry.name.now in
+        ensures page { let rest = P.rest self.entry.page self.entry.name.now in
             MeasuresPage (length_state rest self.entry.length self.entry.end) result }
+        ensures stopped { let rest = P.rest self.entry.page self.entry.name.now in
+            StopsLength (length_state rest self.entry.length self.entry.end) result }
     {
         self.close()
     }

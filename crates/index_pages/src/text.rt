@@ -101,6 +101,30 @@ impl<'a, 'p, K: Sink, P: Page> PageText<'a, 'p, K, P> {
         self.written
     }
 
+    /// Lets the page go before it is finished, and tells how many bytes were written, as `written` does. Nothing more is
+    /// written.
+    pub fn abandon(self) -> u64
+        ensures count { result ≡ self.entry.written }
+        ensures kept { self.exit.0.now ≡ self.entry.sink.now }
+        ensures front { let old = self.entry.sink.now in
+            let sink = sink_state (K.contents old) (K.failures old) in
+            let rest = P.rest self.entry.page self.entry.name.now in
+            IsWritten (text_state rest sink self.entry.written self.entry.end) }
+        ensures steady { let old = self.entry.sink.now in
+            let sink = sink_state (K.contents old) (K.failures old) in
+            let rest = P.rest self.entry.page self.entry.name.now in
+            IsSteady (text_state rest sink self.entry.written self.entry.end) }
+    {
+        let PageText {
+            sink: _sink,
+            name: _name,
+            page: _page,
+            written,
+            end: _end,
+        } = self;
+        written
+    }
+
     /// Writes what stands behind the rows, and tells how many bytes the page has.
     ///
     /// The end tells why the page was not finished and how many of its bytes went out: `OutOfMemory`; `Store` where it

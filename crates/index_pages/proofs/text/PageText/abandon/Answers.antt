@@ -1,0 +1,8 @@
+use Rattle.index_pages.proofs.TextLemmas.{front_of, steady_of}
+use Rattle.index_pages.proofs.text.PageText.abandon.Goals as goal
+
+pub returns-clause-front : goal.returns-clause-front
+returns-clause-front g c = front_of _
+
+pub returns-clause-steady : goal.returns-clause-steady
+returns-clause-steady g c = steady_of _
