@@ -1,0 +1,96 @@
+-- What was read is the message that the input begins with.
+use Rattle.std.proofs.Common.{◌≡◌, ℕ, ◌<◌, ◌≤◌, inr, List, [], ◌++◌, length, drop, map, take, Option, Some, None, Ok, refl, sym, ap, ◌∙◌, arith, append_assoc, length-append, true, false}
+use Rattle.std.specs.Prelude.{nat_le, unwrap_or}
+use Rattle.std.specs.Io.KnownBytes.{Consumes, IsAtEnd}
+use Rattle.std.proofs.lemmas.Bool.Decides.{nat_tests}
+use Rattle.std.proofs.lemmas.List.{append-nil, take-append-le}
+use Rattle.httparse.specs.Grammar.{RequestHead}
+use Rattle.std.proofs.KnownBytes.{Consumes-trans}
+use Rattle.httparse.specs.Spans.{header_bytes, span_bytes}
+use Rattle.httparse.specs.declared.spans.HeaderSpan.{HeaderSpan}
+use Rattle.httparse.specs.declared.spans.RequestSpans.{RequestSpans}
+use Rattle.httparse.proofs.GrammarLemmas.{ReadsRequest-append}
+use Rattle.index_io.specs.Bytes.{IsInput}
+use Rattle.index_message.specs.Heads.{HasHead, IsHeadAt}
+use Rattle.index_message.specs.Messages.{FollowsHead, IsMessage, asked_by, asked_of, is_head, message_by, message_of, whole_of}
+use Rattle.index_message.specs.Fields.{fields_of}
+use Rattle.index_message.specs.declared.fault.MessageFault.TheVariants.{ShortBody}
+use Rattle.index_message.specs.declared.message.Message.TheVariants.{Faulty}
+use Rattle.index_message.specs.declared.read.Asked.{Asked}
+use Rattle.index_message.specs.declared.message.Message.{Message}
+
+-- what a source gave and what it has left are its input
+pub input_is : (old new : Option (List ℕ)) (held : List ℕ) → Consumes old new held → IsInput old (held ++ unwrap_or new [])
+input_is None new held c = tt
+input_is (Some xs) None held c = absurd c
+input_is (Some xs) (Some ys) held c = sym c
+
+-- a head at the front of what was read is at the front of any input that begins so
+head_is : (held more : List ℕ) (fields : List HeaderSpan) (spans : RequestSpans) (found : IsHeadAt held fields spans) → length held ≤ 16384
+    → HasHead (held ++ more) found.head (drop spans.len held ++ more)
+head_is held more fields spans found short = record {
+  reads = ReadsRequest-append held found.head (drop spans.len held) more found.at.reads;
+  short = omega (arith, found.at.len, found.within.section.len_fits);
+  few = found.few;
+}
+
+behind : (held more rest : List ℕ) (fields : List HeaderSpan) (spans : RequestSpans) (found : IsHeadAt held fields spans) → length held ≤ 16384
+    → HasHead ((held ++ more) ++ rest) found.head ((drop spans.len held ++ more) ++ rest)
+behind held more rest fields spans found short =
+    rw (append_assoc held more rest, append_assoc (drop spans.len held) more rest) (head_is held (more ++ rest) fields spans found short)
+
+-- what the spans of a head ask for is what the head does
+pub asked_is : (held : List ℕ) (fields : List HeaderSpan) (spans : RequestSpans) (found : IsHeadAt held fields spans)
+    → asked_by (span_bytes held spans.method) (span_bytes held spans.path) (map (header_bytes held) (take spans.headers fields)) ≡ asked_of found.head
+asked_is held fields spans found =
+    ap (λ m. asked_by m (span_bytes held spans.path) (map (header_bytes held) (take spans.headers fields))) found.at.method
+    ∙ ap (λ t. asked_by found.head.method t (map (header_bytes held) (take spans.headers fields))) found.at.path
+    ∙ ap (asked_by found.head.method found.head.target) found.at.fields
+
+-- a whole body makes a request
+with_enough : (head : RequestHead) (rest body : List ℕ) (asked : Asked) → asked.length ≤ length rest → take asked.length rest ≡ body
+    → message_by head rest (Ok asked) ≡ whole_of asked (fields_of head) body
+with_enough head rest body asked enough is =
+    let yes : nat_le asked.length (length rest) ≡ true = grind (arith, nat_tests) in rw (yes, is) refl
+
+-- a part of it makes none
+with_less : (head : RequestHead) (rest : List ℕ) (asked : Asked) → length rest < asked.length
+    → message_by head rest (Ok asked) ≡ Faulty ShortBody (is_head head)
+with_less head rest asked less =
+    let short : nat_le asked.length (length rest) ≡ false = grind (arith, nat_tests) in rw short refl
+
+-- the request whose body came, whatever is left
+pub follows_whole : (held more rest body : List ℕ) (fields : List HeaderSpan) (spans : RequestSpans) (found : IsHeadAt held fields spans) (asked : Asked)
+    → asked_of found.head ≡ Ok asked → asked.length ≤ length (drop spans.len held ++ more) → body ≡ take asked.length (drop spans.len held ++ more)
+    → whole_of asked (map (header_bytes held) (take spans.headers fields)) body ≡ message_of found.head ((drop spans.len held ++ more) ++ rest)
+follows_whole held more rest body fields spans found asked is enough taken =
+    let front = drop spans.len held ++ more in
+    let longer : asked.length ≤ length (front ++ rest) = rw length-append (omega arith) in
+    ap (λ f. whole_of asked f body) found.at.fields
+    ∙ sym (ap (message_by found.head (front ++ rest)) is
+    ∙ with_enough found.head (front ++ rest) body asked longer (take-append-le asked.length front rest enough ∙ sym taken))
+
+at_end : (new : Option (List ℕ)) → IsAtEnd new → unwrap_or new [] ≡ []
+at_end None end = refl
+at_end (Some left) end = end
+
+-- the fault of a body that did not come whole
+pub follows_short : (held more : List ℕ) (new : Option (List ℕ)) (fields : List HeaderSpan) (spans : RequestSpans) (found : IsHeadAt held fields spans) (asked : Asked)
+    → asked_of found.head ≡ Ok asked → length (drop spans.len held ++ more) < asked.length → IsAtEnd new
+    → Faulty ShortBody (is_head found.head) ≡ message_of found.head ((drop spans.len held ++ more) ++ unwrap_or new [])
+follows_short held more new fields spans found asked is less end =
+    let front = drop spans.len held ++ more in
+    let all : front ++ unwrap_or new [] ≡ front = ap (λ rest. front ++ rest) (at_end new end) ∙ append-nil front in
+    sym (ap (message_of found.head) all ∙ ap (message_by found.head front) is ∙ with_less found.head front asked less)
+
+-- a head and what follows it are the message of the input
+pub message_read : (old mid new : Option (List ℕ)) (held : List ℕ) (fields : List HeaderSpan) (spans : RequestSpans) (found : IsHeadAt held fields spans) (message : Message)
+    → length held ≤ 16384 → Consumes old mid held → FollowsHead found.head (drop spans.len held) mid new message
+    → (input : List ℕ) × IsInput old input × IsMessage input message
+message_read old mid new held fields spans found message short taken follows =
+    let rest = unwrap_or new [] in
+    let more = follows.0 in (
+      (held ++ more) ++ rest,
+      input_is old new (held ++ more) (Consumes-trans old mid new held more taken follows.1),
+      inr (found.head, (drop spans.len held ++ more) ++ rest, behind held more rest fields spans found short, follows.2),
+    )

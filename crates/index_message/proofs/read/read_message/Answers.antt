@@ -1,0 +1,29 @@
+use Rattle.std.proofs.Common.{arith, inl, refl, ap, Ok, ◌++◌, [], length, ◌≤◌, length-append}
+use Rattle.std.specs.Prelude.{unwrap_or}
+use Rattle.std.proofs.KnownBytes.{Consumes-trans}
+use Rattle.std.proofs.lemmas.Result.{IfOk-weaker}
+use Rattle.index_message.specs.Heads.{IsHeadAt}
+use Rattle.index_message.proofs.MessageLemmas.{input_is, message_read}
+use Rattle.index_message.proofs.read.read_message.Goals as goal
+
+pub returns-in_default-clause-message : goal.returns-in_default-clause-message
+returns-in_default-clause-message g c = (
+  c.read_head.new.held.items ++ unwrap_or (g.S.Source.remaining c.read_head.new.source) [],
+  input_is _ _ _ c.in_ok-spans.ensures.consumed,
+  inl (c.in_ok-spans.ensures.none (ap Ok c.in_default.is), refl),
+)
+
+pub returns-clause-message : goal.returns-clause-message
+returns-clause-message g c =
+    let found : IsHeadAt c.read_head.new.held.items c.read_head.new.fields c.in-Some.spans = rw c.in-Some.is at c.in_ok-spans.ensures.head in
+    let short : length c.read_head.new.held.items ≤ 16384 = omega (arith, c.in_ok-spans.ensures.short, c.read_head.new.held.ok.0) in
+    IfOk-weaker c.read_rest.result _ _
+    (λ message follows. message_read _ _ _ _ _ _ found message short c.in_ok-spans.ensures.consumed (follows found)) c.read_rest.ensures.message
+
+pub returns-clause-limit : goal.returns-clause-limit
+returns-clause-limit g c =
+    let rest = c.read_rest.ensures.limit in (
+      c.read_head.new.held.items ++ rest.0,
+      rw length-append (omega (arith, rest.1, c.in_ok-spans.ensures.short, c.read_head.new.held.ok.0)),
+      Consumes-trans _ _ _ _ _ c.in_ok-spans.ensures.consumed rest.2,
+    )

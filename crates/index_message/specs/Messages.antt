@@ -1,0 +1,89 @@
+-- The message that a connection begins with.
+use Rattle.std.specs.Prelude.{◌≡◌, ◌⊎◌, ℕ, ◌<◌, ◌≤◌, Bool, false, List, [], ◌++◌, take, length, if◌then◌else◌, nat_le, bytes_eq, codes, Option, Some, None, unwrap_or, Result, Ok, Err}
+use Rattle.std.specs.Io.KnownBytes.{Consumes, IsAtEnd}
+use Rattle.httparse.specs.Grammar.{RequestHead}
+use Rattle.index_rules.specs.Maps.{Bytes}
+use Rattle.index_message.specs.Heads.{HasHead, HasNoHead}
+use Rattle.index_message.specs.Fields.{Field, fields_of}
+use Rattle.index_message.specs.Lengths.{body_length}
+use Rattle.index_message.specs.Requests.{Request}
+use Rattle.index_message.specs.Resources.{allowed_of, allows, method_of, resource_of}
+use Rattle.index_message.specs.declared.fault.MessageFault.{MessageFault}
+use Rattle.index_message.specs.declared.fault.MessageFault.TheVariants.{BadHead, BadMethod, NoRoute, ShortBody}
+use Rattle.index_message.specs.declared.read.Asked.{Asked}
+use Rattle.index_message.specs.declared.message.Message.{Message}
+use Rattle.index_message.specs.declared.message.Message.TheVariants.{Faulty, Whole}
+use Rattle.index_message.specs.declared.resource.Method.{Method}
+use Rattle.index_message.specs.declared.resource.Resource.{Resource}
+
+-- a resource and a method that it has
+abbrev pub Target : Type 0
+Target = Resource × Method
+
+-- a resource with the method of this name, where it has that
+abbrev pub with_method : Resource → Option Method → Result Target MessageFault
+with_method resource None = Err (BadMethod (allowed_of resource))
+with_method resource (Some method) = if allows (allowed_of resource) method then Ok (resource, method) else Err (BadMethod (allowed_of resource))
+
+-- what a resource and the name of a method are together
+abbrev pub target_by : Bytes → Option Resource → Result Target MessageFault
+target_by name None = Err NoRoute
+target_by name (Some resource) = with_method resource (method_of name)
+
+-- what a head asks for
+abbrev pub target_of : RequestHead → Result Target MessageFault
+target_of head = target_by head.method (resource_of head.target)
+
+-- a target with the length of its body
+abbrev pub with_length : Target → Result ℕ MessageFault → Result Asked MessageFault
+with_length target (Err fault) = Err fault
+with_length target (Ok n) = Ok (record { resource = target.0; method = target.1; length = n })
+
+-- the same, with the length that the fields say
+abbrev pub with_fields : List Field → Result Target MessageFault → Result Asked MessageFault
+with_fields fields (Err fault) = Err fault
+with_fields fields (Ok target) = with_length target (body_length target.1 fields)
+
+-- what the name of a method, a target and fields ask for together: the first fault in this order, or a request
+abbrev pub asked_by : Bytes → Bytes → List Field → Result Asked MessageFault
+asked_by name target fields = with_fields fields (target_by name (resource_of target))
+
+-- what a head asks for
+abbrev pub asked_of : RequestHead → Result Asked MessageFault
+asked_of head = asked_by head.method head.target (fields_of head)
+
+-- a reply to `HEAD` has no body (RFC 9110, section 9.3.2)
+abbrev pub is_head : RequestHead → Bool
+is_head head = bytes_eq head.method (codes "HEAD")
+
+-- the message of a request with these fields and this body
+abbrev pub whole_of : Asked → List Field → Bytes → Message
+whole_of asked fields body = Whole (record { method = asked.method; resource = asked.resource; fields = fields }) body
+
+-- the message that a head and the bytes behind it are, by what the head asks for
+abbrev pub message_by : RequestHead → Bytes → Result Asked MessageFault → Message
+message_by head rest (Err fault) = Faulty fault (is_head head)
+message_by head rest (Ok asked) =
+    if nat_le asked.length (length rest) then whole_of asked (fields_of head) (take asked.length rest) else Faulty ShortBody (is_head head)
+
+-- the message that a head and the bytes behind it are
+abbrev pub message_of : RequestHead → Bytes → Message
+message_of head rest = message_by head rest (asked_of head)
+
+-- the message that an input begins with; bytes behind it are none of it
+abbrev pub IsMessage : Bytes → Message → Type 0
+IsMessage input message =
+    (HasNoHead input × (message ≡ Faulty BadHead false))
+    ⊎ ((head : RequestHead) × (rest : Bytes) × HasHead input head rest × (message ≡ message_of head rest))
+
+-- ---- as it is read
+
+-- a body of this length, of the front that was there and more that came; or the input ended before it
+abbrev pub TakesBody : ℕ → Bytes → Bytes → Option Bytes → Option Bytes → Type 0
+TakesBody n front more left (Some body) = (n ≤ length (front ++ more)) × (body ≡ take n (front ++ more))
+TakesBody n front more left None = (length (front ++ more) < n) × IsAtEnd left
+
+-- the message of a head, behind which the front was there, more came and the rest is left
+abbrev pub FollowsHead : RequestHead → Bytes → Option Bytes → Option Bytes → Message → Type 0
+FollowsHead head front old new message =
+    (more : Bytes) × Consumes old new more × (message ≡ message_of head ((front ++ more) ++ unwrap_or new []))

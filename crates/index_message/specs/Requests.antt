@@ -1,0 +1,11 @@
+-- Requests whose head was read.
+use Rattle.std.specs.Prelude.{List}
+use Rattle.index_message.specs.Fields.{Field}
+use Rattle.index_message.specs.declared.resource.Method.{Method}
+use Rattle.index_message.specs.declared.resource.Resource.{Resource}
+
+-- the head of a request, by its parts
+pub record Request : Type 0 where
+  pub method : Method
+  pub resource : Resource
+  pub fields : List Field

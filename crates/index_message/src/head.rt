@@ -1,0 +1,142 @@
+//! The head of a request, read in whatever pieces it comes.
+ghost use Rattle.std.specs.Prelude.{◌≡◌, ◌≢◌, ◌≤◌, ◌<◌, ◌+◌, [], ◌++◌, List, ℕ, true, false, length, vec_len, None, Ok, Err, IfOk, IfSome, OnOk, unwrap_or};
+ghost use Rattle.std.specs.Io.KnownBytes.{Consumes, IsAtEnd};
+ghost use Rattle.index_io.specs.Counts.{HasFailed};
+ghost use Rattle.index_message.specs.Heads.{HasNoHead, IsHeadAt, Tries, longest_head, most_fields};
+
+use httparse::Status;
+use httparse::spans::{HeaderSpan, RequestSpans, parse_request};
+use index_io::Source;
+use std::alloc::AllocError;
+
+/// The most bytes of a head.
+const LONGEST_HEAD: usize = 16_384;
+
+/// The most header fields of a head.
+pub const MOST_FIELDS: usize = 64;
+
+/// The most bytes that are asked for at once.
+const PIECE: usize = 4096;
+
+/// Why nothing was read.
+#[derive(Clone, Copy, Debug, PartialEq, Eq)]
+pub enum ReadEnd {
+    /// A read failed.
+    ReadFault,
+    OutOfMemory,
+}
+
+/// What the bytes so far are.
+pub enum Tried {
+    /// They begin with a head.
+    Whole(RequestSpans),
+    /// They begin with none, whatever follows.
+    Never,
+    /// They begin with none yet.
+    Unfinished,
+}
+
+/// Reads a head, and maybe bytes behind it. `None` where the input begins with none.
+pub fn read_head<S: Source>(
+    source: &mut S,
+    held: &mut Vec<u8>,
+    fields: &mut [HeaderSpan],
+) -> Result<Option<RequestSpans>, ReadEnd>
+    requires empty { held.old.items ≡ [] }
+    requires room { length fields.old ≡ most_fields }
+    ensures short { vec_len held.new ≤ longest_head }
+    ensures consumed { OnOk result
+        (Consumes (S.remaining source.old) (S.remaining source.new) held.new.items) }
+    ensures head { IfOk result (λ found. IfSome found (IsHeadAt held.new.items fields.new)) }
+    ensures none { result ≡ Ok None
+        → HasNoHead (held.new.items ++ unwrap_or (S.remaining source.new) []) }
+    ensures read_fault { result ≡ Err ReadEnd.ReadFault
+        → HasFailed (S.failures source.old) (S.failures source.new) }
+    ensures reads { result ≢ Err ReadEnd.ReadFault → S.failures source.new ≡ S.failures source.old }
+    ensures limit { (taken : List ℕ) × (length taken ≤ longest_head)
+        × Consumes (S.remaining source.old) (S.remaining source.new) taken }
+{
+    while held.len() < LONGEST_HEAD {
+        if read_more(source, held, LONGEST_HEAD)? == 0 {
+            return Ok(None);
+        }
+        match try_head(held.as_slice(), fields) {
+            Tried::Whole(spans) => return Ok(Some(spans)),
+            Tried::Never => return Ok(None),
+            Tried::Unfinished => {}
+        }
+    }
+    Ok(None)
+}
+
+/// Tries the bytes that came so far.
+fn try_head(bytes: &[u8], fields: &mut [HeaderSpan]) -> Tried
+    requires room { length fields.old ≡ most_fields }
+    ensures tries { Tries result bytes.now fields.new }
+{
+    match parse_request(bytes, fields) {
+        Ok(Status::Complete(spans)) => Tried::Whole(spans),
+        Ok(Status::Partial) => Tried::Unfinished,
+        Err(_) => Tried::Never,
+    }
+}
+
+/// Reads until so many bytes are held, or the input ends. Tells whether they are.
+pub fn read_up_to<S: Source>(
+    source: &mut S,
+    held: &mut Vec<u8>,
+    wanted: usize,
+) -> Result<bool, ReadEnd>
+    ensures consumed { OnOk result ((more : List ℕ) × (held.new.items ≡ held.old.items ++ more)
+        × Consumes (S.remaining source.old) (S.remaining source.new) more) }
+    ensures full { result ≡ Ok true → wanted ≤ vec_len held.new }
+    ensures ended { result ≡ Ok false
+        → (vec_len held.new < wanted) × IsAtEnd (S.remaining source.new) }
+    ensures read_fault { result ≡ Err ReadEnd.ReadFault
+        → HasFailed (S.failures source.old) (S.failures source.new) }
+    ensures reads { result ≢ Err ReadEnd.ReadFault → S.failures source.new ≡ S.failures source.old }
+    ensures limit { (taken : List ℕ) × (length taken ≤ wanted)
+        × Consumes (S.remaining source.old) (S.remaining source.new) taken }
+{
+    while held.len() < wanted {
+        if read_more(source, held, wanted)? == 0 {
+            return Ok(false);
+        }
+    }
+    Ok(true)
+}
+
+/// Reads once, up to so many bytes in all, and adds what came. None came only at the end of the input.
+fn read_more<S: Source>(source: &mut S, held: &mut Vec<u8>, most: usize) -> Result<usize, ReadEnd>
+    requires room { vec_len held.old < most }
+    ensures came { IfOk result (λ count. vec_len held.new ≡ vec_len held.old + count) }
+    ensures most { vec_len held.new ≤ most }
+    ensures consumed { OnOk result ((more : List ℕ) × (held.new.items ≡ held.old.items ++ more)
+        × Consumes (S.remaining source.old) (S.remaining source.new) more) }
+    ensures end { result ≡ Ok 0 → IsAtEnd (S.remaining source.new) }
+    ensures read_fault { result ≡ Err ReadEnd.ReadFault
+        → HasFailed (S.failures source.old) (S.failures source.new) }
+    ensures reads { result ≢ Err ReadEnd.ReadFault → S.failures source.new ≡ S.failures source.old }
+    ensures limit { (taken : List ℕ) × (vec_len held.old + length taken ≤ most)
+        × Consumes (S.remaining source.old) (S.remaining source.new) taken }
+{
+    let mut piece = [0u8; PIECE];
+    let room = PIECE.min(most - held.len());
+    let Ok(came) = source.give(&mut piece[..room]) else {
+        return Err(ReadEnd::ReadFault);
+    };
+    if held.extend_from_slice(&piece[..came]).is_err() {
+        return Err(ReadEnd::OutOfMemory);
+    }
+    Ok(came)
+}
+
+impl From<AllocError> for ReadEnd {
+    ghost use Rattle.index_message.specs.declared.head.ReadEnd.TheVariants.{OutOfMemory};
+
+    ghost from_gives = { λ _ end. end ≡ OutOfMemory };
+
+    fn from(_error: AllocError) -> ReadEnd {
+        ReadEnd::OutOfMemory
+    }
+}

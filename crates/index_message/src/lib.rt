@@ -1,0 +1,21 @@
+//! One message of HTTP/1.1 from any source: its head, its route, its framing and its body.
+#![tactic(auto)]
+
+mod fault;
+mod fields;
+mod head;
+mod length;
+mod message;
+mod read;
+mod request;
+mod resource;
+mod site;
+mod target;
+
+pub use fault::{Allowed, MessageFault};
+pub use head::ReadEnd;
+pub use message::Message;
+pub use read::read_message;
+pub use request::Request;
+pub use resource::{Method, Resource};
+pub use site::Site;

@@ -1,0 +1,178 @@
+//! One message, read from any source.
+ghost use Rattle.std.specs.Prelude.{◌≡◌, ◌≢◌, ◌≤◌, ◌+◌, List, ℕ, length, map, drop, Err, IfOk, All};
+ghost use Rattle.std.specs.Io.KnownBytes.{Consumes};
+ghost use Rattle.httparse.specs.Spans.{IsHeaderWithin, IsRequestWithin, IsWithin, header_bytes, span_bytes};
+ghost use Rattle.index_io.specs.Bytes.{IsInput};
+ghost use Rattle.index_io.specs.Counts.{HasFailed};
+ghost use Rattle.index_message.specs.Heads.{IsHeadAt, longest_head};
+ghost use Rattle.index_message.specs.Lengths.{longest_upload};
+ghost use Rattle.index_message.specs.Messages.{FollowsHead, IsMessage, TakesBody, asked_by, whole_of};
+
+use crate::fault::MessageFault;
+use crate::head::{MOST_FIELDS, ReadEnd, read_head, read_up_to};
+use crate::length::body_length;
+use crate::message::Message;
+use crate::request::Request;
+use crate::resource::{Method, Resource};
+use crate::site::Site;
+use crate::target::target;
+use httparse::spans::{EMPTY_HEADER_SPAN, HeaderSpan, RequestSpans};
+use index_io::Source;
+use index_rules::Bytes;
+use std::alloc::{AllocError, Global};
+
+/// What the request line and the fields of a head ask for.
+#[derive(Drop)]
+pub struct Asked {
+    pub resource: Resource,
+    pub method: Method,
+    /// How many bytes the body has.
+    pub length: u64,
+}
+
+/// Reads the message that an input begins with, and at most 16,384 bytes for its head and 16,777,216 for its body.
+/// `ReadFault` where a read fails.
+pub fn read_message<S: Source>(
+    alloc: Global,
+    site: &Site,
+    source: &mut S,
+) -> Result<Message, ReadEnd>
+    ensures message { IfOk result (λ message. (input : List ℕ)
+        × IsInput (S.remaining source.old) input × IsMessage input message) }
+    ensures read_fault { result ≡ Err ReadEnd.ReadFault
+        → HasFailed (S.failures source.old) (S.failures source.new) }
+    ensures reads { result ≢ Err ReadEnd.ReadFault → S.failures source.new ≡ S.failures source.old }
+    ensures limit { (taken : List ℕ) × (length taken ≤ longest_head + longest_upload)
+        × Consumes (S.remaining source.old) (S.remaining source.new) taken }
+{
+    let mut bytes = Vec::new(alloc);
+    let mut fields = [EMPTY_HEADER_SPAN; MOST_FIELDS];
+    let Some(spans) = read_head(source, &mut bytes, &mut fields)? else {
+        return Ok(Message::Faulty {
+            fault: MessageFault::BadHead,
+            is_head: false,
+        });
+    };
+    read_rest(alloc, site, source, bytes, &fields, spans)
+}
+
+/// Reads what follows a head.
+fn read_rest<S: Source>(
+    alloc: Global,
+    site: &Site,
+    source: &mut S,
+    bytes: Vec<u8>,
+    fields: &[HeaderSpan],
+    spans: RequestSpans,
+) -> Result<Message, ReadEnd>
+    requires within { IsRequestWithin bytes.items fields.now spans }
+    ensures message { IfOk result (λ message. (found : IsHeadAt bytes.items fields.now spans)
+        → FollowsHead found.head (drop spans.len bytes.items)
+        (S.remaining source.old) (S.remaining source.new) message) }
+    ensures read_fault { result ≡ Err ReadEnd.ReadFault
+        → HasFailed (S.failures source.old) (S.failures source.new) }
+    ensures reads { result ≢ Err ReadEnd.ReadFault → S.failures source.new ≡ S.failures source.old }
+    ensures limit { (taken : List ℕ) × (length taken ≤ longest_upload)
+        × Consumes (S.remaining source.old) (S.remaining source.new) taken }
+{
+    let head = bytes.as_slice();
+    let is_head = spans.method.of(head) == b"HEAD".as_slice();
+    let asked = match what_is_asked(alloc, site, head, &fields[..spans.headers], &spans)? {
+        Ok(asked) => asked,
+        Err(fault) => return Ok(Message::Faulty { fault, is_head }),
+    };
+    match read_body(alloc, source, &head[spans.len..], asked.length)? {
+        Some(body) => Ok(whole(alloc, asked, bytes, &fields[..spans.headers], body)?),
+        None => Ok(Message::Faulty {
+            fault: MessageFault::ShortBody,
+            is_head,
+        }),
+    }
+}
+
+/// What a head asks for, or its first fault.
+fn what_is_asked(
+    alloc: Global,
+    site: &Site,
+    head: &[u8],
+    fields: &[HeaderSpan],
+    spans: &RequestSpans,
+) -> Result<Result<Asked, MessageFault>, AllocError>
+    requires fields { All (IsHeaderWithin (length head.now)) fields.now }
+    requires method { IsWithin (length head.now) spans.now.method }
+    requires path { IsWithin (length head.now) spans.now.path }
+    ensures bound { IfOk result (λ asked. IfOk asked (λ asked. asked.length ≤ longest_upload)) }
+    ensures asked { IfOk result (λ asked. asked
+        ≡ asked_by (span_bytes head.now spans.now.method) (span_bytes head.now spans.now.path)
+        (map (header_bytes head.now) fields.now)) }
+{
+    let (resource, method) = match target(
+        alloc,
+        site,
+        spans.method.of(head),
+        spans.path.of(head),
+    )? {
+        Ok(target) => target,
+        Err(fault) => return Ok(Err(fault)),
+    };
+    match body_length(method, head, fields) {
+        Ok(length) => Ok(Ok(Asked {
+            resource,
+            method,
+            length,
+        })),
+        Err(fault) => {
+            drop(resource);
+            Ok(Err(fault))
+        }
+    }
+}
+
+/// Reads a body of this length, of which the front came behind the head. `None` where the input ends before it.
+fn read_body<S: Source>(
+    alloc: Global,
+    source: &mut S,
+    front: &[u8],
+    size: u64,
+) -> Result<Option<Bytes>, ReadEnd>
+    ensures body { IfOk result (λ body. (more : List ℕ)
+        × Consumes (S.remaining source.old) (S.remaining source.new) more
+        × TakesBody size front.now more (S.remaining source.new) body) }
+    ensures read_fault { result ≡ Err ReadEnd.ReadFault
+        → HasFailed (S.failures source.old) (S.failures source.new) }
+    ensures reads { result ≢ Err ReadEnd.ReadFault → S.failures source.new ≡ S.failures source.old }
+    ensures limit { (taken : List ℕ) × (length taken ≤ size)
+        × Consumes (S.remaining source.old) (S.remaining source.new) taken }
+{
+    let size = size as usize;
+    let mut body = Vec::from_slice(alloc, front)?;
+    if !read_up_to(source, &mut body, size)? {
+        return Ok(None);
+    }
+    body.truncate(size);
+    Ok(Some(Bytes::new(body)))
+}
+
+/// The message of a request and its body.
+fn whole(
+    alloc: Global,
+    asked: Asked,
+    bytes: Vec<u8>,
+    fields: &[HeaderSpan],
+    body: Bytes,
+) -> Result<Message, AllocError>
+    requires within { All (IsHeaderWithin (length bytes.items)) fields.now }
+    ensures { IfOk result (λ message.
+        message ≡ whole_of asked (map (header_bytes bytes.items) fields.now) body) }
+{
+    let fields = Vec::from_slice(alloc, fields)?;
+    let Asked {
+        resource,
+        method,
+        ..
+    } = asked;
+    Ok(Message::Whole {
+        request: Request::new(method, resource, bytes, fields),
+        body,
+    })
+}

@@ -1,0 +1,136 @@
+//! What the request line of a head asks for.
+ghost use Rattle.std.specs.Prelude.{◌≡◌, ◌<◌, ◌==◌, Err, Ok, Some, IfErr, IfOk};
+ghost use Rattle.std.specs.List.{after_first, before_first};
+ghost use Rattle.percent_encoding.specs.Percent.{percent_decode};
+ghost use Rattle.index_message.specs.Messages.{target_by};
+ghost use Rattle.index_message.specs.Resources.{file_in as file_in_lem, resource_at as resource_at_lem, resource_of as resource_of_lem, resource_on as resource_on_lem, is_file_of_other as is_file_of_other_lem, tail_of as tail_of_lem};
+
+use crate::fault::MessageFault;
+use crate::resource::{Method, Resource};
+use crate::site::{Route, Site};
+use index_names::{FileName, NameFault};
+use index_rules::Bytes;
+use std::alloc::{AllocError, Global};
+
+/// The resource of a target, with the method of this name: each error has its place in the order of the faults.
+pub fn target(
+    alloc: Global,
+    site: &Site,
+    method: &[u8],
+    target: &[u8],
+) -> Result<Result<(Resource, Method), MessageFault>, AllocError>
+    ensures { IfOk result (λ found. found ≡ target_by method.now (resource_of_lem target.now)) }
+{
+    let Some(resource) = resource_of(alloc, site, target)? else {
+        return Ok(Err(MessageFault::NoRoute));
+    };
+    match allowed_method(&resource, method) {
+        Ok(method) => Ok(Ok((resource, method))),
+        Err(fault) => {
+            drop(resource);
+            Ok(Err(fault))
+        }
+    }
+}
+
+/// The method of this name, where the resource has it.
+fn allowed_method(resource: &Resource, name: &[u8]) -> Result<Method, MessageFault>
+    ensures ok { IfOk result (λ method. target_by name.now (Some resource.now) ≡ Ok (resource.now, method)) }
+    ensures err { IfErr result (λ fault. target_by name.now (Some resource.now) ≡ Err fault) }
+{
+    let allowed = resource.allowed();
+    match Method::named(name) {
+        Some(method) if method.is_in(allowed) => Ok(method),
+        _ => Err(MessageFault::BadMethod(allowed)),
+    }
+}
+
+/// What a target leads to.
+#[tactic(auto, unfolding(crate::specs::Resources::resource_of))]
+fn resource_of(alloc: Global, site: &Site, target: &[u8]) -> Result<Option<Resource>, AllocError>
+    ensures { IfOk result (λ found. found ≡ resource_of_lem target.now) }
+{
+    let Ok(target) = std::str::from_utf8(target) else {
+        return Ok(None);
+    };
+    resource_at(alloc, site, cut_at(target, '?').0)
+}
+
+/// What a path leads to.
+fn resource_at(alloc: Global, site: &Site, path: &str) -> Result<Option<Resource>, AllocError>
+    ensures { IfOk result (λ found. found ≡ resource_at_lem path.now) }
+{
+    match site.route(path) {
+        Some(route) => resource_on(alloc, route, tail_of(path)),
+        None => Ok(None),
+    }
+}
+
+/// What a route leads to, with the segments behind the path's first word.
+fn resource_on(alloc: Global, route: Route, tail: &str) -> Result<Option<Resource>, AllocError>
+    ensures { IfOk result (λ found. found ≡ resource_on_lem route tail.now) }
+{
+    let (first, second) = cut_at(tail, '/');
+    Ok(Some(match route {
+        Route::Simple => Resource::Simple,
+        Route::Root => Resource::Root,
+        Route::Project => Resource::Project(decoded(alloc, first)?),
+        Route::ProjectPage => Resource::ProjectPage(decoded(alloc, first)?),
+        Route::File => return file_in(alloc, first, second),
+        Route::Name => Resource::Name(decoded(alloc, first)?),
+        Route::Requests => Resource::Requests,
+    }))
+}
+
+/// A file of a project, by the segments of both.
+fn file_in(alloc: Global, project: &str, file: &str) -> Result<Option<Resource>, AllocError>
+    ensures { IfOk result (λ found.
+        found ≡ file_in_lem (percent_decode project.now) (percent_decode file.now)) }
+{
+    let project = decoded(alloc, project)?;
+    let file = decoded(alloc, file)?;
+    if is_file_of_other(alloc, project.as_slice(), file.as_slice())? {
+        Ok(None)
+    } else {
+        Ok(Some(Resource::File(file)))
+    }
+}
+
+/// Whether these bytes are a file name that spells another project than this.
+fn is_file_of_other(alloc: Global, project: &[u8], file: &[u8]) -> Result<bool, AllocError>
+    ensures { IfOk result (λ other. other ≡ is_file_of_other_lem project.now file.now) }
+{
+    match FileName::read(alloc, file) {
+        Ok(file) => Ok(file.project().text().as_bytes() != project),
+        Err(NameFault::OutOfMemory) => Err(AllocError),
+        Err(_) => Ok(false),
+    }
+}
+
+/// A segment with its escapes read (RFC 3986, section 2.1).
+fn decoded(alloc: Global, segment: &str) -> Result<Bytes, AllocError>
+    ensures { IfOk result (λ bytes. bytes ≡ percent_decode segment.now) }
+{
+    let mut bytes = Vec::new(alloc);
+    percent_encoding::percent_decode(segment.as_bytes()).append_to(&mut bytes)?;
+    Ok(Bytes::new(bytes))
+}
+
+/// What stands behind the first word of a path.
+fn tail_of(path: &str) -> &str
+    ensures { result.now ≡ tail_of_lem path.now }
+{
+    cut_at(cut_at(path, '/').1, '/').1
+}
+
+/// The text before the first such mark and the text behind it: all of it and nothing where there is none.
+fn cut_at(text: &str, mark: char) -> (&str, &str)
+    requires { mark < 128 }
+    ensures before { result.0.now ≡ before_first (λ b. b == mark) text.now }
+    ensures after { result.1.now ≡ after_first (λ b. b == mark) text.now }
+{
+    match text.split_once(mark) {
+        Some(parts) => parts,
+        None => (text, ""),
+    }
+}

@@ -1,0 +1,74 @@
+//! Heads at their limits, and heads that are none.
+use super::{assert_message, site};
+use std::alloc::AllocGlobal;
+use std::process::Abort;
+
+/// A head with so many fields.
+fn head_of_fields(rt: &(impl Abort + AllocGlobal), count: usize) -> Vec<u8> {
+    let line = b"GET /simple/ HTTP/1.1\r\n";
+    let mut head = Vec::from_slice(rt.alloc(), line).expect(rt, "a line");
+    for _ in 0..count {
+        head.extend_from_slice(b"Name: value\r\n")
+            .expect(rt, "a field");
+    }
+    head.extend_from_slice(b"\r\n").expect(rt, "an end");
+    head
+}
+
+#[test]
+fn most_fields(rt: HostRuntime) {
+    let site = site(&rt);
+    let most = head_of_fields(&rt, 64);
+    assert_message(&rt, &site, most.as_slice(), "GET Root");
+    let more = head_of_fields(&rt, 65);
+    assert_message(&rt, &site, more.as_slice(), "BadHead");
+}
+
+/// So many bytes of a head that has not ended.
+fn open_head(rt: &(impl Abort + AllocGlobal), size: usize) -> Vec<u8> {
+    let front = b"GET /simple/ HTTP/1.1\r\nName: ";
+    let mut head = Vec::from_slice(rt.alloc(), front).expect(rt, "a front");
+    head.resize(size, b'x').expect(rt, "a value");
+    head
+}
+
+/// A head that ends after so many bytes and four more.
+fn head_of_bytes(rt: &(impl Abort + AllocGlobal), size: usize) -> Vec<u8> {
+    let mut head = open_head(rt, size);
+    head.extend_from_slice(b"\r\n\r\n").expect(rt, "an end");
+    head
+}
+
+/// Of 16,384 bytes, and of one more.
+#[test]
+fn most_bytes(rt: HostRuntime) {
+    let site = site(&rt);
+    let most = head_of_bytes(&rt, 16_380);
+    assert_message(&rt, &site, most.as_slice(), "GET Root");
+    let more = head_of_bytes(&rt, 16_381);
+    assert_message(&rt, &site, more.as_slice(), "BadHead");
+}
+
+#[test]
+fn heads_without_an_end(rt: HostRuntime) {
+    let site = site(&rt);
+    assert_message(&rt, &site, b"", "BadHead");
+    assert_message(&rt, &site, b"GET /simple/ HTTP/1.1\r\n", "BadHead");
+    let open = open_head(&rt, 16_384);
+    assert_message(&rt, &site, open.as_slice(), "BadHead");
+}
+
+#[test]
+fn lines_that_are_none(rt: HostRuntime) {
+    let site = site(&rt);
+    let no_colon = b"GET /simple/ HTTP/1.1\r\nName value\r\n\r\n";
+    assert_message(&rt, &site, no_colon, "BadHead");
+    let no_version = b"GET /simple/\r\n\r\n";
+    assert_message(&rt, &site, no_version, "BadHead");
+    let later_version = b"GET /simple/ HTTP/2.0\r\n\r\n";
+    assert_message(&rt, &site, later_version, "BadHead");
+    let no_text = b"GET /simple/\xff HTTP/1.1\r\n\r\n";
+    assert_message(&rt, &site, no_text, "BadHead");
+    let nul = b"GET /simple/\x00 HTTP/1.1\r\n\r\n";
+    assert_message(&rt, &site, nul, "BadHead");
+}

@@ -1,0 +1,52 @@
+//! Reads that fail.
+use super::pieces::Pieces;
+use super::{assert_read, site};
+use index_io::Input;
+use index_message::{ReadEnd, Site, read_message};
+use std::alloc::AllocGlobal;
+use std::process::Abort;
+
+const UPLOAD: &[u8] = b"PUT /files/frob/frob-1.0.tar.gz HTTP/1.1\r\nContent-Length: 3\r\n\r\nabc";
+
+/// The upload in pieces of this size, of which so many come before a read fails.
+fn upload(size: usize, good_reads: usize) -> Pieces<'static> {
+    Pieces {
+        rest: UPLOAD,
+        size,
+        good_reads,
+    }
+}
+
+/// A read fails after so many pieces of the upload, and is told as itself.
+fn assert_fault(rt: &(impl Abort + AllocGlobal), site: &Site, size: usize, good_reads: usize) {
+    let mut input = Input::new(upload(size, good_reads));
+    let message = read_message(rt.alloc(), site, &mut input);
+    let end = message.as_ref().err().copied();
+    drop(message);
+    assert!(rt; end == Some(ReadEnd::ReadFault));
+}
+
+/// No read comes behind the body.
+fn assert_whole(rt: &(impl Abort + AllocGlobal), site: &Site, size: usize, good_reads: usize) {
+    let pieces = upload(size, good_reads);
+    assert_read(rt, site, pieces, "PUT File frob-1.0.tar.gz abc");
+}
+
+#[test]
+fn each_read_can_fail(rt: HostRuntime) {
+    let site = site(&rt);
+    for good_reads in 0..UPLOAD.len() {
+        assert_fault(&rt, &site, 1, good_reads);
+    }
+    assert_whole(&rt, &site, 1, UPLOAD.len());
+}
+
+#[test]
+fn each_read_of_larger_pieces_can_fail(rt: HostRuntime) {
+    let site = site(&rt);
+    let reads = UPLOAD.len().div_ceil(7);
+    for good_reads in 0..reads {
+        assert_fault(&rt, &site, 7, good_reads);
+    }
+    assert_whole(&rt, &site, 7, reads);
+}
