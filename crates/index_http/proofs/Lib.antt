@@ -1,0 +1,6 @@
+pub mod Heads
+pub mod Lengths
+pub mod PassLemmas
+pub mod EndLemmas
+pub mod Histories
+pub mod PageLemmas

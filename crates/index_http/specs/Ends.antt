@@ -1,0 +1,32 @@
+-- How a connection ends.
+use Rattle.std.specs.Prelude.{◌≡◌, ℕ, ◌≤◌, Option, Result, Ok, Err}
+use Rattle.std.specs.Io.KnownBytes.{Keeps}
+use Rattle.index_rules.specs.Maps.{Bytes}
+use Rattle.index_rules.specs.Tables.{Tables}
+use Rattle.index_rules.specs.History.{History}
+use Rattle.index_rules.specs.Legal.{IsLegal}
+use Rattle.index_rules.specs.StandsFor.{StandsFor}
+use Rattle.index_desk.specs.Rules.{by_history}
+use Rattle.index_http.specs.Exchanges.{RepliesToInput}
+use Rattle.index_http.specs.Sends.{SendsText}
+use Rattle.index_http.specs.declared.end.IoEnd.{IoEnd}
+use Rattle.index_http.specs.declared.end.IoEnd.TheVariants.{ReadFault, OutOfMemory, WriteFault, Cut}
+
+-- a reply of this kind went out, or as many of its first bytes as the end tells
+abbrev pub Sends : (Bytes → Type 0) → Option Bytes → Option Bytes → Result (Unit {0}) IoEnd → Type 0
+Sends IsReply before after result = (text : Bytes) × IsReply text × SendsText text before after result
+
+-- a reply of this kind went out, or a front of it; where the end came before that, this holds and nothing did
+abbrev pub Ends : (Bytes → Type 0) → Type 0 → Option Bytes → Option Bytes → Result (Unit {0}) IoEnd → Type 0
+Ends IsReply Unchanged before after (Ok done) = Sends IsReply before after (Ok done)
+Ends IsReply Unchanged before after (Err (WriteFault count)) = Sends IsReply before after (Err (WriteFault count))
+Ends IsReply Unchanged before after (Err (Cut count)) = Sends IsReply before after (Err (Cut count))
+Ends IsReply Unchanged before after (Err ReadFault) = Unchanged × Keeps before after
+Ends IsReply Unchanged before after (Err OutOfMemory) = Unchanged × Keeps before after
+
+-- the tables stand for a legal history after which the connection ends so, by the history before it
+pub record EndsAfter (Cause : Type 0) (at : ℕ) (h : History) (given before after : Option Bytes) (result : Result (Unit {0}) IoEnd) (T' : Tables) : Type 0 where
+  pub later : History
+  pub ends : Ends (λ text. RepliesToInput by_history Cause at h given text later) (later ≡ h) before after result
+  pub legal : IsLegal later
+  pub stands : StandsFor T' later

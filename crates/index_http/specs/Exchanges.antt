@@ -1,0 +1,172 @@
+-- The reply to a message, by rules over any state: the tables, or a history.
+use Rattle.std.specs.Prelude.{◌≡◌, ◌⊎◌, ℕ, ◌<◌, Bool, true, false, List, [], length, map, Option, Some, None, is_some, option_map, bytes_eq, codes}
+use Rattle.std.specs.Borrow.{Bor}
+use Rattle.index_digest.specs.Digest.{sha256}
+use Rattle.index_names.specs.FileName.{read_file_name}
+use Rattle.index_names.specs.Project.{read_name}
+use Rattle.index_rules.specs.Maps.{Bytes}
+use Rattle.index_rules.specs.Runs.{Answers}
+use Rattle.index_rules.specs.declared.answer.Answer.{Answer}
+use Rattle.index_rules.specs.declared.answer.Answer.TheVariants as answer
+use Rattle.index_rules.specs.declared.answer.Fault.TheVariants.{Store}
+use Rattle.index_rules.specs.declared.answer.Refusal.{Refusal}
+use Rattle.index_rules.specs.declared.answer.Refusal.TheVariants.{BadName, NoFile, NoProject}
+use Rattle.index_rules.specs.declared.call.Call.{Call}
+use Rattle.index_rules.specs.declared.call.Request.{Request as Asked}
+use Rattle.index_rules.specs.declared.call.Request.TheVariants.{Delete as DeleteFile, Upload}
+use Rattle.index_rules.specs.declared.rows.FileRow.{FileRow}
+use Rattle.index_rules.specs.declared.rows.NameRow.{NameRow}
+use Rattle.index_desk.specs.Rules.{Rules}
+use Rattle.index_desk.specs.declared.standing.Standing.{Standing}
+use Rattle.index_json.specs.Requests.{request_of}
+use Rattle.index_json.specs.StandingText.{standing_text_of}
+use Rattle.index_io.specs.Bytes.{IsInput}
+use Rattle.index_message.specs.Fields.{Field, value_of, values_of}
+use Rattle.index_message.specs.Messages.{IsMessage}
+use Rattle.index_message.specs.Requests.{Request}
+use Rattle.index_message.specs.Resources.{is_head, is_put, is_reading}
+use Rattle.index_message.specs.declared.fault.Allowed.TheVariants as allowed
+use Rattle.index_message.specs.declared.fault.MessageFault.TheVariants.{BadBody, BadMethod, NotAcceptable}
+use Rattle.index_message.specs.declared.message.Message.{Message}
+use Rattle.index_message.specs.declared.message.Message.TheVariants.{Faulty, Whole}
+use Rattle.index_message.specs.declared.resource.Method.{Method}
+use Rattle.index_message.specs.declared.resource.Method.TheVariants.{Delete, Get, Head, Post, Put}
+use Rattle.index_message.specs.declared.resource.Resource.{Resource}
+use Rattle.index_message.specs.declared.resource.Resource.TheVariants as resource
+use Rattle.index_pages.specs.Accept.{IsChosen}
+use Rattle.index_pages.specs.Ends.{most_bytes}
+use Rattle.index_pages.specs.Pages.{project_page_of, root_page_of}
+use Rattle.index_pages.specs.declared.served.Served.{Served}
+use Rattle.index_http.specs.Replies.{Reply, answer_reply, file_reply, json_reply, message_reply, page_reply, reply_text, to_project, to_root}
+
+-- ---- what is shown
+
+-- the reply of a refusal
+abbrev pub refusal_reply : Refusal → Reply
+refusal_reply refusal = answer_reply false (answer.Refused refusal)
+
+-- the reply where a look at the tables failed
+abbrev pub store_reply : Reply
+store_reply = answer_reply false (answer.Fault Store)
+
+-- the type that is chosen by the values of the `Accept` fields
+abbrev pub IsAccepted : List Field → Option Served → Type 0
+IsAccepted fields chosen =
+    (values : List (Bor Bytes)) × (map (λ value. value.now) values ≡ values_of (codes "accept") fields) × IsChosen values chosen
+
+-- a page in a type, where it is not too long to be served
+abbrev pub ShowsPage : Served → Bytes → Reply → Type 0
+ShowsPage served page reply = (reply ≡ page_reply served page) ⊎ ((reply ≡ store_reply) × (most_bytes < length page))
+
+-- the root page, where a type can be chosen
+abbrev pub ShowsRoot : {S : Type 0} → Rules S → S → Option Served → Reply → Type 0
+ShowsRoot rules s None reply = reply ≡ message_reply NotAcceptable
+ShowsRoot rules s (Some served) reply =
+    (rows : List NameRow) × rules.HeldRows s rows × ShowsPage served (root_page_of served rows) reply
+
+-- the page of these rows of a project, where there is one and a type can be chosen
+abbrev pub ShowsRows : Bytes → Option Served → Option (List FileRow) → Reply → Type 0
+ShowsRows name chosen None reply = reply ≡ refusal_reply NoProject
+ShowsRows name None (Some rows) reply = reply ≡ message_reply NotAcceptable
+ShowsRows name (Some served) (Some rows) reply = ShowsPage served (project_page_of served name rows) reply
+
+-- a project's page
+abbrev pub ShowsProject : {S : Type 0} → Rules S → S → Bytes → Option Served → Reply → Type 0
+ShowsProject rules s name chosen reply =
+    (rows : Option (List FileRow)) × rules.ProjectRows s name rows × ShowsRows name chosen rows reply
+
+-- the way to the page of a project name: to its normal form (PEP 503)
+abbrev pub ShowsWay : Option Bytes → Reply → Type 0
+ShowsWay None reply = reply ≡ refusal_reply NoProject
+ShowsWay (Some name) reply = reply ≡ to_project name
+
+-- the page of a project whose name is given in its normal form, or not: then it is the way there (PEP 503)
+abbrev pub ShowsSpelling : {S : Type 0} → Rules S → S → List Field → Bytes → Bool → Reply → Type 0
+ShowsSpelling rules s fields name true reply = (chosen : Option Served) × IsAccepted fields chosen × ShowsProject rules s name chosen reply
+ShowsSpelling rules s fields name false reply = reply ≡ to_project name
+
+-- the page at what is given as a name
+abbrev pub ShowsAt : {S : Type 0} → Rules S → S → List Field → Bytes → Option Bytes → Reply → Type 0
+ShowsAt rules s fields given None reply = reply ≡ refusal_reply NoProject
+ShowsAt rules s fields given (Some name) reply = ShowsSpelling rules s fields name (bytes_eq name given) reply
+
+-- the bytes of a file
+abbrev pub body_reply : Option Bytes → Reply
+body_reply None = refusal_reply NoFile
+body_reply (Some bytes) = file_reply bytes
+
+-- a file, where this is the name of one
+abbrev pub ShowsFile : {S : Type 0} → Rules S → S → Bytes → Bool → Reply → Type 0
+ShowsFile rules s file true reply = (body : Option Bytes) × rules.Body s file body × (reply ≡ body_reply body)
+ShowsFile rules s file false reply = reply ≡ refusal_reply NoFile
+
+-- what stands of a name, where this can be read as one
+abbrev pub ShowsName : {S : Type 0} → Rules S → S → Option Bytes → Reply → Type 0
+ShowsName rules s None reply = reply ≡ refusal_reply BadName
+ShowsName rules s (Some name) reply =
+    (standing : Standing) × rules.Stands s name standing × (reply ≡ json_reply (standing_text_of standing))
+
+-- what a resource shows
+abbrev pub Shows : {S : Type 0} → Rules S → S → List Field → Resource → Reply → Type 0
+Shows rules s fields resource.Simple reply = reply ≡ to_root
+Shows rules s fields resource.Root reply = (chosen : Option Served) × IsAccepted fields chosen × ShowsRoot rules s chosen reply
+Shows rules s fields (resource.Project name) reply = ShowsWay (read_name name) reply
+Shows rules s fields (resource.ProjectPage name) reply = ShowsAt rules s fields name (read_name name) reply
+Shows rules s fields (resource.File file) reply = ShowsFile rules s file (is_some (read_file_name file)) reply
+Shows rules s fields (resource.Name name) reply = ShowsName rules s (read_name name) reply
+Shows rules s fields resource.Requests reply = reply ≡ message_reply (BadMethod allowed.Requests)
+
+-- ---- what is asked
+
+-- the change that a method asks of a file
+abbrev pub asked_of_file : Method → Bytes → List Field → Bytes → Option Asked
+asked_of_file Put file fields body = Some (Upload file (value_of (codes "x-index-sha256") fields) body (value_of (codes "x-requires-python") fields))
+asked_of_file Delete file fields body = Some (DeleteFile file)
+asked_of_file Get file fields body = None
+asked_of_file Head file fields body = None
+asked_of_file Post file fields body = None
+
+-- the change that a request with this body asks for
+abbrev pub asked_by : Method → Resource → List Field → Bytes → Option Asked
+asked_by method (resource.File file) fields body = asked_of_file method file fields body
+asked_by method resource.Requests fields body = request_of body
+asked_by method resource.Simple fields body = None
+asked_by method resource.Root fields body = None
+asked_by method (resource.Project name) fields body = None
+asked_by method (resource.ProjectPage name) fields body = None
+asked_by method (resource.Name name) fields body = None
+
+-- the call at a moment, by the bearer of the request's token
+abbrev pub call_at : ℕ → List Field → Asked → Call
+call_at at fields asked = record { at = at; token = sha256 (value_of (codes "x-index-token") fields); request = asked }
+
+-- the answer to a call, and the state after it
+abbrev pub Acts : {S : Type 0} → Rules S → Type 0 → Bool → S → Option Call → Reply → S → Type 0
+Acts rules Cause by_put s None reply s' = (reply ≡ message_reply BadBody) × (s' ≡ s)
+Acts rules Cause by_put s (Some call) reply s' =
+    (a : Answer) × (reply ≡ answer_reply by_put a) × Answers (rules.verdict s call) a × (s' ≡ rules.next s call a)
+    × (a ≡ answer.Fault Store → Cause)
+
+-- the call that a request with this body makes
+abbrev pub call_of : ℕ → Request → Bytes → Option Call
+call_of at request body = option_map (call_at at request.fields) (asked_by request.method request.resource request.fields body)
+
+-- the reply to a request, and the state after it. It is shown what it asks for, unless a look at the tables failed
+abbrev pub Replies : {S : Type 0} → Rules S → Type 0 → ℕ → S → Request → Bytes → Bool → Reply → S → Type 0
+Replies rules Cause at s request body true reply s' =
+    (Shows rules s request.fields request.resource reply ⊎ ((reply ≡ store_reply) × Cause)) × (s' ≡ s)
+Replies rules Cause at s request body false reply s' = Acts rules Cause (is_put request.method) s (call_of at request body) reply s'
+
+-- ---- messages
+
+-- the text of the reply to a message, and the state after it
+abbrev pub RepliesTo : {S : Type 0} → Rules S → Type 0 → ℕ → S → Message → Bytes → S → Type 0
+RepliesTo rules Cause at s (Faulty fault to_head) text s' = (text ≡ reply_text to_head (message_reply fault)) × (s' ≡ s)
+RepliesTo rules Cause at s (Whole request body) text s' =
+    (reply : Reply) × (text ≡ reply_text (is_head request.method) reply)
+    × Replies rules Cause at s request body (is_reading request.method) reply s'
+
+-- the text of the reply to the message that an input begins with, and the state after it
+abbrev pub RepliesToInput : {S : Type 0} → Rules S → Type 0 → ℕ → S → Option Bytes → Bytes → S → Type 0
+RepliesToInput rules Cause at s given text s' =
+    (input : Bytes) × (message : Message) × IsInput given input × IsMessage input message × RepliesTo rules Cause at s message text s'

@@ -1,0 +1,10 @@
+-- One connection over HTTP.
+pub mod Printed
+pub mod Sends
+pub mod Statuses
+pub mod Replies
+pub mod PagePasses
+pub mod Exchanges
+pub mod Ends
+pub mod Shows
+pub mod PageShows

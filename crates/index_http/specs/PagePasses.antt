@@ -1,0 +1,63 @@
+-- The two passes over the rows of a page: the first counts its bytes, the second sends them.
+use Rattle.std.specs.Prelude.{◌≡◌, ◌⊎◌, ℕ, ◌<◌, ◌≤◌, Bool, true, false, length, take, Option, Some, None, Result, Ok, Err, ⊤}
+use Rattle.index_io.specs.Counts.{FailsAtMostOnce, HasFailed}
+use Rattle.index_rules.specs.Maps.{Bytes}
+use Rattle.index_rules.specs.Tables.{Tables}
+use Rattle.index_rules.specs.declared.answer.Fault.{Fault}
+use Rattle.index_rules.specs.declared.answer.Fault.TheVariants as fault
+use Rattle.index_rules.specs.declared.rows.WalkEnd.{WalkEnd}
+use Rattle.index_rules.specs.declared.rows.WalkEnd.TheVariants as walk_end
+use Rattle.index_pages.specs.Ends.{most_bytes}
+use Rattle.index_pages.specs.declared.end.PageEnd.{PageEnd}
+use Rattle.index_pages.specs.declared.end.PageEnd.TheVariants as page_end
+use Rattle.index_http.specs.declared.end.IoEnd.{IoEnd}
+use Rattle.index_http.specs.declared.end.IoEnd.TheVariants.{ReadFault, OutOfMemory, WriteFault, Cut}
+
+-- the end of a walk, where a taker that wanted no more rows is no fault
+abbrev pub without_stop : {A : Type 0} → A → Result A WalkEnd → Result A Fault
+without_stop at_stop (Ok done) = Ok done
+without_stop at_stop (Err walk_end.Stopped) = Ok at_stop
+without_stop at_stop (Err walk_end.OutOfMemory) = Err fault.OutOfMemory
+without_stop at_stop (Err walk_end.Store) = Err fault.Store
+
+-- the length of a page is told; `Store` only where the books failed or the page is too long
+abbrev pub MeasuresPage : Bytes → ℕ → ℕ → Result ℕ Fault → Type 0
+MeasuresPage page before after (Ok count) = (count ≡ length page) × (count ≤ most_bytes)
+MeasuresPage page before after (Err fault.Store) =
+    HasFailed before after ⊎ (most_bytes < length page)
+MeasuresPage page before after (Err fault.OutOfMemory) = ⊤
+
+-- the same of a page that there may be: where there is none this is told, or `Store` where the
+-- books failed
+abbrev pub MeasuresProject : Option Bytes → ℕ → ℕ → Result (Option ℕ) Fault → Type 0
+MeasuresProject None before after (Ok count) = count ≡ None
+MeasuresProject None before after (Err fault.Store) = HasFailed before after
+MeasuresProject None before after (Err fault.OutOfMemory) = ⊤
+MeasuresProject (Some page) before after (Ok None) = ⊥
+MeasuresProject (Some page) before after (Ok (Some count)) =
+    MeasuresPage page before after (Ok count)
+MeasuresProject (Some page) before after (Err fault) = MeasuresPage page before after (Err fault)
+
+-- the end of a connection by the end of a page
+abbrev pub io_end_of : PageEnd → IoEnd
+io_end_of (page_end.OutOfMemory count) = Cut count
+io_end_of (page_end.Store count) = Cut count
+io_end_of (page_end.WriteFault count) = WriteFault count
+
+-- the end of the second pass by that of its page
+abbrev pub sent_by : Result ℕ PageEnd → Result (Unit {0}) IoEnd
+sent_by (Ok count) = Ok tt
+sent_by (Err end) = Err (io_end_of end)
+
+-- no table changes, and a crash leaves what it could have left before; one call of the books fails
+-- at most, and none where there is no fault
+pub record KeepsTables {S : Type 0} (is_honest is_clean : S → Type 0) (tables : S → Tables)
+    (failures : S → ℕ) (may_leave : S → Tables → Type 0) (old new : S)
+    (has_fault : Bool) : Type 0 where
+  pub unchanged : is_honest new → tables new ≡ tables old
+  pub kept : has_fault ≡ false → failures new ≡ failures old
+  pub once : FailsAtMostOnce (failures old) (failures new)
+  pub honest : is_honest new → is_honest old
+  pub clean : is_clean new → is_clean old
+  pub lasts : has_fault ≡ false → is_honest old → is_clean new → is_honest new
+  pub crash : is_honest old → is_clean new → (T : Tables) → may_leave new T → may_leave old T

@@ -1,0 +1,11 @@
+-- What the ends of a connection print.
+use Rattle.std.specs.Prelude.{ℕ, List, codes}
+use Rattle.index_http.specs.declared.end.IoEnd.{IoEnd}
+use Rattle.index_http.specs.declared.end.IoEnd.TheVariants.{ReadFault, OutOfMemory, WriteFault, Cut}
+
+-- each end prints its name alone
+abbrev pub io_end_text : IoEnd → List ℕ
+io_end_text ReadFault = codes "ReadFault"
+io_end_text OutOfMemory = codes "OutOfMemory"
+io_end_text (WriteFault count) = codes "WriteFault"
+io_end_text (Cut count) = codes "Cut"

@@ -1,0 +1,41 @@
+-- What is sent of a reply.
+use Rattle.std.specs.Prelude.{ℕ, ◌≤◌, Bool, true, false, length, take, Option, Result, Ok, Err}
+use Rattle.std.specs.Io.KnownBytes.{Appends}
+use Rattle.index_rules.specs.Maps.{Bytes}
+use Rattle.index_message.specs.declared.head.ReadEnd.{ReadEnd}
+use Rattle.index_message.specs.declared.head.ReadEnd.TheVariants as read_end
+use Rattle.index_http.specs.declared.end.IoEnd.{IoEnd}
+use Rattle.index_http.specs.declared.end.IoEnd.TheVariants.{ReadFault, OutOfMemory, WriteFault, Cut}
+
+-- as many of a text's first bytes were sent
+abbrev pub SendsFirst : Bytes → Option Bytes → Option Bytes → ℕ → Type 0
+SendsFirst text before after count = (count ≤ length text) × Appends before after (take count text)
+
+-- a text was sent whole, or as many of its first bytes as the end tells
+abbrev pub SendsText : Bytes → Option Bytes → Option Bytes → Result (Unit {0}) IoEnd → Type 0
+SendsText text before after (Ok done) = Appends before after text
+SendsText text before after (Err ReadFault) = ⊥
+SendsText text before after (Err OutOfMemory) = ⊥
+SendsText text before after (Err (WriteFault count)) = SendsFirst text before after count
+SendsText text before after (Err (Cut count)) = SendsFirst text before after count
+
+-- the store, memory or the length of the page cut the page short
+abbrev pub is_cut : {A : Type 0} → Result A IoEnd → Bool
+is_cut (Ok done) = false
+is_cut (Err ReadFault) = false
+is_cut (Err OutOfMemory) = false
+is_cut (Err (WriteFault count)) = false
+is_cut (Err (Cut count)) = true
+
+-- a write failed, or took no byte
+abbrev pub is_write_fault : {A : Type 0} → Result A IoEnd → Bool
+is_write_fault (Ok done) = false
+is_write_fault (Err ReadFault) = false
+is_write_fault (Err OutOfMemory) = false
+is_write_fault (Err (WriteFault count)) = true
+is_write_fault (Err (Cut count)) = false
+
+-- the end of a connection by that of a read
+abbrev pub io_end_of_read : ReadEnd → IoEnd
+io_end_of_read read_end.ReadFault = ReadFault
+io_end_of_read read_end.OutOfMemory = OutOfMemory

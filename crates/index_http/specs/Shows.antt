@@ -1,0 +1,23 @@
+-- How a look at a resource ends.
+use Rattle.std.specs.Prelude.{◌≡◌, ◌⊎◌, Bool, Option, Result}
+use Rattle.index_rules.specs.Maps.{Bytes}
+use Rattle.index_rules.specs.Tables.{Tables}
+use Rattle.index_http.specs.Ends.{Ends}
+use Rattle.index_http.specs.Exchanges.{store_reply}
+use Rattle.index_http.specs.Replies.{Reply, reply_text}
+use Rattle.index_http.specs.declared.end.IoEnd.{IoEnd}
+
+-- the text of a reply of this kind, or of the one where a look failed for this cause
+abbrev pub IsShown : Bool → (Reply → Type 0) → Type 0 → Bytes → Type 0
+IsShown to_head IsReply Cause text =
+    (reply : Reply) × (text ≡ reply_text to_head reply) × (IsReply reply ⊎ ((reply ≡ store_reply) × Cause))
+
+-- a look ended so
+abbrev pub EndsShown : Bool → (Reply → Type 0) → Type 0 → Type 0 → Option Bytes → Option Bytes → Result (Unit {0}) IoEnd → Type 0
+EndsShown to_head IsReply Cause Unchanged before after result = Ends (IsShown to_head IsReply Cause) Unchanged before after result
+
+-- no table changed, and the store is as honest and as clean as it was
+pub record LeavesTables {S : Type 0} (is_honest is_clean : S → Type 0) (tables : S → Tables) (old new : S) : Type 0 where
+  pub unchanged : is_honest new → tables new ≡ tables old
+  pub honest : is_honest new → is_honest old
+  pub clean : is_clean new → is_clean old

@@ -1,0 +1,118 @@
+//! One connection: one message and its reply.
+ghost use Rattle.std.specs.Prelude.{◌≡◌, ◌≢◌, ◌≤◌, ◌+◌, ℕ, List, length, true, false, Err};
+ghost use Rattle.std.specs.Io.KnownBytes.{Consumes};
+ghost use Rattle.index_io.specs.Counts.{HasFailed};
+ghost use Rattle.index_rules.specs.Facts.{HasOneBearer};
+ghost use Rattle.index_rules.specs.History.{History};
+ghost use Rattle.index_rules.specs.Legal.{IsLegal};
+ghost use Rattle.index_rules.specs.Sound.{IsSound};
+ghost use Rattle.index_rules.specs.StandsFor.{StandsFor};
+ghost use Rattle.index_desk.specs.Rules.{by_tables};
+ghost use Rattle.index_message.specs.Heads.{longest_head};
+ghost use Rattle.index_message.specs.Lengths.{longest_upload};
+ghost use Rattle.index_http.specs.Ends.{Ends, EndsAfter};
+ghost use Rattle.index_http.specs.Exchanges.{RepliesTo, RepliesToInput};
+ghost use Rattle.index_http.specs.Sends.{is_write_fault};
+
+use crate::act::act;
+use crate::end::IoEnd;
+use crate::reply::message_reply;
+use crate::send::send_reply;
+use crate::show::show;
+use index_desk::Desk;
+use index_io::{Sink, Source};
+use index_message::{Message, Request, Site, read_message};
+use index_rules::{Books, Bytes};
+use std::alloc::Global;
+
+/// Reads one message, at a moment in Unix seconds, applies it or looks up what it asks for, and writes the reply.
+///
+/// The end tells why no whole reply was written. After `ReadFault` and `OutOfMemory` nothing was applied or written.
+/// After `WriteFault` the first so many bytes of the reply went out, and what the message changed stands. After `Cut`
+/// the first so many bytes of a page's reply went out, and no table was changed. Once a request was applied no memory is
+/// taken for its reply.
+pub fn answer_one<S: Source, K: Sink, B: Books>(
+    alloc: Global,
+    site: &Site,
+    source: &mut S,
+    sink: &mut K,
+    desk: &mut Desk<B>,
+    at: u64,
+) -> Result<(), IoEnd>
+    // By the tables: the reply to the message that the input begins with, and the tables after it.
+    ensures tables { B.IsHonest desk.new → HasOneBearer (B.tables desk.old) →
+        let cause = HasFailed (B.failures desk.old) (B.failures desk.new) in
+        let T = B.tables desk.old in
+        let T' = B.tables desk.new in
+        let given = S.remaining source.old in
+        Ends (λ text. RepliesToInput by_tables cause at T given text T') (T' ≡ T)
+        (K.contents sink.old) (K.contents sink.new) result }
+
+    // By a legal history for which the tables stood: the same, and they stand for the history with what was accepted.
+    ensures history { B.IsHonest desk.new →
+        (h : History) → IsLegal h → StandsFor (B.tables desk.old) h →
+        let cause = HasFailed (B.failures desk.old) (B.failures desk.new) in
+        EndsAfter cause at h (S.remaining source.old)
+        (K.contents sink.old) (K.contents sink.new) result (B.tables desk.new) }
+
+    // Each fault has its cause, and else nothing failed.
+    ensures read_fault { result ≡ Err IoEnd.ReadFault →
+        HasFailed (S.failures source.old) (S.failures source.new) }
+    ensures reads { result ≢ Err IoEnd.ReadFault → S.failures source.new ≡ S.failures source.old }
+    ensures write_fault { is_write_fault result ≡ true →
+        HasFailed (K.failures sink.old) (K.failures sink.new) }
+    ensures writes { is_write_fault result ≡ false → K.failures sink.new ≡ K.failures sink.old }
+
+    // No more is read than may be.
+    ensures limit { (taken : List ℕ) × (length taken ≤ longest_head + longest_upload)
+        × Consumes (S.remaining source.old) (S.remaining source.new) taken }
+
+    // However it ends: one user at most bears a digest, and accounts that add up keep adding up.
+    ensures one_bearer { B.IsHonest desk.new →
+        HasOneBearer (B.tables desk.old) → HasOneBearer (B.tables desk.new) }
+    ensures sound { B.IsHonest desk.new →
+        IsSound (B.tables desk.old) → IsSound (B.tables desk.new) }
+    ensures honest { B.IsHonest desk.new → B.IsHonest desk.old }
+    ensures clean { B.IsClean desk.new → B.IsClean desk.old }
+{
+    let message = read_message(alloc, site, source)?;
+    answer(alloc, sink, desk, at, message)
+}
+
+/// Answers a message.
+fn answer<K: Sink, B: Books>(
+    alloc: Global,
+    sink: &mut K,
+    desk: &mut Desk<B>,
+    at: u64,
+    message: Message,
+) -> Result<(), IoEnd>
+    ensures tables { B.IsHonest desk.new → HasOneBearer (B.tables desk.old) →
+        let cause = HasFailed (B.failures desk.old) (B.failures desk.new) in
+        let T = B.tables desk.old in
+        let T' = B.tables desk.new in
+        Ends (λ text. RepliesTo by_tables cause at T message text T') (T' ≡ T)
+        (K.contents sink.old) (K.contents sink.new) result }
+    ensures write_fault { is_write_fault result ≡ true →
+        HasFailed (K.failures sink.old) (K.failures sink.new) }
+    ensures writes { is_write_fault result ≡ false → K.failures sink.new ≡ K.failures sink.old }
+    ensures no_read_fault { result ≢ Err IoEnd.ReadFault }
+    ensures one_bearer { B.IsHonest desk.new →
+        HasOneBearer (B.tables desk.old) → HasOneBearer (B.tables desk.new) }
+    ensures sound { B.IsHonest desk.new →
+        IsSound (B.tables desk.old) → IsSound (B.tables desk.new) }
+    ensures honest { B.IsHonest desk.new → B.IsHonest desk.old }
+    ensures clean { B.IsClean desk.new → B.IsClean desk.old }
+{
+    match message {
+        Message::Faulty { fault, is_head } => send_reply(sink, is_head, message_reply(fault)),
+        Message::Whole { request, body } => {
+            if request.method().is_reading() {
+                drop(body);
+                show(alloc, sink, desk, &request)
+            } else {
+                act(alloc, sink, desk, at, &request, body)
+            }
+        }
+    }
+}

@@ -1,0 +1,144 @@
+//! The two passes over the rows of a page: the first counts its bytes, the second sends them. No head is written here.
+ghost use Rattle.std.specs.Prelude.{◌≡◌, ◌≢◌, ℕ, List, Some, IfErr, false, is_err, option_map};
+ghost use Rattle.std.specs.Io.KnownBytes.{Keeps};
+ghost use Rattle.index_io.specs.Counts.{HasFailed};
+ghost use Rattle.index_rules.specs.TableRows.{held_rows_in};
+ghost use Rattle.index_rules.specs.declared.rows.FileRow.{FileRow as FileRowData};
+ghost use Rattle.index_desk.specs.Projects.{project_rows_in};
+ghost use Rattle.index_pages.specs.Pages.{project_page_of, root_page_of};
+ghost use Rattle.index_http.specs.PagePasses.{KeepsTables, MeasuresPage, MeasuresProject, sent_by, without_stop as without_stop_lem};
+ghost use Rattle.index_http.specs.Sends.{is_cut, is_write_fault, SendsText};
+
+use crate::end::IoEnd;
+use index_desk::Desk;
+use index_io::Sink;
+use index_names::NormalName;
+use index_pages::{PageEnd, PageLength, PageText, Served};
+use index_rules::{Books, Fault, WalkEnd};
+use std::alloc::Global;
+
+/// The length of the page of the names. `Store` also where it has more than 9,223,372,036,854,775,807 bytes. It changes
+/// no table.
+pub fn root_length<B: Books>(
+    alloc: Global,
+    desk: &mut Desk<B>,
+    served: Served,
+) -> Result<u64, Fault>
+    ensures measured { B.IsHonest desk.old → B.IsClean desk.new →
+        let page = root_page_of served (held_rows_in (B.tables desk.old)) in
+        MeasuresPage page (B.failures desk.old) (B.failures desk.new) result }
+    ensures keeps { KeepsTables B.IsHonest B.IsClean B.tables B.failures B.may_leave
+        desk.old desk.new (is_err result) }
+{
+    let mut page = PageLength::root(alloc, served);
+    let walked = desk.walk_root(alloc, &mut page);
+    without_stop(walked, ())?;
+    page.finish()
+}
+
+/// Sends the page of the names. Its ends are `WriteFault` and `Cut`. It changes no table.
+pub fn root_text<K: Sink, B: Books>(
+    alloc: Global,
+    desk: &mut Desk<B>,
+    sink: &mut K,
+    served: Served,
+) -> Result<(), IoEnd>
+    ensures sent { B.IsHonest desk.old → B.IsClean desk.new →
+        let page = root_page_of served (held_rows_in (B.tables desk.old)) in
+        SendsText page (K.contents sink.old) (K.contents sink.new) result }
+    ensures write_fault { IfErr result (λ end. (count : ℕ) → end ≡ IoEnd.WriteFault count →
+        HasFailed (K.failures sink.old) (K.failures sink.new)) }
+    ensures writes { is_write_fault result ≡ false →
+        K.failures sink.new ≡ K.failures sink.old }
+    ensures keeps { KeepsTables B.IsHonest B.IsClean B.tables B.failures B.may_leave
+        desk.old desk.new (is_cut result) }
+    ensures no_read_fault { result ≢ Err IoEnd.ReadFault }
+{
+    let mut page = PageText::root(alloc, served, sink);
+    let walked = desk.walk_root(alloc, &mut page);
+    match without_stop(walked, ()) {
+        Ok(()) => sent(page.finish()),
+        Err(_) => Err(IoEnd::Cut(page.abandon())),
+    }
+}
+
+/// The length of the page of a project, or `None` where the name is not held. `Store` also where the page has more than
+/// 9,223,372,036,854,775,807 bytes. It changes no table.
+pub fn project_length<B: Books>(
+    alloc: Global,
+    desk: &mut Desk<B>,
+    name: &NormalName,
+    served: Served,
+) -> Result<Option<u64>, Fault>
+    ensures measured { B.IsHonest desk.old → B.IsClean desk.new →
+        let rows = project_rows_in (B.tables desk.old) name.now in
+        let page = option_map (project_page_of served name.now) rows in
+        MeasuresProject page (B.failures desk.old) (B.failures desk.new) result }
+    ensures keeps { KeepsTables B.IsHonest B.IsClean B.tables B.failures B.may_leave
+        desk.old desk.new (is_err result) }
+{
+    let mut page = PageLength::project(alloc, name, served);
+    let walked = desk.walk_project(alloc, name, &mut page);
+    if !without_stop(walked, true)? {
+        return Ok(None);
+    }
+    page.finish().map(Some)
+}
+
+/// Sends the page of a project. Its ends are `WriteFault` and `Cut`, which is also told where the name is not held. It
+/// changes no table.
+pub fn project_text<K: Sink, B: Books>(
+    alloc: Global,
+    desk: &mut Desk<B>,
+    sink: &mut K,
+    name: &NormalName,
+    served: Served,
+) -> Result<(), IoEnd>
+    ensures sent { B.IsHonest desk.old → B.IsClean desk.new →
+        (rows : List FileRowData) → project_rows_in (B.tables desk.old) name.now ≡ Some rows →
+        let page = project_page_of served name.now rows in
+        SendsText page (K.contents sink.old) (K.contents sink.new) result }
+    ensures none { B.IsHonest desk.old → B.IsClean desk.new →
+        project_rows_in (B.tables desk.old) name.now ≡ None →
+        Keeps (K.contents sink.old) (K.contents sink.new) × (result ≡ Err (IoEnd.Cut 0)) }
+    ensures write_fault { IfErr result (λ end. (count : ℕ) → end ≡ IoEnd.WriteFault count →
+        HasFailed (K.failures sink.old) (K.failures sink.new)) }
+    ensures writes { is_write_fault result ≡ false →
+        K.failures sink.new ≡ K.failures sink.old }
+    ensures keeps { KeepsTables B.IsHonest B.IsClean B.tables B.failures B.may_leave
+        desk.old desk.new (is_cut result) }
+    ensures no_read_fault { result ≢ Err IoEnd.ReadFault }
+{
+    let mut page = PageText::project(alloc, name, served, sink);
+    let walked = desk.walk_project(alloc, name, &mut page);
+    if without_stop(walked, true).unwrap_or(false) {
+        sent(page.finish())
+    } else {
+        Err(IoEnd::Cut(page.abandon()))
+    }
+}
+
+/// The end of a walk, where a taker that wanted no more rows is no fault: its page tells why.
+fn without_stop<A: Copy>(walked: Result<A, WalkEnd>, at_stop: A) -> Result<A, Fault>
+    ensures { result ≡ without_stop_lem at_stop walked }
+{
+    match walked {
+        Ok(done) => Ok(done),
+        Err(WalkEnd::Stopped) => Ok(at_stop),
+        Err(WalkEnd::OutOfMemory) => Err(Fault::OutOfMemory),
+        Err(WalkEnd::Store) => Err(Fault::Store),
+    }
+}
+
+/// The end of a connection by that of its page.
+fn sent(page_end: Result<u64, PageEnd>) -> Result<(), IoEnd>
+    ensures end { result ≡ sent_by page_end }
+    ensures no_read_fault { result ≢ Err IoEnd.ReadFault }
+{
+    match page_end {
+        Ok(_) => Ok(()),
+        Err(PageEnd::OutOfMemory(count)) => Err(IoEnd::Cut(count)),
+        Err(PageEnd::Store(count)) => Err(IoEnd::Cut(count)),
+        Err(PageEnd::WriteFault(count)) => Err(IoEnd::WriteFault(count)),
+    }
+}

@@ -1,0 +1,225 @@
+//! Pages, whose head tells their length before their text is sent.
+ghost use Rattle.std.specs.Prelude.{◌≡◌, ◌≢◌, ◌≤◌, Err, Some, length, true, false, is_err};
+ghost use Rattle.index_io.specs.Counts.{HasFailed};
+ghost use Rattle.index_rules.specs.Maps.{Bytes as BytesData};
+ghost use Rattle.index_desk.specs.Rules.{by_tables};
+ghost use Rattle.index_pages.specs.Ends.{most_bytes};
+ghost use Rattle.index_http.specs.Exchanges.{ShowsProject, ShowsRoot};
+ghost use Rattle.index_http.specs.PagePasses.{KeepsTables, MeasuresProject};
+ghost use Rattle.index_http.specs.PageShows.{ShowsWhole, behind as behind_lem, page_in, sent_behind};
+ghost use Rattle.index_http.specs.Replies.{page_reply, reply_text};
+ghost use Rattle.index_http.specs.Sends.{SendsText, is_cut, is_write_fault};
+ghost use Rattle.index_http.specs.Shows.{EndsShown, LeavesTables};
+
+use crate::end::IoEnd;
+use crate::page::{project_length, project_text, root_length, root_text};
+use crate::reply::{Fields, message_reply, refusal_reply, store_reply};
+use crate::send::{send_head, send_reply};
+use http::StatusCode;
+use index_desk::Desk;
+use index_io::Sink;
+use index_message::MessageFault;
+use index_names::NormalName;
+use index_pages::Served;
+use index_rules::{Books, Fault, Refusal};
+use std::alloc::Global;
+
+/// Which page.
+#[derive(Clone, Copy)]
+enum Page<'a> {
+    Root,
+    Project(&'a NormalName),
+}
+
+/// Shows the root page.
+pub fn show_root<K: Sink, B: Books>(
+    alloc: Global,
+    sink: &mut K,
+    desk: &mut Desk<B>,
+    to_head: bool,
+    chosen: Option<Served>,
+) -> Result<(), IoEnd>
+    ensures shown { B.IsHonest desk.new →
+        let cause = HasFailed (B.failures desk.old) (B.failures desk.new) in
+        let T = B.tables desk.old in
+        EndsShown to_head (ShowsRoot by_tables T chosen) cause
+        (B.tables desk.new ≡ T) (K.contents sink.old) (K.contents sink.new) result }
+    ensures leaves { LeavesTables B.IsHonest B.IsClean B.tables desk.old desk.new }
+    ensures write_fault { is_write_fault result ≡ true →
+        HasFailed (K.failures sink.old) (K.failures sink.new) }
+    ensures writes { is_write_fault result ≡ false → K.failures sink.new ≡ K.failures sink.old }
+    ensures no_read_fault { result ≢ Err IoEnd.ReadFault }
+{
+    match chosen {
+        Some(served) => show_page(alloc, sink, desk, to_head, Page::Root, served),
+        None => send_reply(sink, to_head, message_reply(MessageFault::NotAcceptable)),
+    }
+}
+
+/// Shows a project's page.
+pub fn show_project<K: Sink, B: Books>(
+    alloc: Global,
+    sink: &mut K,
+    desk: &mut Desk<B>,
+    to_head: bool,
+    chosen: Option<Served>,
+    name: &NormalName,
+) -> Result<(), IoEnd>
+    ensures shown { B.IsHonest desk.new →
+        let cause = HasFailed (B.failures desk.old) (B.failures desk.new) in
+        let T = B.tables desk.old in
+        EndsShown to_head (ShowsProject by_tables T name.now chosen) cause
+        (B.tables desk.new ≡ T) (K.contents sink.old) (K.contents sink.new) result }
+    ensures leaves { LeavesTables B.IsHonest B.IsClean B.tables desk.old desk.new }
+    ensures write_fault { is_write_fault result ≡ true →
+        HasFailed (K.failures sink.old) (K.failures sink.new) }
+    ensures writes { is_write_fault result ≡ false → K.failures sink.new ≡ K.failures sink.old }
+    ensures no_read_fault { result ≢ Err IoEnd.ReadFault }
+{
+    match chosen {
+        Some(served) => show_page(alloc, sink, desk, to_head, Page::Project(name), served),
+        None => show_no_page(alloc, sink, desk, to_head, name),
+    }
+}
+
+/// Shows that there is no page of a project, or none of a type that can be chosen.
+fn show_no_page<K: Sink, B: Books>(
+    alloc: Global,
+    sink: &mut K,
+    desk: &mut Desk<B>,
+    to_head: bool,
+    name: &NormalName,
+) -> Result<(), IoEnd>
+    ensures shown { B.IsHonest desk.new →
+        let cause = HasFailed (B.failures desk.old) (B.failures desk.new) in
+        let T = B.tables desk.old in
+        EndsShown to_head (ShowsProject by_tables T name.now None) cause
+        (B.tables desk.new ≡ T) (K.contents sink.old) (K.contents sink.new) result }
+    ensures leaves { LeavesTables B.IsHonest B.IsClean B.tables desk.old desk.new }
+    ensures write_fault { is_write_fault result ≡ true →
+        HasFailed (K.failures sink.old) (K.failures sink.new) }
+    ensures writes { is_write_fault result ≡ false → K.failures sink.new ≡ K.failures sink.old }
+    ensures no_read_fault { result ≢ Err IoEnd.ReadFault }
+{
+    match desk.is_held(alloc, name) {
+        Ok(true) => send_reply(sink, to_head, message_reply(MessageFault::NotAcceptable)),
+        Ok(false) => send_reply(sink, to_head, refusal_reply(Refusal::NoProject)),
+        Err(Fault::OutOfMemory) => Err(IoEnd::OutOfMemory),
+        Err(Fault::Store) => send_reply(sink, to_head, store_reply()),
+    }
+}
+
+/// Shows a page in a type, where there is one.
+fn show_page<K: Sink, B: Books>(
+    alloc: Global,
+    sink: &mut K,
+    desk: &mut Desk<B>,
+    to_head: bool,
+    page: Page<'_>,
+    served: Served,
+) -> Result<(), IoEnd>
+    ensures shown { B.IsHonest desk.new →
+        let cause = HasFailed (B.failures desk.old) (B.failures desk.new) in
+        let T = B.tables desk.old in
+        EndsShown to_head (ShowsWhole served (page_in T served page.entry)) cause
+        (B.tables desk.new ≡ T) (K.contents sink.old) (K.contents sink.new) result }
+    ensures leaves { LeavesTables B.IsHonest B.IsClean B.tables desk.old desk.new }
+    ensures write_fault { is_write_fault result ≡ true →
+        HasFailed (K.failures sink.old) (K.failures sink.new) }
+    ensures writes { is_write_fault result ≡ false → K.failures sink.new ≡ K.failures sink.old }
+    ensures no_read_fault { result ≢ Err IoEnd.ReadFault }
+{
+    match length_of(alloc, desk, page, served) {
+        Ok(Some(size)) => send_page(alloc, sink, desk, to_head, page, served, size),
+        Ok(None) => send_reply(sink, to_head, refusal_reply(Refusal::NoProject)),
+        Err(Fault::OutOfMemory) => Err(IoEnd::OutOfMemory),
+        Err(Fault::Store) => send_reply(sink, to_head, store_reply()),
+    }
+}
+
+/// The length of a page, or `None` where there is none. It changes no table.
+fn length_of<B: Books>(
+    alloc: Global,
+    desk: &mut Desk<B>,
+    page: Page<'_>,
+    served: Served,
+) -> Result<Option<u64>, Fault>
+    ensures measured { B.IsHonest desk.old → B.IsClean desk.new →
+        MeasuresProject (page_in (B.tables desk.old) served page.entry)
+        (B.failures desk.old) (B.failures desk.new) result }
+    ensures keeps { KeepsTables B.IsHonest B.IsClean B.tables B.failures B.may_leave
+        desk.old desk.new (is_err result) }
+{
+    match page {
+        Page::Root => Ok(Some(root_length(alloc, desk, served)?)),
+        Page::Project(name) => project_length(alloc, desk, name, served),
+    }
+}
+
+/// Sends a page of this length: its head, and its text unless it replies to `HEAD`. It changes no table.
+fn send_page<K: Sink, B: Books>(
+    alloc: Global,
+    sink: &mut K,
+    desk: &mut Desk<B>,
+    to_head: bool,
+    page: Page<'_>,
+    served: Served,
+    size: u64,
+) -> Result<(), IoEnd>
+    ensures sent { B.IsHonest desk.old → B.IsClean desk.new → (bytes : BytesData) →
+        page_in (B.tables desk.old) served page.entry ≡ Some bytes →
+        size ≡ length bytes → size ≤ most_bytes →
+        SendsText (reply_text to_head (page_reply served bytes))
+        (K.contents sink.old) (K.contents sink.new) result }
+    ensures leaves { LeavesTables B.IsHonest B.IsClean B.tables desk.old desk.new }
+    ensures write_fault { is_write_fault result ≡ true →
+        HasFailed (K.failures sink.old) (K.failures sink.new) }
+    ensures writes { is_write_fault result ≡ false → K.failures sink.new ≡ K.failures sink.old }
+    ensures no_read_fault { result ≢ Err IoEnd.ReadFault }
+{
+    let head = match send_head(sink, StatusCode::OK, Fields::Page(served), size) {
+        Ok(head) => head,
+        Err(count) => return Err(IoEnd::WriteFault(count)),
+    };
+    if to_head {
+        return Ok(());
+    }
+    behind(head, send_text(alloc, sink, desk, page, served))
+}
+
+/// Sends the text of a page. Its ends are `WriteFault` and `Cut`. It changes no table.
+fn send_text<K: Sink, B: Books>(
+    alloc: Global,
+    sink: &mut K,
+    desk: &mut Desk<B>,
+    page: Page<'_>,
+    served: Served,
+) -> Result<(), IoEnd>
+    ensures sent { B.IsHonest desk.old → B.IsClean desk.new → (bytes : BytesData) →
+        page_in (B.tables desk.old) served page.entry ≡ Some bytes →
+        SendsText bytes (K.contents sink.old) (K.contents sink.new) result }
+    ensures keeps { KeepsTables B.IsHonest B.IsClean B.tables B.failures B.may_leave
+        desk.old desk.new (is_cut result) }
+    ensures write_fault { is_write_fault result ≡ true →
+        HasFailed (K.failures sink.old) (K.failures sink.new) }
+    ensures writes { is_write_fault result ≡ false → K.failures sink.new ≡ K.failures sink.old }
+    ensures no_read_fault { result ≢ Err IoEnd.ReadFault }
+{
+    match page {
+        Page::Root => root_text(alloc, desk, sink, served),
+        Page::Project(name) => project_text(alloc, desk, sink, name, served),
+    }
+}
+
+/// The end of a reply by that of its body, before which this many bytes went out.
+fn behind(head: u64, end: Result<(), IoEnd>) -> Result<(), IoEnd>
+    ensures end { result ≡ sent_behind head end }
+    ensures kind { is_write_fault result ≡ is_write_fault end }
+{
+    match end {
+        Ok(()) => Ok(()),
+        Err(IoEnd::WriteFault(count)) => Err(IoEnd::WriteFault(head.saturating_add(count))),
+        Err(IoEnd::Cut(count)) => Err(IoEnd::Cut(head.saturating_add(count))),
+        Err(end) => Err(end),
+    }
+}

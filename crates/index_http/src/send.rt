@@ -1,0 +1,138 @@
+//! Sending replies. Nothing here takes memory.
+ghost use Rattle.std.specs.Prelude.{◌≡◌, ◌≤◌, true, false, ◌<◌, ◌≤◌, ◌^◌, ◌+◌, ◌++◌, ℕ, length, take, decimal, IfErr, IfOk, OnErr, OnOk};
+ghost use Rattle.std.specs.Io.KnownBytes.{Appends};
+ghost use Rattle.http.specs.StatusCode.{code_digits};
+ghost use Rattle.index_io.specs.Bytes.{joined};
+ghost use Rattle.index_io.specs.Counts.{HasFailed};
+ghost use Rattle.index_http.specs.Replies.{fields_text, head_text, phrase_of, reply_head, reply_of, reply_text};
+ghost use Rattle.index_http.specs.Sends.{SendsText, is_cut, is_write_fault};
+
+use crate::end::IoEnd;
+use crate::reply::{Fields, Reply};
+use crate::texts::{field_pieces, phrase};
+use http::StatusCode;
+use index_io::{Sink, write_pieces};
+use itoa::Buffer;
+
+/// Writes the head of a reply whose body has so many bytes, and answers the length of the head. An error tells how many
+/// of its bytes went out, before a write failed or took no byte.
+pub fn send_head<K: Sink>(
+    sink: &mut K,
+    status: StatusCode,
+    fields: Fields<'_>,
+    size: u64,
+) -> Result<u64, u64>
+    ensures whole { let head = reply_head status (fields_text fields.entry) size in
+        IfOk result (λ count. (count ≡ length head)
+        × Appends (K.contents sink.old) (K.contents sink.new) head) }
+    ensures short { IfOk result (λ count. count ≤ 512) }
+    ensures front { let head = reply_head status (fields_text fields.entry) size in
+        IfErr result (λ count. (count < length head)
+        × Appends (K.contents sink.old) (K.contents sink.new) (take count head)) }
+    ensures kept { OnOk result (K.failures sink.new ≡ K.failures sink.old) }
+    ensures failed { OnErr result (HasFailed (K.failures sink.old) (K.failures sink.new)) }
+{
+    send_parts(sink, status, fields, size, b"")
+}
+
+/// Writes a reply; one to `HEAD` without its body. Its one end is `WriteFault`.
+pub fn send_reply<K: Sink>(sink: &mut K, is_head: bool, reply: Reply<'_>) -> Result<(), IoEnd>
+    ensures sent { SendsText (reply_text is_head (reply_of reply.entry))
+        (K.contents sink.old) (K.contents sink.new) result }
+    ensures kind { is_cut result ≡ false }
+    ensures write_fault { is_write_fault result ≡ true →
+        HasFailed (K.failures sink.old) (K.failures sink.new) }
+    ensures writes { is_write_fault result ≡ false → K.failures sink.new ≡ K.failures sink.old }
+{
+    let size = reply.body.len() as u64;
+    let behind = if is_head { b"".as_slice() } else { reply.body };
+    match send_parts(sink, reply.status, reply.fields, size, behind) {
+        Ok(_) => Ok(()),
+        Err(count) => Err(IoEnd::WriteFault(count)),
+    }
+}
+
+/// Writes a head that tells this size, and what stands behind it. Answers the length of the head.
+fn send_parts<K: Sink>(
+    sink: &mut K,
+    status: StatusCode,
+    fields: Fields<'_>,
+    size: u64,
+    behind: &[u8],
+) -> Result<u64, u64>
+    ensures whole { let head = reply_head status (fields_text fields.entry) size in
+        IfOk result (λ count. (count ≡ length head)
+        × Appends (K.contents sink.old) (K.contents sink.new) (head ++ behind.now)) }
+    ensures short { IfOk result (λ count. count ≤ 512) }
+    ensures front { let text = reply_head status (fields_text fields.entry) size ++ behind.now in
+        IfErr result (λ count. (count < length text)
+        × Appends (K.contents sink.old) (K.contents sink.new) (take count text)) }
+    ensures kept { OnOk result (K.failures sink.new ≡ K.failures sink.old) }
+    ensures failed { OnErr result (HasFailed (K.failures sink.old) (K.failures sink.new)) }
+{
+    let mut buffer = Buffer::new();
+    let digits = buffer.format(size).as_bytes();
+    let (first, second, third) = field_pieces(fields);
+    let pieces = reply_pieces(
+        code(status),
+        phrase(status),
+        first,
+        second,
+        third,
+        digits,
+        behind,
+    );
+    match write_pieces(sink, &pieces) {
+        Ok(()) => Ok(length_of(&pieces) - behind.len() as u64),
+        Err(count) => Err(count),
+    }
+}
+
+/// The three digits of a status.
+fn code(status: StatusCode) -> &'static [u8]
+    ensures text { result.now ≡ code_digits status }
+{
+    status.as_str().as_bytes()
+}
+
+/// The pieces of a reply in one lifetime.
+#[tactic(auto, unfolding(crate::specs::Replies::head_text))]
+fn reply_pieces<'x>(
+    code: &'x [u8],
+    phrase: &'x [u8],
+    first: &'x [u8],
+    second: &'x [u8],
+    third: &'x [u8],
+    digits: &'x [u8],
+    body: &'x [u8],
+) -> [&'x [u8]; 12]
+    ensures text { let fields = first.now ++ (second.now ++ third.now) in
+        joined result ≡ head_text code.now phrase.now fields digits.now ++ body.now }
+{
+    [
+        b"HTTP/1.1 ",
+        code,
+        b" ",
+        phrase,
+        b"\r\n",
+        first,
+        second,
+        third,
+        b"Content-Length: ",
+        digits,
+        b"\r\nConnection: close\r\n\r\n",
+        body,
+    ]
+}
+
+/// How many bytes the pieces have.
+fn length_of(pieces: &[&[u8]]) -> u64
+    requires { length (joined pieces.now) < 2 ^ 64 }
+    ensures { result ≡ length (joined pieces.now) }
+{
+    let mut length = 0u64;
+    for piece in pieces {
+        length += piece.len() as u64;
+    }
+    length
+}

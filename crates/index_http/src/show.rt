@@ -1,0 +1,195 @@
+//! Looks at pages, files and standings. None changes a table.
+ghost use Rattle.std.specs.Prelude.{◌≡◌, ◌≢◌, Err, IfOk, IfSome, true, false, is_some};
+ghost use Rattle.index_io.specs.Counts.{HasFailed};
+ghost use Rattle.index_names.specs.FileName.{read_file_name};
+ghost use Rattle.index_names.specs.Project.{read_name};
+ghost use Rattle.index_desk.specs.Rules.{by_tables};
+ghost use Rattle.index_message.specs.Resources.{is_head};
+ghost use Rattle.index_http.specs.Exchanges.{IsAccepted, Shows, ShowsAt, ShowsFile, ShowsName};
+ghost use Rattle.index_http.specs.Sends.{is_write_fault};
+ghost use Rattle.index_http.specs.Shows.{EndsShown, LeavesTables};
+
+use crate::end::IoEnd;
+use crate::pages::{show_project, show_root};
+use crate::reply::{
+    file_reply, json_reply, message_reply, refusal_reply, store_reply, to_project, to_root,
+};
+use crate::send::send_reply;
+use index_desk::Desk;
+use index_io::Sink;
+use index_json::standing_text;
+use index_message::{Allowed, MessageFault, Request, Resource};
+use index_names::{FileName, NameFault, NormalName, normal};
+use index_pages::Served;
+use index_rules::{Books, Bytes, Fault, Refusal};
+use std::alloc::{AllocError, Global};
+
+/// Shows what a request asks for.
+pub fn show<K: Sink, B: Books>(
+    alloc: Global,
+    sink: &mut K,
+    desk: &mut Desk<B>,
+    request: &Request,
+) -> Result<(), IoEnd>
+    ensures shown { B.IsHonest desk.new →
+        let cause = HasFailed (B.failures desk.old) (B.failures desk.new) in
+        let T = B.tables desk.old in
+        let fields = request.now.fields in
+        EndsShown (is_head request.now.method) (Shows by_tables T fields request.now.resource) cause
+        (B.tables desk.new ≡ T) (K.contents sink.old) (K.contents sink.new) result }
+    ensures leaves { LeavesTables B.IsHonest B.IsClean B.tables desk.old desk.new }
+    ensures write_fault { is_write_fault result ≡ true →
+        HasFailed (K.failures sink.old) (K.failures sink.new) }
+    ensures writes { is_write_fault result ≡ false → K.failures sink.new ≡ K.failures sink.old }
+    ensures no_read_fault { result ≢ Err IoEnd.ReadFault }
+{
+    let to_head = request.method().is_head();
+    match request.resource() {
+        Resource::Simple => send_reply(sink, to_head, to_root()),
+        Resource::Root => {
+            let chosen = chosen(alloc, request)?;
+            show_root(alloc, sink, desk, to_head, chosen)
+        }
+        Resource::Project(given) => match name_of(alloc, given)? {
+            Some(name) => send_reply(sink, to_head, to_project(&name)),
+            None => send_reply(sink, to_head, refusal_reply(Refusal::NoProject)),
+        },
+        Resource::ProjectPage(given) => show_at(alloc, sink, desk, to_head, request, given),
+        Resource::File(given) => show_file(alloc, sink, desk, to_head, given),
+        Resource::Name(given) => show_name(alloc, sink, desk, to_head, given),
+        Resource::Requests => send_reply(
+            sink,
+            to_head,
+            message_reply(MessageFault::BadMethod(Allowed::Requests)),
+        ),
+    }
+}
+
+/// The type that the `Accept` fields choose (PEP 691).
+fn chosen(alloc: Global, request: &Request) -> Result<Option<Served>, AllocError>
+    ensures { IfOk result (λ chosen. IsAccepted request.now.fields chosen) }
+{
+    let values = request.values(alloc, b"accept")?;
+    Ok(Served::choose(values.as_slice()))
+}
+
+/// The normal form of a name, or `None` where these bytes are no project name.
+fn name_of(alloc: Global, given: &Bytes) -> Result<Option<NormalName>, AllocError>
+    ensures { IfOk result (λ name. name ≡ read_name given.now) }
+{
+    match normal(alloc, given.as_slice()) {
+        Ok(name) => Ok(Some(name)),
+        Err(NameFault::OutOfMemory) => Err(AllocError),
+        Err(_) => Ok(None),
+    }
+}
+
+/// The file name that these bytes are, or `None` where they are none.
+fn file_of(alloc: Global, given: &Bytes) -> Result<Option<FileName>, AllocError>
+    ensures file { IfOk result (λ file. IfSome file (λ file. file ≡ given.now)) }
+    ensures found { IfOk result (λ file. is_some file ≡ is_some (read_file_name given.now)) }
+{
+    match FileName::read(alloc, given.as_slice()) {
+        Ok(file) => Ok(Some(file)),
+        Err(NameFault::OutOfMemory) => Err(AllocError),
+        Err(_) => Ok(None),
+    }
+}
+
+/// Shows a project's page, or the way there where its name is given in another spelling.
+fn show_at<K: Sink, B: Books>(
+    alloc: Global,
+    sink: &mut K,
+    desk: &mut Desk<B>,
+    to_head: bool,
+    request: &Request,
+    given: &Bytes,
+) -> Result<(), IoEnd>
+    ensures shown { B.IsHonest desk.new →
+        let cause = HasFailed (B.failures desk.old) (B.failures desk.new) in
+        let T = B.tables desk.old in
+        let fields = request.now.fields in
+        EndsShown to_head (ShowsAt by_tables T fields given.now (read_name given.now)) cause
+        (B.tables desk.new ≡ T) (K.contents sink.old) (K.contents sink.new) result }
+    ensures leaves { LeavesTables B.IsHonest B.IsClean B.tables desk.old desk.new }
+    ensures write_fault { is_write_fault result ≡ true →
+        HasFailed (K.failures sink.old) (K.failures sink.new) }
+    ensures writes { is_write_fault result ≡ false → K.failures sink.new ≡ K.failures sink.old }
+    ensures no_read_fault { result ≢ Err IoEnd.ReadFault }
+{
+    let Some(name) = name_of(alloc, given)? else {
+        return send_reply(sink, to_head, refusal_reply(Refusal::NoProject));
+    };
+    if name.text().as_bytes() == given.as_slice() {
+        let chosen = chosen(alloc, request)?;
+        show_project(alloc, sink, desk, to_head, chosen, &name)
+    } else {
+        send_reply(sink, to_head, to_project(&name))
+    }
+}
+
+/// Shows the bytes of a file.
+fn show_file<K: Sink, B: Books>(
+    alloc: Global,
+    sink: &mut K,
+    desk: &mut Desk<B>,
+    to_head: bool,
+    given: &Bytes,
+) -> Result<(), IoEnd>
+    ensures shown { B.IsHonest desk.new →
+        let cause = HasFailed (B.failures desk.old) (B.failures desk.new) in
+        let T = B.tables desk.old in
+        EndsShown to_head (ShowsFile by_tables T given.now (is_some (read_file_name given.now)))
+        cause (B.tables desk.new ≡ T) (K.contents sink.old) (K.contents sink.new) result }
+    ensures leaves { LeavesTables B.IsHonest B.IsClean B.tables desk.old desk.new }
+    ensures write_fault { is_write_fault result ≡ true →
+        HasFailed (K.failures sink.old) (K.failures sink.new) }
+    ensures writes { is_write_fault result ≡ false → K.failures sink.new ≡ K.failures sink.old }
+    ensures no_read_fault { result ≢ Err IoEnd.ReadFault }
+{
+    let Some(file) = file_of(alloc, given)? else {
+        return send_reply(sink, to_head, refusal_reply(Refusal::NoFile));
+    };
+    match desk.body(alloc, &file) {
+        Ok(Some(body)) => send_reply(sink, to_head, file_reply(body.bytes())),
+        Ok(None) => send_reply(sink, to_head, refusal_reply(Refusal::NoFile)),
+        Err(Fault::OutOfMemory) => Err(IoEnd::OutOfMemory),
+        Err(Fault::Store) => send_reply(sink, to_head, store_reply()),
+    }
+}
+
+/// Shows what stands of a name.
+fn show_name<K: Sink, B: Books>(
+    alloc: Global,
+    sink: &mut K,
+    desk: &mut Desk<B>,
+    to_head: bool,
+    given: &Bytes,
+) -> Result<(), IoEnd>
+    ensures shown { B.IsHonest desk.new →
+        let cause = HasFailed (B.failures desk.old) (B.failures desk.new) in
+        let T = B.tables desk.old in
+        EndsShown to_head (ShowsName by_tables T (read_name given.now)) cause
+        (B.tables desk.new ≡ T) (K.contents sink.old) (K.contents sink.new) result }
+    ensures leaves { LeavesTables B.IsHonest B.IsClean B.tables desk.old desk.new }
+    ensures write_fault { is_write_fault result ≡ true →
+        HasFailed (K.failures sink.old) (K.failures sink.new) }
+    ensures writes { is_write_fault result ≡ false → K.failures sink.new ≡ K.failures sink.old }
+    ensures no_read_fault { result ≢ Err IoEnd.ReadFault }
+{
+    let Some(name) = name_of(alloc, given)? else {
+        return send_reply(sink, to_head, refusal_reply(Refusal::BadName));
+    };
+    match desk.standing(alloc, &name) {
+        Ok(standing) => {
+            let text = standing_text(alloc, &standing);
+            drop(standing);
+            match text {
+                Ok(text) => send_reply(sink, to_head, json_reply(text.as_bytes())),
+                Err(_) => Err(IoEnd::OutOfMemory),
+            }
+        }
+        Err(Fault::OutOfMemory) => Err(IoEnd::OutOfMemory),
+        Err(Fault::Store) => send_reply(sink, to_head, store_reply()),
+    }
+}

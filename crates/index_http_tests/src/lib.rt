@@ -1,0 +1,5 @@
+//! Messages to the index over HTTP, and the replies to them.
+#![tactic(auto)]
+
+#[cfg(test)]
+mod tests;

@@ -1,0 +1,173 @@
+//! Exchanges: a message and the whole reply to it, as they come in and go out.
+use fakes::PieceReader;
+use index_desk::Desk;
+use index_digest::Digest256;
+use index_http::answer_one;
+use index_io::{Input, Output};
+use index_message::Site;
+use index_plain::PlainBooks;
+use std::alloc::AllocGlobal;
+use std::process::Abort;
+
+/// A message without a body: its method and target, and its header lines.
+macro_rules! look {
+    ($target:literal $($line:literal)*) => {
+        concat!($target, " HTTP/1.1\r\nHost: index\r\n", $($line, "\r\n",)* "\r\n")
+    };
+}
+
+/// A request in JSON, by the bearer of a token.
+macro_rules! post {
+    ($token:literal, $length:literal, $body:literal) => {
+        concat!(
+            "POST /requests HTTP/1.1\r\nHost: index\r\nX-Index-Token: ",
+            $token,
+            "\r\nContent-Length: ",
+            $length,
+            "\r\n\r\n",
+            $body
+        )
+    };
+}
+
+/// An upload of `abc` to a target, with more header lines.
+macro_rules! put {
+    ($target:literal $($line:literal)*) => {
+        concat!(
+            "PUT ",
+            $target,
+            " HTTP/1.1\r\nHost: index\r\n",
+            $($line, "\r\n",)*
+            "X-Index-Sha256: ",
+            "ba7816bf8f01cfea414140de5dae2223b00361a396177a9cb410ff61f20015ad",
+            "\r\nContent-Length: 3\r\n\r\nabc"
+        )
+    };
+}
+
+/// A reply with a status, header lines, and a body of this length.
+macro_rules! reply {
+    ($status:literal, [$($line:literal)*], $length:literal, $body:literal) => {
+        concat!(
+            "HTTP/1.1 ",
+            $status,
+            "\r\n",
+            $($line, "\r\n",)*
+            "Content-Length: ",
+            $length,
+            "\r\nConnection: close\r\n\r\n",
+            $body
+        )
+    };
+}
+
+/// A reply in JSON.
+macro_rules! json {
+    ($status:literal, $length:literal, $body:literal) => {
+        reply!($status, ["Content-Type: application/json"], $length, $body)
+    };
+}
+
+mod fakes;
+mod faults;
+mod files;
+mod messages;
+mod pages;
+
+/// When each message comes.
+const AT: u64 = 10;
+
+/// What a request that was accepted is answered.
+const ACCEPTED: &str = json!("200 OK", "21", r#"{"answer":"accepted"}"#);
+
+/// The office adds ann, whose token is `abc`, and bob, whose token is `hello`.
+const USERS: &[[&str; 2]] = &[[ADD_ANN, ACCEPTED], [ADD_BOB, ACCEPTED]];
+
+const ADD_ANN: &str = post!(
+    "office",
+    "127",
+    r#"{"do":"add_user","user":"ann","office":false,"token_sha256":"ba7816bf8f01cfea414140de5dae2223b00361a396177a9cb410ff61f20015ad"}"#
+);
+
+const ADD_BOB: &str = post!(
+    "office",
+    "127",
+    r#"{"do":"add_user","user":"bob","office":false,"token_sha256":"2cf24dba5fb0a30e26e83b2ac5b9e29e1b161e5c1fa7425e73043362938b9824"}"#
+);
+
+/// Then ann claims `frob`.
+const FROB: &[[&str; 2]] = &[[CLAIM, ACCEPTED]];
+
+const CLAIM: &str = post!("abc", "28", r#"{"do":"claim","name":"frob"}"#);
+
+/// Then she uploads `frob-1.0.tar.gz`, the bytes `abc`.
+const FILE: &[[&str; 2]] = &[[PUT, CREATED]];
+
+const PUT: &str = put!("/files/frob/frob-1.0.tar.gz" "X-Index-Token: abc");
+
+const CREATED: &str =
+    "HTTP/1.1 201 Created\r\nContent-Type: application/json\r\nContent-Length: 21\r\nConnection: close\r\n\r\n{\"answer\":\"accepted\"}";
+
+/// Where she uploads it again.
+const ALREADY: &str = json!("200 OK", "20", r#"{"answer":"already"}"#);
+
+/// Asks these exchanges in order of a new desk: each message as it is, and at another desk each one byte at a time.
+fn assert_exchanges(rt: &(impl Abort + AllocGlobal), parts: &[&[[&str; 2]]]) {
+    let site = new_site(rt);
+    for most in [usize::MAX, 1] {
+        let mut desk = new_desk(rt);
+        for part in parts {
+            assert_part(rt, &site, &mut desk, part, most);
+        }
+    }
+}
+
+/// The routes.
+fn new_site(rt: &(impl Abort + AllocGlobal)) -> Site {
+    Site::new(rt.alloc()).expect(rt, "routes")
+}
+
+/// A desk whose one user is `office`, of the office, with the token `office`.
+fn new_desk(rt: &(impl Abort + AllocGlobal)) -> Desk<PlainBooks> {
+    let token = Digest256::of(b"office");
+    Desk::new(PlainBooks::new(rt.alloc(), b"office", token).expect(rt, "books"))
+}
+
+/// A desk where ann has claimed `frob`.
+fn desk_with_frob(rt: &(impl Abort + AllocGlobal), site: &Site) -> Desk<PlainBooks> {
+    let mut desk = new_desk(rt);
+    assert_part(rt, site, &mut desk, USERS, usize::MAX);
+    assert_part(rt, site, &mut desk, FROB, usize::MAX);
+    desk
+}
+
+/// Asks these exchanges in order, of which a read gives at most so many bytes.
+fn assert_part(
+    rt: &(impl Abort + AllocGlobal),
+    site: &Site,
+    desk: &mut Desk<PlainBooks>,
+    part: &[[&str; 2]],
+    most: usize,
+) {
+    for [message, reply] in part {
+        assert_reply(rt, site, desk, message, reply, most);
+    }
+}
+
+/// This is the reply to a message, of which a read gives at most so many bytes.
+fn assert_reply(
+    rt: &(impl Abort + AllocGlobal),
+    site: &Site,
+    desk: &mut Desk<PlainBooks>,
+    message: &str,
+    reply: &str,
+    most: usize,
+) {
+    let rest = message.as_bytes();
+    let mut input = Input::new(PieceReader { rest, most });
+    let mut output = Output::new(Vec::new(rt.alloc()));
+    let ended = answer_one(rt.alloc(), site, &mut input, &mut output, desk, AT);
+    let told = String::from_utf8(output.writer).expect(rt, "UTF-8");
+    assert_eq!(rt; told.as_str(), reply, "{message}");
+    assert!(rt; ended == Ok(()), "{message}");
+}

@@ -1,0 +1,116 @@
+//! Pages, and the ways to them.
+use super::{FILE, FROB, USERS, assert_exchanges};
+
+const ROOT: &str = look!("GET /simple/");
+
+const ROOT_IN_JSON: &str = look!("GET /simple/" "Accept: application/vnd.pypi.simple.v1+json");
+
+/// The page of no names, of 164 bytes, and in JSON of 44.
+const NO_NAMES: &[[&str; 2]] = &[
+    [
+        ROOT,
+        "HTTP/1.1 200 OK\r\nContent-Type: text/html\r\nContent-Length: 164\r\nConnection: close\r\n\r\n<!DOCTYPE html>\n<html>\n<head>\n<meta charset=\"utf-8\">\n<meta name=\"pypi:repository-version\" content=\"1.0\">\n<title>Simple index</title>\n</head>\n<body>\n</body>\n</html>\n",
+    ],
+    [
+        ROOT_IN_JSON,
+        "HTTP/1.1 200 OK\r\nContent-Type: application/vnd.pypi.simple.v1+json\r\nContent-Length: 44\r\nConnection: close\r\n\r\n{\"meta\":{\"api-version\":\"1.1\"},\"projects\":[]}",
+    ],
+    [
+        look!("HEAD /simple/"),
+        "HTTP/1.1 200 OK\r\nContent-Type: text/html\r\nContent-Length: 164\r\nConnection: close\r\n\r\n",
+    ],
+];
+
+#[test]
+fn a_page_of_no_names(rt: HostRuntime) {
+    assert_exchanges(&rt, &[NO_NAMES]);
+}
+
+/// The reply has 168 bytes, of which the body has 59.
+const NAMES: &[[&str; 2]] = &[[ROOT_IN_JSON, NAMES_IN_JSON]];
+
+const NAMES_IN_JSON: &str =
+    "HTTP/1.1 200 OK\r\nContent-Type: application/vnd.pypi.simple.v1+json\r\nContent-Length: 59\r\nConnection: close\r\n\r\n{\"meta\":{\"api-version\":\"1.1\"},\"projects\":[{\"name\":\"frob\"}]}";
+
+#[test]
+fn a_page_of_names(rt: HostRuntime) {
+    assert_eq!(rt; NAMES_IN_JSON.len(), 168);
+    assert_exchanges(&rt, &[USERS, FROB, FILE, NAMES]);
+}
+
+const PROJECT: &[[&str; 2]] = &[
+    [
+        look!("GET /simple/frob/" "Accept: application/vnd.pypi.simple.v1+json"),
+        reply!(
+            "200 OK",
+            ["Content-Type: application/vnd.pypi.simple.v1+json"],
+            "236",
+            r#"{"files":[{"filename":"frob-1.0.tar.gz","hashes":{"sha256":"ba7816bf8f01cfea414140de5dae2223b00361a396177a9cb410ff61f20015ad"},"size":3,"url":"/files/frob/frob-1.0.tar.gz"}],"meta":{"api-version":"1.1"},"name":"frob","versions":["1.0"]}"#
+        ),
+    ],
+    [
+        look!("HEAD /simple/frob/" "accept: application/vnd.pypi.simple.latest+json"),
+        reply!(
+            "200 OK",
+            ["Content-Type: application/vnd.pypi.simple.v1+json"],
+            "236",
+            ""
+        ),
+    ],
+];
+
+#[test]
+fn the_page_of_a_project(rt: HostRuntime) {
+    assert_exchanges(&rt, &[USERS, FROB, FILE, PROJECT]);
+}
+
+const NO_PROJECT: &str = json!(
+    "404 Not Found",
+    "49",
+    r#"{"answer":"refused","code":17,"name":"NoProject"}"#
+);
+
+/// A way has no type (PEP 503: to the normal form).
+const WAYS: &[[&str; 2]] = &[
+    [
+        look!("GET /simple/Frob"),
+        "HTTP/1.1 301 Moved Permanently\r\nLocation: /simple/frob/\r\nContent-Length: 0\r\nConnection: close\r\n\r\n",
+    ],
+    [
+        look!("GET /simple/Frob/"),
+        reply!(
+            "301 Moved Permanently",
+            ["Location: /simple/frob/"],
+            "0",
+            ""
+        ),
+    ],
+    [
+        look!("GET /simple"),
+        "HTTP/1.1 301 Moved Permanently\r\nLocation: /simple/\r\nContent-Length: 0\r\nConnection: close\r\n\r\n",
+    ],
+    [look!("GET /simple/-/"), NO_PROJECT],
+];
+
+#[test]
+fn ways_to_pages(rt: HostRuntime) {
+    assert_exchanges(&rt, &[WAYS]);
+}
+
+const NOT_ACCEPTABLE: &str = json!(
+    "406 Not Acceptable",
+    "43",
+    r#"{"answer":"message","name":"NotAcceptable"}"#
+);
+
+/// Whether a page is there is looked at before its type.
+const NO_TYPE: &[[&str; 2]] = &[
+    [look!("GET /simple/nest/" "Accept: */*;q=0"), NO_PROJECT],
+    [look!("GET /simple/frob/" "Accept: */*;q=0"), NOT_ACCEPTABLE],
+    [look!("GET /simple/" "Accept: */*;q=0"), NOT_ACCEPTABLE],
+];
+
+#[test]
+fn a_page_of_no_type(rt: HostRuntime) {
+    assert_exchanges(&rt, &[USERS, FROB, NO_TYPE]);
+}
