@@ -7,15 +7,17 @@ ghost use Rattle.index_digest.specs.Digest.{sha256};
 ghost use Rattle.index_plain.specs.Plain.{tables_of};
 ghost use Rattle.index_rules.specs.FirstTables.{first_tables};
 
-use index_cli::{LineEnd, apply_lines};
+use index_cli::{LineEnd, apply_lines, serve_connections};
 use index_desk::Desk;
 use index_digest::Digest256;
 use index_io::{Input, Output};
+use index_message::Site;
 use index_plain::PlainBooks;
 use index_rules::OpenFault;
 use index_words::{Job, WordsEnd, read_words};
 use std::fmt::Display;
 use std::io::{BufReader, ErrorKind};
+use std::net::{SocketAddr, TcpListener};
 use std::process::ExitCode;
 use std::{env, io};
 
@@ -36,6 +38,13 @@ fn words(rt: &HostRuntime) -> io::Result<Vec<String>> {
 fn run(rt: &HostRuntime, words: &[String]) -> ExitCode {
     match read_words(rt.alloc(), words) {
         Ok(Job::Apply) => apply(rt),
+        Ok(
+            Job::Serve {
+                listen,
+                requests,
+                at,
+            },
+        ) => serve(rt, listen, requests, at),
         Err(WordsEnd::Clap(error)) => match error.print(rt) {
             Err(_) if !error.use_stderr() => failed(rt, "WriteFault"),
             _ => ExitCode::from(error.exit_code() as u8),
@@ -60,6 +69,42 @@ fn apply(rt: &HostRuntime) -> ExitCode {
         rt,
         apply_lines(rt.alloc(), &mut source, &mut sink, &mut desk),
     )
+}
+
+/// Answers so many connections, on tables whose one user is `office`, with the token `office`.
+fn serve(rt: &HostRuntime, listen: &str, requests: u32, at: Option<u64>) -> ExitCode {
+    let books = match office_books(rt) {
+        Ok(books) => books,
+        Err(fault) => return failed(rt, fault),
+    };
+    let Ok(site) = Site::new(rt.alloc()) else {
+        return failed(rt, "OutOfMemory");
+    };
+    let Ok(listener) = listen_at(rt, listen) else {
+        return failed(rt, "Listen");
+    };
+    if tell_address(rt, &listener).is_err() {
+        return failed(rt, "WriteFault");
+    }
+    let mut desk = Desk::new(books);
+    match serve_connections(rt, &listener, requests, at, &site, &mut desk) {
+        Ok(()) => ExitCode::SUCCESS,
+        Err(end) => failed(rt, end),
+    }
+}
+
+/// Listens at an address and a port. Port 0 is any that is free.
+fn listen_at(rt: &HostRuntime, address: &str) -> io::Result<TcpListener> {
+    match address.parse::<SocketAddr>() {
+        Ok(address) => TcpListener::bind(rt, address),
+        Err(_) => Err(ErrorKind::InvalidInput.into()),
+    }
+}
+
+/// Tells where connections are awaited.
+fn tell_address(rt: &HostRuntime, listener: &TcpListener) -> io::Result<()> {
+    let address = listener.local_addr()?;
+    println!(rt; "listening on {address}")
 }
 
 /// The status of a run over lines. A fault that ended it is named on standard error.

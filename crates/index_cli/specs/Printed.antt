@@ -2,9 +2,16 @@
 use Rattle.std.specs.Prelude.{ℕ, List, codes}
 use Rattle.index_cli.specs.declared.end.LineEnd.{LineEnd}
 use Rattle.index_cli.specs.declared.end.LineEnd.TheVariants.{ReadFault, WriteFault, OutOfMemory}
+use Rattle.index_cli.specs.declared.end.ServeEnd.{ServeEnd}
+use Rattle.index_cli.specs.declared.end.ServeEnd.TheVariants as serve_end
 
 -- each end prints its name, and a write that failed the bytes that went out before it
 abbrev pub line_end_text : LineEnd → List ℕ
 line_end_text ReadFault = codes "ReadFault"
 line_end_text WriteFault = codes "WriteFault"
 line_end_text OutOfMemory = codes "OutOfMemory"
+
+-- each end of a run over connections prints its name
+abbrev pub serve_end_text : ServeEnd → List ℕ
+serve_end_text serve_end.ReadFault = codes "ReadFault"
+serve_end_text serve_end.Clock = codes "Clock"

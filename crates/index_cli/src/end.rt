@@ -1,4 +1,4 @@
-//! The ends of a run over lines.
+//! The ends of runs over lines and over connections.
 use std::error::Error;
 use std::fmt;
 
@@ -28,3 +28,28 @@ impl fmt::Display for LineEnd {
 }
 
 impl Error for LineEnd {}
+
+/// Why a run over connections ended before the last of them.
+#[derive(Clone, Copy, Debug, PartialEq, Eq, Hash)]
+pub enum ServeEnd {
+    /// A connection can't be accepted.
+    ReadFault,
+    /// The clock can't be read, or stands before 1970.
+    Clock,
+}
+
+impl fmt::Display for ServeEnd {
+    ghost use Rattle.std.specs.Prelude.{Some};
+    ghost use Rattle.index_cli.specs.Printed.{serve_end_text};
+
+    ghost output = { λ end. Some (serve_end_text end) };
+
+    fn fmt<W: fmt::Write>(&self, f: &mut fmt::Formatter<W>) -> fmt::Result {
+        f.write_str(match self {
+            ServeEnd::ReadFault => "ReadFault",
+            ServeEnd::Clock => "Clock",
+        })
+    }
+}
+
+impl Error for ServeEnd {}

@@ -1,4 +1,4 @@
-//! The lines of the index: requests and answers in JSON, one a line.
+//! The ways in: lines of requests and answers in JSON, and connections over HTTP.
 #![tactic(auto)]
 
 mod apply;
@@ -6,6 +6,8 @@ mod end;
 mod input;
 mod output;
 mod reply;
+mod serve;
 
 pub use apply::apply_lines;
-pub use end::LineEnd;
+pub use end::{LineEnd, ServeEnd};
+pub use serve::serve_connections;

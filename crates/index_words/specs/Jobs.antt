@@ -1,10 +1,32 @@
 -- What the words of a command line ask for.
-use Rattle.std.specs.Prelude.{◌≡◌, List, Option, Some, None, codes}
-use Rattle.clap.specs.Words.{Row, Text}
+use Rattle.std.specs.Prelude.{◌≡◌, ◌≤◌, ◌<◌, ◌^◌, ℕ, List, Option, Some, None, IsSomeAnd, codes}
+use Rattle.std.specs.Str.Parse.{IsNumeral, digits_value, without_leading_plus}
+use Rattle.clap.specs.Words.{Row, Text, first_of}
 use Rattle.index_words.specs.declared.job.Job.{Job}
 use Rattle.index_words.specs.declared.job.Job.TheVariants as job
+
+-- the text is this number in decimal digits, which may have a plus before them
+abbrev pub IsNumber : ℕ → Text → Type 0
+IsNumber n text =
+    IsNumeral 10 (without_leading_plus text) × (digits_value 10 (without_leading_plus text) ≡ n)
+
+-- the option has this text
+abbrev pub HasText : Text → List Row → Text → Type 0
+HasText id rows text = first_of id rows ≡ Some text
+
+-- the option has this number
+abbrev pub HasNumber : Text → List Row → ℕ → Type 0
+HasNumber id rows n = IsSomeAnd (first_of id rows) (IsNumber n)
+
+-- the option has this number of 64 bits, or is not given
+abbrev pub HasMoment : Text → List Row → Option ℕ → Type 0
+HasMoment id rows None = first_of id rows ≡ None
+HasMoment id rows (Some n) = HasNumber id rows n × (n < 2 ^ 64)
 
 -- the job is the subcommand that was entered, with the values of its options
 abbrev pub IsJob : Option (Text × List Row) → Job → Type 0
 IsJob None job = ⊥
 IsJob (Some (name, rows)) job.Apply = name ≡ codes "apply"
+IsJob (Some (name, rows)) (job.Serve listen requests at) = (name ≡ codes "serve")
+    × HasText (codes "listen") rows listen.now × HasNumber (codes "requests") rows requests
+    × (1 ≤ requests) × (requests ≤ 1000000) × HasMoment (codes "at") rows at

@@ -1,8 +1,10 @@
 //! What the words of a command line ask for.
-ghost use Rattle.std.specs.Prelude.{◌≡◌, true, map, option_map, string_bytes, IfErr, IfOk, IfSome, IsSome};
-ghost use Rattle.clap.specs.Words.{found_of, kind_of, rows_of, subcommand_of, subcommand_rows_of, takes};
+ghost use Rattle.std.specs.Prelude.{◌≡◌, ◌≤◌, ◌<◌, ◌^◌, ℕ, Option, Some, true};
+ghost use Rattle.std.specs.Prelude.{codes, map, option_map, string_bytes, IfErr, IfOk, IfSome, IsSome};
+ghost use Rattle.clap.specs.Words.{first_of, found_of, kind_of, rows_of, subcommand_of};
+ghost use Rattle.clap.specs.Words.{subcommand_rows_of, takes};
 ghost use Rattle.index_words.specs.Program.{index_app};
-ghost use Rattle.index_words.specs.Jobs.{IsJob};
+ghost use Rattle.index_words.specs.Jobs.{HasMoment, IsJob, IsNumber};
 
 use crate::command;
 use clap::error::ErrorKind;
@@ -11,9 +13,18 @@ use std::alloc::{AllocError, Global};
 
 /// What the program is asked to do.
 #[derive(Clone, Copy, Debug, PartialEq, Eq)]
-pub enum Job {
+pub enum Job<'a> {
     /// To answer the lines of standard input.
     Apply,
+    /// To answer HTTP requests, one a connection.
+    Serve {
+        /// The address and port to listen on.
+        listen: &'a str,
+        /// How many connections are served, 1 to 1,000,000.
+        requests: u32,
+        /// The moment of every request in Unix seconds, or the clock's.
+        at: Option<u64>,
+    },
 }
 
 /// Why the words ask for nothing.
@@ -50,7 +61,7 @@ impl From<Error> for WordsEnd {
 }
 
 /// Reads the words of a command line, the program's name first.
-pub fn read_words(alloc: Global, words: &[String]) -> Result<Job, WordsEnd>
+pub fn read_words<'a>(alloc: Global, words: &'a [String]) -> Result<Job<'a>, WordsEnd>
     // The job is the subcommand that clap reads.
     ensures job { IfOk result (IsJob (subcommand_of index_app (map string_bytes words.now))) }
 
@@ -67,12 +78,13 @@ pub fn read_words(alloc: Global, words: &[String]) -> Result<Job, WordsEnd>
     }
 }
 
-fn job_of(matches: &ArgMatches<'_>) -> Option<Job>
+fn job_of<'a>(matches: &ArgMatches<'a>) -> Option<Job<'a>>
     ensures job { IfSome result (IsJob (subcommand_rows_of matches.now)) }
     ensures found { (job : Job) → IsJob (subcommand_rows_of matches.now) job → IsSome result }
 {
     match entered(matches)? {
         ("apply", _) => Some(Job::Apply),
+        ("serve", given) => serve_of(given),
         _ => None,
     }
 }
@@ -83,4 +95,60 @@ fn entered<'m, 'a>(matches: &'m ArgMatches<'a>) -> Option<(&'a str, &'m ArgMatch
         ≡ subcommand_rows_of matches.now }
 {
     matches.subcommand()
+}
+
+/// The job of the subcommand `serve` with these options.
+fn serve_of<'a>(given: &ArgMatches<'a>) -> Option<Job<'a>>
+    ensures job { IfSome result (IsJob (Some (codes "serve", rows_of (found_of given.now)))) }
+    ensures found { (job : Job) → IsJob (Some (codes "serve", rows_of (found_of given.now))) job
+        → IsSome result }
+{
+    let listen = text(given, "listen")?;
+    let requests = count(text(given, "requests")?)?;
+    let at = moment(given, "at")?;
+    Some(Job::Serve {
+        listen,
+        requests,
+        at,
+    })
+}
+
+/// The text of an option.
+fn text<'a>(given: &ArgMatches<'a>, id: &str) -> Option<&'a str>
+    ensures { option_map (λ text. text.now) result
+        ≡ first_of id.now (rows_of (found_of given.now)) }
+{
+    given.get_str(id)
+}
+
+/// The moment of an option, or that it is not given.
+fn moment(given: &ArgMatches<'_>, id: &str) -> Option<Option<u64>>
+    ensures moment { IfSome result (HasMoment id.now (rows_of (found_of given.now))) }
+    ensures found { (at : Option ℕ) → HasMoment id.now (rows_of (found_of given.now)) at
+        → IsSome result }
+{
+    match text(given, id) {
+        Some(text) => Some(Some(number(text)?)),
+        None => Some(None),
+    }
+}
+
+/// A count of connections.
+fn count(text: &str) -> Option<u32>
+    ensures count { IfSome result (λ n. IsNumber n text.now × (1 ≤ n) × (n ≤ 1000000)) }
+    ensures found { (n : ℕ) → IsNumber n text.now → 1 ≤ n → n ≤ 1000000 → IsSome result }
+{
+    let count = number(text)?;
+    if count == 0 || count > 1_000_000 {
+        return None;
+    }
+    Some(count as u32)
+}
+
+/// The number that a text is.
+fn number(text: &str) -> Option<u64>
+    ensures number { IfSome result (λ n. IsNumber n text.now × (n < 2 ^ 64)) }
+    ensures found { (n : ℕ) → IsNumber n text.now → n < 2 ^ 64 → IsSome result }
+{
+    text.parse::<u64>().ok()
 }

@@ -11,4 +11,5 @@ returns c =
       app = rw c.subcommand_required.ensures (ap (λ (a : App). record { top = record a.top { subcommand_required = true }; subs = a.subs }) c.new.ensures.app);
       globals = rw c.subcommand_required.ensures c.new.ensures.local;
     } in
-    IfOk-weaker c.subcommand.result _ _ (λ command adds. IsApp-subcommand _ _ _ _ _ none c.apply.ensures adds) c.subcommand.ensures
+    let one = IsApp-subcommand _ _ _ _ _ none c.apply.ensures c.in_ok-subcommand.ensures in
+    IfOk-weaker c.subcommand-2.result _ _ (λ command adds. IsApp-subcommand _ _ _ _ _ one c.in_ok-serve.ensures adds) c.subcommand-2.ensures
