@@ -1,0 +1,82 @@
+"""The packages that try-with-pip uploads: small wheels, and a source archive that is built without a network."""
+import base64
+import hashlib
+import io
+import tarfile
+import zipfile
+
+# What a source archive is built by: it packs the folder `built` as it is, and needs no other package.
+BACKEND = '''import os, zipfile
+
+def build_wheel(folder, config_settings=None, metadata_directory=None):
+    with zipfile.ZipFile(os.path.join(folder, "WHEEL_NAME"), "w") as wheel:
+        for at, _, files in os.walk("built"):
+            for file in files:
+                path = os.path.join(at, file)
+                with open(path) as kept:
+                    wheel.writestr(os.path.relpath(path, "built"), kept.read())
+    return "WHEEL_NAME"
+'''
+PYPROJECT = '[build-system]\nrequires = []\nbuild-backend = "backend"\nbackend-path = ["."]\n'
+
+
+def wheel_name(name, version):
+    return f"{name}-{version}-py3-none-any.whl"
+
+
+def recorded(path, data):
+    digest = base64.urlsafe_b64encode(hashlib.sha256(data).digest()).rstrip(b"=").decode()
+    return f"{path},sha256={digest},{len(data)}\n"
+
+
+def wheel_files(name, version, code, needs=()):
+    """The files of a wheel with one module, by path."""
+    info = f"{name}-{version}.dist-info"
+    metadata = f"Metadata-Version: 2.1\nName: {name}\nVersion: {version}\n"
+    metadata += "".join(f"Requires-Dist: {need}\n" for need in needs)
+    files = {
+        f"{name}.py": code,
+        f"{info}/METADATA": metadata,
+        f"{info}/WHEEL": "Wheel-Version: 1.0\nGenerator: index\nRoot-Is-Purelib: true\nTag: py3-none-any\n",
+    }
+    record = "".join(recorded(path, text.encode()) for path, text in files.items())
+    return {**files, f"{info}/RECORD": f"{record}{info}/RECORD,,\n"}
+
+
+def make_wheel(path, files):
+    with zipfile.ZipFile(path, "w") as wheel:
+        for name, text in files.items():
+            wheel.writestr(name, text)
+
+
+def make_source(path, name, version, files):
+    """A source archive (PEP 625) whose build (PEP 517) packs these files."""
+    front = f"{name}-{version}"
+    inside = {f"built/{inner}": text for inner, text in files.items()}
+    inside["pyproject.toml"] = PYPROJECT
+    inside["backend.py"] = BACKEND.replace("WHEEL_NAME", wheel_name(name, version))
+    inside["PKG-INFO"] = f"Metadata-Version: 2.1\nName: {name}\nVersion: {version}\n"
+    with tarfile.open(path, "w:gz") as archive:
+        for inner, text in inside.items():
+            entry = tarfile.TarInfo(f"{front}/{inner}")
+            entry.size, entry.mode = len(text.encode()), 0o644
+            archive.addfile(entry, io.BytesIO(text.encode()))
+
+
+def make_packages(folder):
+    """For each project its files by name: the path, and the Python versions that its upload declares."""
+    made = {"frob": {}, "spam-nest": {}}
+
+    def wheel(project, name, version, code, needs=(), requires=""):
+        file = wheel_name(name, version)
+        make_wheel(f"{folder}/{file}", wheel_files(name, version, code, needs))
+        made[project][file] = f"{folder}/{file}", requires
+
+    make_source(f"{folder}/frob-0.9.tar.gz", "frob", "0.9", wheel_files("frob", "0.9", 'VERSION = "0.9"\n'))
+    made["frob"]["frob-0.9.tar.gz"] = f"{folder}/frob-0.9.tar.gz", ""
+    for version in ("1.0", "1.1"):
+        wheel("frob", "frob", version, f'VERSION = "{version}"\n')
+    uses = "import frob\n\nFROB = frob.VERSION\n"
+    wheel("spam-nest", "spam_nest", "1.0+fix.1", uses, needs=["frob>=0.9"], requires=">=3.7")
+    wheel("spam-nest", "spam_nest", "2.0", uses, needs=["frob>=0.9"], requires=">=99")
+    return made

@@ -1,0 +1,94 @@
+"""What try-with-pip and bench share: a server that is started and always stopped, and requests that are sent to it."""
+import hashlib
+import http.client
+import os
+import select
+import socket
+import subprocess
+import tempfile
+import time
+
+TOP = os.path.dirname(os.path.dirname(os.path.abspath(__file__)))
+PROGRAM = f"{TOP}/crates/index/out/index"
+JSON_PAGE = "application/vnd.pypi.simple.v1+json"
+
+
+def sha256(data):
+    return hashlib.sha256(data).hexdigest()
+
+
+def free_port():
+    """A port of loopback that nobody listens on."""
+    with socket.create_server(("127.0.0.1", 0)) as found:
+        return found.getsockname()[1]
+
+
+class Running:
+    """A program that runs as long as the block does. It is then asked to end, and killed where it doesn't."""
+
+    def __init__(self, words, **streams):
+        self.words, self.streams = words, {"stdin": subprocess.DEVNULL, **streams}
+
+    def __enter__(self):
+        self.process = subprocess.Popen(self.words, **self.streams)
+        return self
+
+    def __exit__(self, *_):
+        self.process.terminate()
+        try:
+            self.process.wait(timeout=5)
+        except subprocess.TimeoutExpired:
+            self.process.kill()
+            self.process.wait(timeout=5)
+        if self.process.stdout:
+            self.process.stdout.close()
+
+
+class Index(Running):
+    """The built program, serving on loopback. What it says on standard error is kept."""
+
+    def __init__(self, program, requests=1_000_000):
+        self.said = tempfile.TemporaryFile()
+        words = [program, "serve", "--listen", "127.0.0.1:0", "--requests", str(requests)]
+        super().__init__(words, stdout=subprocess.PIPE, stderr=self.said)
+
+    def __enter__(self):
+        super().__enter__()
+        try:
+            self.port = self.told_port()
+        except BaseException:
+            self.__exit__()
+            raise
+        return self
+
+    def __exit__(self, *_):
+        super().__exit__()
+        self.said.close()
+
+    def told_port(self):
+        """The port in the line `listening on 127.0.0.1:PORT`, which has to come within ten seconds."""
+        line, until = b"", time.monotonic() + 10
+        while not line.endswith(b"\n"):
+            ready, _, _ = select.select([self.process.stdout], [], [], max(0, until - time.monotonic()))
+            read = os.read(self.process.stdout.fileno(), 4096) if ready else b""
+            if not read:
+                raise SystemExit(f"{self.words[0]} serve does not listen: {line!r} {self.errors()!r}")
+            line += read
+        start = b"listening on 127.0.0.1:"
+        if not line.startswith(start):
+            raise SystemExit(f"{self.words[0]} serve printed {line!r}")
+        return int(line[len(start):])
+
+    def errors(self):
+        self.said.seek(0)
+        return self.said.read()
+
+    def ask(self, method, path, body=None, **headers):
+        """The status, the headers and the body of the reply. `X_Index_Token` stands for `X-Index-Token`."""
+        connection = http.client.HTTPConnection("127.0.0.1", self.port, timeout=30)
+        try:
+            connection.request(method, path, body, {name.replace("_", "-"): value for name, value in headers.items()})
+            reply = connection.getresponse()
+            return reply.status, reply.headers, reply.read()
+        finally:
+            connection.close()
