@@ -10,6 +10,7 @@ use std::io::Read;
 use std::process::Abort;
 
 mod answers;
+mod connections;
 mod ends;
 mod fakes;
 mod faults;

@@ -1,0 +1,61 @@
+//! Connections on loopback, each of which gets the reply to its message.
+use super::desk_with_users;
+use index_cli::serve_connections;
+use index_message::Site;
+use std::alloc::AllocGlobal;
+use std::io::{Read, Write};
+use std::net::{Ipv4Addr, Net, SocketAddr, TcpListener, TcpStream};
+use std::process::Abort;
+
+/// A claim by ann.
+const CLAIM: &str = concat!(
+    "POST /requests HTTP/1.1\r\nHost: index\r\nX-Index-Token: abc\r\nContent-Length: 28\r\n\r\n",
+    r#"{"do":"claim","name":"frob"}"#
+);
+
+const ACCEPTED: &str = concat!(
+    "HTTP/1.1 200 OK\r\nContent-Type: application/json\r\nContent-Length: 21\r\nConnection: close\r\n\r\n",
+    r#"{"answer":"accepted"}"#
+);
+
+/// A look at a name that nobody claimed.
+const LOOK: &str = "GET /names/nest HTTP/1.1\r\nHost: index\r\n\r\n";
+
+const FREE: &str = concat!(
+    "HTTP/1.1 200 OK\r\nContent-Type: application/json\r\nContent-Length: 30\r\nConnection: close\r\n\r\n",
+    r#"{"name":"nest","state":"free"}"#
+);
+
+/// A client that has sent its message.
+fn client(
+    rt: &(impl Abort + Net<Stream = TcpStream>),
+    address: SocketAddr,
+    message: &str,
+) -> TcpStream {
+    let mut stream = TcpStream::connect(rt, address).expect(rt, "a connection");
+    stream.write_all(message.as_bytes()).expect(rt, "a message");
+    stream
+}
+
+/// All that the client is sent is this reply.
+fn assert_replied(rt: &(impl Abort + AllocGlobal), mut client: TcpStream, reply: &str) {
+    let mut taken = Vec::new(rt.alloc());
+    client.read_to_end(&mut taken).expect(rt, "a reply");
+    let told = String::from_utf8(taken).expect(rt, "UTF-8");
+    assert_eq!(rt; told.as_str(), reply);
+}
+
+#[test]
+fn connections_are_answered_in_turn(rt: HostRuntime) {
+    let site = Site::new(rt.alloc()).expect(&rt, "routes");
+    let mut desk = desk_with_users(&rt);
+    let loopback = SocketAddr::from((Ipv4Addr::LOCALHOST, 0));
+    let listener = TcpListener::bind(&rt, loopback).expect(&rt, "a port");
+    let address = listener.local_addr().expect(&rt, "its address");
+    let ann = client(&rt, address, CLAIM);
+    let other = client(&rt, address, LOOK);
+    let ended = serve_connections(&rt, &listener, 2, Some(2), &site, &mut desk);
+    assert!(rt; ended == Ok(()));
+    assert_replied(&rt, ann, ACCEPTED);
+    assert_replied(&rt, other, FREE);
+}
