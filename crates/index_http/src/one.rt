@@ -12,7 +12,7 @@ ghost use Rattle.index_message.specs.Heads.{longest_head};
 ghost use Rattle.index_message.specs.Lengths.{longest_upload};
 ghost use Rattle.index_http.specs.Ends.{Ends, EndsAfter};
 ghost use Rattle.index_http.specs.Exchanges.{RepliesTo, RepliesToInput};
-ghost use Rattle.index_http.specs.Sends.{is_write_fault};
+ghost use Rattle.index_http.specs.Sends.{is_cut, is_write_fault};
 
 use crate::act::act;
 use crate::end::IoEnd;
@@ -63,6 +63,10 @@ pub fn answer_one<S: Source, K: Sink, B: Books>(
         HasFailed (K.failures sink.old) (K.failures sink.new) }
     ensures writes { is_write_fault result ≡ false → K.failures sink.new ≡ K.failures sink.old }
 
+    // A page that was cut short changed no table.
+    ensures cut { B.IsHonest desk.new → is_cut result ≡ true →
+        B.tables desk.new ≡ B.tables desk.old }
+
     // No more is read than may be.
     ensures limit { (taken : List ℕ) × (length taken ≤ longest_head + longest_upload)
         × Consumes (S.remaining source.old) (S.remaining source.new) taken }
@@ -97,6 +101,8 @@ fn answer<K: Sink, B: Books>(
         HasFailed (K.failures sink.old) (K.failures sink.new) }
     ensures writes { is_write_fault result ≡ false → K.failures sink.new ≡ K.failures sink.old }
     ensures no_read_fault { result ≢ Err IoEnd.ReadFault }
+    ensures cut { B.IsHonest desk.new → is_cut result ≡ true →
+        B.tables desk.new ≡ B.tables desk.old }
     ensures one_bearer { B.IsHonest desk.new →
         HasOneBearer (B.tables desk.old) → HasOneBearer (B.tables desk.new) }
     ensures sound { B.IsHonest desk.new →
