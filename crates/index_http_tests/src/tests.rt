@@ -62,7 +62,7 @@ macro_rules! reply {
 }
 
 /// A reply in JSON.
-macro_rules! json {
+macro_rules! json_reply {
     ($status:literal, $length:literal, $body:literal) => {
         reply!($status, ["Content-Type: application/json"], $length, $body)
     };
@@ -78,7 +78,7 @@ mod pages;
 const AT: u64 = 10;
 
 /// What a request that was accepted is answered.
-const ACCEPTED: &str = json!("200 OK", "21", r#"{"answer":"accepted"}"#);
+const ACCEPTED: &str = json_reply!("200 OK", "21", r#"{"answer":"accepted"}"#);
 
 /// The office adds ann, whose token is `abc`, and bob, whose token is `hello`.
 const USERS: &[[&str; 2]] = &[[ADD_ANN, ACCEPTED], [ADD_BOB, ACCEPTED]];
@@ -109,7 +109,7 @@ const CREATED: &str =
     "HTTP/1.1 201 Created\r\nContent-Type: application/json\r\nContent-Length: 21\r\nConnection: close\r\n\r\n{\"answer\":\"accepted\"}";
 
 /// Where she uploads it again.
-const ALREADY: &str = json!("200 OK", "20", r#"{"answer":"already"}"#);
+const ALREADY: &str = json_reply!("200 OK", "20", r#"{"answer":"already"}"#);
 
 /// Asks these exchanges in order of a new desk: each message as it is, and at another desk each one byte at a time.
 fn assert_exchanges(rt: &(impl Abort + AllocGlobal), parts: &[&[[&str; 2]]]) {

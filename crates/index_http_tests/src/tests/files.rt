@@ -1,7 +1,7 @@
 //! Files that are uploaded, looked at and deleted.
 use super::{ALREADY, FILE, FROB, PUT, USERS, assert_exchanges};
 
-const NO_FILE: &str = json!(
+const NO_FILE: &str = json_reply!(
     "404 Not Found",
     "46",
     r#"{"answer":"refused","code":22,"name":"NoFile"}"#
@@ -27,7 +27,7 @@ const UPLOADED: &[[&str; 2]] = &[
     [look!("GET /files/frob/frob-9.tar.gz"), NO_FILE],
     [
         look!("GET /names/frob"),
-        json!(
+        json_reply!(
             "200 OK",
             "104",
             r#"{"case":null,"charge":3,"name":"frob","owners":["ann"],"quota":1073741824,"shown":"frob","state":"held"}"#
@@ -48,7 +48,7 @@ const REFUSED: &[[&str; 2]] = &[
     ],
     [
         put!("/files/frob/frob-1.0.tar.gz" "X-Index-Token: hello"),
-        json!(
+        json_reply!(
             "403 Forbidden",
             "48",
             r#"{"answer":"refused","code":18,"name":"NotOwner"}"#
@@ -65,12 +65,12 @@ fn uploads_are_refused(rt: HostRuntime) {
 const DELETE: &str = look!("DELETE /files/frob/frob-1.0.tar.gz" "X-Index-Token: abc");
 
 const DELETED: &[[&str; 2]] = &[
-    [DELETE, json!("200 OK", "21", r#"{"answer":"accepted"}"#)],
+    [DELETE, json_reply!("200 OK", "21", r#"{"answer":"accepted"}"#)],
     [GET, NO_FILE],
     [DELETE, ALREADY],
     [
         look!("GET /names/frob"),
-        json!(
+        json_reply!(
             "200 OK",
             "104",
             r#"{"case":null,"charge":0,"name":"frob","owners":["ann"],"quota":1073741824,"shown":"frob","state":"held"}"#
@@ -87,7 +87,7 @@ fn a_file_is_deleted(rt: HostRuntime) {
 const SHORT: &[[&str; 2]] = &[
     [
         "PUT /files/frob/frob-1.0.tar.gz HTTP/1.1\r\nX-Index-Token: abc\r\nX-Index-Sha256: ba7816bf8f01cfea414140de5dae2223b00361a396177a9cb410ff61f20015ad\r\nContent-Length: 3\r\n\r\nab",
-        json!(
+        json_reply!(
             "400 Bad Request",
             "39",
             r#"{"answer":"message","name":"ShortBody"}"#

@@ -1,19 +1,19 @@
 //! Messages that ask nothing.
 use super::{ACCEPTED, CLAIM, USERS, assert_exchanges};
 
-const BAD_HEAD: &str = json!(
+const BAD_HEAD: &str = json_reply!(
     "400 Bad Request",
     "37",
     r#"{"answer":"message","name":"BadHead"}"#
 );
 
-const NO_ROUTE: &str = json!(
+const NO_ROUTE: &str = json_reply!(
     "404 Not Found",
     "37",
     r#"{"answer":"message","name":"NoRoute"}"#
 );
 
-const BAD_BODY: &str = json!(
+const BAD_BODY: &str = json_reply!(
     "400 Bad Request",
     "37",
     r#"{"answer":"message","name":"BadBody"}"#
@@ -46,7 +46,7 @@ const FAULTY: &[[&str; 2]] = &[
     [look!("GET /requests"), bad_method!("Allow: POST")],
     [
         look!("POST /requests" "Content-Length: 2" "Content-Length: 2"),
-        json!(
+        json_reply!(
             "400 Bad Request",
             "39",
             r#"{"answer":"message","name":"BadLength"}"#
@@ -54,7 +54,7 @@ const FAULTY: &[[&str; 2]] = &[
     ],
     [
         look!("POST /requests"),
-        json!(
+        json_reply!(
             "411 Length Required",
             "38",
             r#"{"answer":"message","name":"NoLength"}"#
@@ -62,7 +62,7 @@ const FAULTY: &[[&str; 2]] = &[
     ],
     [
         look!("POST /requests" "Content-Length: 65537"),
-        json!(
+        json_reply!(
             "413 Payload Too Large",
             "42",
             r#"{"answer":"message","name":"BodyTooLarge"}"#

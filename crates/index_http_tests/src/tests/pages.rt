@@ -64,7 +64,7 @@ fn the_page_of_a_project(rt: HostRuntime) {
     assert_exchanges(&rt, &[USERS, FROB, FILE, PROJECT]);
 }
 
-const NO_PROJECT: &str = json!(
+const NO_PROJECT: &str = json_reply!(
     "404 Not Found",
     "49",
     r#"{"answer":"refused","code":17,"name":"NoProject"}"#
@@ -97,7 +97,7 @@ fn ways_to_pages(rt: HostRuntime) {
     assert_exchanges(&rt, &[WAYS]);
 }
 
-const NOT_ACCEPTABLE: &str = json!(
+const NOT_ACCEPTABLE: &str = json_reply!(
     "406 Not Acceptable",
     "43",
     r#"{"answer":"message","name":"NotAcceptable"}"#
