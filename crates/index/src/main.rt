@@ -73,21 +73,34 @@ fn apply(rt: &HostRuntime) -> ExitCode {
 
 /// Answers so many connections, on tables whose one user is `office`, with the token `office`.
 fn serve(rt: &HostRuntime, listen: &str, requests: u32, at: Option<u64>) -> ExitCode {
-    let books = match office_books(rt) {
-        Ok(books) => books,
-        Err(fault) => return failed(rt, fault),
-    };
     let Ok(site) = Site::new(rt.alloc()) else {
         return failed(rt, "OutOfMemory");
     };
+    match office_books(rt) {
+        Ok(books) => {
+            let mut desk = Desk::new(books);
+            serve_desk(rt, listen, requests, at, &site, &mut desk)
+        }
+        Err(fault) => failed(rt, fault),
+    }
+}
+
+/// Listens at an address, tells it, and answers so many connections by a desk.
+fn serve_desk(
+    rt: &HostRuntime,
+    listen: &str,
+    requests: u32,
+    at: Option<u64>,
+    site: &Site,
+    desk: &mut Desk<PlainBooks>,
+) -> ExitCode {
     let Ok(listener) = listen_at(rt, listen) else {
         return failed(rt, "Listen");
     };
     if tell_address(rt, &listener).is_err() {
         return failed(rt, "WriteFault");
     }
-    let mut desk = Desk::new(books);
-    match serve_connections(rt, &listener, requests, at, &site, &mut desk) {
+    match serve_connections(rt, &listener, requests, at, site, desk) {
         Ok(()) => ExitCode::SUCCESS,
         Err(end) => failed(rt, end),
     }
