@@ -14,6 +14,9 @@ use std::io::{BufWriter, Write};
 use std::net::{TcpListener, TcpStream};
 use std::time::SystemTime;
 
+/// How many bytes of a reply are gathered before they are sent: room for most pages.
+const GATHERED_BYTES: usize = 65_536;
+
 /// Answers one message of each of so many connections, one connection after the other, at a moment in Unix seconds or at
 /// that of the clock. Why one of them ended early is named on standard error, and the next is served.
 ///
@@ -75,7 +78,7 @@ fn answer_stream<B: Books>(
         IsSound (B.tables desk.old) → IsSound (B.tables desk.new) }
     ensures honest { B.IsHonest desk.new → B.IsHonest desk.old }
 {
-    let Ok(writer) = BufWriter::new(rt.alloc(), stream) else {
+    let Ok(writer) = BufWriter::with_capacity(rt.alloc(), GATHERED_BYTES, stream) else {
         return Err(IoEnd::OutOfMemory);
     };
     let mut source = Input::new(stream);
