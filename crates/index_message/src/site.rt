@@ -1,5 +1,5 @@
 //! The routes of the index.
-ghost use Rattle.std.specs.Prelude.{◌≡◌, IfErr, IfOk};
+ghost use Rattle.std.specs.Prelude.{◌≡◌, [], IfErr, IfOk, OnOk};
 ghost use Rattle.index_message.specs.Routes.{route_of, site_rows};
 
 use index_rules::Fault;
@@ -51,6 +51,15 @@ fn router(alloc: Global) -> Result<Router<Route>, InsertError>
     ensures { IfOk result (λ router. router ≡ site_rows) }
 {
     let mut router = Router::new(alloc);
+    add_patterns(&mut router)?;
+    Ok(router)
+}
+
+/// Adds the patterns of the index.
+fn add_patterns(router: &mut Router<Route>) -> Result<(), InsertError>
+    requires empty { router.old ≡ [] }
+    ensures { OnOk result (router.new ≡ site_rows) }
+{
     router.insert("/simple", Route::Simple)?;
     router.insert("/simple/", Route::Root)?;
     router.insert("/simple/{project}", Route::Project)?;
@@ -58,5 +67,5 @@ fn router(alloc: Global) -> Result<Router<Route>, InsertError>
     router.insert("/files/{project}/{file}", Route::File)?;
     router.insert("/names/{name}", Route::Name)?;
     router.insert("/requests", Route::Requests)?;
-    Ok(router)
+    Ok(())
 }

@@ -35,7 +35,8 @@ pub fn target(
 
 /// The method of this name, where the resource has it.
 fn allowed_method(resource: &Resource, name: &[u8]) -> Result<Method, MessageFault>
-    ensures ok { IfOk result (λ method. target_by name.now (Some resource.now) ≡ Ok (resource.now, method)) }
+    ensures ok { IfOk result (λ method.
+        target_by name.now (Some resource.now) ≡ Ok (resource.now, method)) }
     ensures err { IfErr result (λ fault. target_by name.now (Some resource.now) ≡ Err fault) }
 {
     let allowed = resource.allowed();

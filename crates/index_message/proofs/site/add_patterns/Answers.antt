@@ -1,7 +1,7 @@
 use Rattle.std.proofs.Common.{rules, refl}
 use Rattle.matchit.proofs.OnLiterals.{matchit_on_literals}
 use Rattle.index_message.specs.Routes.{site_rows}
-use Rattle.index_message.proofs.site.router.Goals as goal
+use Rattle.index_message.proofs.site.add_patterns.Goals as goal
 
 pub returns : goal.returns
 unfolding matchit_on_literals site_rows
@@ -14,5 +14,5 @@ returns c =
       c.in_ok-insert-3.ensures.1,
       c.in_ok-insert-2.ensures.1,
       c.in_ok-insert.ensures.1,
-      c.new-router.ensures,
+      c.requires.empty,
     ) refl
