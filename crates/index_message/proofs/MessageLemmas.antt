@@ -1,5 +1,5 @@
 -- What was read is the message that the input begins with.
-use Rattle.std.proofs.Common.{◌≡◌, ℕ, ◌<◌, ◌≤◌, inr, List, [], ◌++◌, length, drop, map, take, Option, Some, None, Ok, refl, sym, ap, ◌∙◌, arith, append_assoc, length-append, true, false}
+use Rattle.std.proofs.Common.{◌≡◌, ℕ, ◌<◌, ◌≤◌, inl, inr, List, [], ◌++◌, length, drop, map, take, Option, Some, None, Ok, refl, sym, ap, ◌∙◌, arith, append_assoc, length-append, true, false}
 use Rattle.std.specs.Prelude.{nat_le, unwrap_or}
 use Rattle.std.specs.Io.KnownBytes.{Consumes, IsAtEnd}
 use Rattle.std.proofs.lemmas.Bool.Decides.{nat_tests}
@@ -9,7 +9,7 @@ use Rattle.std.proofs.KnownBytes.{Consumes-trans}
 use Rattle.httparse.specs.Spans.{header_bytes, span_bytes}
 use Rattle.httparse.specs.declared.spans.HeaderSpan.{HeaderSpan}
 use Rattle.httparse.specs.declared.spans.RequestSpans.{RequestSpans}
-use Rattle.httparse.proofs.GrammarLemmas.{ReadsRequest-append}
+use Rattle.httparse.proofs.GrammarLemmas.{ReadsRequest-append, request_unique}
 use Rattle.index_io.specs.Bytes.{IsInput}
 use Rattle.index_message.specs.Heads.{HasHead, IsHeadAt}
 use Rattle.index_message.specs.Messages.{FollowsHead, IsMessage, asked_by, asked_of, is_head, message_by, message_of, whole_of}
@@ -94,3 +94,12 @@ message_read old mid new held fields spans found message short taken follows =
       input_is old new (held ++ more) (Consumes-trans old mid new held more taken follows.1),
       inr (found.head, (drop spans.len held ++ more) ++ rest, behind held more rest fields spans found short, follows.2),
     )
+
+-- an input begins with at most one message
+pub at_most_one : (input : List ℕ) (m k : Message) → IsMessage input m → IsMessage input k → m ≡ k
+at_most_one input m k (inl x) (inl y) = x.1 ∙ sym y.1
+at_most_one input m k (inl x) (inr y) = absurd (x.0 y.0 y.1 y.2)
+at_most_one input m k (inr x) (inl y) = absurd (y.0 x.0 x.1 x.2)
+at_most_one input m k (inr x) (inr y) =
+    let same = request_unique input x.0 y.0 x.1 y.1 x.2.reads y.2.reads in
+    x.3 ∙ ap (λ head. message_of head x.1) same.0 ∙ ap (message_of y.0) same.1 ∙ sym y.3

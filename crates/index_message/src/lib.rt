@@ -4,6 +4,7 @@
 mod fault;
 mod fields;
 mod head;
+pub mod laws;
 mod length;
 mod message;
 mod read;
