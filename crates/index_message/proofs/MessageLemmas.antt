@@ -16,7 +16,7 @@ use Rattle.index_message.specs.Messages.{FollowsHead, IsMessage, asked_by, asked
 use Rattle.index_message.specs.Fields.{fields_of}
 use Rattle.index_message.specs.declared.fault.MessageFault.TheVariants.{ShortBody}
 use Rattle.index_message.specs.declared.message.Message.TheVariants.{Faulty}
-use Rattle.index_message.specs.declared.read.Asked.{Asked}
+use Rattle.index_message.specs.declared.request.Asked.{Asked}
 use Rattle.index_message.specs.declared.message.Message.{Message}
 
 -- what a source gave and what it has left are its input
@@ -55,7 +55,7 @@ with_enough head rest body asked enough is =
 
 -- a part of it makes none
 with_less : (head : RequestHead) (rest : List ℕ) (asked : Asked) → length rest < asked.length
-    → message_by head rest (Ok asked) ≡ Faulty ShortBody (is_head head)
+    → message_by head rest (Ok asked) ≡ Faulty ShortBody (is_head head.method)
 with_less head rest asked less =
     let short : nat_le asked.length (length rest) ≡ false = grind (arith, nat_tests) in rw short refl
 
@@ -77,7 +77,7 @@ at_end (Some left) end = end
 -- the fault of a body that did not come whole
 pub follows_short : (held more : List ℕ) (new : Option (List ℕ)) (fields : List HeaderSpan) (spans : RequestSpans) (found : IsHeadAt held fields spans) (asked : Asked)
     → asked_of found.head ≡ Ok asked → length (drop spans.len held ++ more) < asked.length → IsAtEnd new
-    → Faulty ShortBody (is_head found.head) ≡ message_of found.head ((drop spans.len held ++ more) ++ unwrap_or new [])
+    → Faulty ShortBody (is_head found.head.method) ≡ message_of found.head ((drop spans.len held ++ more) ++ unwrap_or new [])
 follows_short held more new fields spans found asked is less end =
     let front = drop spans.len held ++ more in
     let all : front ++ unwrap_or new [] ≡ front = ap (λ rest. front ++ rest) (at_end new end) ∙ append-nil front in

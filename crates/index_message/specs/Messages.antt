@@ -10,7 +10,7 @@ use Rattle.index_message.specs.Requests.{Request}
 use Rattle.index_message.specs.Resources.{allowed_of, allows, method_of, resource_of}
 use Rattle.index_message.specs.declared.fault.MessageFault.{MessageFault}
 use Rattle.index_message.specs.declared.fault.MessageFault.TheVariants.{BadHead, BadMethod, NoRoute, ShortBody}
-use Rattle.index_message.specs.declared.read.Asked.{Asked}
+use Rattle.index_message.specs.declared.request.Asked.{Asked}
 use Rattle.index_message.specs.declared.message.Message.{Message}
 use Rattle.index_message.specs.declared.message.Message.TheVariants.{Faulty, Whole}
 use Rattle.index_message.specs.declared.resource.Method.{Method}
@@ -52,9 +52,9 @@ asked_by name target fields = with_fields fields (target_by name (resource_of ta
 abbrev pub asked_of : RequestHead → Result Asked MessageFault
 asked_of head = asked_by head.method head.target (fields_of head)
 
--- a reply to `HEAD` has no body (RFC 9110, section 9.3.2)
-abbrev pub is_head : RequestHead → Bool
-is_head head = bytes_eq head.method (codes "HEAD")
+-- the name of the method is `HEAD`, whose reply has no body (RFC 9110, section 9.3.2)
+abbrev pub is_head : Bytes → Bool
+is_head name = bytes_eq name (codes "HEAD")
 
 -- the message of a request with these fields and this body
 abbrev pub whole_of : Asked → List Field → Bytes → Message
@@ -62,9 +62,9 @@ whole_of asked fields body = Whole (record { method = asked.method; resource = a
 
 -- the message that a head and the bytes behind it are, by what the head asks for
 abbrev pub message_by : RequestHead → Bytes → Result Asked MessageFault → Message
-message_by head rest (Err fault) = Faulty fault (is_head head)
+message_by head rest (Err fault) = Faulty fault (is_head head.method)
 message_by head rest (Ok asked) =
-    if nat_le asked.length (length rest) then whole_of asked (fields_of head) (take asked.length rest) else Faulty ShortBody (is_head head)
+    if nat_le asked.length (length rest) then whole_of asked (fields_of head) (take asked.length rest) else Faulty ShortBody (is_head head.method)
 
 -- the message that a head and the bytes behind it are
 abbrev pub message_of : RequestHead → Bytes → Message

@@ -1,34 +1,25 @@
 //! One message, read from any source.
-ghost use Rattle.std.specs.Prelude.{◌≡◌, ◌≢◌, ◌≤◌, ◌+◌, List, ℕ, length, map, drop, Err, IfOk, All};
+ghost use Rattle.std.specs.Prelude.{◌≡◌, ◌≢◌, ◌≤◌, ◌+◌, List, ℕ, length, map, drop, Err, IfErr, IfOk, All};
 ghost use Rattle.std.specs.Io.KnownBytes.{Consumes};
 ghost use Rattle.httparse.specs.Spans.{IsHeaderWithin, IsRequestWithin, IsWithin, header_bytes, span_bytes};
 ghost use Rattle.index_io.specs.Bytes.{IsInput};
 ghost use Rattle.index_io.specs.Counts.{HasFailed};
 ghost use Rattle.index_message.specs.Heads.{IsHeadAt, longest_head};
 ghost use Rattle.index_message.specs.Lengths.{longest_upload};
-ghost use Rattle.index_message.specs.Messages.{FollowsHead, IsMessage, TakesBody, asked_by, whole_of};
+ghost use Rattle.index_message.specs.Messages.{FollowsHead, IsMessage, TakesBody, asked_by, is_head, whole_of};
+ghost use Rattle.index_message.specs.declared.message.Message.TheVariants.{Faulty};
 
 use crate::fault::MessageFault;
 use crate::head::{MOST_FIELDS, ReadEnd, read_head, read_up_to};
 use crate::length::body_length;
 use crate::message::Message;
-use crate::request::Request;
-use crate::resource::{Method, Resource};
+use crate::request::{Asked, Request};
 use crate::site::Site;
 use crate::target::target;
 use httparse::spans::{EMPTY_HEADER_SPAN, HeaderSpan, RequestSpans};
 use index_io::Source;
 use index_rules::Bytes;
 use std::alloc::{AllocError, Global};
-
-/// What the request line and the fields of a head ask for.
-#[derive(Drop)]
-pub struct Asked {
-    pub resource: Resource,
-    pub method: Method,
-    /// How many bytes the body has.
-    pub length: u64,
-}
 
 /// Reads the message that an input begins with, and at most 16,384 bytes for its head and 16,777,216 for its body.
 /// `ReadFault` where a read fails.
@@ -76,17 +67,25 @@ fn read_rest<S: Source>(
         × Consumes (S.remaining source.old) (S.remaining source.new) taken }
 {
     let head = bytes.as_slice();
-    let is_head = spans.method.of(head) == b"HEAD".as_slice();
-    let asked = match what_is_asked(alloc, site, head, &fields[..spans.headers], &spans)? {
+    let fields = &fields[..spans.headers];
+    let asked = match what_is_asked(alloc, site, head, fields, &spans)? {
         Ok(asked) => asked,
-        Err(fault) => return Ok(Message::Faulty { fault, is_head }),
+        Err(fault) => return Ok(faulty(head, &spans, fault)),
     };
     match read_body(alloc, source, &head[spans.len..], asked.length)? {
-        Some(body) => Ok(whole(alloc, asked, bytes, &fields[..spans.headers], body)?),
-        None => Ok(Message::Faulty {
-            fault: MessageFault::ShortBody,
-            is_head,
-        }),
+        Some(body) => whole(alloc, asked, bytes, fields, body),
+        None => Ok(faulty(head, &spans, MessageFault::ShortBody)),
+    }
+}
+
+/// The message of a head with a fault.
+fn faulty(head: &[u8], spans: &RequestSpans, fault: MessageFault) -> Message
+    requires { IsWithin (length head.now) spans.now.method }
+    ensures { result ≡ Faulty fault (is_head (span_bytes head.now spans.now.method)) }
+{
+    Message::Faulty {
+        fault,
+        is_head: spans.method.of(head) == b"HEAD".as_slice(),
     }
 }
 
@@ -160,19 +159,15 @@ fn whole(
     bytes: Vec<u8>,
     fields: &[HeaderSpan],
     body: Bytes,
-) -> Result<Message, AllocError>
+) -> Result<Message, ReadEnd>
     requires within { All (IsHeaderWithin (length bytes.items)) fields.now }
-    ensures { IfOk result (λ message.
+    ensures message { IfOk result (λ message.
         message ≡ whole_of asked (map (header_bytes bytes.items) fields.now) body) }
+    ensures memory { IfErr result (λ end. end ≡ ReadEnd.OutOfMemory) }
 {
     let fields = Vec::from_slice(alloc, fields)?;
-    let Asked {
-        resource,
-        method,
-        ..
-    } = asked;
     Ok(Message::Whole {
-        request: Request::new(method, resource, bytes, fields),
+        request: Request::new(asked, bytes, fields),
         body,
     })
 }

@@ -9,20 +9,37 @@ use httparse::spans::HeaderSpan;
 use std::alloc::{AllocError, Global};
 use std::marker::Model;
 
+/// What the request line and the fields of a head ask for.
+pub struct Asked {
+    pub resource: Resource,
+    pub method: Method,
+    /// How many bytes the body has.
+    pub length: u64,
+}
+
+// By hand: a drop is then one call at each exit of a function (docs/ARCHITECTURE.md, "What a proof costs").
+impl Drop for Asked {
+    fn drop(self) {
+        let Asked {
+            resource: _resource,
+            method: _method,
+            length: _length,
+        } = self;
+    }
+}
+
 /// The head of a request whose resource has its method. Contracts see it by its parts.
 pub struct Request {
-    method: Method,
-    resource: Resource,
+    asked: Asked,
     bytes: Vec<u8>,
     fields: Vec<HeaderSpan>,
 }
 
-// By hand: a drop is then one call at each exit of a function (docs/ARCHITECTURE.md, "What a proof costs").
+// By hand, as above.
 impl Drop for Request {
     fn drop(self) {
         let Request {
-            method: _method,
-            resource: _resource,
+            asked: _asked,
             bytes: _bytes,
             fields: _fields,
         } = self;
@@ -37,8 +54,8 @@ impl Model for Request {
     ghost Value = { Request };
 
     ghost view = { λ r. record {
-      method = r.method;
-      resource = r.resource;
+      method = r.asked.method;
+      resource = r.asked.resource;
       fields = map (header_bytes r.bytes.items) r.fields.items;
     } };
 
@@ -49,13 +66,13 @@ impl Request {
     pub fn method(&self) -> Method
         ensures { result ≡ self.now.method }
     {
-        self.method
+        self.asked.method
     }
 
     pub fn resource(&self) -> &Resource
         ensures { result.now ≡ self.now.resource }
     {
-        &self.resource
+        &self.asked.resource
     }
 
     /// The value of the first field with this name, in whatever case, without the white space around it (RFC 9110,
@@ -74,23 +91,17 @@ impl Request {
         each_value(alloc, self.bytes.as_slice(), self.fields.as_slice(), name)
     }
 
-    /// The request of these parts, whose fields lie in the bytes.
-    pub(crate) fn new(
-        method: Method,
-        resource: Resource,
-        bytes: Vec<u8>,
-        fields: Vec<HeaderSpan>,
-    ) -> Request
+    /// The request that asks for this, with fields that lie in the bytes.
+    pub(crate) fn new(asked: Asked, bytes: Vec<u8>, fields: Vec<HeaderSpan>) -> Request
         requires { All (IsHeaderWithin (length bytes.items)) fields.items }
         ensures { result ≡ record {
-          method = method;
-          resource = resource;
+          method = asked.method;
+          resource = asked.resource;
           fields = map (header_bytes bytes.items) fields.items;
         } }
     {
         Request {
-            method,
-            resource,
+            asked,
             bytes,
             fields,
         }
