@@ -1,11 +1,12 @@
 //! Replies. None of them takes memory.
 ghost use Rattle.std.specs.Prelude.{◌≡◌, [], false};
-ghost use Rattle.index_http.specs.Exchanges.{refusal_reply, store_reply};
+ghost use Rattle.index_http.specs.Exchanges.{ShowsWay, body_reply, refusal_reply, store_reply};
 ghost use Rattle.index_http.specs.Replies.{answer_fields, answer_reply, fields_of_fault, file_reply, json_reply, message_reply, reply_of, to_project, to_root};
 
 use crate::status::{status_of_answer, status_of_fault};
 use crate::texts::message_text;
 use http::StatusCode;
+use index_digest::Sealed;
 use index_json::answer_text;
 use index_message::{Allowed, MessageFault};
 use index_names::NormalName;
@@ -79,7 +80,7 @@ pub fn store_reply() -> Reply<'static>
 }
 
 /// The reply with the bytes of a file.
-pub fn file_reply(bytes: &[u8]) -> Reply<'_>
+fn file_reply(bytes: &[u8]) -> Reply<'_>
     ensures { reply_of result ≡ file_reply bytes.now }
 {
     Reply {
@@ -97,6 +98,16 @@ pub fn json_reply(text: &[u8]) -> Reply<'_>
         status: StatusCode::OK,
         fields: Fields::Json,
         body: text,
+    }
+}
+
+/// The reply with the bytes of a file, where there are any.
+pub fn body_reply(body: &Option<Sealed>) -> Reply<'_>
+    ensures { reply_of result ≡ body_reply body.now }
+{
+    match body {
+        Some(body) => file_reply(body.bytes()),
+        None => refusal_reply(Refusal::NoFile),
     }
 }
 
@@ -120,6 +131,16 @@ pub fn to_project(name: &NormalName) -> Reply<'_>
         status: StatusCode::MOVED_PERMANENTLY,
         fields: Fields::ToProject(name),
         body: b"",
+    }
+}
+
+/// The way to the page of a project, where this is the name of one.
+pub fn way_to(name: &Option<NormalName>) -> Reply<'_>
+    ensures { ShowsWay name.now (reply_of result) }
+{
+    match name {
+        Some(name) => to_project(name),
+        None => refusal_reply(Refusal::NoProject),
     }
 }
 

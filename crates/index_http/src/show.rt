@@ -1,18 +1,18 @@
 //! Looks at pages, files and standings. None changes a table.
-ghost use Rattle.std.specs.Prelude.{◌≡◌, ◌≢◌, Err, IfOk, IfSome, true, false, is_some};
+ghost use Rattle.std.specs.Prelude.{◌≡◌, ◌≢◌, Err, IfOk, IfSome, Some, true, false, bytes_eq, is_some};
 ghost use Rattle.index_io.specs.Counts.{HasFailed};
 ghost use Rattle.index_names.specs.FileName.{read_file_name};
 ghost use Rattle.index_names.specs.Project.{read_name};
 ghost use Rattle.index_desk.specs.Rules.{by_tables};
 ghost use Rattle.index_message.specs.Resources.{is_head};
-ghost use Rattle.index_http.specs.Exchanges.{IsAccepted, Shows, ShowsAt, ShowsFile, ShowsName};
+ghost use Rattle.index_http.specs.Exchanges.{IsAccepted, Shows, ShowsAt, ShowsFile, ShowsName, ShowsSpelling};
 ghost use Rattle.index_http.specs.Sends.{is_write_fault};
 ghost use Rattle.index_http.specs.Shows.{EndsShown, LeavesTables};
 
 use crate::end::IoEnd;
 use crate::pages::{show_project, show_root};
 use crate::reply::{
-    file_reply, json_reply, message_reply, refusal_reply, store_reply, to_project, to_root,
+    body_reply, json_reply, message_reply, refusal_reply, store_reply, to_project, to_root, way_to,
 };
 use crate::send::send_reply;
 use index_desk::Desk;
@@ -50,10 +50,10 @@ pub fn show<K: Sink, B: Books>(
             let chosen = chosen(alloc, request)?;
             show_root(alloc, sink, desk, to_head, chosen)
         }
-        Resource::Project(given) => match name_of(alloc, given)? {
-            Some(name) => send_reply(sink, to_head, to_project(&name)),
-            None => send_reply(sink, to_head, refusal_reply(Refusal::NoProject)),
-        },
+        Resource::Project(given) => {
+            let name = name_of(alloc, given)?;
+            send_reply(sink, to_head, way_to(&name))
+        }
         Resource::ProjectPage(given) => show_at(alloc, sink, desk, to_head, request, given),
         Resource::File(given) => show_file(alloc, sink, desk, to_head, given),
         Resource::Name(given) => show_name(alloc, sink, desk, to_head, given),
@@ -120,11 +120,37 @@ fn show_at<K: Sink, B: Books>(
     let Some(name) = name_of(alloc, given)? else {
         return send_reply(sink, to_head, refusal_reply(Refusal::NoProject));
     };
+    show_spelling(alloc, sink, desk, to_head, request, given, &name)
+}
+
+/// Shows the page of a project whose name is given in its normal form, and else the way there.
+fn show_spelling<K: Sink, B: Books>(
+    alloc: Global,
+    sink: &mut K,
+    desk: &mut Desk<B>,
+    to_head: bool,
+    request: &Request,
+    given: &Bytes,
+    name: &NormalName,
+) -> Result<(), IoEnd>
+    ensures shown { B.IsHonest desk.new →
+        let cause = HasFailed (B.failures desk.old) (B.failures desk.new) in
+        let T = B.tables desk.old in
+        let fields = request.now.fields in
+        let same = bytes_eq name.now given.now in
+        EndsShown to_head (ShowsSpelling by_tables T fields name.now same) cause
+        (B.tables desk.new ≡ T) (K.contents sink.old) (K.contents sink.new) result }
+    ensures leaves { LeavesTables B.IsHonest B.IsClean B.tables desk.old desk.new }
+    ensures write_fault { is_write_fault result ≡ true →
+        HasFailed (K.failures sink.old) (K.failures sink.new) }
+    ensures writes { is_write_fault result ≡ false → K.failures sink.new ≡ K.failures sink.old }
+    ensures no_read_fault { result ≢ Err IoEnd.ReadFault }
+{
     if name.text().as_bytes() == given.as_slice() {
         let chosen = chosen(alloc, request)?;
-        show_project(alloc, sink, desk, to_head, chosen, &name)
+        show_project(alloc, sink, desk, to_head, chosen, name)
     } else {
-        send_reply(sink, to_head, to_project(&name))
+        send_reply(sink, to_head, to_project(name))
     }
 }
 
@@ -151,8 +177,7 @@ fn show_file<K: Sink, B: Books>(
         return send_reply(sink, to_head, refusal_reply(Refusal::NoFile));
     };
     match desk.body(alloc, &file) {
-        Ok(Some(body)) => send_reply(sink, to_head, file_reply(body.bytes())),
-        Ok(None) => send_reply(sink, to_head, refusal_reply(Refusal::NoFile)),
+        Ok(body) => send_reply(sink, to_head, body_reply(&body)),
         Err(Fault::OutOfMemory) => Err(IoEnd::OutOfMemory),
         Err(Fault::Store) => send_reply(sink, to_head, store_reply()),
     }
@@ -180,7 +205,29 @@ fn show_name<K: Sink, B: Books>(
     let Some(name) = name_of(alloc, given)? else {
         return send_reply(sink, to_head, refusal_reply(Refusal::BadName));
     };
-    match desk.standing(alloc, &name) {
+    show_standing(alloc, sink, desk, to_head, &name)
+}
+
+/// Shows what stands of a name that was read.
+fn show_standing<K: Sink, B: Books>(
+    alloc: Global,
+    sink: &mut K,
+    desk: &mut Desk<B>,
+    to_head: bool,
+    name: &NormalName,
+) -> Result<(), IoEnd>
+    ensures shown { B.IsHonest desk.new →
+        let cause = HasFailed (B.failures desk.old) (B.failures desk.new) in
+        let T = B.tables desk.old in
+        EndsShown to_head (ShowsName by_tables T (Some name.now)) cause
+        (B.tables desk.new ≡ T) (K.contents sink.old) (K.contents sink.new) result }
+    ensures leaves { LeavesTables B.IsHonest B.IsClean B.tables desk.old desk.new }
+    ensures write_fault { is_write_fault result ≡ true →
+        HasFailed (K.failures sink.old) (K.failures sink.new) }
+    ensures writes { is_write_fault result ≡ false → K.failures sink.new ≡ K.failures sink.old }
+    ensures no_read_fault { result ≢ Err IoEnd.ReadFault }
+{
+    match desk.standing(alloc, name) {
         Ok(standing) => {
             let text = standing_text(alloc, &standing);
             drop(standing);

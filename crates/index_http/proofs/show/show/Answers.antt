@@ -18,19 +18,11 @@ returns-in_ok-chosen-in-Root-clause-shown g c = λ honest.
     rw (sym to_head, is)
     (ends_shown_map _ _ _ _ _ _ _ _ (λ reply shows. (c.in_ok-chosen-in-Root.chosen, c.in_ok-chosen-in-Root.ensures, shows)) (c.show_root.ensures.shown honest))
 
-pub returns-in-Some-clause-shown : goal.returns-in-Some-clause-shown
-returns-in-Some-clause-shown g c = λ honest.
+pub returns-in_ok-name-in-Project-clause-shown : goal.returns-in_ok-name-in-Project-clause-shown
+returns-in_ok-name-in-Project-clause-shown g c = λ honest.
     let to_head : c.is_head-to_head.result ≡ is_head c.args.request.now.method = c.is_head-to_head.ensures ∙ ap is_head c.method.ensures in
     let is : c.args.request.now.resource ≡ resource.Project c.in-Project.given = sym c.resource.ensures ∙ c.in-Project.is in
-    let found : read_name c.in-Project.given ≡ Some c.in-Some.name = sym c.in_ok-name-in-Project.ensures ∙ c.in-Some.is in
-    rw (sym to_head, is) (shown_ends _ _ _ _ _ _ _ _ _ c.to_project.ensures (rw found refl) c.send_reply-in-Some.ensures.sent)
-
-pub returns-in-None-clause-shown : goal.returns-in-None-clause-shown
-returns-in-None-clause-shown g c = λ honest.
-    let to_head : c.is_head-to_head.result ≡ is_head c.args.request.now.method = c.is_head-to_head.ensures ∙ ap is_head c.method.ensures in
-    let is : c.args.request.now.resource ≡ resource.Project c.in-Project.given = sym c.resource.ensures ∙ c.in-Project.is in
-    let none : read_name c.in-Project.given ≡ None = sym c.in_ok-name-in-Project.ensures ∙ c.in-None.is in
-    rw (sym to_head, is) (shown_ends _ _ _ _ _ _ _ _ _ c.refusal_reply.ensures (rw none refl) c.send_reply-in-None.ensures.sent)
+    rw (sym to_head, is) (shown_ends _ _ _ _ _ _ _ _ _ refl (rw (← c.in_ok-name-in-Project.ensures) c.way_to.ensures) c.send_reply-in-Project.ensures.sent)
 
 pub returns-in-Requests-clause-shown : goal.returns-in-Requests-clause-shown
 returns-in-Requests-clause-shown g c = λ honest.
