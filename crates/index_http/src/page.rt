@@ -30,7 +30,7 @@ pub fn root_length<B: Books>(
     ensures keeps { KeepsTables B.IsHonest B.IsClean B.tables B.failures B.may_leave
         desk.old desk.new (is_err result) }
 {
-    let mut page = PageLength::root(alloc, served);
+    let mut page = PageLength::root(served);
     let walked = desk.walk_root(alloc, &mut page);
     without_stop(walked, ())?;
     page.finish()

@@ -63,7 +63,7 @@ fn take_files<K: FileTaker>(rt: &impl Abort, taker: &mut K, rows: &[FileRow]) {
 /// The page of the names is this text: made whole, counted row by row, and written row by row.
 fn assert_names(rt: &(impl Abort + AllocGlobal), rows: &[NameRow], served: Served, expected: &str) {
     assert_names_whole(rt, rows, served, expected);
-    let mut length = PageLength::root(rt.alloc(), served);
+    let mut length = PageLength::root(served);
     take_names(rt, &mut length, rows);
     assert_eq!(rt; length.finish(), Ok(expected.len() as u64));
     assert_names_written(rt, rows, served, expected);

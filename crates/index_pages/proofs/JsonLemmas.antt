@@ -1,85 +1,88 @@
 -- The JSON of a file, and the page by its rows.
-use Rattle.std.proofs.Common.{◌≡◌, ◌<◌, ◌++◌, ap, ℕ, Bool, true, false, ◌==◌, List, [], ◌∷◌, length, codes, refl, arith, append_assoc, Option, Some, None, cond}
-use Rattle.std.specs.List.{flat_map, list_all}
-use Rattle.std.specs.Str.{IsAscii}
-use Rattle.std.proofs.lemmas.Bool.{and_parts}
-use Rattle.std.proofs.lemmas.Bool.Decides.{nat_tests}
-use Rattle.std.proofs.lemmas.Str.Ascii.{IsAscii-nil, IsAscii-cons}
+use Rattle.std.proofs.Common.{◌≡◌, ◌++◌, ℕ, Bool, true, false, ◌==◌, List, [], ◌∷◌, length, codes, refl, sym, ap, ◌∙◌, append_assoc, append-nil, Option, Some, None, cond}
+use Rattle.std.specs.Prelude.{decimal}
+use Rattle.std.specs.List.{flat_map}
+use Rattle.std.proofs.lemmas.List.Concat.{flat_map-append}
+use Rattle.json.specs.Print.{escape, escape_byte}
 use Rattle.serde_json.proofs.OnLiterals.{serde_json_on_literals}
-use Rattle.serde_json.specs.Data.{boolean, number, unsigned, string, object, Members, no_members, member, put}
+use Rattle.serde_json.specs.Data.{Data, number, unsigned, string, object, member}
 use Rattle.serde_json.specs.View.{items_of}
-use Rattle.serde_json.specs.Written.{has_float, members_have_float, comma_if, items_text}
-use Rattle.index_digest.specs.Digest.{read_digest, is_digest_text, is_text_digit}
+use Rattle.serde_json.specs.Written.{comma_if, compact_text, items_text}
+use Rattle.index_digest.specs.Digest.{read_digest, text_of}
 use Rattle.index_rules.specs.Maps.{Bytes}
 use Rattle.index_rules.specs.declared.rows.FileRow.{FileRow}
 use Rattle.index_rules.specs.declared.rows.NameRow.{NameRow}
-use Rattle.index_pages.specs.Json.{file_data, file_put, hashes, names_of, project_json, root_json, url_of, yanked_member, yanked_put}
-use Rattle.index_pages.specs.Parts.{file_text, files_bottom, files_top, json_rest, json_text, name_text, names_top, once}
+use Rattle.index_pages.specs.Json.{file_data, hashes, names_of, project_json, reason_data, root_json, url_of, yanked_member}
+use Rattle.index_pages.specs.Parts.{file_text, files_bottom, files_top, json_rest, json_text, later_member, name_text, names_top, once, releases_text, requires_text, yanked_text}
 use Rattle.index_pages.specs.Versions.{with_release}
-
--- ---- the text of a digest
-
-digit-ascii : (c : ℕ) → is_text_digit c ≡ true → c < 128
-unfolding is_text_digit
-digit-ascii c is = grind (arith, nat_tests)
-
-digits-ascii : (text : Bytes) → list_all is_text_digit text ≡ true → IsAscii text
-digits-ascii [] are = IsAscii-nil
-digits-ascii (c ∷ text) are =
-    let parts = and_parts (is_text_digit c) (list_all is_text_digit text) are in
-    IsAscii-cons c text (digit-ascii c parts.0) (digits-ascii text parts.1)
-
--- what a digest is read from is ASCII
-pub digest-ascii : (text digest : Bytes) → read_digest text ≡ Some digest → IsAscii text
-unfolding read_digest
-digest-ascii text digest reads =
-    elim (is_digest_text text) as (λ b. is_digest_text text ≡ b → IsAscii text) [
-      | true ↦ λ is. digits-ascii text (and_parts (length text == 64) (list_all is_text_digit text) is).1
-      | false ↦ λ is_not. cc (rw is_not at reads)
-    ] refl
+use Rattle.index_pages.proofs.EscapeLemmas.{digest-plain, escape-plain}
 
 -- ---- the members of a file
 
-abbrev pub first_two : Bytes → Bytes → Members → Members
-first_two file digest later = member (codes "filename") (string file) (member (codes "hashes") (hashes digest) later)
+file_by : (b : Bool) (file requires : Bytes) (hashed size url : Data) (yanked : Option Bytes)
+    → compact_text (object (member (codes "filename") (string file) (member (codes "hashes") hashed
+    (cond b (member (codes "size") size (member (codes "url") url (yanked_member yanked)))
+    (member (codes "requires-python") (string requires) (member (codes "size") size (member (codes "url") url (yanked_member yanked))))))))
+    ≡ codes "{\"filename\":" ++ (json_text file ++ (later_member (codes "hashes") hashed
+    ++ (cond b [] (later_member (codes "requires-python") (string requires)) ++ (later_member (codes "size") size ++ (later_member (codes "url") url ++ (yanked_text yanked ++ codes "}"))))))
+unfolding json_text serde_json_on_literals
+file_by true file requires hashed size url None = refl
+file_by true file requires hashed size url (Some reason) = refl
+file_by false file requires hashed size url None = refl
+file_by false file requires hashed size url (Some reason) = refl
 
-abbrev pub last_two : ℕ → Bytes → Option Bytes → Members
-last_two size url yanked = member (codes "size") (number (unsigned size)) (member (codes "url") (string url) (yanked_member yanked))
+-- a file, member by member
+pub file-members : (project : Bytes) (row : FileRow)
+    → codes "{\"filename\":" ++ (json_text row.file ++ (later_member (codes "hashes") (hashes row.digest)
+    ++ (requires_text row.requires_python ++ (later_member (codes "size") (number (unsigned row.size))
+    ++ (later_member (codes "url") (string (url_of project row.file)) ++ (yanked_text row.yanked ++ codes "}"))))))
+    ≡ file_text project row
+unfolding file_text file_data
+file-members project row =
+    sym (file_by (length row.requires_python == 0) row.file row.requires_python (hashes row.digest) (number (unsigned row.size)) (string (url_of project row.file)) row.yanked)
 
-members_by : (b : Bool) (file digest requires : Bytes) (size : ℕ) (url : Bytes) (yanked : Option Bytes)
-    → yanked_put yanked (put (codes "url") (string url) (put (codes "size") (number (unsigned size))
-    (cond b (put (codes "hashes") (hashes digest) (put (codes "filename") (string file) no_members))
-    (put (codes "requires-python") (string requires) (put (codes "hashes") (hashes digest) (put (codes "filename") (string file) no_members))))))
-    ≡ first_two file digest (cond b (last_two size url yanked) (member (codes "requires-python") (string requires) (last_two size url yanked)))
-members_by true file digest requires size url None = refl
-members_by true file digest requires size url (Some reason) = refl
-members_by false file digest requires size url None = refl
-members_by false file digest requires size url (Some reason) = refl
+-- the digits of a digest are no bytes to escape
+pub hashes-text : (digest text : Bytes) → text ≡ text_of digest → read_digest text ≡ Some digest
+    → codes ",\"hashes\":{\"sha256\":\"" ++ (text ++ codes "\"}") ≡ later_member (codes "hashes") (hashes digest)
+unfolding serde_json_on_literals
+hashes-text digest text is reads =
+    let same : escape (text_of digest) ≡ text = ap escape (sym is) ∙ escape-plain text (digest-plain text digest reads) in
+    ap (λ x. codes ",\"hashes\":{\"sha256\":\"" ++ x) (sym (append_assoc text (codes "\"") (codes "}")))
+    ∙ ap (λ x. codes ",\"hashes\":{\"sha256\":\"" ++ ((x ++ codes "\"") ++ codes "}")) (sym same)
 
--- what is put into an object is the file
-pub file_put-is : (project : Bytes) (row : FileRow) → object (file_put project row no_members) ≡ file_data project row
-unfolding file_data
-file_put-is project row =
-    ap object (members_by (length row.requires_python == 0) row.file row.digest row.requires_python row.size (url_of project row.file) row.yanked)
+-- a text in quotes
+pub json_text-is : (text : Bytes) → codes "\"" ++ (escape text ++ codes "\"") ≡ json_text text
+unfolding json_text
+json_text-is text = refl
 
-reason-no_float : (b : Bool) (reason : Bytes) → has_float (cond b (boolean true) (string reason)) ≡ false
-reason-no_float true reason = refl
-reason-no_float false reason = refl
+pub requires-text : (requires : Bytes) → (length requires == 0) ≡ false
+    → codes ",\"requires-python\":" ++ json_text requires ≡ requires_text requires
+unfolding json_text serde_json_on_literals
+requires-text requires some = rw some refl
 
-yanked-no_float : (yanked : Option Bytes) → members_have_float (yanked_member yanked) ≡ false
-yanked-no_float None = refl
-yanked-no_float (Some reason) = rw (reason-no_float (length reason == 0) reason) refl
+pub reason-text : (reason : Bytes) → (length reason == 0) ≡ false → json_text reason ≡ compact_text (reason_data reason)
+unfolding json_text
+reason-text reason some = rw some refl
 
-requires-no_float : (b : Bool) (requires : Bytes) (later : Members) → members_have_float later ≡ false
-    → members_have_float (cond b later (member (codes "requires-python") (string requires) later)) ≡ false
-requires-no_float true requires later e = e
-requires-no_float false requires later e = e
+pub yanked-text : (reason : Bytes) → codes ",\"yanked\":" ++ compact_text (reason_data reason) ≡ yanked_text (Some reason)
+unfolding serde_json_on_literals
+yanked-text reason = refl
 
--- a file has no float
-pub file-no_float : (project : Bytes) (row : FileRow) → has_float (file_data project row) ≡ false
-unfolding file_data
-file-no_float project row =
-    requires-no_float (length row.requires_python == 0) row.requires_python _ (yanked-no_float row.yanked)
+pub size-text : (size : ℕ) → codes ",\"size\":" ++ decimal size ≡ later_member (codes "size") (number (unsigned size))
+unfolding serde_json_on_literals
+size-text size = refl
+
+path-quoted : (project file : Bytes) → project ++ (codes "/" ++ (file ++ codes "\"")) ≡ (project ++ (codes "/" ++ (file ++ []))) ++ codes "\""
+path-quoted project file =
+    sym (append_assoc project (codes "/" ++ (file ++ [])) (codes "\"") ∙ ap (λ x. project ++ (codes "/" ++ (x ++ codes "\""))) (append-nil file))
+
+pub url-text : (project file : Bytes) → codes ",\"url\":\"/files/" ++ (escape project ++ (codes "/" ++ (escape file ++ codes "\"")))
+    ≡ later_member (codes "url") (string (url_of project file))
+unfolding serde_json_on_literals
+url-text project file =
+    let path : escape (project ++ (codes "/" ++ (file ++ []))) ≡ escape project ++ (codes "/" ++ (escape file ++ [])) = flat_map-append escape_byte project (codes "/" ++ (file ++ [])) ∙ ap (λ x. escape project ++ (codes "/" ++ x)) (flat_map-append escape_byte file []) in
+    ap (λ x. codes ",\"url\":\"/files/" ++ x) (path-quoted (escape project) (escape file))
+    ∙ ap (λ x. codes ",\"url\":\"/files/" ++ (x ++ codes "\"")) (sym path)
 
 -- ---- the page of a project
 
@@ -87,6 +90,14 @@ file-no_float project row =
 pub json-whole : (project : Bytes) (rows : List FileRow) → json_rest project false [] rows ≡ project_json project rows
 unfolding project_json files_top files_bottom json_text serde_json_on_literals
 json-whole project rows = refl
+
+-- a release's text is the next of those of the releases
+pub releases-next : (text : Bytes) (is_later : Bool) (release : Bytes) (releases : List Bytes)
+    → (text ++ (comma_if is_later ++ json_text release)) ++ releases_text true releases ≡ text ++ releases_text is_later (release ∷ releases)
+unfolding json_text
+releases-next text is_later release releases =
+    let comma = comma_if is_later in
+    append_assoc text (comma ++ json_text release) (releases_text true releases) ∙ ap (λ x. text ++ x) (append_assoc comma (json_text release) (releases_text true releases))
 
 -- a row's text is the next of the page
 pub json-next : (project : Bytes) (is_started : Bool) (held : List Bytes) (row : FileRow) (rows : List FileRow)

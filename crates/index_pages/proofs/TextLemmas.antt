@@ -1,5 +1,5 @@
 -- The text of a page, put together from the texts of its rows.
-use Rattle.std.proofs.Common.{◌≡◌, ◌≤◌, ◌<◌, ℕ, ◌+◌, ◌++◌, ◌∷◌, [], List, length, take, drop, sym, ◌∙◌, ap, subst, refl, arith, append_assoc, length-append, IfErr, Ok, Err, None, Some, zero-add, inl, inr}
+use Rattle.std.proofs.Common.{◌≡◌, ◌≤◌, ◌<◌, ℕ, ◌+◌, ◌++◌, ◌∷◌, [], List, length, take, drop, sym, ◌∙◌, ap, subst, refl, arith, append_assoc, length-append, IfErr, IfOk, Ok, Err, None, Some, zero-add, inl, inr}
 use Rattle.std.specs.Prelude.{Result}
 use Rattle.std.proofs.lemmas.List.{take-append-drop, append-nil}
 use Rattle.std.proofs.Math.Seq.{take-append_seam}
@@ -8,7 +8,7 @@ use Rattle.std.proofs.KnownBytes.{Appends-nil, Appends-trans}
 use Rattle.index_rules.specs.Maps.{Bytes}
 use Rattle.index_rules.specs.Rows.{Took, StoppedAt, WasGiven}
 use Rattle.index_pages.specs.Rest.{Rest, IsNext}
-use Rattle.index_pages.specs.Ends.{Closes, Ends, IsCaused, Passes, Sends, SendsRowFront, SinkState, count_of, most_bytes}
+use Rattle.index_pages.specs.Ends.{Closes, Ends, IsCaused, Passes, Sends, SendsRow, SendsRowFront, SinkState, count_of, most_bytes}
 use Rattle.index_pages.specs.States.{TextState, TakesText, StopsText, IsFresh, IsFront}
 use Rattle.index_pages.specs.declared.end.PageEnd.{PageEnd}
 
@@ -19,6 +19,12 @@ both_sent a b c i j k xs ys x y =
 
 longer : (whole front later : Bytes) (n : ℕ) → whole ≡ front ++ later → most_bytes < n + length front → most_bytes < n + length whole
 longer whole front later n e past = let sum = ap length e ∙ length-append front later in omega (arith, sum, past)
+
+-- a row's text went out
+pub sends_row : {R : Type 0} (rest : Rest R) (row : R) (later : Rest R) (text : Bytes) (before after : SinkState) (old : ℕ) (result : Result ℕ PageEnd)
+    → IsNext rest row text later → Closes text before after old result → IfOk result (λ written. SendsRow rest row later before after old written)
+sends_row rest row later text before after old (Ok n) next h = record { text = text; next = next; sends = h.sends; steady = h.steady }
+sends_row rest row later text before after old (Err end) next h = tt
 
 -- a front of a row's text is a front of the page
 pub front_of_row : {R : Type 0} (rest : Rest R) (row : R) (later : Rest R) (text : Bytes) (before after : SinkState) (old : ℕ) (result : Result ℕ PageEnd)

@@ -1,7 +1,7 @@
 -- The pages in JSON (PEP 691, "JSON Serialization"), of version 1.1 (PEP 700, "Specification"): compact, with keys in byte order.
 use Rattle.std.specs.Prelude.{true, List, [], ◌∷◌, map, codes, Option, Some, None, if◌then◌else◌, ◌==◌, length}
 use Rattle.std.specs.List.{flat_map, concat}
-use Rattle.serde_json.specs.Data.{Data, boolean, number, unsigned, string, array, object, Members, no_members, member, put}
+use Rattle.serde_json.specs.Data.{Data, boolean, number, unsigned, string, array, object, Members, no_members, member}
 use Rattle.serde_json.specs.View.{items_of}
 use Rattle.serde_json.specs.Written.{compact_text}
 use Rattle.index_digest.specs.Digest.{text_of}
@@ -71,24 +71,3 @@ root_json rows = compact_text (object
     (member (codes "meta") meta
     (member (codes "projects") (array (items_of (flat_map (λ row. names_of row.record) rows)))
     no_members)))
-
--- ---- the same of a file by what is put into an object, whatever the order
-
--- the Python versions, where any were declared
-abbrev pub requires_put : Bytes → Members → Members
-requires_put requires members = if length requires == 0 then members else put (codes "requires-python") (string requires) members
-
--- the reason, where the file is yanked
-abbrev pub yanked_put : Option Bytes → Members → Members
-yanked_put None members = members
-yanked_put (Some reason) members = put (codes "yanked") (reason_data reason) members
-
--- the members of a file
-abbrev pub file_put : Bytes → FileRow → Members → Members
-file_put project row members =
-    yanked_put row.yanked
-    (put (codes "url") (string (url_of project row.file))
-    (put (codes "size") (number (unsigned row.size))
-    (requires_put row.requires_python
-    (put (codes "hashes") (hashes row.digest)
-    (put (codes "filename") (string row.file) members)))))

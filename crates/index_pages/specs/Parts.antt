@@ -1,7 +1,8 @@
 -- What is still to be written of each page: by whether it is in JSON, whether a row came, the releases so far, and the rows that are still to come.
-use Rattle.std.specs.Prelude.{Bool, true, false, List, [], ◌∷◌, ◌++◌, map, codes, if◌then◌else◌}
+use Rattle.std.specs.Prelude.{Bool, true, false, List, [], ◌∷◌, ◌++◌, map, codes, Option, Some, None, if◌then◌else◌, ◌==◌, length}
 use Rattle.std.specs.List.{flat_map}
-use Rattle.serde_json.specs.Data.{string}
+use Rattle.json.specs.Print.{quoted}
+use Rattle.serde_json.specs.Data.{Data, string}
 use Rattle.serde_json.specs.View.{items_of}
 use Rattle.serde_json.specs.Written.{compact_text, comma_if, items_text}
 use Rattle.index_rules.specs.Maps.{Bytes}
@@ -10,7 +11,7 @@ use Rattle.index_rules.specs.declared.records.NameRecord.TheVariants.{Held, Proh
 use Rattle.index_rules.specs.declared.rows.FileRow.{FileRow}
 use Rattle.index_rules.specs.declared.rows.NameRow.{NameRow}
 use Rattle.index_pages.specs.Html.{bottom, file_anchor, name_anchor, project_top, root_top}
-use Rattle.index_pages.specs.Json.{file_data, name_data}
+use Rattle.index_pages.specs.Json.{file_data, name_data, reason_data}
 use Rattle.index_pages.specs.Versions.{with_releases}
 
 -- a text that stands before the first row
@@ -30,6 +31,19 @@ file_text project row = compact_text (file_data project row)
 -- a text in quotes
 unfoldable pub json_text : Bytes → Bytes
 json_text text = compact_text (string text)
+
+-- a member of an object that stands behind another
+abbrev pub later_member : Bytes → Data → Bytes
+later_member key value = 44 ∷ (quoted key ++ 58 ∷ compact_text value)
+
+-- the member of the Python versions, left out where nothing was declared
+abbrev pub requires_text : Bytes → Bytes
+requires_text requires = if length requires == 0 then [] else later_member (codes "requires-python") (string requires)
+
+-- the member of the reason, left out where the file is not yanked
+abbrev pub yanked_text : Option Bytes → Bytes
+yanked_text None = []
+yanked_text (Some reason) = later_member (codes "yanked") (reason_data reason)
 
 -- what stands before the files
 unfoldable pub files_top : Bytes

@@ -1,23 +1,25 @@
-//! Bytes at the end of a text.
-ghost use Rattle.std.specs.Prelude.{◌≡◌, ◌++◌, OnOk};
+//! Pieces at the end of a text.
+ghost use Rattle.std.specs.Prelude.{OnOk};
 ghost use Rattle.index_pages.specs.Html.{escape, escape_byte, text_of_pieces};
+ghost use Rattle.index_pages.specs.Pieces.{Adds};
 
+use crate::pieces::Pieces;
 use std::alloc::AllocError;
 
 /// Adds the pieces in turn.
-pub fn append(out: &mut Vec<u8>, pieces: &[&[u8]]) -> Result<(), AllocError>
-    ensures { OnOk result (out.new.items ≡ out.old.items ++ text_of_pieces pieces.now) }
+pub fn append<O: Pieces>(out: &mut O, pieces: &[&[u8]]) -> Result<(), AllocError>
+    ensures { OnOk result (Adds O.holds out.old out.new (text_of_pieces pieces.now)) }
 {
     for piece in pieces {
-        out.extend_from_slice(piece)?;
+        out.put(piece)?;
     }
     Ok(())
 }
 
 /// Adds a text or an attribute's value, with `&`, `<`, `>` and `"` escaped.
 #[tactic(auto, unfolding(crate::specs::Html::escape))]
-pub fn append_escaped(out: &mut Vec<u8>, text: &[u8]) -> Result<(), AllocError>
-    ensures { OnOk result (out.new.items ≡ out.old.items ++ escape text.now) }
+pub fn append_escaped<O: Pieces>(out: &mut O, text: &[u8]) -> Result<(), AllocError>
+    ensures { OnOk result (Adds O.holds out.old out.new (escape text.now)) }
 {
     for byte in text {
         append_escaped_byte(out, *byte)?;
@@ -25,15 +27,14 @@ pub fn append_escaped(out: &mut Vec<u8>, text: &[u8]) -> Result<(), AllocError>
     Ok(())
 }
 
-fn append_escaped_byte(out: &mut Vec<u8>, byte: u8) -> Result<(), AllocError>
-    ensures { OnOk result (out.new.items ≡ out.old.items ++ escape_byte byte) }
+fn append_escaped_byte<O: Pieces>(out: &mut O, byte: u8) -> Result<(), AllocError>
+    ensures { OnOk result (Adds O.holds out.old out.new (escape_byte byte)) }
 {
     match byte {
-        b'&' => out.extend_from_slice(b"&amp;")?,
-        b'<' => out.extend_from_slice(b"&lt;")?,
-        b'>' => out.extend_from_slice(b"&gt;")?,
-        b'"' => out.extend_from_slice(b"&quot;")?,
-        _ => out.extend_from_slice(&[byte])?,
+        b'&' => out.put(b"&amp;"),
+        b'<' => out.put(b"&lt;"),
+        b'>' => out.put(b"&gt;"),
+        b'"' => out.put(b"&quot;"),
+        _ => out.put(&[byte]),
     }
-    Ok(())
 }

@@ -1,8 +1,10 @@
 //! The texts of HTML pages.
-ghost use Rattle.std.specs.Prelude.{◌≡◌, ◌++◌, OnOk};
+ghost use Rattle.std.specs.Prelude.{OnOk};
 ghost use Rattle.index_pages.specs.Html.{attribute, bottom, file_anchor, name_anchor, project_top, reference, requires_attribute, root_top, yanked_attribute};
+ghost use Rattle.index_pages.specs.Pieces.{Adds};
 
 use crate::bytes::{append, append_escaped};
+use crate::pieces::Pieces;
 use index_digest::Digest256;
 use index_rules::FileRow;
 use index_text::Text;
@@ -14,8 +16,8 @@ const HEAD: &[u8] =
 
 /// What stands before the files of a project.
 #[tactic(auto, unfolding(crate::specs::Html::project_top, crate::specs::Html::head))]
-pub fn append_project_top(out: &mut Vec<u8>, project: &[u8]) -> Result<(), AllocError>
-    ensures { OnOk result (out.new.items ≡ out.old.items ++ project_top project.now) }
+pub fn append_project_top<O: Pieces>(out: &mut O, project: &[u8]) -> Result<(), AllocError>
+    ensures { OnOk result (Adds O.holds out.old out.new (project_top project.now)) }
 {
     append(
         out,
@@ -32,22 +34,22 @@ pub fn append_project_top(out: &mut Vec<u8>, project: &[u8]) -> Result<(), Alloc
 
 /// What stands before the names.
 #[tactic(auto, unfolding(crate::specs::Html::root_top, crate::specs::Html::head))]
-pub fn append_root_top(out: &mut Vec<u8>) -> Result<(), AllocError>
-    ensures { OnOk result (out.new.items ≡ out.old.items ++ root_top) }
+pub fn append_root_top<O: Pieces>(out: &mut O) -> Result<(), AllocError>
+    ensures { OnOk result (Adds O.holds out.old out.new root_top) }
 {
     append(out, &[HEAD, b"Simple index</title>\n</head>\n<body>\n"])
 }
 
 /// What stands behind the rows.
-pub fn append_bottom(out: &mut Vec<u8>) -> Result<(), AllocError>
-    ensures { OnOk result (out.new.items ≡ out.old.items ++ bottom) }
+pub fn append_bottom<O: Pieces>(out: &mut O) -> Result<(), AllocError>
+    ensures { OnOk result (Adds O.holds out.old out.new bottom) }
 {
     append(out, &[b"</body>\n</html>\n"])
 }
 
 /// The line of a held name.
-pub fn append_name(out: &mut Vec<u8>, name: &[u8], shown: &[u8]) -> Result<(), AllocError>
-    ensures { OnOk result (out.new.items ≡ out.old.items ++ name_anchor name.now shown.now) }
+pub fn append_name<O: Pieces>(out: &mut O, name: &[u8], shown: &[u8]) -> Result<(), AllocError>
+    ensures { OnOk result (Adds O.holds out.old out.new (name_anchor name.now shown.now)) }
 {
     append(out, &[b"<a href=\"/simple/", name, b"/\">"])?;
     append_escaped(out, shown)?;
@@ -56,8 +58,8 @@ pub fn append_name(out: &mut Vec<u8>, name: &[u8], shown: &[u8]) -> Result<(), A
 }
 
 /// The line of a file.
-pub fn append_file(out: &mut Vec<u8>, project: &[u8], row: &FileRow) -> Result<(), AllocError>
-    ensures { OnOk result (out.new.items ≡ out.old.items ++ file_anchor project.now row.now) }
+pub fn append_file<O: Pieces>(out: &mut O, project: &[u8], row: &FileRow) -> Result<(), AllocError>
+    ensures { OnOk result (Adds O.holds out.old out.new (file_anchor project.now row.now)) }
 {
     append_reference(out, project, row.file.text().as_bytes(), &row.digest)?;
     append_requires(out, row.requires_python.as_str().as_bytes())?;
@@ -67,14 +69,13 @@ pub fn append_file(out: &mut Vec<u8>, project: &[u8], row: &FileRow) -> Result<(
 }
 
 /// An anchor's begin, up to the reference to a file with its digest.
-fn append_reference(
-    out: &mut Vec<u8>,
+fn append_reference<O: Pieces>(
+    out: &mut O,
     project: &[u8],
     file: &[u8],
     digest: &Digest256,
 ) -> Result<(), AllocError>
-    ensures { OnOk result
-        (out.new.items ≡ out.old.items ++ reference project.now file.now digest.now) }
+    ensures { OnOk result (Adds O.holds out.old out.new (reference project.now file.now digest.now)) }
 {
     let mut digits = [0u8; 64];
     digest.hex_into(&mut digits);
@@ -84,9 +85,8 @@ fn append_reference(
     Ok(())
 }
 
-fn append_requires(out: &mut Vec<u8>, requires_python: &[u8]) -> Result<(), AllocError>
-    ensures { OnOk result
-        (out.new.items ≡ out.old.items ++ requires_attribute requires_python.now) }
+fn append_requires<O: Pieces>(out: &mut O, requires_python: &[u8]) -> Result<(), AllocError>
+    ensures { OnOk result (Adds O.holds out.old out.new (requires_attribute requires_python.now)) }
 {
     if requires_python.is_empty() {
         return Ok(());
@@ -94,8 +94,8 @@ fn append_requires(out: &mut Vec<u8>, requires_python: &[u8]) -> Result<(), Allo
     append_attribute(out, b"data-requires-python", requires_python)
 }
 
-fn append_yanked(out: &mut Vec<u8>, yanked: &Option<Text>) -> Result<(), AllocError>
-    ensures { OnOk result (out.new.items ≡ out.old.items ++ yanked_attribute yanked.now) }
+fn append_yanked<O: Pieces>(out: &mut O, yanked: &Option<Text>) -> Result<(), AllocError>
+    ensures { OnOk result (Adds O.holds out.old out.new (yanked_attribute yanked.now)) }
 {
     match yanked {
         Some(reason) => append_attribute(out, b"data-yanked", reason.as_str().as_bytes()),
@@ -103,8 +103,8 @@ fn append_yanked(out: &mut Vec<u8>, yanked: &Option<Text>) -> Result<(), AllocEr
     }
 }
 
-fn append_attribute(out: &mut Vec<u8>, name: &[u8], value: &[u8]) -> Result<(), AllocError>
-    ensures { OnOk result (out.new.items ≡ out.old.items ++ attribute name.now value.now) }
+fn append_attribute<O: Pieces>(out: &mut O, name: &[u8], value: &[u8]) -> Result<(), AllocError>
+    ensures { OnOk result (Adds O.holds out.old out.new (attribute name.now value.now)) }
 {
     append(out, &[b" ", name, b"=\""])?;
     append_escaped(out, value)?;

@@ -1,5 +1,6 @@
 //! The length of a page, row by row.
-ghost use Rattle.std.specs.Prelude.{◌≡◌, List, [], false, Err, None, Some, IfErr, IfOk, IsSome, IsTrue};
+ghost use Rattle.std.specs.Prelude.{◌≡◌, List, [], false, Err, None, Some, IfErr, IfOk, IsSome, IsTrue, length as text_length};
+ghost use Rattle.index_rules.specs.Maps.{Bytes};
 ghost use Rattle.index_rules.specs.declared.rows.FileRow.{FileRow as FileRowData};
 ghost use Rattle.index_rules.specs.declared.rows.NameRow.{NameRow as NameRowData};
 ghost use Rattle.index_pages.specs.Ends.{Closes, SendsRow, SendsRowFront};
@@ -8,6 +9,7 @@ ghost use Rattle.index_pages.specs.Parts.{project_rest, root_rest};
 ghost use Rattle.index_pages.specs.States.{end_at, ended_at, length_state, no_sink, MeasuresPage, StopsLength};
 
 use crate::page::Page;
+use crate::pieces::Count;
 use crate::project::ProjectPage;
 use crate::root::RootPage;
 use crate::served::Served;
@@ -28,12 +30,12 @@ pub struct PageLength<'p, P> {
 impl PageLength<'static, RootPage> {
     /// The length of the page of the names, of which nothing was counted. It takes rows of names. It takes no memory
     /// itself.
-    pub fn root(alloc: Global, served: Served) -> PageLength<'static, RootPage>
+    pub fn root(served: Served) -> PageLength<'static, RootPage>
         ensures page { (rows : List NameRowData)
             → root_rest result.page.as_json result.page.is_started rows ≡ root_page_of served rows }
         ensures none { (result.length ≡ 0) × (result.end ≡ None) }
     {
-        PageLength::new("", RootPage::new(alloc, served))
+        PageLength::new("", RootPage::new(served))
     }
 }
 
@@ -135,8 +137,9 @@ impl<'p, P: Page> PageLength<'p, P> {
             SendsRowFront (P.rest self.old.page self.old.name.now) row.now no_sink no_sink
             self.old.length (end_at self.old.length end)) }
     {
-        let text = self.page.row_text(self.name, row)?;
-        add(self.length, &text)
+        let mut count = Count { bytes: 0 };
+        self.page.append_row(self.name, row, &mut count)?;
+        add(self.length, count)
     }
 }
 
@@ -182,11 +185,12 @@ impl FileTaker for PageLength<'_, ProjectPage> {
     }
 }
 
-/// The length with one text more.
-fn add(length: u64, text: &[u8]) -> Result<u64, Fault>
-    ensures { Closes text.now no_sink no_sink length (ended_at length result) }
+/// The length with one text more, by the count of its bytes.
+fn add(length: u64, count: Count) -> Result<u64, Fault>
+    ensures { (text : Bytes) → count.bytes ≡ text_length text
+        → Closes text no_sink no_sink length (ended_at length result) }
 {
-    match total(length, text.len()) {
+    match total(length, count.bytes) {
         Some(sum) => Ok(sum),
         None => Err(Fault::Store),
     }
@@ -196,6 +200,7 @@ fn add(length: u64, text: &[u8]) -> Result<u64, Fault>
 fn add_last<P: Page>(name: &str, page: &P, length: u64) -> Result<u64, Fault>
     ensures { Closes (P.rest page.now name.now []) no_sink no_sink length (ended_at length result) }
 {
-    let text = page.last_text(name)?;
-    add(length, &text)
+    let mut count = Count { bytes: 0 };
+    page.append_last(name, &mut count)?;
+    add(length, count)
 }

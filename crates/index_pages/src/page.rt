@@ -1,8 +1,9 @@
 //! What has a text for each row.
-ghost use Rattle.std.specs.Prelude.{◌≡◌, List, [], IfOk};
+ghost use Rattle.std.specs.Prelude.{List, [], OnOk};
 ghost use Rattle.index_rules.specs.Maps.{Bytes};
-ghost use Rattle.index_pages.specs.Rest.{IsNext};
+ghost use Rattle.index_pages.specs.Pieces.{Adds, AddsRow};
 
+use crate::pieces::Pieces;
 use std::alloc::AllocError;
 
 /// A page, as far as its rows came. The name is that of its project.
@@ -12,12 +13,18 @@ pub trait Page: Drop {
     /// The text that is still to be written, by the name and the rows that are still to come.
     ghost rest: { Self → Bytes → List Self.Row → Bytes };
 
-    /// The text of a row.
-    fn row_text(&mut self, name: &str, row: &Self::Row) -> Result<Vec<u8>, AllocError>
-        ensures { IfOk result (λ text.
-            IsNext (rest self.old name.now) row.now text.items (rest self.new name.now)) };
+    /// Adds the text of a row.
+    fn append_row<O: Pieces>(
+        &mut self,
+        name: &str,
+        row: &Self::Row,
+        out: &mut O,
+    ) -> Result<(), AllocError>
+        ensures { OnOk result
+            (AddsRow (rest self.old name.now) row.now (rest self.new name.now)
+            O.holds out.old out.new) };
 
-    /// The text behind the rows.
-    fn last_text(&self, name: &str) -> Result<Vec<u8>, AllocError>
-        ensures { IfOk result (λ text. text.items ≡ rest self.now name.now []) };
+    /// Adds the text behind the rows.
+    fn append_last<O: Pieces>(&self, name: &str, out: &mut O) -> Result<(), AllocError>
+        ensures { OnOk result (Adds O.holds out.old out.new (rest self.now name.now [])) };
 }

@@ -23,40 +23,42 @@ const MOST_BYTES: u64 = 9_223_372_036_854_775_807;
 /// A page that is written to a sink as its rows come. After a row that it could not write whole it takes no more, and
 /// writes nothing more.
 #[derive(Drop)]
-pub struct PageText<'a, 'p, K, P> {
+pub struct PageText<'a, 'p, K, P, R> {
     sink: &'a mut K,
     name: &'p str,
     page: P,
+    /// Room for the text of a row. Where its type stands here itself, no contract sees what a page leaves of its sink.
+    room: R,
     written: u64,
     end: Option<PageEnd>,
 }
 
-impl<'a, K: Sink> PageText<'a, 'static, K, RootPage> {
+impl<'a, K: Sink> PageText<'a, 'static, K, RootPage, Vec<u8>> {
     /// The page of the names, of which nothing was written. It takes rows of names and lists those that are held. It
     /// takes no memory itself.
     pub fn root(
         alloc: Global,
         served: Served,
         sink: &'a mut K,
-    ) -> PageText<'a, 'static, K, RootPage>
+    ) -> PageText<'a, 'static, K, RootPage, Vec<u8>>
         ensures sink { result.sink.ghost_name ≡ sink.entry.ghost_name }
         ensures kept { result.sink.now ≡ sink.old }
         ensures page { (rows : List NameRowData)
             → root_rest result.page.as_json result.page.is_started rows ≡ root_page_of served rows }
         ensures none { (result.written ≡ 0) × (result.end ≡ None) }
     {
-        PageText::new("", RootPage::new(alloc, served), sink)
+        PageText::new(alloc, "", RootPage::new(served), sink)
     }
 }
 
-impl<'a, 'p, K: Sink> PageText<'a, 'p, K, ProjectPage> {
+impl<'a, 'p, K: Sink> PageText<'a, 'p, K, ProjectPage, Vec<u8>> {
     /// The page of a project, of which nothing was written. It takes rows of files. It takes no memory itself.
     pub fn project(
         alloc: Global,
         name: &'p NormalName,
         served: Served,
         sink: &'a mut K,
-    ) -> PageText<'a, 'p, K, ProjectPage>
+    ) -> PageText<'a, 'p, K, ProjectPage, Vec<u8>>
         ensures sink { result.sink.ghost_name ≡ sink.entry.ghost_name }
         ensures kept { result.sink.now ≡ sink.old }
         ensures page { (rows : List FileRowData) → let page = result.page in
@@ -64,13 +66,18 @@ impl<'a, 'p, K: Sink> PageText<'a, 'p, K, ProjectPage> {
             ≡ project_page_of served name.now rows }
         ensures none { (result.written ≡ 0) × (result.end ≡ None) }
     {
-        PageText::new(name.text(), ProjectPage::new(alloc, served), sink)
+        PageText::new(alloc, name.text(), ProjectPage::new(alloc, served), sink)
     }
 }
 
-impl<'a, 'p, K: Sink, P: Page> PageText<'a, 'p, K, P> {
+impl<'a, 'p, K: Sink, P: Page> PageText<'a, 'p, K, P, Vec<u8>> {
     /// A page of which nothing was written.
-    fn new(name: &'p str, page: P, sink: &'a mut K) -> PageText<'a, 'p, K, P>
+    fn new(
+        alloc: Global,
+        name: &'p str,
+        page: P,
+        sink: &'a mut K,
+    ) -> PageText<'a, 'p, K, P, Vec<u8>>
         ensures sink { result.sink.ghost_name ≡ sink.entry.ghost_name }
         ensures kept { result.sink.now ≡ sink.old }
         ensures page { (result.page ≡ page) × (result.name.now ≡ name.now) }
@@ -80,6 +87,7 @@ impl<'a, 'p, K: Sink, P: Page> PageText<'a, 'p, K, P> {
             sink,
             name,
             page,
+            room: Vec::new(alloc),
             written: 0,
             end: None,
         }
@@ -119,6 +127,7 @@ impl<'a, 'p, K: Sink, P: Page> PageText<'a, 'p, K, P> {
             sink: _sink,
             name: _name,
             page: _page,
+            room: _room,
             written,
             end: _end,
         } = self;
@@ -159,12 +168,13 @@ impl<'a, 'p, K: Sink, P: Page> PageText<'a, 'p, K, P> {
             sink,
             name,
             page,
+            mut room,
             written,
             end,
         } = self;
         match end {
             Some(end) => Err(end),
-            None => send_last(sink, name, &page, written),
+            None => send_last(sink, name, &page, &mut room, written),
         }
     }
 
@@ -217,14 +227,15 @@ impl<'a, 'p, K: Sink, P: Page> PageText<'a, 'p, K, P> {
             (sink_state (K.contents self.new.sink.now) (K.failures self.new.sink.now))
             self.old.written end) }
     {
-        match self.page.row_text(self.name, row) {
-            Ok(text) => send(self.sink, self.written, &text),
+        self.room.clear();
+        match self.page.append_row(self.name, row, &mut self.room) {
+            Ok(()) => send(self.sink, self.written, &self.room),
             Err(_) => Err(PageEnd::OutOfMemory(self.written)),
         }
     }
 }
 
-impl<K: Sink> NameTaker for PageText<'_, '_, K, RootPage> {
+impl<K: Sink> NameTaker for PageText<'_, '_, K, RootPage, Vec<u8>> {
     ghost use Rattle.std.specs.Prelude.{◌≡◌};
     ghost use Rattle.index_pages.specs.Parts.{root_rest};
     ghost use Rattle.index_pages.specs.States.{sink_state, text_state, StopsText, TakesText};
@@ -252,7 +263,7 @@ impl<K: Sink> NameTaker for PageText<'_, '_, K, RootPage> {
     }
 }
 
-impl<K: Sink> FileTaker for PageText<'_, '_, K, ProjectPage> {
+impl<K: Sink> FileTaker for PageText<'_, '_, K, ProjectPage, Vec<u8>> {
     ghost use Rattle.std.specs.Prelude.{◌≡◌};
     ghost use Rattle.index_pages.specs.Parts.{project_rest};
     ghost use Rattle.index_pages.specs.States.{sink_state, text_state, StopsText, TakesText};
@@ -312,14 +323,16 @@ fn send_last<K: Sink, P: Page>(
     sink: &mut K,
     name: &str,
     page: &P,
+    room: &mut Vec<u8>,
     written: u64,
 ) -> Result<u64, PageEnd>
     ensures { Closes (P.rest page.now name.now [])
         (sink_state (K.contents sink.old) (K.failures sink.old))
         (sink_state (K.contents sink.new) (K.failures sink.new)) written result }
 {
-    match page.last_text(name) {
-        Ok(text) => send(sink, written, &text),
+    room.clear();
+    match page.append_last(name, room) {
+        Ok(()) => send(sink, written, room),
         Err(_) => Err(PageEnd::OutOfMemory(written)),
     }
 }

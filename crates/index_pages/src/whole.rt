@@ -16,7 +16,7 @@ pub fn root_page(alloc: Global, rows: &[NameRow], served: Served) -> Result<Vec<
     ensures memory { IfErr result (λ fault. fault ≡ Fault.OutOfMemory) }
 {
     let mut text = Vec::new(alloc);
-    let mut page = RootPage::new(alloc, served);
+    let mut page = RootPage::new(served);
     append_page(&mut text, "", &mut page, rows)?;
     Ok(text)
 }
@@ -49,7 +49,7 @@ fn append_page<P: Page>(
     for row in rows {
         append_row(out, name, page, row)?;
     }
-    append_last(out, name, page)
+    page.append_last(name, out)
 }
 
 /// The text of a row.
@@ -63,16 +63,5 @@ fn append_row<P: Page>(
         → out.new.items ++ P.rest page.new name.now rows
         ≡ out.old.items ++ P.rest page.old name.now (row.now ∷ rows)) }
 {
-    let text = page.row_text(name, row)?;
-    out.extend_from_slice(&text)?;
-    Ok(())
-}
-
-/// The text behind the rows.
-fn append_last<P: Page>(out: &mut Vec<u8>, name: &str, page: &P) -> Result<(), AllocError>
-    ensures { OnOk result (out.new.items ≡ out.old.items ++ P.rest page.now name.now []) }
-{
-    let text = page.last_text(name)?;
-    out.extend_from_slice(&text)?;
-    Ok(())
+    page.append_row(name, row, out)
 }

@@ -60,7 +60,7 @@ fn assert_front(rt: &impl Abort, output: &Output<FullWriter>, size: usize) {
 /// A page of one file ends as its writer's room does, once the row was taken or not.
 fn assert_ends(
     rt: &impl Abort,
-    page: PageText<'_, '_, Output<FullWriter>, ProjectPage>,
+    page: PageText<'_, '_, Output<FullWriter>, ProjectPage, Vec<u8>>,
     row: &FileRow,
     size: usize,
 ) {

@@ -1,7 +1,8 @@
 use Rattle.std.proofs.Common.{append_assoc, refl}
 use Rattle.index_pages.specs.Html.{name_anchor}
+use Rattle.index_pages.proofs.PieceLemmas.{adds_both, adds_same}
 use Rattle.index_pages.proofs.html.append_name.Goals as goal
 
 pub returns : goal.returns
 unfolding name_anchor
-returns c = rw (c.in_ok-append-2.ensures, c.in_ok-append_escaped.ensures, c.in_ok-append.ensures) (simp append_assoc refl)
+returns g c = adds_same (adds_both c.in_ok-append.ensures (adds_both c.in_ok-append_escaped.ensures c.in_ok-append-2.ensures)) (simp append_assoc refl)

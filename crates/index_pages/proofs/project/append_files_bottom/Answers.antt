@@ -1,15 +1,8 @@
-use Rattle.std.proofs.Common.{append_assoc, refl}
+use Rattle.std.proofs.Common.{refl}
 use Rattle.index_pages.specs.Parts.{files_bottom}
+use Rattle.index_pages.proofs.PieceLemmas.{adds_both, adds_same}
 use Rattle.index_pages.proofs.project.append_files_bottom.Goals as goal
 
 pub returns : goal.returns
 unfolding files_bottom
-returns c =
-    rw (
-      c.in_ok-extend_from_slice-3.ensures.items,
-      c.in_ok-append_releases.ensures,
-      c.in_ok-extend_from_slice-2.ensures.items,
-      c.in_ok-append_json_text.ensures,
-      c.in_ok-extend_from_slice.ensures.items,
-    )
-    (simp append_assoc refl)
+returns g c = adds_same (adds_both c.in_ok-put.ensures (adds_both c.in_ok-append_json_text.ensures (adds_both c.in_ok-put-2.ensures (adds_both c.in_ok-append_releases.ensures c.in_ok-put-3.ensures)))) (refl)

@@ -1,16 +1,7 @@
-use Rattle.std.proofs.Common.{append_assoc, refl}
+use Rattle.std.proofs.Common.{refl}
 use Rattle.index_pages.proofs.JsonLemmas.{name_text-is}
+use Rattle.index_pages.proofs.PieceLemmas.{adds_both, adds_same}
 use Rattle.index_pages.proofs.root.append_json_name.Goals as goal
 
 pub returns : goal.returns
-returns c =
-    rw (
-      c.in_ok-extend_from_slice-3.ensures.items,
-      c.in_ok-extend_from_slice-2.ensures.items,
-      c.in_ok-extend_from_slice.ensures.items,
-      c.in_ok-append_comma.ensures,
-      c.as_bytes.ensures.value,
-      c.in_ok-text.ensures,
-      name_text-is c.args.shown.now,
-    )
-    (simp append_assoc refl)
+returns g c = adds_same (adds_both c.in_ok-append_comma.ensures (adds_both c.in_ok-put.ensures (adds_both c.in_ok-append_json_text.ensures c.in_ok-put-2.ensures))) (rw (name_text-is c.args.shown.now) refl)

@@ -1,5 +1,5 @@
 use Rattle.index_pages.proofs.TextLemmas.{front_of, steady_of}
-use Rattle.index_pages.proofs.text.PageText.written.Goals as goal
+use Rattle.index_pages.proofs.text.PageText+K+P+Vec+u8.abandon.Goals as goal
 
 pub returns-clause-front : goal.returns-clause-front
 returns-clause-front g c = front_of _

@@ -1,7 +1,7 @@
 use Rattle.std.proofs.Common.{ap, refl}
 use Rattle.index_pages.specs.States.{sink_state, text_state}
 use Rattle.index_pages.proofs.TextLemmas.{page_ends, page_stops}
-use Rattle.index_pages.proofs.text.PageText.finish.Goals as goal
+use Rattle.index_pages.proofs.text.PageText+K+P+Vec+u8.finish.Goals as goal
 
 pub returns-clause-page : goal.returns-clause-page
 returns-clause-page g c =

@@ -1,0 +1,10 @@
+use Rattle.std.proofs.Common.{◌≡◌, ◌==◌, false, length, rules, subst, OnOk}
+use Rattle.index_pages.specs.Pieces.{Adds}
+use Rattle.index_pages.proofs.JsonLemmas.{reason-text}
+use Rattle.index_pages.proofs.json_file.append_reason.Goals as goal
+
+pub returns-else-is_empty : goal.returns-else-is_empty
+returns-else-is_empty g c =
+    let some : (length c.args.reason.now == 0) ≡ false = search rules in
+    subst (λ text. OnOk c.append_json_text.result (Adds g.O.Pieces.holds c.args.out.now c.append_json_text.new.out text))
+    (reason-text c.args.reason.now some) c.append_json_text.ensures

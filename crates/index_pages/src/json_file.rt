@@ -1,0 +1,110 @@
+//! A file of a project in JSON, member by member. The keys stand in byte order, and each has its comma before it.
+ghost use Rattle.std.specs.Prelude.{codes, OnOk};
+ghost use Rattle.serde_json.specs.Data.{number, string, unsigned};
+ghost use Rattle.serde_json.specs.Written.{comma_if, compact_text};
+ghost use Rattle.index_pages.specs.Json.{hashes, reason_data, url_of};
+ghost use Rattle.index_pages.specs.Parts.{file_text, later_member, requires_text, yanked_text};
+ghost use Rattle.index_pages.specs.Pieces.{Adds};
+
+use crate::bytes::append;
+use crate::pieces::Pieces;
+use crate::quoted::{append_json_escaped, append_json_text};
+use index_digest::Digest256;
+use index_rules::FileRow;
+use index_text::Text;
+use itoa::Buffer;
+use std::alloc::AllocError;
+
+/// A comma, where something stands before it.
+pub fn append_comma<O: Pieces>(out: &mut O, is_later: bool) -> Result<(), AllocError>
+    ensures { OnOk result (Adds O.holds out.old out.new (comma_if is_later)) }
+{
+    if !is_later {
+        return Ok(());
+    }
+    out.put(b",")
+}
+
+/// A file of a project.
+pub fn append_json_file<O: Pieces>(
+    out: &mut O,
+    project: &str,
+    row: &FileRow,
+) -> Result<(), AllocError>
+    ensures { OnOk result (Adds O.holds out.old out.new (file_text project.now row.now)) }
+{
+    out.put(b"{\"filename\":")?;
+    append_json_text(out, row.file.text())?;
+    append_hashes(out, &row.digest)?;
+    append_requires(out, row.requires_python.as_str())?;
+    append_size(out, row.size)?;
+    append_url(out, project, row.file.text())?;
+    append_yanked(out, &row.yanked)?;
+    out.put(b"}")?;
+    Ok(())
+}
+
+fn append_hashes<O: Pieces>(out: &mut O, digest: &Digest256) -> Result<(), AllocError>
+    ensures { OnOk result
+        (Adds O.holds out.old out.new (later_member (codes "hashes") (hashes digest.now))) }
+{
+    let mut digits = [0u8; 64];
+    digest.hex_into(&mut digits);
+    append(out, &[b",\"hashes\":{\"sha256\":\"", &digits, b"\"}"])?;
+    Ok(())
+}
+
+fn append_requires<O: Pieces>(out: &mut O, requires_python: &str) -> Result<(), AllocError>
+    ensures { OnOk result (Adds O.holds out.old out.new (requires_text requires_python.now)) }
+{
+    if requires_python.is_empty() {
+        return Ok(());
+    }
+    out.put(b",\"requires-python\":")?;
+    append_json_text(out, requires_python)?;
+    Ok(())
+}
+
+fn append_size<O: Pieces>(out: &mut O, size: u64) -> Result<(), AllocError>
+    ensures { OnOk result
+        (Adds O.holds out.old out.new (later_member (codes "size") (number (unsigned size)))) }
+{
+    let mut digits = Buffer::new();
+    out.put(b",\"size\":")?;
+    out.put(digits.format(size).as_bytes())?;
+    Ok(())
+}
+
+fn append_url<O: Pieces>(out: &mut O, project: &str, file: &str) -> Result<(), AllocError>
+    ensures { let url = url_of project.now file.now in OnOk result
+        (Adds O.holds out.old out.new (later_member (codes "url") (string url))) }
+{
+    out.put(b",\"url\":\"/files/")?;
+    append_json_escaped(out, project.as_bytes())?;
+    out.put(b"/")?;
+    append_json_escaped(out, file.as_bytes())?;
+    out.put(b"\"")?;
+    Ok(())
+}
+
+fn append_yanked<O: Pieces>(out: &mut O, yanked: &Option<Text>) -> Result<(), AllocError>
+    ensures { OnOk result (Adds O.holds out.old out.new (yanked_text yanked.now)) }
+{
+    let Some(reason) = yanked else {
+        return Ok(());
+    };
+    out.put(b",\"yanked\":")?;
+    append_reason(out, reason.as_str())?;
+    Ok(())
+}
+
+/// The reason as a text, or true where it is empty.
+fn append_reason<O: Pieces>(out: &mut O, reason: &str) -> Result<(), AllocError>
+    ensures { OnOk result (Adds O.holds out.old out.new (compact_text (reason_data reason.now))) }
+{
+    if reason.is_empty() {
+        out.put(b"true")
+    } else {
+        append_json_text(out, reason)
+    }
+}
