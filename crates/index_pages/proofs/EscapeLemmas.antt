@@ -1,5 +1,5 @@
 -- Texts in JSON: bytes that need no escape stand for themselves.
-use Rattle.std.proofs.Common.{◌≡◌, ◌++◌, ℕ, true, false, ◌==◌, List, [], ◌∷◌, length, refl, arith, append_assoc, Option, Some}
+use Rattle.std.proofs.Common.{◌≡◌, ℕ, true, false, ◌==◌, [], ◌∷◌, length, refl, arith, Some}
 use Rattle.std.specs.List.{list_all}
 use Rattle.std.proofs.lemmas.Bool.{and_parts, or_parts, not-true, eqb-false, ltb-false}
 use Rattle.std.proofs.lemmas.Bool.Decides.{nat_tests}

@@ -1,5 +1,5 @@
 -- Texts that are put together from pieces.
-use Rattle.std.proofs.Common.{◌≡◌, List, [], ◌++◌, sym, subst, append_assoc, append-nil}
+use Rattle.std.proofs.Common.{◌≡◌, [], ◌++◌, sym, subst, append_assoc, append-nil}
 use Rattle.index_rules.specs.Maps.{Bytes}
 use Rattle.index_pages.specs.Pieces.{Adds}
 

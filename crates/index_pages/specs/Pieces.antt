@@ -1,5 +1,5 @@
 -- How a text is put together from pieces.
-use Rattle.std.specs.Prelude.{List, ◌++◌}
+use Rattle.std.specs.Prelude.{◌++◌}
 use Rattle.index_rules.specs.Maps.{Bytes}
 use Rattle.index_pages.specs.Rest.{Rest, IsNext}
 
