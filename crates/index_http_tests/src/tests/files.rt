@@ -65,7 +65,10 @@ fn uploads_are_refused(rt: HostRuntime) {
 const DELETE: &str = look!("DELETE /files/frob/frob-1.0.tar.gz" "X-Index-Token: abc");
 
 const DELETED: &[[&str; 2]] = &[
-    [DELETE, json_reply!("200 OK", "21", r#"{"answer":"accepted"}"#)],
+    [
+        DELETE,
+        json_reply!("200 OK", "21", r#"{"answer":"accepted"}"#),
+    ],
     [GET, NO_FILE],
     [DELETE, ALREADY],
     [
