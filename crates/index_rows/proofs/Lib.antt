@@ -1,0 +1,4 @@
+pub mod MapLemmas
+pub mod Permutations
+pub mod RowLemmas
+pub mod EntryLemmas
