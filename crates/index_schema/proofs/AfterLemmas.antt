@@ -1,0 +1,69 @@
+-- The tables after one of them changed.
+use Rattle.std.proofs.Common.{◌≡◌, refl, ap, ◌∙◌, arith}
+use Rattle.sqlite_trees.specs.Tree.{Trees}
+use Rattle.sqlite.specs.Effect.{Database}
+use Rattle.index_rules.specs.declared.records.UserRecord.{UserRecord}
+use Rattle.index_rules.specs.declared.records.NameRecord.{NameRecord}
+use Rattle.index_rules.specs.declared.records.FileRecord.{FileRecord}
+use Rattle.index_rules.specs.declared.records.CaseRecord.{CaseRecord}
+use Rattle.index_rules.specs.Maps.{Bytes, Map, PairMap, Pairs, TextSet}
+use Rattle.index_rules.specs.Tables.{Tables}
+use Rattle.index_schema.specs.Records.{tables_in}
+use Rattle.index_schema.specs.Index.{IsIndex, Changes}
+use Rattle.index_schema.proofs.EditLemmas.{KeepsOthers}
+
+module _ (db next : Trees) where
+  users_alone : KeepsOthers 1 db next → tables_in next ≡ record (tables_in db) { users = (tables_in next).users }
+  users_alone h = rw (h.1.1.0 (omega arith), h.1.1.1.0 (omega arith), h.1.1.1.1.0 (omega arith), h.1.1.1.1.1.0 (omega arith), h.1.1.1.1.1.1.0 (omega arith), h.1.1.1.1.1.1.1.0 (omega arith), h.1.1.1.1.1.1.1.1.0 (omega arith)) refl
+
+  names_alone : KeepsOthers 4 db next → tables_in next ≡ record (tables_in db) { names = (tables_in next).names }
+  names_alone h = rw (h.1.0 (omega arith), h.1.1.1.0 (omega arith), h.1.1.1.1.0 (omega arith), h.1.1.1.1.1.0 (omega arith), h.1.1.1.1.1.1.0 (omega arith), h.1.1.1.1.1.1.1.0 (omega arith), h.1.1.1.1.1.1.1.1.0 (omega arith)) refl
+
+  owners_alone : KeepsOthers 6 db next → tables_in next ≡ record (tables_in db) { owners = (tables_in next).owners }
+  owners_alone h = rw (h.1.0 (omega arith), h.1.1.0 (omega arith), h.1.1.1.1.0 (omega arith), h.1.1.1.1.1.0 (omega arith), h.1.1.1.1.1.1.0 (omega arith), h.1.1.1.1.1.1.1.0 (omega arith), h.1.1.1.1.1.1.1.1.0 (omega arith)) refl
+
+  files_alone : KeepsOthers 8 db next → tables_in next ≡ record (tables_in db) { files = (tables_in next).files }
+  files_alone h = rw (h.1.0 (omega arith), h.1.1.0 (omega arith), h.1.1.1.0 (omega arith), h.1.1.1.1.1.0 (omega arith), h.1.1.1.1.1.1.0 (omega arith), h.1.1.1.1.1.1.1.0 (omega arith), h.1.1.1.1.1.1.1.1.0 (omega arith)) refl
+
+  bodies_alone : KeepsOthers 11 db next → tables_in next ≡ record (tables_in db) { bodies = (tables_in next).bodies }
+  bodies_alone h = rw (h.1.0 (omega arith), h.1.1.0 (omega arith), h.1.1.1.0 (omega arith), h.1.1.1.1.0 (omega arith), h.1.1.1.1.1.1.0 (omega arith), h.1.1.1.1.1.1.1.0 (omega arith), h.1.1.1.1.1.1.1.1.0 (omega arith)) refl
+
+  yanks_alone : KeepsOthers 13 db next → tables_in next ≡ record (tables_in db) { yanks = (tables_in next).yanks }
+  yanks_alone h = rw (h.1.0 (omega arith), h.1.1.0 (omega arith), h.1.1.1.0 (omega arith), h.1.1.1.1.0 (omega arith), h.1.1.1.1.1.0 (omega arith), h.1.1.1.1.1.1.1.0 (omega arith), h.1.1.1.1.1.1.1.1.0 (omega arith)) refl
+
+  cases_alone : KeepsOthers 15 db next → tables_in next ≡ record (tables_in db) { cases = (tables_in next).cases }
+  cases_alone h = rw (h.1.0 (omega arith), h.1.1.0 (omega arith), h.1.1.1.0 (omega arith), h.1.1.1.1.0 (omega arith), h.1.1.1.1.1.0 (omega arith), h.1.1.1.1.1.1.0 (omega arith), h.1.1.1.1.1.1.1.1.0 (omega arith)) refl
+
+  bans_alone : KeepsOthers 17 db next → tables_in next ≡ record (tables_in db) { bans = (tables_in next).bans }
+  bans_alone h = rw (h.1.0 (omega arith), h.1.1.0 (omega arith), h.1.1.1.0 (omega arith), h.1.1.1.1.0 (omega arith), h.1.1.1.1.1.0 (omega arith), h.1.1.1.1.1.1.0 (omega arith), h.1.1.1.1.1.1.1.0 (omega arith)) refl
+
+  meta_alone : KeepsOthers 0 db next → tables_in next ≡ tables_in db
+  meta_alone h = rw (h.1.0 (omega arith), h.1.1.0 (omega arith), h.1.1.1.0 (omega arith), h.1.1.1.1.0 (omega arith), h.1.1.1.1.1.0 (omega arith), h.1.1.1.1.1.1.0 (omega arith), h.1.1.1.1.1.1.1.0 (omega arith), h.1.1.1.1.1.1.1.1.0 (omega arith)) refl
+
+module _ (old new : Database) (index : IsIndex new) where
+  pub users_change : (f : Tables → Map UserRecord) → (tables_in new.trees).users ≡ f (tables_in old.trees) → KeepsOthers 1 old.trees new.trees → Changes (λ T. record T { users = f T }) old new
+  users_change f is others = record { tables = users_alone old.trees new.trees others ∙ ap (λ it. record (tables_in old.trees) { users = it }) is; index = index }
+
+  pub names_change : (f : Tables → Map NameRecord) → (tables_in new.trees).names ≡ f (tables_in old.trees) → KeepsOthers 4 old.trees new.trees → Changes (λ T. record T { names = f T }) old new
+  names_change f is others = record { tables = names_alone old.trees new.trees others ∙ ap (λ it. record (tables_in old.trees) { names = it }) is; index = index }
+
+  pub owners_change : (f : Tables → Pairs) → (tables_in new.trees).owners ≡ f (tables_in old.trees) → KeepsOthers 6 old.trees new.trees → Changes (λ T. record T { owners = f T }) old new
+  owners_change f is others = record { tables = owners_alone old.trees new.trees others ∙ ap (λ it. record (tables_in old.trees) { owners = it }) is; index = index }
+
+  pub files_change : (f : Tables → Map FileRecord) → (tables_in new.trees).files ≡ f (tables_in old.trees) → KeepsOthers 8 old.trees new.trees → Changes (λ T. record T { files = f T }) old new
+  files_change f is others = record { tables = files_alone old.trees new.trees others ∙ ap (λ it. record (tables_in old.trees) { files = it }) is; index = index }
+
+  pub bodies_change : (f : Tables → Map Bytes) → (tables_in new.trees).bodies ≡ f (tables_in old.trees) → KeepsOthers 11 old.trees new.trees → Changes (λ T. record T { bodies = f T }) old new
+  bodies_change f is others = record { tables = bodies_alone old.trees new.trees others ∙ ap (λ it. record (tables_in old.trees) { bodies = it }) is; index = index }
+
+  pub yanks_change : (f : Tables → PairMap Bytes) → (tables_in new.trees).yanks ≡ f (tables_in old.trees) → KeepsOthers 13 old.trees new.trees → Changes (λ T. record T { yanks = f T }) old new
+  yanks_change f is others = record { tables = yanks_alone old.trees new.trees others ∙ ap (λ it. record (tables_in old.trees) { yanks = it }) is; index = index }
+
+  pub cases_change : (f : Tables → Map CaseRecord) → (tables_in new.trees).cases ≡ f (tables_in old.trees) → KeepsOthers 15 old.trees new.trees → Changes (λ T. record T { cases = f T }) old new
+  cases_change f is others = record { tables = cases_alone old.trees new.trees others ∙ ap (λ it. record (tables_in old.trees) { cases = it }) is; index = index }
+
+  pub bans_change : (f : Tables → TextSet) → (tables_in new.trees).bans ≡ f (tables_in old.trees) → KeepsOthers 17 old.trees new.trees → Changes (λ T. record T { bans = f T }) old new
+  bans_change f is others = record { tables = bans_alone old.trees new.trees others ∙ ap (λ it. record (tables_in old.trees) { bans = it }) is; index = index }
+
+  pub meta_change : KeepsOthers 0 old.trees new.trees → Changes (λ T. T) old new
+  meta_change others = record { tables = meta_alone old.trees new.trees others; index = index }

@@ -1,0 +1,44 @@
+-- A table as a map by its key, after one statement.
+use Rattle.std.proofs.Common.{◌≡◌, ◌≤◌, ℕ, Bool, false, List, ◌∷◌, filter, length, slice_get, option_map, sym, ap, ◌∙◌, IsPermutation}
+use Rattle.std.specs.declared.cmp.Ordering.{Ordering}
+use Rattle.std.specs.Ordering.{eq_by_cmp}
+use Rattle.std.specs.Cmp.{IsTotalOrder}
+use Rattle.std.specs.FinMap.{FinMap, IsAntisymmetric, get, insert, remove, retain_keys}
+use Rattle.std.proofs.lemmas.List.Sorted.{IsPermutation-sym}
+use Rattle.sqlite_value.specs.Order.{Row}
+use Rattle.sqlite_trees.specs.Tree.{IsAscending}
+use Rattle.sqlite.specs.Effect.{Database}
+use Rattle.sqlite_keyed.specs.Lists.{delete_where}
+use Rattle.sqlite_keyed.proofs.ListLemmas.{slice_get-filter}
+use Rattle.index_rows.specs.RowMaps.{map_from}
+use Rattle.index_rows.proofs.RowLemmas.{at_most_one, same_rows, map_from-filter, map_from-delete, map_from-put, get-map_from}
+use Rattle.index_rows.proofs.Permutations.{short_permutation}
+use Rattle.index_schema.specs.Index.{IsIndex}
+
+module _ {K X : Type 0} {R : K → K → Ordering} (o : IsTotalOrder R) (exact : IsAntisymmetric R) (key : Row → K) (value : Row → X) (tree : ℕ)
+    (apart : (db : Database) → IsIndex db → IsAscending (λ a b. eq_by_cmp R (key a) (key b) ≡ false) (db.trees tree)) where
+  abbrev pub is_at : K → Row → Bool
+  is_at q r = eq_by_cmp R q (key r)
+
+  abbrev pub map_in : Database → FinMap R X
+  map_in db = map_from key value (db.trees tree)
+
+  pub once : (db : Database) → IsIndex db → (q : K) → length (filter (is_at q) (db.trees tree)) ≤ 1
+  once db h q = at_most_one o exact key value q (db.trees tree) (apart db h)
+
+  pub put_is : (old new : Database) → IsIndex new → (row : Row) → IsPermutation (row ∷ delete_where (is_at (key row)) (old.trees tree)) (new.trees tree) → map_in new ≡ insert (map_in old) (key row) (value row)
+  put_is old new h row p =
+      same_rows o exact key value (new.trees tree) (row ∷ delete_where (is_at (key row)) (old.trees tree)) (apart new h) (IsPermutation-sym _ _ p)
+      ∙ map_from-put o exact key value row (old.trees tree)
+
+  pub gone_is : (old new : Database) (q : K) → new.trees tree ≡ delete_where (is_at q) (old.trees tree) → map_in new ≡ remove (map_in old) q
+  gone_is old new q e = ap (map_from key value) e ∙ map_from-delete o exact key value q (old.trees tree)
+
+  pub kept_is : (old new : Database) (p : K → Bool) → new.trees tree ≡ filter (λ r. p (key r)) (old.trees tree) → map_in new ≡ retain_keys (map_in old) p
+  kept_is old new p e = ap (map_from key value) e ∙ map_from-filter o exact key value p (old.trees tree)
+
+  -- the first of the rows with a key, in whatever order they came
+  pub found_is : (db : Database) (h : IsIndex db) (q : K) (found : List Row) → IsPermutation (filter (is_at q) (db.trees tree)) found → option_map value (slice_get found 0) ≡ get (map_in db) q
+  found_is db h q found p =
+      ap (λ l. option_map value (slice_get l 0)) (short_permutation _ found (once db h q) p)
+      ∙ ap (option_map value) (slice_get-filter (is_at q) (db.trees tree)) ∙ sym (get-map_from o exact key value (db.trees tree) q)

@@ -1,0 +1,7 @@
+pub mod TableTexts
+pub mod Schema
+pub mod Records
+pub mod Index
+pub mod StatementTexts
+pub mod Stages
+pub mod Stays

@@ -1,0 +1,2 @@
+//! The tables of an index in SQLite: their schema, what their rows stand for, and what each statement does to them.
+#![tactic(auto)]
