@@ -19,7 +19,12 @@ pub mod LookupLemmas
 pub mod PutVersion
 pub mod PutUser
 pub mod PutName
+pub mod PutOwner
+pub mod PutFile
+pub mod PutBody
 pub mod PutYank
+pub mod PutCase
+pub mod PutBan
 pub mod DeleteOwners
 pub mod DeleteName
 pub mod DeleteBodies

@@ -46,7 +46,7 @@ module _ (name release reason : Bytes) where
   cells = Text name ∷ Text release ∷ Text reason ∷ []
 
   new_cast : cast_row (yanks_at 13) (Null ∷ cells) ≡ Null ∷ cells
-  new_cast = rw (cast_null) refl
+  new_cast = rw cast_null refl
 
   row_cast : (id : ℤ) → cast_row (yanks_at 13) (Int id ∷ cells) ≡ Int id ∷ cells
   row_cast id = rw (cast_int id) refl
@@ -59,9 +59,9 @@ module _ (name release reason : Bytes) where
   becomes made r is_id is_first is_second = rw (is_id, is_first, is_second, cast_int (rowid_in r)) refl
 
   pub puts : (old new : State) (count : ℕ) → IsIndex old.now → Executes put_yank_text cells old new (Ok count)
-      → Changes (λ T. record T { yanks = insert T.yanks (name, release) (reason) }) old.now new.now
+      → Changes (λ T. record T { yanks = insert T.yanks (name, release) reason }) old.now new.now
   puts old new count h ran =
-      let it = puts_pair 6 (yanks_at 13) yanks_keyed put_yank_text name release (Text reason ∷ []) terms project 4 reason_in (reason) (λ id. refl) (record {
+      let it = puts_pair 6 (yanks_at 13) yanks_keyed put_yank_text name release (Text reason ∷ []) terms project 4 reason_in reason (λ id. refl) (record {
         is_plain = is_plain;
         compiled = compiled;
         uncounted = refl;
@@ -71,4 +71,4 @@ module _ (name release reason : Bytes) where
         conflicting = λ id r. refl;
         none = no_works;
       }) becomes old new count h ran in
-      yanks_change old.now new.now it.2 (λ T. insert T.yanks (name, release) (reason)) it.0 it.1
+      yanks_change old.now new.now it.2 (λ T. insert T.yanks (name, release) reason) it.0 it.1

@@ -9,8 +9,23 @@ put_user_text = codes "INSERT INTO users (user, office, token) VALUES (?1, ?2, ?
 abbrev pub put_name_text : List ℕ
 put_name_text = codes "INSERT INTO names (name, state, shown, quota, charged, live, last_upload) VALUES (?1, ?2, ?3, ?4, ?5, ?6, ?7) ON CONFLICT (name) DO UPDATE SET state = excluded.state, shown = excluded.shown, quota = excluded.quota, charged = excluded.charged, live = excluded.live, last_upload = excluded.last_upload"
 
+abbrev pub put_owner_text : List ℕ
+put_owner_text = codes "INSERT INTO owners (name, user) VALUES (?1, ?2) ON CONFLICT (name, user) DO UPDATE SET user = excluded.user"
+
+abbrev pub put_file_text : List ℕ
+put_file_text = codes "INSERT INTO files (file, name, rel, digest, size, requires, live) VALUES (?1, ?2, ?3, ?4, ?5, ?6, ?7) ON CONFLICT (file) DO UPDATE SET name = excluded.name, rel = excluded.rel, digest = excluded.digest, size = excluded.size, requires = excluded.requires, live = excluded.live"
+
+abbrev pub put_body_text : List ℕ
+put_body_text = codes "INSERT INTO blobs (file, body) VALUES (?1, ?2) ON CONFLICT (file) DO UPDATE SET body = excluded.body"
+
 abbrev pub put_yank_text : List ℕ
 put_yank_text = codes "INSERT INTO yanks (name, rel, reason) VALUES (?1, ?2, ?3) ON CONFLICT (name, rel) DO UPDATE SET reason = excluded.reason"
+
+abbrev pub put_case_text : List ℕ
+put_case_text = codes "INSERT INTO cases (name, kind, candidate, contact, work, why, opened, attempts, sent, profile, author, pages, first_sent) VALUES (?1, ?2, ?3, ?4, ?5, ?6, ?7, ?8, ?9, ?10, ?11, ?12, ?13) ON CONFLICT (name) DO UPDATE SET kind = excluded.kind, candidate = excluded.candidate, contact = excluded.contact, work = excluded.work, why = excluded.why, opened = excluded.opened, attempts = excluded.attempts, sent = excluded.sent, profile = excluded.profile, author = excluded.author, pages = excluded.pages, first_sent = excluded.first_sent"
+
+abbrev pub put_ban_text : List ℕ
+put_ban_text = codes "INSERT INTO bans (file) VALUES (?1) ON CONFLICT (file) DO UPDATE SET file = excluded.file"
 
 -- the version of a new index
 abbrev pub put_version_text : List ℕ
