@@ -26,6 +26,11 @@ pub mod PutYank
 pub mod PutCase
 pub mod PutBan
 pub mod DeleteOwners
+pub mod DeleteOwner
+pub mod DeleteYanks
+pub mod DeleteYank
+pub mod DeleteCase
+pub mod DeleteBody
 pub mod DeleteName
 pub mod DeleteBodies
 pub mod UpdateFiles

@@ -1,8 +1,8 @@
 -- INSERT INTO bans .. ON CONFLICT: the file is banned.
-use Rattle.std.proofs.Common.{◌≡◌, ℕ, ℤ, pos, List, [], ◌∷◌, Option, Ok, refl}
+use Rattle.std.proofs.Common.{◌≡◌, ℕ, ℤ, List, [], ◌∷◌, Ok, refl}
 use Rattle.std.specs.FinMap.{insert}
 use Rattle.sqlite_tied.specs.Compute.{everything}
-use Rattle.sqlite_value.specs.declared.value.Value.TheVariants.{Null, Int, Text, Blob}
+use Rattle.sqlite_value.specs.declared.value.Value.TheVariants.{Null, Int, Text}
 use Rattle.sqlite_value.specs.Order.{Row, column}
 use Rattle.sqlite_value.specs.Keys.{joined}
 use Rattle.sqlite_trees.specs.Tree.{rowid}
@@ -16,7 +16,6 @@ use Rattle.sqlite_rules.specs.Action.{works}
 use Rattle.sqlite_rules.specs.Cast.{cast_row}
 use Rattle.sqlite.specs.Listing.{understood}
 use Rattle.sqlite.specs.State.{State, Executes}
-use Rattle.sqlite.specs.Values.{or_null}
 use Rattle.sqlite.proofs.Callers.{IsPlain, command_of}
 use Rattle.index_rules.specs.Maps.{Bytes}
 use Rattle.index_schema.specs.Schema.{index_schema, bans_at}
@@ -24,8 +23,8 @@ use Rattle.index_schema.specs.Records.{nothing_in}
 use Rattle.index_schema.specs.Index.{rowid_in, IsIndex, Changes}
 use Rattle.index_schema.specs.StatementTexts.{put_ban_text}
 use Rattle.index_schema.proofs.QueryShapes.{on_conflict}
-use Rattle.index_schema.proofs.TableLemmas.{bans_keyed, cast_null, cast_int, cast_if_any}
-use Rattle.index_schema.proofs.PutLemmas.{PutsAt, updated, puts_text}
+use Rattle.index_schema.proofs.TableLemmas.{bans_keyed, cast_null, cast_int}
+use Rattle.index_schema.proofs.PutLemmas.{updated, puts_text}
 use Rattle.index_schema.proofs.AfterLemmas.{bans_change}
 
 abbrev terms : List Term

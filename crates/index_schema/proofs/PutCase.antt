@@ -2,7 +2,7 @@
 use Rattle.std.proofs.Common.{◌≡◌, ℕ, ℤ, pos, List, [], ◌∷◌, Option, Ok, refl}
 use Rattle.std.specs.FinMap.{insert}
 use Rattle.sqlite_tied.specs.Compute.{everything}
-use Rattle.sqlite_value.specs.declared.value.Value.TheVariants.{Null, Int, Text, Blob}
+use Rattle.sqlite_value.specs.declared.value.Value.TheVariants.{Null, Int, Text}
 use Rattle.sqlite_value.specs.Order.{Row, column}
 use Rattle.sqlite_value.specs.Keys.{joined}
 use Rattle.sqlite_trees.specs.Tree.{rowid}
@@ -25,7 +25,7 @@ use Rattle.index_schema.specs.Index.{rowid_in, IsIndex, Changes}
 use Rattle.index_schema.specs.StatementTexts.{put_case_text}
 use Rattle.index_schema.proofs.QueryShapes.{on_conflict}
 use Rattle.index_schema.proofs.TableLemmas.{cases_keyed, cast_null, cast_int, cast_if_any}
-use Rattle.index_schema.proofs.PutLemmas.{PutsAt, updated, puts_text}
+use Rattle.index_schema.proofs.PutLemmas.{updated, puts_text}
 use Rattle.index_schema.proofs.AfterLemmas.{cases_change}
 
 abbrev terms : List Term

@@ -41,6 +41,22 @@ delete_name_text = codes "DELETE FROM names WHERE name = ?1"
 abbrev pub delete_owners_text : List ℕ
 delete_owners_text = codes "DELETE FROM owners WHERE name = ?1"
 
+abbrev pub delete_owner_text : List ℕ
+delete_owner_text = codes "DELETE FROM owners WHERE name = ?1 AND user = ?2"
+
+-- all yanks of a name
+abbrev pub delete_yanks_text : List ℕ
+delete_yanks_text = codes "DELETE FROM yanks WHERE name = ?1"
+
+abbrev pub delete_yank_text : List ℕ
+delete_yank_text = codes "DELETE FROM yanks WHERE name = ?1 AND rel = ?2"
+
+abbrev pub delete_case_text : List ℕ
+delete_case_text = codes "DELETE FROM cases WHERE name = ?1"
+
+abbrev pub delete_body_text : List ℕ
+delete_body_text = codes "DELETE FROM blobs WHERE file = ?1"
+
 -- the bytes of all files of a name
 abbrev pub delete_bodies_text : List ℕ
 delete_bodies_text = codes "DELETE FROM blobs WHERE EXISTS (SELECT 1 FROM files WHERE files.file = blobs.file AND files.name = ?1)"
