@@ -35,5 +35,11 @@ pub mod DeleteName
 pub mod DeleteBodies
 pub mod UpdateFiles
 pub mod SelectVersion
+pub mod SelectUser
 pub mod SelectName
+pub mod SelectFile
+pub mod SelectBody
+pub mod SelectYank
+pub mod SelectCase
+pub mod SelectBan
 pub mod SelectOwners

@@ -72,8 +72,27 @@ update_files_text = codes "UPDATE files SET live = 0 WHERE name = ?1"
 abbrev pub select_version_text : List ℕ
 select_version_text = codes "SELECT version FROM meta WHERE id = 1 AND kind = 'python-index'"
 
+-- each column in the place that it has in the table
+abbrev pub select_user_text : List ℕ
+select_user_text = codes "SELECT rowid, * FROM users WHERE user = ?1"
+
 abbrev pub select_name_text : List ℕ
 select_name_text = codes "SELECT rowid, * FROM names WHERE name = ?1"
+
+abbrev pub select_file_text : List ℕ
+select_file_text = codes "SELECT rowid, * FROM files WHERE file = ?1"
+
+abbrev pub select_body_text : List ℕ
+select_body_text = codes "SELECT rowid, * FROM blobs WHERE file = ?1"
+
+abbrev pub select_yank_text : List ℕ
+select_yank_text = codes "SELECT rowid, * FROM yanks WHERE name = ?1 AND rel = ?2"
+
+abbrev pub select_case_text : List ℕ
+select_case_text = codes "SELECT rowid, * FROM cases WHERE name = ?1"
+
+abbrev pub select_ban_text : List ℕ
+select_ban_text = codes "SELECT rowid, * FROM bans WHERE file = ?1"
 
 -- the owners of a name, in byte order
 abbrev pub select_owners_text : List ℕ
