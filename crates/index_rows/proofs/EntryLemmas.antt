@@ -1,5 +1,5 @@
 -- The entries of the map that rows stand for: they are the rows, in the order of their keys.
-use Rattle.std.proofs.Common.{◌≡◌, false, cond, List, [], ◌∷◌, map, find, length, refl, sym, ap, subst, ◌∙◌, arith, Some, None, option_map, IsPermutation, IsSorted}
+use Rattle.std.proofs.Common.{◌≡◌, Bool, false, cond, List, [], ◌∷◌, map, filter, find, length, refl, sym, ap, ap₂, subst, ◌∙◌, arith, Some, None, option_map, IsPermutation, IsSorted}
 use Rattle.std.specs.List.{AllByRecursion}
 use Rattle.std.specs.List.Sorted.{IsStrictlySortedBy}
 use Rattle.std.specs.declared.cmp.Ordering.{Ordering}
@@ -10,9 +10,9 @@ use Rattle.std.specs.FinMap.{IsAntisymmetric, empty, len-entries, len-empty, get
 use Rattle.std.specs.FinMap as fin
 use Rattle.std.specs.FinMap.Entries.{put, by_order}
 use Rattle.std.proofs.lemmas.Cmp.{on_total}
-use Rattle.std.proofs.lemmas.List.Sorted.{IsPermutation-refl, IsPermutation-sym, IsPermutation-cons, IsPermutation-trans, IsPermutation-middle}
+use Rattle.std.proofs.lemmas.List.Sorted.{IsPermutation-map, IsPermutation-refl, IsPermutation-sym, IsPermutation-cons, IsPermutation-trans, IsPermutation-middle}
 use Rattle.sqlite_trees.specs.Tree.{IsAscending}
-use Rattle.sqlite_keyed.proofs.ListLemmas.{ascending_from_map}
+use Rattle.sqlite_keyed.proofs.ListLemmas.{ascending_from_map, ascending_weaker, ascending-filter, ascending-map, IsPermutation-filter}
 use Rattle.sqlite_keyed.proofs.SortLemmas.{sorted_unique}
 use Rattle.index_rules.proofs.Rising.{IsStrictlySortedBy-keys}
 use Rattle.index_rows.specs.RowMaps.{map_from}
@@ -56,11 +56,15 @@ module _ {A K X : Type 0} {R : K → K → Ordering} (total : IsTotalOrder R) (e
       let more = IsPermutation-cons (entry_of r) (map entry_of rows) (entries m) (entries_permutation rows apart.1) in
       subst (IsPermutation (entry_of r ∷ map entry_of rows)) (sym (entries-insert total m (key r) (value r))) (IsPermutation-trans _ _ _ more (put_permutation R (key r) (value r) (entries m) free))
 
-  -- rows that are listed in the order of their keys are the entries
-  pub sorted_entries : (rows : List A) (listed : List (K × X)) → AreApart total exact key value rows → IsPermutation (map entry_of rows) listed → IsSorted (λ a b. R a.0 b.0) listed
-      → listed ≡ entries (map_from {R = R} key value rows)
-  sorted_entries rows listed apart same sorted =
+  -- what is made of the rows that pass, listed in the order of their keys, is made of the entries that pass
+  pub sorted_entries : {B : Type 0} (passes : K × X → Bool) (make : K × X → B) (key_of : B → K) → ((e : K × X) → key_of (make e) ≡ e.0) → (rows : List A) (listed : List B) → AreApart total exact key value rows
+      → IsPermutation (map make (filter passes (map entry_of rows))) listed → IsSorted (λ a b. R (key_of a) (key_of b)) listed → listed ≡ map make (filter passes (entries (map_from {R = R} key value rows)))
+  sorted_entries passes make key_of keyed rows listed apart same sorted =
       let m = map_from {R = R} key value rows in
-      let rising = ascending_from_map (λ a b. R a b ≡ Less) (λ e. e.0) (entries m) (ascends R _ (IsStrictlySortedBy-keys R m)) in
-      let order = IsPermutation-trans _ _ _ (IsPermutation-sym _ _ (entries_permutation rows apart)) same in
-      sorted_unique (λ a b. R a.0 b.0) (on_total (λ e. e.0) total) (entries m) listed rising order sorted
+      let es = filter passes (entries m) in
+      let keys_rise = ascending_from_map (λ a b. R a b ≡ Less) (λ e. e.0) (entries m) (ascends R _ (IsStrictlySortedBy-keys R m)) in
+      let rise = ascending_weaker _ (λ a b. R (key_of (make a)) (key_of (make b)) ≡ Less) (λ a b up. ap₂ R (keyed a) (keyed b) ∙ up) es (ascending-filter _ passes (entries m) keys_rise) in
+      let made = IsPermutation-map make _ _ (IsPermutation-filter passes _ _ (entries_permutation rows apart)) in
+      sorted_unique (λ a b. R (key_of a) (key_of b)) (on_total key_of total) (map make es) listed
+      (ascending-map (λ a b. R (key_of a) (key_of b) ≡ Less) make es rise)
+      (IsPermutation-trans _ _ _ (IsPermutation-sym _ _ made) same) sorted

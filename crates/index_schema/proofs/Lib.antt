@@ -1,5 +1,6 @@
 pub mod QueryShapes
 pub mod SelectLemmas
+pub mod OrderLemmas
 pub mod TypedLemmas
 pub mod StatementLemmas
 pub mod StateLemmas

@@ -13,11 +13,14 @@ use Rattle.index_schema.proofs.QueryShapes.{from_with}
 
 -- `more` is looked up for each row: it fills slots, and drops and doubles no row
 module _ (t : ℕ) (more : Join) (fs ps : List Term) (order : List (Term × Key)) (db : Trees) (params : Row) (env_of : Row → Env) (p : Row → Bool)
-    (ends : (r : Row) → matches_as Null db fs more (params ∷ r ∷ []) ≡ cond (list_all (holds (env_of r)) fs) (env_of r ∷ []) [])
+    (ends : AllByRecursion (λ r. matches_as Null db fs more (params ∷ r ∷ []) ≡ cond (list_all (holds (env_of r)) fs) (env_of r ∷ []) []) (db t))
     (passes : AllByRecursion (λ r. list_all (holds (env_of r)) fs ≡ p r) (db t)) where
-  each : (rs : List Row) → AllByRecursion (λ r. list_all (holds (env_of r)) fs ≡ p r) rs → flat_map (λ r. matches_as Null db fs more (params ∷ r ∷ [])) rs ≡ map env_of (filter p rs)
-  each [] all = refl
-  each (r ∷ rs) all = ap (λ l. l ++ flat_map (λ r. matches_as Null db fs more (params ∷ r ∷ [])) rs) (ends r ∙ ap (λ b. cond b (env_of r ∷ []) []) all.0) ∙ go (p r) (each rs all.1)
+  abbrev LooksOnce : Row → Type 0
+  LooksOnce r = matches_as Null db fs more (params ∷ r ∷ []) ≡ cond (list_all (holds (env_of r)) fs) (env_of r ∷ []) []
+
+  each : (rs : List Row) → AllByRecursion LooksOnce rs → AllByRecursion (λ r. list_all (holds (env_of r)) fs ≡ p r) rs → flat_map (λ r. matches_as Null db fs more (params ∷ r ∷ [])) rs ≡ map env_of (filter p rs)
+  each [] looks all = refl
+  each (r ∷ rs) looks all = ap (λ l. l ++ flat_map (λ r. matches_as Null db fs more (params ∷ r ∷ [])) rs) (looks.0 ∙ ap (λ b. cond b (env_of r ∷ []) []) all.0) ∙ go (p r) (each rs looks.1 all.1)
     where
       go : (b : Bool) → flat_map (λ r. matches_as Null db fs more (params ∷ r ∷ [])) rs ≡ map env_of (filter p rs)
           → (cond b (env_of r ∷ []) [] ++ flat_map (λ r. matches_as Null db fs more (params ∷ r ∷ [])) rs) ≡ map env_of (cond b (r ∷ filter p rs) (filter p rs))
@@ -25,7 +28,7 @@ module _ (t : ℕ) (more : Join) (fs ps : List Term) (order : List (Term × Key)
       go false rest = rest
 
   pub found : matches_as Null db fs (inner t more) (params ∷ []) ≡ map env_of (filter p (db t))
-  found = each (db t) passes
+  found = each (db t) ends passes
 
   abbrev pub shown_of : Row → Output
   shown_of r = output (from_with t more fs ps order) (env_of r)

@@ -33,7 +33,7 @@ use Rattle.sqlite.specs.Listing.{understood}
 use Rattle.sqlite.specs.State.{State, mode_of, Executes}
 use Rattle.sqlite.proofs.Callers.{IsPlain, command_of, runs_as, statement_of, one_step, one_permutation}
 use Rattle.sqlite_keyed.specs.Lists.{delete_where}
-use Rattle.sqlite_keyed.proofs.ListLemmas.{all_weaker, map-map, map_same, along_permutation}
+use Rattle.sqlite_keyed.proofs.ListLemmas.{all_of, all_weaker, map-map, map_same, along_permutation}
 use Rattle.sqlite_keyed.proofs.KeyedLemmas.{same_int}
 use Rattle.sqlite_typed.proofs.TestLemmas.{last_term}
 use Rattle.index_rows.proofs.Permutations.{all_permutation}
@@ -117,8 +117,9 @@ module _ (at : ℕ) (table : Table) (is : slice_get index_schema.tables at ≡ S
       → IsAnswer (from_with table.tree more tests project []) (overlay db []) params rows → (found : List Row) × IsPermutation (filter p (db table.tree)) found × (rows ≡ map (λ r. eval_all project (env r)) found)
   answered_with params env more tests project p db rows looks same a =
       let passes = subst (AllByRecursion (λ r. list_all (holds (env r)) tests ≡ p r)) (sym (low db)) same in
-      let it = read table.tree more tests project [] (overlay db []) params env p looks passes rows a in
-      let shown = shown_of table.tree more tests project [] (overlay db []) params env p looks passes in
+      let each = all_of (λ r. matches_as Null (overlay db []) tests more (params ∷ r ∷ []) ≡ cond (list_all (holds (env r)) tests) (env r ∷ []) []) looks (overlay db [] table.tree) in
+      let it = read table.tree more tests project [] (overlay db []) params env p each passes rows a in
+      let shown = shown_of table.tree more tests project [] (overlay db []) params env p each passes in
       let back = images_back shown (filter p (db table.tree)) it.0 (subst (λ rs. IsPermutation (map shown (filter p rs)) it.0) (low db) it.1) in
       (back.0, back.1, it.3 ∙ ap (map (λ (o : Output). o.1)) (sym back.2) ∙ map-map _ _ back.0)
 
