@@ -1,0 +1,10 @@
+use Rattle.std.proofs.Common.{[], ◌∷◌, rules}
+use Rattle.sqlite_value.specs.declared.value.Value.TheVariants.{Text}
+use Rattle.index_schema.specs.StatementTexts.{delete_name_text}
+use Rattle.index_schema.proofs.DeleteName.{deletes}
+use Rattle.index_steps.proofs.StepLemmas.{makes}
+use Rattle.index_steps.proofs.delete.delete_name.Goals as goal
+
+pub returns-clause-made : goal.returns-clause-made
+returns-clause-made g c clean ready =
+    makes delete_name_text (Text c.args.name.now ∷ []) _ _ _ _ c.in_ok-execute.field-0 (deletes c.args.name.now _ _ _) ready (c.in_ok-execute.ensures.runs clean ready.inside) (search rules)

@@ -1,0 +1,32 @@
+-- What a step does inside a transaction.
+use Rattle.std.specs.Prelude.{◌≡◌, true, IsTrue, OnOk, Result}
+use Rattle.sqlite_trees.specs.declared.store.Store.{Ghosts}
+use Rattle.sqlite.specs.Held.{Held, state}
+use Rattle.sqlite.specs.State.{State, HasCleanDisk, KeepsCommit, Survives}
+use Rattle.index_rules.specs.Tables.{Tables}
+use Rattle.index_schema.specs.Records.{tables_in}
+use Rattle.index_schema.specs.Index.{IsIndex}
+
+-- a transaction on an index is under way
+pub record IsReady (s : State) : Type 0 where
+  pub is_open : IsTrue s.is_open
+  pub inside : s.in_transaction ≡ true
+  pub index : IsIndex s.now
+
+-- the transaction sees this made of the tables, and nothing was committed
+pub record Makes (change : Tables → Tables) (old new : State) : Type 0 where
+  pub ready : IsReady new
+  pub tables : tables_in new.now.trees ≡ change (tables_in old.now.trees)
+  pub committed : new.committed ≡ old.committed
+
+-- a step that succeeds makes this of the tables, on a clean disk
+abbrev pub MakesIfOk : {S A E : Type 0} → Ghosts S → (Tables → Tables) → Held S → Held S → Result A E → Type 0
+MakesIfOk g change old new result = HasCleanDisk (state g new) → OnOk result (IsReady (state g old) → Makes change (state g old) (state g new))
+
+-- what is committed stays, on a clean disk
+abbrev pub Keeps : {S : Type 0} → Ghosts S → Held S → Held S → Type 0
+Keeps g old new = HasCleanDisk (state g new) → KeepsCommit (state g old) (state g new)
+
+-- nothing of it outlasts a crash
+abbrev pub LeavesNothing : {S : Type 0} → Ghosts S → Held S → Held S → Type 0
+LeavesNothing g old new = Survives (state g old) (state g new) (λ _. ⊥)

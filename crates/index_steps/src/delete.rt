@@ -1,0 +1,124 @@
+//! Statements that take rows out, and the one that marks files as deleted. Each ends without an error also where there
+//! is no such row.
+ghost use Rattle.std.specs.Prelude.{◌≡◌};
+ghost use Rattle.index_steps.specs.Inside.{MakesIfOk, Keeps, LeavesNothing};
+ghost use Rattle.index_rules.specs.Effect.{without_record};
+ghost use Rattle.index_steps.specs.Writes.{deletes_owners, deletes_owner, deletes_yanks, deletes_yank, deletes_case, deletes_body, deletes_bodies, marks_files};
+
+use sqlite::{Alter, Error, Transaction, params};
+
+/// The name is free: its owners, its yanks and its case go with it.
+pub fn delete_name<S: Alter>(tx: &mut Transaction<'_, S>, name: &str) -> Result<(), Error>
+    ensures same_reference { tx.new.conn.ghost_name ≡ tx.old.conn.ghost_name }
+    ensures made { MakesIfOk S.Store (without_record name.now) tx.old.conn.now tx.new.conn.now result }
+    ensures kept { Keeps S.Store tx.old.conn.now tx.new.conn.now }
+    ensures survives { LeavesNothing S.Store tx.old.conn.now tx.new.conn.now }
+{
+    tx.execute("DELETE FROM names WHERE name = ?1", params![name])?;
+    Ok(())
+}
+
+/// The name has no owner.
+pub fn delete_owners<S: Alter>(tx: &mut Transaction<'_, S>, name: &str) -> Result<(), Error>
+    ensures same_reference { tx.new.conn.ghost_name ≡ tx.old.conn.ghost_name }
+    ensures made { MakesIfOk S.Store (deletes_owners name.now) tx.old.conn.now tx.new.conn.now result }
+    ensures kept { Keeps S.Store tx.old.conn.now tx.new.conn.now }
+    ensures survives { LeavesNothing S.Store tx.old.conn.now tx.new.conn.now }
+{
+    tx.execute("DELETE FROM owners WHERE name = ?1", params![name])?;
+    Ok(())
+}
+
+/// The user does not own the name.
+pub fn delete_owner<S: Alter>(
+    tx: &mut Transaction<'_, S>,
+    name: &str,
+    user: &str,
+) -> Result<(), Error>
+    ensures same_reference { tx.new.conn.ghost_name ≡ tx.old.conn.ghost_name }
+    ensures made { MakesIfOk S.Store (deletes_owner name.now user.now) tx.old.conn.now tx.new.conn.now result }
+    ensures kept { Keeps S.Store tx.old.conn.now tx.new.conn.now }
+    ensures survives { LeavesNothing S.Store tx.old.conn.now tx.new.conn.now }
+{
+    tx.execute(
+        "DELETE FROM owners WHERE name = ?1 AND user = ?2",
+        params![name, user],
+    )?;
+    Ok(())
+}
+
+/// No release of the name is yanked.
+pub fn delete_yanks<S: Alter>(tx: &mut Transaction<'_, S>, name: &str) -> Result<(), Error>
+    ensures same_reference { tx.new.conn.ghost_name ≡ tx.old.conn.ghost_name }
+    ensures made { MakesIfOk S.Store (deletes_yanks name.now) tx.old.conn.now tx.new.conn.now result }
+    ensures kept { Keeps S.Store tx.old.conn.now tx.new.conn.now }
+    ensures survives { LeavesNothing S.Store tx.old.conn.now tx.new.conn.now }
+{
+    tx.execute("DELETE FROM yanks WHERE name = ?1", params![name])?;
+    Ok(())
+}
+
+/// The release is not yanked.
+pub fn delete_yank<S: Alter>(
+    tx: &mut Transaction<'_, S>,
+    name: &str,
+    release: &str,
+) -> Result<(), Error>
+    ensures same_reference { tx.new.conn.ghost_name ≡ tx.old.conn.ghost_name }
+    ensures made { MakesIfOk S.Store (deletes_yank name.now release.now) tx.old.conn.now tx.new.conn.now result }
+    ensures kept { Keeps S.Store tx.old.conn.now tx.new.conn.now }
+    ensures survives { LeavesNothing S.Store tx.old.conn.now tx.new.conn.now }
+{
+    tx.execute(
+        "DELETE FROM yanks WHERE name = ?1 AND rel = ?2",
+        params![name, release],
+    )?;
+    Ok(())
+}
+
+/// The name has no open case.
+pub fn delete_case<S: Alter>(tx: &mut Transaction<'_, S>, name: &str) -> Result<(), Error>
+    ensures same_reference { tx.new.conn.ghost_name ≡ tx.old.conn.ghost_name }
+    ensures made { MakesIfOk S.Store (deletes_case name.now) tx.old.conn.now tx.new.conn.now result }
+    ensures kept { Keeps S.Store tx.old.conn.now tx.new.conn.now }
+    ensures survives { LeavesNothing S.Store tx.old.conn.now tx.new.conn.now }
+{
+    tx.execute("DELETE FROM cases WHERE name = ?1", params![name])?;
+    Ok(())
+}
+
+/// No bytes are kept of the file.
+pub fn delete_body<S: Alter>(tx: &mut Transaction<'_, S>, file: &str) -> Result<(), Error>
+    ensures same_reference { tx.new.conn.ghost_name ≡ tx.old.conn.ghost_name }
+    ensures made { MakesIfOk S.Store (deletes_body file.now) tx.old.conn.now tx.new.conn.now result }
+    ensures kept { Keeps S.Store tx.old.conn.now tx.new.conn.now }
+    ensures survives { LeavesNothing S.Store tx.old.conn.now tx.new.conn.now }
+{
+    tx.execute("DELETE FROM blobs WHERE file = ?1", params![file])?;
+    Ok(())
+}
+
+/// No bytes are kept of the files of the name.
+pub fn delete_bodies<S: Alter>(tx: &mut Transaction<'_, S>, name: &str) -> Result<(), Error>
+    ensures same_reference { tx.new.conn.ghost_name ≡ tx.old.conn.ghost_name }
+    ensures made { MakesIfOk S.Store (deletes_bodies name.now) tx.old.conn.now tx.new.conn.now result }
+    ensures kept { Keeps S.Store tx.old.conn.now tx.new.conn.now }
+    ensures survives { LeavesNothing S.Store tx.old.conn.now tx.new.conn.now }
+{
+    tx.execute(
+        "DELETE FROM blobs WHERE EXISTS (SELECT 1 FROM files WHERE files.file = blobs.file AND files.name = ?1)",
+        params![name],
+    )?;
+    Ok(())
+}
+
+/// Each file of the name is deleted.
+pub fn mark_files<S: Alter>(tx: &mut Transaction<'_, S>, name: &str) -> Result<(), Error>
+    ensures same_reference { tx.new.conn.ghost_name ≡ tx.old.conn.ghost_name }
+    ensures made { MakesIfOk S.Store (marks_files name.now) tx.old.conn.now tx.new.conn.now result }
+    ensures kept { Keeps S.Store tx.old.conn.now tx.new.conn.now }
+    ensures survives { LeavesNothing S.Store tx.old.conn.now tx.new.conn.now }
+{
+    tx.execute("UPDATE files SET live = 0 WHERE name = ?1", params![name])?;
+    Ok(())
+}

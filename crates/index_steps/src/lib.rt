@@ -1,0 +1,10 @@
+//! The statements that change the tables, each a function that runs it inside a transaction.
+#![tactic(auto)]
+
+mod delete;
+mod number;
+
+pub use delete::{
+    delete_bodies, delete_body, delete_case, delete_name, delete_owner, delete_owners, delete_yank,
+    delete_yanks, mark_files,
+};
