@@ -1,5 +1,5 @@
 -- What each statement makes of the tables.
-use Rattle.std.specs.Prelude.{ℕ, ℤ, not, Option}
+use Rattle.std.specs.Prelude.{ℤ, pos, Bool, if◌then◌else◌, not, Option}
 use Rattle.std.specs.FinMap.{insert, remove, retain_keys}
 use Rattle.index_retention.specs.declared.attempts.CaseKind.{CaseKind}
 use Rattle.index_retention.specs.declared.attempts.CaseKind.TheVariants.{Continue, Reuse}
@@ -86,3 +86,12 @@ name_of standing shown quota charge undeleted last =
       undeleted = number_in (Int undeleted);
       last_upload = number_if_any (or_null Int last);
     })
+
+-- 1 for true and 0 for false
+abbrev pub flag : Bool → ℤ
+flag b = if b then pos 1 else pos 0
+
+-- 1 for continued maintenance and 2 for reuse
+abbrev pub kind_number : CaseKind → ℤ
+kind_number Continue = pos 1
+kind_number Reuse = pos 2

@@ -3,8 +3,12 @@
 
 mod delete;
 mod number;
+mod put;
 
 pub use delete::{
     delete_bodies, delete_body, delete_case, delete_name, delete_owner, delete_owners, delete_yank,
     delete_yanks, mark_files,
+};
+pub use put::{
+    hold_name, prohibit_name, put_ban, put_body, put_case, put_file, put_owner, put_user, put_yank,
 };

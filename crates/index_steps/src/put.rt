@@ -1,0 +1,228 @@
+//! Statements that put a row, in place of the one with its key if there is one. A number that SQL can't hold is an error,
+//! and then nothing is written.
+ghost use Rattle.std.specs.Prelude.{◌≡◌};
+ghost use Rattle.index_steps.specs.Inside.{MakesIfOk, Keeps, LeavesNothing};
+ghost use Rattle.index_rules.specs.declared.records.NameRecord.TheVariants.{Held, Prohibited};
+ghost use Rattle.index_steps.specs.Writes.{puts_user, puts_name, name_of, puts_owner, puts_file, puts_body, puts_yank, puts_case, puts_ban, kind_number};
+
+use crate::number::{whole, whole_if_any};
+use index_retention::CaseKind;
+use index_rules::{CaseRecord, FileRecord, Project, UserRecord};
+use sqlite::{Alter, Error, Transaction, params};
+
+/// The user has this record.
+pub fn put_user<S: Alter>(
+    tx: &mut Transaction<'_, S>,
+    user: &str,
+    account: &UserRecord,
+) -> Result<(), Error>
+    ensures same_reference { tx.new.conn.ghost_name ≡ tx.old.conn.ghost_name }
+    ensures made { MakesIfOk S.Store (puts_user user.now account.now) tx.old.conn.now tx.new.conn.now result }
+    ensures kept { Keeps S.Store tx.old.conn.now tx.new.conn.now }
+    ensures survives { LeavesNothing S.Store tx.old.conn.now tx.new.conn.now }
+{
+    let token = account.token.to_bytes();
+    tx.execute(
+        "INSERT INTO users (user, office, token) VALUES (?1, ?2, ?3) ON CONFLICT (user) DO UPDATE SET office = excluded.office, token = excluded.token",
+        params![user, account.office, token.as_slice()],
+    )?;
+    Ok(())
+}
+
+/// The name is held, with this record.
+pub fn hold_name<S: Alter>(
+    tx: &mut Transaction<'_, S>,
+    name: &str,
+    project: &Project,
+) -> Result<(), Error>
+    ensures same_reference { tx.new.conn.ghost_name ≡ tx.old.conn.ghost_name }
+    ensures made { MakesIfOk S.Store (puts_name name.now (Held project.now)) tx.old.conn.now tx.new.conn.now result }
+    ensures kept { Keeps S.Store tx.old.conn.now tx.new.conn.now }
+    ensures survives { LeavesNothing S.Store tx.old.conn.now tx.new.conn.now }
+{
+    let quota = whole(project.quota())?;
+    let charge = whole(project.charge())?;
+    let undeleted = whole(project.undeleted())?;
+    let last = whole_if_any(project.last_upload())?;
+    put_name(
+        tx,
+        name,
+        1,
+        project.shown().as_str(),
+        quota,
+        charge,
+        undeleted,
+        last,
+    )?;
+    Ok(())
+}
+
+/// The name is prohibited.
+pub fn prohibit_name<S: Alter>(tx: &mut Transaction<'_, S>, name: &str) -> Result<(), Error>
+    ensures same_reference { tx.new.conn.ghost_name ≡ tx.old.conn.ghost_name }
+    ensures made { MakesIfOk S.Store (puts_name name.now Prohibited) tx.old.conn.now tx.new.conn.now result }
+    ensures kept { Keeps S.Store tx.old.conn.now tx.new.conn.now }
+    ensures survives { LeavesNothing S.Store tx.old.conn.now tx.new.conn.now }
+{
+    put_name(tx, name, 2, "", 0, 0, 0, None)?;
+    Ok(())
+}
+
+/// The row of a name.
+fn put_name<S: Alter>(
+    tx: &mut Transaction<'_, S>,
+    name: &str,
+    standing: i64,
+    shown: &str,
+    quota: i64,
+    charge: i64,
+    undeleted: i64,
+    last: Option<i64>,
+) -> Result<(), Error>
+    ensures same_reference { tx.new.conn.ghost_name ≡ tx.old.conn.ghost_name }
+    ensures made { MakesIfOk S.Store (puts_name name.now (name_of standing shown.now quota charge undeleted last)) tx.old.conn.now tx.new.conn.now result }
+    ensures kept { Keeps S.Store tx.old.conn.now tx.new.conn.now }
+    ensures survives { LeavesNothing S.Store tx.old.conn.now tx.new.conn.now }
+{
+    tx.execute(
+        "INSERT INTO names (name, state, shown, quota, charged, live, last_upload) VALUES (?1, ?2, ?3, ?4, ?5, ?6, ?7) ON CONFLICT (name) DO UPDATE SET state = excluded.state, shown = excluded.shown, quota = excluded.quota, charged = excluded.charged, live = excluded.live, last_upload = excluded.last_upload",
+        params![name, standing, shown, quota, charge, undeleted, last],
+    )?;
+    Ok(())
+}
+
+/// The user owns the name.
+pub fn put_owner<S: Alter>(tx: &mut Transaction<'_, S>, name: &str, user: &str) -> Result<(), Error>
+    ensures same_reference { tx.new.conn.ghost_name ≡ tx.old.conn.ghost_name }
+    ensures made { MakesIfOk S.Store (puts_owner name.now user.now) tx.old.conn.now tx.new.conn.now result }
+    ensures kept { Keeps S.Store tx.old.conn.now tx.new.conn.now }
+    ensures survives { LeavesNothing S.Store tx.old.conn.now tx.new.conn.now }
+{
+    tx.execute(
+        "INSERT INTO owners (name, user) VALUES (?1, ?2) ON CONFLICT (name, user) DO UPDATE SET user = excluded.user",
+        params![name, user],
+    )?;
+    Ok(())
+}
+
+/// The file has this record.
+pub fn put_file<S: Alter>(
+    tx: &mut Transaction<'_, S>,
+    file: &str,
+    known: &FileRecord,
+) -> Result<(), Error>
+    ensures same_reference { tx.new.conn.ghost_name ≡ tx.old.conn.ghost_name }
+    ensures made { MakesIfOk S.Store (puts_file file.now known.now) tx.old.conn.now tx.new.conn.now result }
+    ensures kept { Keeps S.Store tx.old.conn.now tx.new.conn.now }
+    ensures survives { LeavesNothing S.Store tx.old.conn.now tx.new.conn.now }
+{
+    let size = whole(known.size)?;
+    let digest = known.digest.to_bytes();
+    tx.execute(
+        "INSERT INTO files (file, name, rel, digest, size, requires, live) VALUES (?1, ?2, ?3, ?4, ?5, ?6, ?7) ON CONFLICT (file) DO UPDATE SET name = excluded.name, rel = excluded.rel, digest = excluded.digest, size = excluded.size, requires = excluded.requires, live = excluded.live",
+        params![
+            file,
+            known.project.text(),
+            known.release.text(),
+            digest.as_slice(),
+            size,
+            known.requires_python.as_str(),
+            known.is_undeleted
+        ],
+    )?;
+    Ok(())
+}
+
+/// These bytes are kept of the file.
+pub fn put_body<S: Alter>(tx: &mut Transaction<'_, S>, file: &str, body: &[u8]) -> Result<(), Error>
+    ensures same_reference { tx.new.conn.ghost_name ≡ tx.old.conn.ghost_name }
+    ensures made { MakesIfOk S.Store (puts_body file.now body.now) tx.old.conn.now tx.new.conn.now result }
+    ensures kept { Keeps S.Store tx.old.conn.now tx.new.conn.now }
+    ensures survives { LeavesNothing S.Store tx.old.conn.now tx.new.conn.now }
+{
+    tx.execute(
+        "INSERT INTO blobs (file, body) VALUES (?1, ?2) ON CONFLICT (file) DO UPDATE SET body = excluded.body",
+        params![file, body],
+    )?;
+    Ok(())
+}
+
+/// The release is yanked, for this reason.
+pub fn put_yank<S: Alter>(
+    tx: &mut Transaction<'_, S>,
+    name: &str,
+    release: &str,
+    reason: &str,
+) -> Result<(), Error>
+    ensures same_reference { tx.new.conn.ghost_name ≡ tx.old.conn.ghost_name }
+    ensures made { MakesIfOk S.Store (puts_yank name.now release.now reason.now) tx.old.conn.now tx.new.conn.now result }
+    ensures kept { Keeps S.Store tx.old.conn.now tx.new.conn.now }
+    ensures survives { LeavesNothing S.Store tx.old.conn.now tx.new.conn.now }
+{
+    tx.execute(
+        "INSERT INTO yanks (name, rel, reason) VALUES (?1, ?2, ?3) ON CONFLICT (name, rel) DO UPDATE SET reason = excluded.reason",
+        params![name, release, reason],
+    )?;
+    Ok(())
+}
+
+/// The file is banned.
+pub fn put_ban<S: Alter>(tx: &mut Transaction<'_, S>, file: &str) -> Result<(), Error>
+    ensures same_reference { tx.new.conn.ghost_name ≡ tx.old.conn.ghost_name }
+    ensures made { MakesIfOk S.Store (puts_ban file.now) tx.old.conn.now tx.new.conn.now result }
+    ensures kept { Keeps S.Store tx.old.conn.now tx.new.conn.now }
+    ensures survives { LeavesNothing S.Store tx.old.conn.now tx.new.conn.now }
+{
+    tx.execute(
+        "INSERT INTO bans (file) VALUES (?1) ON CONFLICT (file) DO UPDATE SET file = excluded.file",
+        params![file],
+    )?;
+    Ok(())
+}
+
+/// The name has this open case.
+pub fn put_case<S: Alter>(
+    tx: &mut Transaction<'_, S>,
+    name: &str,
+    case: &CaseRecord,
+) -> Result<(), Error>
+    ensures same_reference { tx.new.conn.ghost_name ≡ tx.old.conn.ghost_name }
+    ensures made { MakesIfOk S.Store (puts_case name.now case.now) tx.old.conn.now tx.new.conn.now result }
+    ensures kept { Keeps S.Store tx.old.conn.now tx.new.conn.now }
+    ensures survives { LeavesNothing S.Store tx.old.conn.now tx.new.conn.now }
+{
+    let state = &case.state;
+    let opened = whole(case.opened)?;
+    let attempts = whole(state.attempts())?;
+    let sent = whole(state.sent())?;
+    let first = whole_if_any(state.first())?;
+    tx.execute(
+        "INSERT INTO cases (name, kind, candidate, contact, work, why, opened, attempts, sent, profile, author, pages, first_sent) VALUES (?1, ?2, ?3, ?4, ?5, ?6, ?7, ?8, ?9, ?10, ?11, ?12, ?13) ON CONFLICT (name) DO UPDATE SET kind = excluded.kind, candidate = excluded.candidate, contact = excluded.contact, work = excluded.work, why = excluded.why, opened = excluded.opened, attempts = excluded.attempts, sent = excluded.sent, profile = excluded.profile, author = excluded.author, pages = excluded.pages, first_sent = excluded.first_sent",
+        params![
+            name,
+            number_of(case.kind),
+            case.candidate.text(),
+            case.contact.as_str(),
+            case.work.as_str(),
+            case.why.as_str(),
+            opened,
+            attempts,
+            sent,
+            state.profile(),
+            state.author(),
+            state.pages(),
+            first
+        ],
+    )?;
+    Ok(())
+}
+
+/// The kind as the tables have it.
+fn number_of(kind: CaseKind) -> i64
+    ensures { result ≡ kind_number kind }
+{
+    match kind {
+        CaseKind::Continue => 1,
+        CaseKind::Reuse => 2,
+    }
+}
