@@ -1,5 +1,5 @@
-//! Statements that take rows out, and the one that marks files as deleted. Each ends without an error also where there
-//! is no such row.
+//! Statements that take rows out, and the one that marks files as deleted. Where there is no such row, that is no
+//! error.
 ghost use Rattle.std.specs.Prelude.{◌≡◌};
 ghost use Rattle.index_steps.specs.Inside.{MakesIfOk, Keeps, LeavesNothing};
 ghost use Rattle.index_rules.specs.Effect.{without_record};
@@ -10,7 +10,8 @@ use sqlite::{Alter, Error, Transaction, params};
 /// The name is free: its owners, its yanks and its case go with it.
 pub fn delete_name<S: Alter>(tx: &mut Transaction<'_, S>, name: &str) -> Result<(), Error>
     ensures same_reference { tx.new.conn.ghost_name ≡ tx.old.conn.ghost_name }
-    ensures made { MakesIfOk S.Store (without_record name.now) tx.old.conn.now tx.new.conn.now result }
+    ensures made { MakesIfOk S.Store (without_record name.now)
+        tx.old.conn.now tx.new.conn.now result }
     ensures kept { Keeps S.Store tx.old.conn.now tx.new.conn.now }
     ensures survives { LeavesNothing S.Store tx.old.conn.now tx.new.conn.now }
 {
@@ -21,7 +22,8 @@ pub fn delete_name<S: Alter>(tx: &mut Transaction<'_, S>, name: &str) -> Result<
 /// The name has no owner.
 pub fn delete_owners<S: Alter>(tx: &mut Transaction<'_, S>, name: &str) -> Result<(), Error>
     ensures same_reference { tx.new.conn.ghost_name ≡ tx.old.conn.ghost_name }
-    ensures made { MakesIfOk S.Store (deletes_owners name.now) tx.old.conn.now tx.new.conn.now result }
+    ensures made { MakesIfOk S.Store (deletes_owners name.now)
+        tx.old.conn.now tx.new.conn.now result }
     ensures kept { Keeps S.Store tx.old.conn.now tx.new.conn.now }
     ensures survives { LeavesNothing S.Store tx.old.conn.now tx.new.conn.now }
 {
@@ -36,7 +38,8 @@ pub fn delete_owner<S: Alter>(
     user: &str,
 ) -> Result<(), Error>
     ensures same_reference { tx.new.conn.ghost_name ≡ tx.old.conn.ghost_name }
-    ensures made { MakesIfOk S.Store (deletes_owner name.now user.now) tx.old.conn.now tx.new.conn.now result }
+    ensures made { MakesIfOk S.Store (deletes_owner name.now user.now)
+        tx.old.conn.now tx.new.conn.now result }
     ensures kept { Keeps S.Store tx.old.conn.now tx.new.conn.now }
     ensures survives { LeavesNothing S.Store tx.old.conn.now tx.new.conn.now }
 {
@@ -50,7 +53,8 @@ pub fn delete_owner<S: Alter>(
 /// No release of the name is yanked.
 pub fn delete_yanks<S: Alter>(tx: &mut Transaction<'_, S>, name: &str) -> Result<(), Error>
     ensures same_reference { tx.new.conn.ghost_name ≡ tx.old.conn.ghost_name }
-    ensures made { MakesIfOk S.Store (deletes_yanks name.now) tx.old.conn.now tx.new.conn.now result }
+    ensures made { MakesIfOk S.Store (deletes_yanks name.now)
+        tx.old.conn.now tx.new.conn.now result }
     ensures kept { Keeps S.Store tx.old.conn.now tx.new.conn.now }
     ensures survives { LeavesNothing S.Store tx.old.conn.now tx.new.conn.now }
 {
@@ -65,7 +69,8 @@ pub fn delete_yank<S: Alter>(
     release: &str,
 ) -> Result<(), Error>
     ensures same_reference { tx.new.conn.ghost_name ≡ tx.old.conn.ghost_name }
-    ensures made { MakesIfOk S.Store (deletes_yank name.now release.now) tx.old.conn.now tx.new.conn.now result }
+    ensures made { MakesIfOk S.Store (deletes_yank name.now release.now)
+        tx.old.conn.now tx.new.conn.now result }
     ensures kept { Keeps S.Store tx.old.conn.now tx.new.conn.now }
     ensures survives { LeavesNothing S.Store tx.old.conn.now tx.new.conn.now }
 {
@@ -79,7 +84,8 @@ pub fn delete_yank<S: Alter>(
 /// The name has no open case.
 pub fn delete_case<S: Alter>(tx: &mut Transaction<'_, S>, name: &str) -> Result<(), Error>
     ensures same_reference { tx.new.conn.ghost_name ≡ tx.old.conn.ghost_name }
-    ensures made { MakesIfOk S.Store (deletes_case name.now) tx.old.conn.now tx.new.conn.now result }
+    ensures made { MakesIfOk S.Store (deletes_case name.now)
+        tx.old.conn.now tx.new.conn.now result }
     ensures kept { Keeps S.Store tx.old.conn.now tx.new.conn.now }
     ensures survives { LeavesNothing S.Store tx.old.conn.now tx.new.conn.now }
 {
@@ -90,7 +96,8 @@ pub fn delete_case<S: Alter>(tx: &mut Transaction<'_, S>, name: &str) -> Result<
 /// No bytes are kept of the file.
 pub fn delete_body<S: Alter>(tx: &mut Transaction<'_, S>, file: &str) -> Result<(), Error>
     ensures same_reference { tx.new.conn.ghost_name ≡ tx.old.conn.ghost_name }
-    ensures made { MakesIfOk S.Store (deletes_body file.now) tx.old.conn.now tx.new.conn.now result }
+    ensures made { MakesIfOk S.Store (deletes_body file.now)
+        tx.old.conn.now tx.new.conn.now result }
     ensures kept { Keeps S.Store tx.old.conn.now tx.new.conn.now }
     ensures survives { LeavesNothing S.Store tx.old.conn.now tx.new.conn.now }
 {
@@ -101,7 +108,8 @@ pub fn delete_body<S: Alter>(tx: &mut Transaction<'_, S>, file: &str) -> Result<
 /// No bytes are kept of the files of the name.
 pub fn delete_bodies<S: Alter>(tx: &mut Transaction<'_, S>, name: &str) -> Result<(), Error>
     ensures same_reference { tx.new.conn.ghost_name ≡ tx.old.conn.ghost_name }
-    ensures made { MakesIfOk S.Store (deletes_bodies name.now) tx.old.conn.now tx.new.conn.now result }
+    ensures made { MakesIfOk S.Store (deletes_bodies name.now)
+        tx.old.conn.now tx.new.conn.now result }
     ensures kept { Keeps S.Store tx.old.conn.now tx.new.conn.now }
     ensures survives { LeavesNothing S.Store tx.old.conn.now tx.new.conn.now }
 {

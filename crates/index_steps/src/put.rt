@@ -1,13 +1,12 @@
-//! Statements that put a row, in place of the one with its key if there is one. A number that SQL can't hold is an error,
-//! and then nothing is written.
+//! Statements that put a row, in place of the one with its key if there is one. Where a number is more than SQL can
+//! hold, that is an error, and nothing is written.
 ghost use Rattle.std.specs.Prelude.{◌≡◌};
 ghost use Rattle.index_steps.specs.Inside.{MakesIfOk, Keeps, LeavesNothing};
 ghost use Rattle.index_rules.specs.declared.records.NameRecord.TheVariants.{Held, Prohibited};
-ghost use Rattle.index_steps.specs.Writes.{puts_user, puts_name, name_of, puts_owner, puts_file, puts_body, puts_yank, puts_case, puts_ban, kind_number};
+ghost use Rattle.index_steps.specs.Writes.{puts_user, puts_name, name_of, puts_owner, puts_file, puts_body, puts_yank, puts_ban};
 
 use crate::number::{whole, whole_if_any};
-use index_retention::CaseKind;
-use index_rules::{CaseRecord, FileRecord, Project, UserRecord};
+use index_rules::{FileRecord, Project, UserRecord};
 use sqlite::{Alter, Error, Transaction, params};
 
 /// The user has this record.
@@ -17,7 +16,8 @@ pub fn put_user<S: Alter>(
     account: &UserRecord,
 ) -> Result<(), Error>
     ensures same_reference { tx.new.conn.ghost_name ≡ tx.old.conn.ghost_name }
-    ensures made { MakesIfOk S.Store (puts_user user.now account.now) tx.old.conn.now tx.new.conn.now result }
+    ensures made { MakesIfOk S.Store (puts_user user.now account.now)
+        tx.old.conn.now tx.new.conn.now result }
     ensures kept { Keeps S.Store tx.old.conn.now tx.new.conn.now }
     ensures survives { LeavesNothing S.Store tx.old.conn.now tx.new.conn.now }
 {
@@ -36,7 +36,8 @@ pub fn hold_name<S: Alter>(
     project: &Project,
 ) -> Result<(), Error>
     ensures same_reference { tx.new.conn.ghost_name ≡ tx.old.conn.ghost_name }
-    ensures made { MakesIfOk S.Store (puts_name name.now (Held project.now)) tx.old.conn.now tx.new.conn.now result }
+    ensures made { MakesIfOk S.Store (puts_name name.now (Held project.now))
+        tx.old.conn.now tx.new.conn.now result }
     ensures kept { Keeps S.Store tx.old.conn.now tx.new.conn.now }
     ensures survives { LeavesNothing S.Store tx.old.conn.now tx.new.conn.now }
 {
@@ -60,7 +61,8 @@ pub fn hold_name<S: Alter>(
 /// The name is prohibited.
 pub fn prohibit_name<S: Alter>(tx: &mut Transaction<'_, S>, name: &str) -> Result<(), Error>
     ensures same_reference { tx.new.conn.ghost_name ≡ tx.old.conn.ghost_name }
-    ensures made { MakesIfOk S.Store (puts_name name.now Prohibited) tx.old.conn.now tx.new.conn.now result }
+    ensures made { MakesIfOk S.Store (puts_name name.now Prohibited)
+        tx.old.conn.now tx.new.conn.now result }
     ensures kept { Keeps S.Store tx.old.conn.now tx.new.conn.now }
     ensures survives { LeavesNothing S.Store tx.old.conn.now tx.new.conn.now }
 {
@@ -80,7 +82,9 @@ fn put_name<S: Alter>(
     last: Option<i64>,
 ) -> Result<(), Error>
     ensures same_reference { tx.new.conn.ghost_name ≡ tx.old.conn.ghost_name }
-    ensures made { MakesIfOk S.Store (puts_name name.now (name_of standing shown.now quota charge undeleted last)) tx.old.conn.now tx.new.conn.now result }
+    ensures made { MakesIfOk S.Store
+        (puts_name name.now (name_of standing shown.now quota charge undeleted last))
+        tx.old.conn.now tx.new.conn.now result }
     ensures kept { Keeps S.Store tx.old.conn.now tx.new.conn.now }
     ensures survives { LeavesNothing S.Store tx.old.conn.now tx.new.conn.now }
 {
@@ -94,7 +98,8 @@ fn put_name<S: Alter>(
 /// The user owns the name.
 pub fn put_owner<S: Alter>(tx: &mut Transaction<'_, S>, name: &str, user: &str) -> Result<(), Error>
     ensures same_reference { tx.new.conn.ghost_name ≡ tx.old.conn.ghost_name }
-    ensures made { MakesIfOk S.Store (puts_owner name.now user.now) tx.old.conn.now tx.new.conn.now result }
+    ensures made { MakesIfOk S.Store (puts_owner name.now user.now)
+        tx.old.conn.now tx.new.conn.now result }
     ensures kept { Keeps S.Store tx.old.conn.now tx.new.conn.now }
     ensures survives { LeavesNothing S.Store tx.old.conn.now tx.new.conn.now }
 {
@@ -112,7 +117,8 @@ pub fn put_file<S: Alter>(
     known: &FileRecord,
 ) -> Result<(), Error>
     ensures same_reference { tx.new.conn.ghost_name ≡ tx.old.conn.ghost_name }
-    ensures made { MakesIfOk S.Store (puts_file file.now known.now) tx.old.conn.now tx.new.conn.now result }
+    ensures made { MakesIfOk S.Store (puts_file file.now known.now)
+        tx.old.conn.now tx.new.conn.now result }
     ensures kept { Keeps S.Store tx.old.conn.now tx.new.conn.now }
     ensures survives { LeavesNothing S.Store tx.old.conn.now tx.new.conn.now }
 {
@@ -136,7 +142,8 @@ pub fn put_file<S: Alter>(
 /// These bytes are kept of the file.
 pub fn put_body<S: Alter>(tx: &mut Transaction<'_, S>, file: &str, body: &[u8]) -> Result<(), Error>
     ensures same_reference { tx.new.conn.ghost_name ≡ tx.old.conn.ghost_name }
-    ensures made { MakesIfOk S.Store (puts_body file.now body.now) tx.old.conn.now tx.new.conn.now result }
+    ensures made { MakesIfOk S.Store (puts_body file.now body.now)
+        tx.old.conn.now tx.new.conn.now result }
     ensures kept { Keeps S.Store tx.old.conn.now tx.new.conn.now }
     ensures survives { LeavesNothing S.Store tx.old.conn.now tx.new.conn.now }
 {
@@ -155,7 +162,8 @@ pub fn put_yank<S: Alter>(
     reason: &str,
 ) -> Result<(), Error>
     ensures same_reference { tx.new.conn.ghost_name ≡ tx.old.conn.ghost_name }
-    ensures made { MakesIfOk S.Store (puts_yank name.now release.now reason.now) tx.old.conn.now tx.new.conn.now result }
+    ensures made { MakesIfOk S.Store (puts_yank name.now release.now reason.now)
+        tx.old.conn.now tx.new.conn.now result }
     ensures kept { Keeps S.Store tx.old.conn.now tx.new.conn.now }
     ensures survives { LeavesNothing S.Store tx.old.conn.now tx.new.conn.now }
 {
@@ -178,51 +186,4 @@ pub fn put_ban<S: Alter>(tx: &mut Transaction<'_, S>, file: &str) -> Result<(), 
         params![file],
     )?;
     Ok(())
-}
-
-/// The name has this open case.
-pub fn put_case<S: Alter>(
-    tx: &mut Transaction<'_, S>,
-    name: &str,
-    case: &CaseRecord,
-) -> Result<(), Error>
-    ensures same_reference { tx.new.conn.ghost_name ≡ tx.old.conn.ghost_name }
-    ensures made { MakesIfOk S.Store (puts_case name.now case.now) tx.old.conn.now tx.new.conn.now result }
-    ensures kept { Keeps S.Store tx.old.conn.now tx.new.conn.now }
-    ensures survives { LeavesNothing S.Store tx.old.conn.now tx.new.conn.now }
-{
-    let state = &case.state;
-    let opened = whole(case.opened)?;
-    let attempts = whole(state.attempts())?;
-    let sent = whole(state.sent())?;
-    let first = whole_if_any(state.first())?;
-    tx.execute(
-        "INSERT INTO cases (name, kind, candidate, contact, work, why, opened, attempts, sent, profile, author, pages, first_sent) VALUES (?1, ?2, ?3, ?4, ?5, ?6, ?7, ?8, ?9, ?10, ?11, ?12, ?13) ON CONFLICT (name) DO UPDATE SET kind = excluded.kind, candidate = excluded.candidate, contact = excluded.contact, work = excluded.work, why = excluded.why, opened = excluded.opened, attempts = excluded.attempts, sent = excluded.sent, profile = excluded.profile, author = excluded.author, pages = excluded.pages, first_sent = excluded.first_sent",
-        params![
-            name,
-            number_of(case.kind),
-            case.candidate.text(),
-            case.contact.as_str(),
-            case.work.as_str(),
-            case.why.as_str(),
-            opened,
-            attempts,
-            sent,
-            state.profile(),
-            state.author(),
-            state.pages(),
-            first
-        ],
-    )?;
-    Ok(())
-}
-
-/// The kind as the tables have it.
-fn number_of(kind: CaseKind) -> i64
-    ensures { result ≡ kind_number kind }
-{
-    match kind {
-        CaseKind::Continue => 1,
-        CaseKind::Reuse => 2,
-    }
 }

@@ -4,7 +4,7 @@ use Rattle.index_schema.proofs.PutCase as statement
 use Rattle.index_steps.specs.Writes.{flag, kind_number}
 use Rattle.index_steps.proofs.PutRecords.{case_put}
 use Rattle.index_steps.proofs.StepLemmas.{makes, keeps_by}
-use Rattle.index_steps.proofs.put.put_case.Goals as goal
+use Rattle.index_steps.proofs.cases.put_case.Goals as goal
 
 pub returns-clause-made : goal.returns-clause-made
 returns-clause-made g c clean ready =

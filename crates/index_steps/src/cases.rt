@@ -1,0 +1,85 @@
+//! The statement that puts an open case.
+ghost use Rattle.std.specs.Prelude.{◌≡◌, pos, IfOk, option_map};
+ghost use Rattle.index_steps.specs.Inside.{MakesIfOk, Keeps, LeavesNothing};
+ghost use Rattle.index_steps.specs.Writes.{puts_case, kind_number};
+
+use crate::number::{whole, whole_if_any};
+use index_retention::CaseKind;
+use index_rules::CaseRecord;
+use sqlite::{Alter, Error, Transaction, params};
+
+/// The numbers of a case as SQL holds them.
+#[derive(Clone, Copy)]
+struct CaseNumbers {
+    opened: i64,
+    attempts: i64,
+    sent: i64,
+    first: Option<i64>,
+}
+
+/// The name has this open case.
+pub fn put_case<S: Alter>(
+    tx: &mut Transaction<'_, S>,
+    name: &str,
+    case: &CaseRecord,
+) -> Result<(), Error>
+    ensures same_reference { tx.new.conn.ghost_name ≡ tx.old.conn.ghost_name }
+    ensures made { MakesIfOk S.Store (puts_case name.now case.now)
+        tx.old.conn.now tx.new.conn.now result }
+    ensures kept { Keeps S.Store tx.old.conn.now tx.new.conn.now }
+    ensures survives { LeavesNothing S.Store tx.old.conn.now tx.new.conn.now }
+{
+    let state = &case.state;
+    let numbers = numbers_of(case)?;
+    tx.execute(
+        "INSERT INTO cases (name, kind, candidate, contact, work, why, opened, attempts, sent, profile, author, pages, first_sent) VALUES (?1, ?2, ?3, ?4, ?5, ?6, ?7, ?8, ?9, ?10, ?11, ?12, ?13) ON CONFLICT (name) DO UPDATE SET kind = excluded.kind, candidate = excluded.candidate, contact = excluded.contact, work = excluded.work, why = excluded.why, opened = excluded.opened, attempts = excluded.attempts, sent = excluded.sent, profile = excluded.profile, author = excluded.author, pages = excluded.pages, first_sent = excluded.first_sent",
+        params![
+            name,
+            number_of(case.kind),
+            case.candidate.text(),
+            case.contact.as_str(),
+            case.work.as_str(),
+            case.why.as_str(),
+            numbers.opened,
+            numbers.attempts,
+            numbers.sent,
+            state.profile(),
+            state.author(),
+            state.pages(),
+            numbers.first
+        ],
+    )?;
+    Ok(())
+}
+
+/// The numbers of a case. `IntegralValueOutOfRange` where one is more than SQL can hold.
+fn numbers_of(case: &CaseRecord) -> Result<CaseNumbers, Error>
+    ensures { IfOk result (λ it. it ≡ record {
+      opened = pos case.now.opened;
+      attempts = pos case.now.state.attempts;
+      sent = pos case.now.state.sent;
+      first = option_map pos case.now.state.first;
+    }) }
+{
+    let state = &case.state;
+    let opened = whole(case.opened)?;
+    let attempts = whole(state.attempts())?;
+    let sent = whole(state.sent())?;
+    let first = whole_if_any(state.first())?;
+    Ok(CaseNumbers {
+        opened,
+        attempts,
+        sent,
+        first,
+    })
+}
+
+/// The kind as the tables have it.
+fn number_of(kind: CaseKind) -> i64
+    ensures { result ≡ kind_number kind }
+{
+    match kind {
+        CaseKind::Continue => 1,
+        CaseKind::Reuse => 2,
+    }
+}
