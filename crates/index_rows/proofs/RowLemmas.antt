@@ -20,7 +20,7 @@ use Rattle.index_rows.specs.RowMaps.{map_from}
 use Rattle.index_rows.proofs.MapLemmas.{insert-remove, retain_keys-other}
 use Rattle.index_rows.proofs.Permutations.{one_passes, short_permutation}
 
-or_false : (b : Bool) → (b || false) ≡ b
+pub or_false : (b : Bool) → (b || false) ≡ b
 or_false true = refl
 or_false false = refl
 

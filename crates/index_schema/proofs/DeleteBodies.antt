@@ -58,9 +58,9 @@ compiled : command_of (understood index_schema delete_bodies_text) ≡ Delete 5 
 unfolding understood everything
 compiled = refl
 
-plain : IsPlain (understood index_schema delete_bodies_text)
+is_plain : IsPlain (understood index_schema delete_bodies_text)
 unfolding understood everything
-plain = (refl, refl)
+is_plain = (refl, refl)
 
 no_works : (olds : List Row) → works index_schema Enforced 0 11 olds [] ≡ []
 unfolding same_name joined
@@ -123,7 +123,7 @@ module _ (name : Bytes) where
       let files = all_both (IsText 1) (IsText 2) (λ f. IsText 1 f × IsText 2 f) (λ f a b. (a, b)) (db 8) (files_keyed.texts old.now h) names in
       let gone : Row → Bool = λ r. is_file_of (tables_in db).files name (text_key r) in
       let tests = all_weaker (IsText 1) (λ r. list_all (holds (env db r)) (col 2 0 ∷ []) ≡ gone r) (λ r is. hits db r files is ∙ hit_is old.now h r) (db 11) (blobs_keyed.texts old.now h) in
-      let it = deletes_with 5 (blobs_at 11) refl (λ d. refl) delete_bodies_text params plain old new count h (env db) more (col 2 0 ∷ []) gone compiled no_works (λ r. refl) (λ r. refl) tests ran in
+      let it = deletes_with 5 (blobs_at 11) refl (λ d. refl) delete_bodies_text params is_plain old new count h (env db) more (col 2 0 ∷ []) gone compiled no_works (λ r. refl) (λ r. refl) tests ran in
       bodies_change old.now new.now it.1.1 (λ T. retain_keys T.bodies (λ file. not (is_file_of T.files name file)))
       (kept_is nat_list_cmp_total exact_bytes text_key body_in 11 blobs_keyed.apart old.now new.now (λ file. not (is_file_of (tables_in db).files name file)) it.0)
       it.1.0

@@ -34,7 +34,8 @@ use Rattle.index_schema.specs.Index.{rowid_in, IsIndex, Changes}
 use Rattle.index_schema.proofs.QueryShapes.{plan, from_one, is_param}
 use Rattle.index_schema.proofs.KeyLemmas.{IsText, IsPair, agree_texts}
 use Rattle.index_schema.proofs.KeyedLemmas.{once, gone_is, kept_is}
-use Rattle.index_schema.proofs.TableLemmas.{is_key, or_false, key_test, cases_keyed, names_keyed, owners_keyed, yanks_keyed}
+use Rattle.index_rows.proofs.RowLemmas.{or_false}
+use Rattle.index_schema.proofs.TableLemmas.{is_key, key_test, cases_keyed, names_keyed, owners_keyed, yanks_keyed}
 use Rattle.std.proofs.Common.{◌≤◌, ◌||◌, true≢false, inl, inr, ◌⊎◌, find, arith}
 use Rattle.std.proofs.lemmas.Int.{ints}
 use Rattle.sqlite_value.specs.Keys.{plain, first_key}
@@ -59,6 +60,7 @@ use Rattle.index_schema.specs.Index.{AreRows}
 use Rattle.index_schema.proofs.EditLemmas.{has_is, has_all, has_filter, filter_passes, one_row, matched_gone, kept_rows}
 use Rattle.sqlite_keyed.proofs.KeyedLemmas.{same_int}
 use Rattle.index_schema.proofs.KeyLemmas.{passing}
+use Rattle.index_schema.proofs.TypedLemmas.{first_part}
 use Rattle.index_schema.proofs.StatementLemmas.{delete_edit}
 use Rattle.index_schema.proofs.WriteLemmas.{answered, edit_with}
 use Rattle.std.proofs.Common.{length}
@@ -72,9 +74,9 @@ compiled : command_of (understood index_schema delete_name_text) ≡ Delete 2 (p
 unfolding understood everything
 compiled = refl
 
-plainly : IsPlain (understood index_schema delete_name_text)
+is_plain : IsPlain (understood index_schema delete_name_text)
 unfolding understood everything
-plainly = (refl, refl)
+is_plain = (refl, refl)
 
 keyless : (r : Row) → IsText 1 r → agree plain (1 ∷ []) r (1 ∷ []) [] ≡ false
 unfolding first_key binary
@@ -103,10 +105,6 @@ some_has {A = A} p (x ∷ xs) h = go (p x) refl h (some_has p xs)
     go : (b : Bool) → p x ≡ b → (b || list_any p xs) ≡ true → (list_any p xs ≡ true → (y : A) × Has xs y × (p y ≡ true)) → (y : A) × Has (x ∷ xs) y × (p y ≡ true)
     go true e k more = (x, inl refl, e)
     go false e k more = let it = more k in (it.0, inr it.1, it.2)
-
-and_left : (a b : Bool) → (a && b) ≡ true → a ≡ true
-and_left true b h = refl
-and_left false b h = absurd (true≢false (sym h))
 
 nothing_works : works index_schema Enforced 0 4 [] [] ≡ []
 unfolding same_name joined
@@ -168,7 +166,7 @@ module _ (name : Bytes) where
     where
       one : (row : Row) → IsText 1 row → list_all (has_parent index_schema.tables db.trees row) child.references ≡ true → same name (text_key row) ≡ false
       one row t passes_all =
-          let first : has_parent index_schema.tables db.trees row to_names ≡ true = and_left _ _ (subst (λ refs. list_all (has_parent index_schema.tables db.trees row) refs ≡ true) refers.1 passes_all) in
+          let first : has_parent index_schema.tables db.trees row to_names ≡ true = first_part _ _ (subst (λ refs. list_all (has_parent index_schema.tables db.trees row) refs ≡ true) refers.1 passes_all) in
           unparented (db.trees 4) row (names_keyed.texts db h) t none (held_by db row t first)
 
   kept_all : (rows : List Row) → AllByRecursion (λ row. same name (text_key row) ≡ false) rows → filter (λ row. not (same name (text_key row))) rows ≡ rows
@@ -288,7 +286,7 @@ module _ (name : Bytes) where
       let db = old.now.trees in
       let params = Text name ∷ [] in
       let q : Program = plan (from_one 4 (is_param 1 0 ∷ []) (col 1 0 ∷ []) []) in
-      let w = runs_as delete_name_text params old new index_schema h.schema (Delete 2 q) compiled plainly count ran in
+      let w = runs_as delete_name_text params old new index_schema h.schema (Delete 2 q) compiled is_plain count ran in
       let t = statement_of delete_name_text (understood index_schema delete_name_text) in
       let did = subst (λ s. Does old.step_limit (mode_of old) params (record { schema = s; trees = db }) t None (Delete 2 q) (Ok (w.tally, new.now))) h.schema w.changed in
       let wrote = delete_edit old.step_limit (mode_of old) params index_schema db t 2 (names_at 4) refl w.tally new.now q did in

@@ -110,7 +110,7 @@ put_all_fresh (n ∷ news) rows h fresh are =
 abbrev pub among : List ℤ → Row → Bool
 among ids r = list_any (λ id. int_eq (rowid_in r) id) ids
 
-filter_with : {A : Type 0} (P : A → Type 0) (p q : A → Bool) → ((a : A) → P a → p a ≡ q a) → (xs : List A) → AllByRecursion P xs → filter p xs ≡ filter q xs
+pub filter_with : {A : Type 0} (P : A → Type 0) (p q : A → Bool) → ((a : A) → P a → p a ≡ q a) → (xs : List A) → AllByRecursion P xs → filter p xs ≡ filter q xs
 filter_with P p q same [] all = refl
 filter_with P p q same (x ∷ xs) all = ap₂ (λ b l. cond b (x ∷ l) l) (same x all.0) (filter_with P p q same xs all.1)
 

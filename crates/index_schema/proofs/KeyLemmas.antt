@@ -4,7 +4,8 @@ use Rattle.std.specs.List.{AllByRecursion}
 use Rattle.std.proofs.lemmas.Map.Text.{is_eq-slice_cmp}
 use Rattle.std.specs.Prelude.{bytes_eq}
 use Rattle.std.specs.Ordering.{eq_by_cmp, int_eq}
-use Rattle.sqlite_value.specs.declared.value.Value.TheVariants.{Null, Int, Text}
+use Rattle.sqlite_value.specs.declared.value.Value.{Value}
+use Rattle.sqlite_value.specs.declared.value.Value.TheVariants.{Null, Int, Text, Blob}
 use Rattle.sqlite_value.specs.declared.keys.Order.{Order}
 use Rattle.sqlite_value.specs.Order.{Row, column, bytes}
 use Rattle.sqlite_value.specs.Keys.{plain, first_key}
@@ -12,14 +13,15 @@ use Rattle.sqlite_trees.specs.Tree.{rowid, IsAscending}
 use Rattle.sqlite_sql.specs.Ops.{is_null}
 use Rattle.sqlite_sql.specs.Term.{holds}
 use Rattle.sqlite_sql.specs.declared.ops.CompareOp.TheVariants.{Eq, Ne}
+use Rattle.sqlite_schema.specs.declared.schema.Kind.{Kind}
 use Rattle.sqlite_schema.specs.declared.schema.Kind.TheVariants as kind
 use Rattle.sqlite_schema.specs.declared.schema.Column.{Column}
 use Rattle.sqlite_schema.specs.declared.schema.Index.{Index}
 use Rattle.sqlite_schema.specs.declared.schema.Table.{Table}
 use Rattle.sqlite_schema.specs.declared.schema.Constraint.{Constraint}
 use Rattle.sqlite_schema.specs.declared.schema.Constraint.TheVariants.{Datatype, NotNull, Unique}
-use Rattle.sqlite_schema.specs.Rules.{Keeps, passes, are_typed, are_present, has_computed, guards, agree, clashes, differ}
-use Rattle.sqlite_typed.proofs.TestLemmas.{at_texts, at_ints, last_term}
+use Rattle.sqlite_schema.specs.Rules.{is_of, Keeps, passes, are_typed, are_present, has_computed, guards, agree, clashes, differ}
+use Rattle.sqlite_typed.proofs.TestLemmas.{at_texts, at_blobs, at_ints, last_term}
 use Rattle.sqlite_rules.specs.Edit.{id_in}
 use Rattle.sqlite.specs.Effect.{Database}
 use Rattle.sqlite_keyed.proofs.ListLemmas.{all_both, all_weaker, all_from_test, all-slice_get, none_from_any}
@@ -32,7 +34,7 @@ use Rattle.index_schema.specs.Schema.{index_schema}
 use Rattle.index_schema.specs.Index.{rowid_in, IsWhole, AreRows, IsIndex}
 use Rattle.index_schema.proofs.QueryShapes.{is_param}
 use Rattle.index_schema.proofs.EditLemmas.{as_int, Differ, other_way}
-use Rattle.index_schema.proofs.TypedLemmas.{typed_at, present_at, as_text, as_whole, first_part}
+use Rattle.index_schema.proofs.TypedLemmas.{typed_at, present_at, as_text, as_blob, as_whole, first_part}
 
 pub column_drop : (r : Row) (at : ℕ) → slice_index_or (drop 1 r) at Null ≡ column r (suc at)
 column_drop [] at = refl
@@ -79,6 +81,14 @@ ascending_with : {A : Type 0} (P : A → Type 0) (R S : A → A → Type 0) → 
 ascending_with P R S f [] all up = tt
 ascending_with P R S f (x ∷ xs) all up = (all_both P (R x) (S x) (λ y p r. f x y all.0 p r) xs all.1 up.0, ascending_with P R S f xs all.1 up.1)
 
+-- ---- values of one type
+
+abbrev pub IsBlob : ℕ → Row → Type 0
+IsBlob at r = column r at ≡ Blob (bytes (column r at))
+
+abbrev pub IsNumber : ℕ → Row → Type 0
+IsNumber at r = column r at ≡ Int (id_in (column r at))
+
 -- ---- texts as keys
 
 abbrev pub IsText : ℕ → Row → Type 0
@@ -113,30 +123,27 @@ module _ (at : ℕ) (table : Table) (is : slice_get index_schema.tables at ≡ S
   pub passing : (rule : Constraint) → AllByRecursion (λ row. passes rule index_schema db.trees table row ≡ true) rows
   passing rule = all-slice_get (λ (t : Table). AllByRecursion (λ row. passes rule index_schema db.trees t row ≡ true) (db.trees t.tree)) index_schema.tables at table is (keeps db h rule)
 
-  -- a text column has a text in each row
-  pub texts : table.key ≡ None → (place : ℕ) (c : Column) → slice_get table.columns place ≡ Some c → c.is_strict ≡ true → c.not_null ≡ true → c.kind ≡ kind.Text → AllByRecursion (IsText (suc place)) rows
-  texts keyless place c found strict needed text = all_both _ _ (IsText (suc place)) one rows (passing Datatype) (passing NotNull)
+  -- a column that takes one type and no NULL has a value of that type in each row
+  typed_values : (type : Kind) (P : Value → Type 0) → ((v : Value) → is_of type v ≡ true → is_null v ≡ false → P v) → table.key ≡ None
+      → (place : ℕ) (c : Column) → slice_get table.columns place ≡ Some c → c.is_strict ≡ true → c.not_null ≡ true → c.kind ≡ type → AllByRecursion (λ r. P (column r (suc place))) rows
+  typed_values type P typed_value keyless place c found strict needed same = all_both _ _ (λ r. P (column r (suc place))) one rows (passing Datatype) (passing NotNull)
     where
-      one : (r : Row) → (are_typed table.key 0 table.columns (drop 1 r) && has_computed table r) ≡ true → are_present table.key 0 table.columns r ≡ true → IsText (suc place) r
+      one : (r : Row) → (are_typed table.key 0 table.columns (drop 1 r) && has_computed table r) ≡ true → are_present table.key 0 table.columns r ≡ true → P (column r (suc place))
       one r typed present =
           let t = subst (λ k. are_typed k 0 table.columns (drop 1 r) ≡ true) keyless (first_part _ _ typed) in
           let p = subst (λ k. are_present k 0 table.columns r ≡ true) keyless present in
           let suited = typed_at table.columns (drop 1 r) 0 place c t found strict in
           let none : is_null (column r (suc place)) ≡ false = let same : 0 + place + 1 ≡ suc place = omega arith in subst (λ n. is_null (column r n) ≡ false) same (present_at table.columns r 0 place c p found needed) in
-          as_text (column r (suc place)) (subst (λ k. Rattle.sqlite_schema.specs.Rules.is_of k (column r (suc place)) ≡ true) text (rw (column_drop r place) at (rw strict at suited))) none
+          typed_value (column r (suc place)) (subst (λ k. is_of k (column r (suc place)) ≡ true) same (rw (column_drop r place) at (rw strict at suited))) none
 
-  -- a column of numbers has a whole number in each row
-  pub wholes : table.key ≡ None → (place : ℕ) (c : Column) → slice_get table.columns place ≡ Some c → c.is_strict ≡ true → c.not_null ≡ true → c.kind ≡ kind.Integer
-      → AllByRecursion (λ r. column r (suc place) ≡ Int (id_in (column r (suc place)))) rows
-  wholes keyless place c found strict needed whole = all_both _ _ (λ r. column r (suc place) ≡ Int (id_in (column r (suc place)))) one rows (passing Datatype) (passing NotNull)
-    where
-      one : (r : Row) → (are_typed table.key 0 table.columns (drop 1 r) && has_computed table r) ≡ true → are_present table.key 0 table.columns r ≡ true → column r (suc place) ≡ Int (id_in (column r (suc place)))
-      one r typed present =
-          let t = subst (λ k. are_typed k 0 table.columns (drop 1 r) ≡ true) keyless (first_part _ _ typed) in
-          let p = subst (λ k. are_present k 0 table.columns r ≡ true) keyless present in
-          let suited = typed_at table.columns (drop 1 r) 0 place c t found strict in
-          let none : is_null (column r (suc place)) ≡ false = let same : 0 + place + 1 ≡ suc place = omega arith in subst (λ n. is_null (column r n) ≡ false) same (present_at table.columns r 0 place c p found needed) in
-          as_whole (column r (suc place)) (subst (λ k. Rattle.sqlite_schema.specs.Rules.is_of k (column r (suc place)) ≡ true) whole (rw (column_drop r place) at (rw strict at suited))) none
+  pub texts : table.key ≡ None → (place : ℕ) (c : Column) → slice_get table.columns place ≡ Some c → c.is_strict ≡ true → c.not_null ≡ true → c.kind ≡ kind.Text → AllByRecursion (IsText (suc place)) rows
+  texts = typed_values kind.Text (λ v. v ≡ Text (bytes v)) as_text
+
+  pub blobs : table.key ≡ None → (place : ℕ) (c : Column) → slice_get table.columns place ≡ Some c → c.is_strict ≡ true → c.not_null ≡ true → c.kind ≡ kind.Blob → AllByRecursion (IsBlob (suc place)) rows
+  blobs = typed_values kind.Blob (λ v. v ≡ Blob (bytes v)) as_blob
+
+  pub wholes : table.key ≡ None → (place : ℕ) (c : Column) → slice_get table.columns place ≡ Some c → c.is_strict ≡ true → c.not_null ≡ true → c.kind ≡ kind.Integer → AllByRecursion (IsNumber (suc place)) rows
+  wholes = typed_values kind.Integer (λ v. v ≡ Int (id_in v)) as_whole
 
   -- a UNIQUE tells the rows apart
   pub apart_by : (place : ℕ) (index : Index) → slice_get index_schema.indexes place ≡ Some index → guards index table ≡ true → IsAscending (λ a b. agree index.order index.columns b index.columns a ≡ false) rows
@@ -176,3 +183,7 @@ text_test params place param r text given is = rw (given, is) (at_texts false Eq
 -- the rowid against a number
 pub rowid_test : (params : Row) (param : ℕ) (r : Row) (id : ℤ) → column params param ≡ Int id → IsWhole r → eval_at params r 0 param ≡ int_eq (rowid_in r) id
 rowid_test params param r id given is = rw (given, as_int (rowid r) is) (at_ints false Eq (rowid_in r) id)
+
+-- a column of bytes against bytes
+pub blob_test : (params : Row) (place param : ℕ) (r : Row) (value : List ℕ) → column params param ≡ Blob value → IsBlob place r → eval_at params r place param ≡ has_text place value r
+blob_test params place param r value given is = rw (given, is) (at_blobs false Eq (bytes (column r place)) value ∙ is_eq-slice_cmp (bytes (column r place)) value)

@@ -37,6 +37,8 @@ pub mod DeleteBodies
 pub mod UpdateFiles
 pub mod SelectVersion
 pub mod SelectUser
+pub mod BearerLemmas
+pub mod SelectBearer
 pub mod SelectName
 pub mod SelectFile
 pub mod SelectBody

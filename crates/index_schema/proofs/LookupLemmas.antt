@@ -35,12 +35,12 @@ first-map f [] = refl
 first-map f (x ∷ xs) = refl
 
 -- what the first row shows is what the first row of the table that was found has
-pub first_shown : {X : Type 0} (value : Row → X) (show : Row → Row) → ((r : Row) → value (show r) ≡ value r) → (found rows : List Row) → rows ≡ map show found
-    → option_map value (slice_get rows 0) ≡ option_map value (slice_get found 0)
-first_shown value show same found rows is =
-    ap (λ l. option_map value (slice_get l 0)) is ∙ ap (option_map value) (first-map show found) ∙ option_map-option_map value show (slice_get found 0) ∙ same_value (slice_get found 0)
+pub first_shown : {X : Type 0} (read value : Row → X) (show : Row → Row) → ((r : Row) → read (show r) ≡ value r) → (found rows : List Row) → rows ≡ map show found
+    → option_map read (slice_get rows 0) ≡ option_map value (slice_get found 0)
+first_shown read value show same found rows is =
+    ap (λ l. option_map read (slice_get l 0)) is ∙ ap (option_map read) (first-map show found) ∙ option_map-option_map read show (slice_get found 0) ∙ same_value (slice_get found 0)
   where
-    same_value : (o : Option Row) → option_map (λ r. value (show r)) o ≡ option_map value o
+    same_value : (o : Option Row) → option_map (λ r. read (show r)) o ≡ option_map value o
     same_value None = refl
     same_value (Some r) = ap Some (same r)
 
@@ -61,7 +61,7 @@ module _ (at : ℕ) (table : Table) (t : TextKeyed at table) (text : List ℕ) (
       let here : Row → Bool = λ r. eq_by_cmp bytes_cmp key (text_key r) in
       let tests = all_weaker (IsText 1) (λ r. list_all (holds (params ∷ r ∷ [])) (is_param 1 0 ∷ []) ≡ here r) (λ r. key_test params 0 key r refl) (old.now.trees table.tree) (t.texts old.now h) in
       let found = answered at table t.is t.low params (is_param 1 0 ∷ []) project here old.now.trees rows tests (answer.answer Null) in
-      first_shown value (λ r. eval_all project (params ∷ r ∷ [])) (same params) found.0 rows found.2
+      first_shown value value (λ r. eval_all project (params ∷ r ∷ [])) (same params) found.0 rows found.2
       ∙ found_is nat_list_cmp_total exact_bytes text_key value table.tree t.apart old.now h key found.0 found.1
 
 module _ (at : ℕ) (table : Table) (t : PairKeyed at table) (text : List ℕ) (project : List Term) (it : Selects table text (is_param 1 0 ∷ is_param 2 1 ∷ []) project) where
@@ -74,5 +74,5 @@ module _ (at : ℕ) (table : Table) (t : PairKeyed at table) (text : List ℕ) (
       let here : Row → Bool = λ r. eq_by_cmp pair_cmp key (pair_key r) in
       let tests = all_weaker IsPair (λ r. list_all (holds (params ∷ r ∷ [])) (is_param 1 0 ∷ is_param 2 1 ∷ []) ≡ here r) (λ r. pair_key_test params 0 1 key r refl refl) (old.now.trees table.tree) (t.pairs old.now h) in
       let found = answered at table t.is t.low params (is_param 1 0 ∷ is_param 2 1 ∷ []) project here old.now.trees rows tests (answer.answer Null) in
-      first_shown value (λ r. eval_all project (params ∷ r ∷ [])) (same params) found.0 rows found.2
+      first_shown value value (λ r. eval_all project (params ∷ r ∷ [])) (same params) found.0 rows found.2
       ∙ found_is pair_total exact_pair pair_key value table.tree t.apart old.now h key found.0 found.1

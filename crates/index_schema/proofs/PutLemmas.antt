@@ -37,7 +37,8 @@ use Rattle.index_schema.proofs.QueryShapes.{on_conflict}
 use Rattle.index_schema.proofs.EditLemmas.{as_int, KeepsOthers}
 use Rattle.index_schema.proofs.KeyLemmas.{IsText, IsPair, agree_texts, agree_pairs, are_rows}
 use Rattle.index_schema.proofs.KeyedLemmas.{once, put_is}
-use Rattle.index_schema.proofs.TableLemmas.{TextKeyed, PairKeyed, is_key, is_pair_key, or_false}
+use Rattle.index_rows.proofs.RowLemmas.{or_false}
+use Rattle.index_schema.proofs.TableLemmas.{TextKeyed, PairKeyed, is_key, is_pair_key}
 use Rattle.index_schema.proofs.WriteLemmas.{puts_row}
 
 tied : (o : Ordering) → is_eq o ≡ true → o ≡ Equal

@@ -34,9 +34,9 @@ compiled : command_of (understood index_schema put_version_text) ≡ Insert 0 (V
 unfolding understood everything
 compiled = refl
 
-plain : IsPlain (understood index_schema put_version_text)
+is_plain : IsPlain (understood index_schema put_version_text)
 unfolding understood everything
-plain = (refl, refl)
+is_plain = (refl, refl)
 
 abbrev pub row : Row
 row = Int (pos 1) ∷ Null ∷ Text (codes "python-index") ∷ Int (pos 2) ∷ []
@@ -48,7 +48,7 @@ pub puts : (old new : State) (count : ℕ) → IsIndex old.now → Executes put_
 puts old new count h ran =
     let db = old.now.trees in
     let command = Insert 0 (Values terms 4) in
-    let w = runs_as put_version_text [] old new index_schema h.schema command compiled plain count ran in
+    let w = runs_as put_version_text [] old new index_schema h.schema command compiled is_plain count ran in
     let t = statement_of put_version_text (understood index_schema put_version_text) in
     let did = subst (λ s. Does old.step_limit (mode_of old) [] (record { schema = s; trees = db }) t None command (Ok (w.tally, new.now))) h.schema w.changed in
     let wrote = insert_edit old.step_limit (mode_of old) [] index_schema db t 0 (meta_at 0) refl w.tally new.now refl terms 4 did in

@@ -1,6 +1,6 @@
 -- SELECT user FROM owners .. ORDER BY user: the owners of a name, in byte order.
-use Rattle.std.proofs.Common.{◌≡◌, Bool, false, List, [], ◌∷◌, codes, filter, map, refl, sym, ap, subst, ◌∙◌, IsPermutation}
-use Rattle.std.specs.List.{AllByRecursion, list_all}
+use Rattle.std.proofs.Common.{◌≡◌, Bool, false, List, [], ◌∷◌, codes, filter, map, refl, ap, subst, ◌∙◌, IsPermutation}
+use Rattle.std.specs.List.{list_all}
 use Rattle.std.specs.FinMap.{keys}
 use Rattle.std.proofs.lemmas.Cmp.{nat_list_cmp_total}
 use Rattle.std.proofs.lemmas.List.Sorted.{IsPermutation-map, IsPermutation-sym, IsPermutation-trans}
@@ -8,7 +8,7 @@ use Rattle.std.proofs.lemmas.Map.Text.{is_eq-slice_cmp}
 use Rattle.sqlite_tied.specs.Compute.{everything}
 use Rattle.sqlite_value.specs.declared.value.Value.TheVariants.{Null, Text}
 use Rattle.sqlite_value.specs.Order.{Row, column, bytes}
-use Rattle.sqlite_sql.specs.Term.{Term, col, eval_all, holds}
+use Rattle.sqlite_sql.specs.Term.{col, eval_all, holds}
 use Rattle.sqlite_sql.specs.Query.{end}
 use Rattle.sqlite_sql.specs.Program.{overlay}
 use Rattle.sqlite_schema.specs.declared.command.Command.TheVariants.{Select}

@@ -1,5 +1,5 @@
 -- SELECT version FROM meta: the version of an index.
-use Rattle.std.proofs.Common.{◌≡◌, pos, Bool, true, false, not, ◌&&◌, List, [], ◌∷◌, codes, map, Option, Some, None, refl, sym, ap, ap₂, ◌∙◌, int_eq}
+use Rattle.std.proofs.Common.{◌≡◌, pos, Bool, true, false, not, ◌&&◌, List, [], ◌∷◌, codes, Some, refl, sym, ap, ap₂, ◌∙◌, int_eq}
 use Rattle.std.specs.List.{AllByRecursion, list_all}
 use Rattle.std.specs.Prelude.{bytes_eq}
 use Rattle.std.proofs.lemmas.Map.Text.{is_eq-slice_cmp}
@@ -7,11 +7,12 @@ use Rattle.sqlite_tied.specs.Compute.{everything}
 use Rattle.sqlite_value.specs.declared.value.Value.TheVariants.{Null, Int, Text}
 use Rattle.sqlite_value.specs.Order.{Row, column, bytes}
 use Rattle.sqlite_trees.specs.Tree.{rowid}
-use Rattle.sqlite_sql.specs.Term.{Term, lit, col, op2, holds}
+use Rattle.sqlite_sql.specs.Term.{eval_all, Term, lit, col, op2, holds}
 use Rattle.sqlite_sql.specs.declared.ops.BinaryOp.TheVariants.{Compare}
 use Rattle.sqlite_value.specs.declared.keys.Collation.TheVariants.{Binary}
 use Rattle.sqlite_sql.specs.declared.ops.CompareOp.TheVariants.{Eq}
 use Rattle.sqlite_schema.specs.declared.command.Command.TheVariants.{Select}
+use Rattle.sqlite.specs.Effect.{Database}
 use Rattle.sqlite.specs.Listing.{understood}
 use Rattle.sqlite.specs.State.{State, Shown}
 use Rattle.sqlite.proofs.Callers.{IsPlain, command_of}
@@ -38,6 +39,7 @@ use Rattle.index_schema.specs.Index.{is_version, version_in}
 use Rattle.index_schema.proofs.EditLemmas.{Differ}
 use Rattle.index_schema.proofs.KeyLemmas.{passing}
 use Rattle.index_schema.proofs.TypedLemmas.{as_text, first_part, second_part}
+use Rattle.index_schema.proofs.LookupLemmas.{first_shown}
 use Rattle.index_schema.proofs.WriteLemmas.{answered}
 use Rattle.index_schema.specs.StatementTexts.{select_version_text}
 
@@ -48,9 +50,9 @@ compiled : command_of (understood index_schema select_version_text) ≡ Select (
 unfolding understood everything
 compiled = refl
 
-pub plain : IsPlain (understood index_schema select_version_text)
+pub is_plain : IsPlain (understood index_schema select_version_text)
 unfolding understood everything
-plain = (refl, refl)
+is_plain = (refl, refl)
 
 unlisted : reads_listing index_schema select_version_text ≡ false
 unfolding understood everything
@@ -69,7 +71,7 @@ kind_text (a ∷ b ∷ c ∷ r) h none = as_text c (first_part _ _ (second_part 
 meta_row : (r : Row) → (are_typed (Some 0) 0 (meta_at 0).columns (drop 1 r) && has_computed (meta_at 0) r) ≡ true → are_present (Some 0) 0 (meta_at 0).columns r ≡ true → IsText 2 r
 meta_row r typed present = kind_text r (first_part _ _ typed) (absent (is_null (column r 2)) (first_part _ _ present))
 
-kind_texts : (db : Rattle.sqlite.specs.Effect.Database) (h : IsIndex db) → AllByRecursion (IsText 2) (db.trees 0)
+kind_texts : (db : Database) (h : IsIndex db) → AllByRecursion (IsText 2) (db.trees 0)
 kind_texts db h = all_both _ _ (IsText 2) meta_row (db.trees 0) (passing 0 (meta_at 0) refl db h Datatype) (passing 0 (meta_at 0) refl db h NotNull)
 
 tested : (r : Row) → IsText 2 r → IsWhole r → list_all (holds ([] ∷ r ∷ [])) tests ≡ is_version r
@@ -88,24 +90,15 @@ other a b apart here = go (int_eq (rowid_in b) (pos 1)) refl
         let same : int_eq (rowid_in a) (rowid_in b) ≡ true = grind (arith, ints) in
         absurd (true≢false (sym same ∙ apart))
 
-option-map-map : {A B C : Type 0} (g : B → C) (f : A → B) (o : Option A) → option_map g (option_map f o) ≡ option_map (λ a. g (f a)) o
-option-map-map g f None = refl
-option-map-map g f (Some a) = refl
-
-first-map : {A B : Type 0} (f : A → B) (xs : List A) → slice_get (map f xs) 0 ≡ option_map f (slice_get xs 0)
-first-map f [] = refl
-first-map f (x ∷ xs) = refl
-
 -- the first row of the answer has the version
 pub selects : (old new : State) (rows : List Row) → IsIndex old.now → Shown select_version_text [] old new rows → option_map (λ r. number_in (column r 0)) (slice_get rows 0) ≡ version_in old.now.trees
 selects old new rows h shown =
     let db = old.now.trees in
-    let it = reads_as select_version_text [] old new index_schema h.schema _ compiled plain unlisted rows shown in
+    let it = reads_as select_version_text [] old new index_schema h.schema _ compiled is_plain unlisted rows shown in
     let are = are_rows 0 (meta_at 0) refl old.now h in
     let same = all_both (IsText 2) IsWhole (λ r. list_all (holds ([] ∷ r ∷ [])) tests ≡ is_version r) tested (db 0) (kind_texts old.now h) are.1 in
     let found = answered 0 (meta_at 0) refl (λ d. refl) [] tests (col 1 3 ∷ []) is_version db rows same (it.answer Null) in
     let short = one_passes Differ is_version (db 0) other are.0 in
-    ap (λ l. option_map (λ r. number_in (column r 0)) (slice_get l 0)) found.2
-    ∙ ap (option_map (λ r. number_in (column r 0))) (first-map _ found.0) ∙ option-map-map (λ r. number_in (column r 0)) _ (slice_get found.0 0)
+    first_shown (λ r. number_in (column r 0)) (λ r. number_in (column r 3)) (λ r. eval_all (col 1 3 ∷ []) ([] ∷ r ∷ [])) (λ r. refl) found.0 rows found.2
     ∙ ap (λ l. option_map (λ r. number_in (column r 3)) (slice_get l 0)) (short_permutation _ found.0 short found.1)
     ∙ ap (option_map (λ r. number_in (column r 3))) (slice_get-filter is_version (db 0))

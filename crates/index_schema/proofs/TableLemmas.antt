@@ -1,5 +1,5 @@
 -- The key of each table: one text or two.
-use Rattle.std.proofs.Common.{◌≡◌, ℕ, ◌&&◌, ◌||◌, Bool, true, false, cond, [], ◌∷◌, slice_get, refl, sym, ap₂, ◌∙◌, ℤ}
+use Rattle.std.proofs.Common.{◌≡◌, ℕ, ◌&&◌, Bool, true, false, cond, [], ◌∷◌, slice_get, refl, sym, ap₂, ◌∙◌, ℤ}
 use Rattle.std.specs.Prelude.{bytes_eq}
 use Rattle.std.specs.List.{AllByRecursion, list_all}
 use Rattle.std.specs.Ordering.{eq_by_cmp}
@@ -25,7 +25,7 @@ use Rattle.sqlite.specs.Values.{or_null}
 use Rattle.std.proofs.Common.{Option, Some, None}
 use Rattle.sqlite_keyed.proofs.ListLemmas.{all_both}
 use Rattle.sqlite_typed.proofs.TestLemmas.{last_term}
-use Rattle.index_rules.specs.Maps.{Bytes, bytes_cmp, pair_cmp}
+use Rattle.index_rules.specs.Maps.{Bytes, same, bytes_cmp, pair_cmp}
 use Rattle.index_rules.proofs.OwnerLists.{same_pair, pair_total}
 use Rattle.std.proofs.lemmas.Cmp.{nat_list_cmp_total}
 use Rattle.index_schema.specs.Records.{text_key, pair_key}
@@ -39,6 +39,9 @@ use Rattle.index_schema.proofs.KeyLemmas.{IsText, IsPair, texts, texts_apart, pa
 pub is_key : (q k : Bytes) → bytes_eq k q ≡ eq_by_cmp bytes_cmp q k
 is_key q k = sym (is_eq-slice_cmp k q) ∙ (eq_by_cmp_equiv nat_list_cmp_total).symm k q
 
+pub same-turned : (a b : Bytes) → same a b ≡ same b a
+same-turned a b = is_key b a ∙ is_eq-slice_cmp b a
+
 pub key_test : (params : Row) (param : ℕ) (q : Bytes) (r : Row) → column params param ≡ Text q → IsText 1 r
     → list_all (holds (params ∷ r ∷ [])) (is_param 1 param ∷ []) ≡ eq_by_cmp bytes_cmp q (text_key r)
 key_test params param q r given is = last_term (text_test params 1 param r q given is ∙ is_key q (text_key r))
@@ -51,10 +54,6 @@ pub pair_key_test : (params : Row) (first second : ℕ) (q : Bytes × Bytes) (r 
     → list_all (holds (params ∷ r ∷ [])) (is_param 1 first ∷ is_param 2 second ∷ []) ≡ eq_by_cmp pair_cmp q (pair_key r)
 pair_key_test params first second q r one two is =
     ap₂ (λ a b. a && b) (text_test params 1 first r q.0 one is.0) (last_term (text_test params 2 second r q.1 two is.1)) ∙ is_pair_key q.0 q.1 (pair_key r)
-
-pub or_false : (b : Bool) → (b || false) ≡ b
-or_false true = refl
-or_false false = refl
 
 -- ---- casts
 

@@ -31,6 +31,13 @@ as_text (Real x) h none = absurd (true≢false (sym h))
 as_text (Text t) h none = refl
 as_text (Blob b) h none = absurd (true≢false (sym h))
 
+pub as_blob : (v : Value) → is_of kind.Blob v ≡ true → is_null v ≡ false → v ≡ Blob (bytes v)
+as_blob Null h none = absurd (true≢false none)
+as_blob (Int n) h none = absurd (true≢false (sym h))
+as_blob (Real x) h none = absurd (true≢false (sym h))
+as_blob (Text t) h none = absurd (true≢false (sym h))
+as_blob (Blob b) h none = refl
+
 never_null : (needed null : Bool) → (false || not needed || not null) ≡ true → needed ≡ true → null ≡ false
 never_null true true h e = absurd (true≢false (sym h))
 never_null true false h e = refl

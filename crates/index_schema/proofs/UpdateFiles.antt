@@ -50,9 +50,9 @@ compiled : command_of (understood index_schema update_files_text) ≡ Update 4 (
 unfolding understood everything
 compiled = refl
 
-plain : IsPlain (understood index_schema update_files_text)
+is_plain : IsPlain (understood index_schema update_files_text)
 unfolding understood everything
-plain = (refl, refl)
+is_plain = (refl, refl)
 
 -- the row of a deleted file
 abbrev pub deleted_row : Row → Row
@@ -106,7 +106,7 @@ module _ (name : Bytes) where
       let all = all_both _ _ IsFileRow (λ r t n. record { id = n.0; file = t.0.0; name = t.0.1; release = t.1.0; size = n.1; requires = t.1.1 }) rs texts_all numbers in
       let tests = all_weaker (IsText 2) (λ r. list_all (holds ((Text name ∷ []) ∷ r ∷ [])) (is_param 2 0 ∷ []) ≡ of_name r) tested rs names in
       let casts = all-filter (λ r. cast_row (files_at 8) (eval_all project ((Text name ∷ []) ∷ r ∷ [])) ≡ deleted_row r) of_name rs (all_weaker IsFileRow (λ r. cast_row (files_at 8) (eval_all project ((Text name ∷ []) ∷ r ∷ [])) ≡ deleted_row r) becomes rs all) in
-      let it = updates_rows 4 (files_at 8) refl (λ db. refl) update_files_text (Text name ∷ []) plain old new count h (is_param 2 0 ∷ []) project of_name deleted_row compiled (no_works rs) casts tests ran in
+      let it = updates_rows 4 (files_at 8) refl (λ db. refl) update_files_text (Text name ∷ []) is_plain old new count h (is_param 2 0 ∷ []) project of_name deleted_row compiled (no_works rs) casts tests ran in
       let order = IsPermutation-trans _ _ _ (IsPermutation-sym _ _ it.0) (split_update of_name deleted_row rs) in
       let is =
       same_rows nat_list_cmp_total exact_bytes text_key file_in (new.now.trees 8) (update_where of_name deleted_row rs) (files_keyed.apart new.now it.1.1) order

@@ -76,6 +76,10 @@ select_version_text = codes "SELECT version FROM meta WHERE id = 1 AND kind = 'p
 abbrev pub select_user_text : List ℕ
 select_user_text = codes "SELECT rowid, * FROM users WHERE user = ?1"
 
+-- who bears a token with this digest
+abbrev pub select_bearer_text : List ℕ
+select_bearer_text = codes "SELECT rowid, * FROM users WHERE token = ?1"
+
 abbrev pub select_name_text : List ℕ
 select_name_text = codes "SELECT rowid, * FROM names WHERE name = ?1"
 
