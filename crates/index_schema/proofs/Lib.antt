@@ -8,6 +8,7 @@ pub mod StayLemmas
 pub mod EditLemmas
 pub mod KeyLemmas
 pub mod WriteLemmas
+pub mod NumberLemmas
 pub mod KeyedLemmas
 pub mod TableLemmas
 pub mod AfterLemmas
@@ -41,8 +42,11 @@ pub mod BearerLemmas
 pub mod SelectBearer
 pub mod SelectName
 pub mod SelectFile
+pub mod SelectRelease
 pub mod SelectBody
 pub mod SelectYank
 pub mod SelectCase
 pub mod SelectBan
 pub mod SelectOwners
+pub mod SelectNames
+pub mod SelectFiles

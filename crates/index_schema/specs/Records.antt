@@ -1,7 +1,7 @@
 -- What the rows of the tables stand for, column by column. A row that is no record stands for one all the same.
 use Rattle.std.specs.Prelude.{ℕ, pos, ◌==◌, if◌then◌else◌, Option, Some, None}
 use Rattle.sqlite_value.specs.declared.value.Value.{Value}
-use Rattle.sqlite_value.specs.declared.value.Value.TheVariants.{Int}
+use Rattle.sqlite_value.specs.declared.value.Value.TheVariants.{Null, Int}
 use Rattle.sqlite_value.specs.Order.{Row, column, bytes}
 use Rattle.sqlite_trees.specs.Tree.{Trees}
 use Rattle.index_retention.specs.Attempts.{Tally}
@@ -28,6 +28,11 @@ number_in _ = 0
 abbrev pub number_if_any : Value → Option ℕ
 number_if_any (Int (pos n)) = Some n
 number_if_any _ = None
+
+-- a text, or none where there is NULL
+abbrev pub text_if_any : Value → Option Bytes
+text_if_any Null = None
+text_if_any v = Some (bytes v)
 
 -- ---- keys
 

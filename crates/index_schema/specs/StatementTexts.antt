@@ -86,6 +86,10 @@ select_name_text = codes "SELECT rowid, * FROM names WHERE name = ?1"
 abbrev pub select_file_text : List ℕ
 select_file_text = codes "SELECT rowid, * FROM files WHERE file = ?1"
 
+-- the undeleted files of a release
+abbrev pub select_release_text : List ℕ
+select_release_text = codes "SELECT rowid FROM files WHERE live = 1 AND name = ?1 AND rel = ?2"
+
 abbrev pub select_body_text : List ℕ
 select_body_text = codes "SELECT rowid, * FROM blobs WHERE file = ?1"
 
@@ -101,3 +105,15 @@ select_ban_text = codes "SELECT rowid, * FROM bans WHERE file = ?1"
 -- the owners of a name, in byte order
 abbrev pub select_owners_text : List ℕ
 select_owners_text = codes "SELECT user FROM owners WHERE name = ?1 ORDER BY user"
+
+-- the held names and the prohibited ones, in byte order
+abbrev pub select_names_text : List ℕ
+select_names_text = codes "SELECT rowid, * FROM names ORDER BY name"
+
+-- the held names, in byte order
+abbrev pub select_held_text : List ℕ
+select_held_text = codes "SELECT rowid, * FROM names WHERE state <> 2 ORDER BY name"
+
+-- the undeleted files of a name with the reasons of their yanks, in byte order
+abbrev pub select_files_text : List ℕ
+select_files_text = codes "SELECT files.rowid, files.*, yanks.reason FROM files LEFT JOIN yanks ON yanks.name = files.name AND yanks.rel = files.rel WHERE files.live = 1 AND files.name = ?1 ORDER BY files.file"
