@@ -91,12 +91,14 @@ users_at tree = record {
 abbrev pub charge_check : Term
 charge_check = op2 And (op2 (Compare Ge Binary) (col 1 5) (lit (Int (pos 0)))) (op2 (Compare Le Binary) (col 1 5) (col 1 4))
 
+-- found by the name
 abbrev pub names_at : ℕ → Table
 names_at tree =
     record (keyed (codes "names") tree
     (needed (codes "name") Text ∷ needed (codes "state") Integer ∷ needed (codes "shown") Text ∷ needed (codes "quota") Integer ∷ needed (codes "charged") Integer ∷ needed (codes "live") Integer ∷ optional (codes "last_upload") Integer ∷ [])
     (1 ∷ []) []) { checks = charge_check ∷ [] }
 
+-- found by the name and the user
 abbrev pub owners_at : ℕ → Table
 owners_at tree =
     keyed (codes "owners") tree (needed (codes "name") Text ∷ needed (codes "user") Text ∷ []) (1 ∷ 2 ∷ [])
@@ -109,14 +111,17 @@ files_at tree =
     (needed (codes "file") Text ∷ needed (codes "name") Text ∷ needed (codes "rel") Text ∷ needed (codes "digest") Blob ∷ needed (codes "size") Integer ∷ needed (codes "requires") Text ∷ needed (codes "live") Integer ∷ [])
     (1 ∷ []) []) { uniques = (1 ∷ []) ∷ (2 ∷ 1 ∷ []) ∷ []; orders = plain ∷ plain ∷ [] }
 
+-- found by the file
 abbrev pub blobs_at : ℕ → Table
 blobs_at tree = keyed (codes "blobs") tree (needed (codes "file") Text ∷ needed (codes "body") Blob ∷ []) (1 ∷ []) (refers_to 1 (codes "files") (codes "file") ∷ [])
 
+-- found by the name and the release
 abbrev pub yanks_at : ℕ → Table
 yanks_at tree =
     keyed (codes "yanks") tree (needed (codes "name") Text ∷ needed (codes "rel") Text ∷ needed (codes "reason") Text ∷ []) (1 ∷ 2 ∷ [])
     (cascades_to 1 (codes "names") (codes "name") ∷ [])
 
+-- found by the name
 abbrev pub cases_at : ℕ → Table
 cases_at tree =
     keyed (codes "cases") tree
@@ -124,9 +129,11 @@ cases_at tree =
     ∷ needed (codes "attempts") Integer ∷ needed (codes "sent") Integer ∷ needed (codes "profile") Integer ∷ needed (codes "author") Integer ∷ needed (codes "pages") Integer ∷ optional (codes "first_sent") Integer ∷ [])
     (1 ∷ []) (cascades_to 1 (codes "names") (codes "name") ∷ refers_to 3 (codes "users") (codes "user") ∷ [])
 
+-- found by the file
 abbrev pub bans_at : ℕ → Table
 bans_at tree = keyed (codes "bans") tree (needed (codes "file") Text ∷ []) (1 ∷ []) (refers_to 1 (codes "files") (codes "file") ∷ [])
 
+-- the schema of a new database
 abbrev pub no_schema : Schema
 no_schema = record { tables = []; indexes = []; views = [] }
 
