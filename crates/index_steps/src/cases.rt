@@ -8,12 +8,16 @@ use index_retention::CaseKind;
 use index_rules::CaseRecord;
 use sqlite::{Alter, Error, Transaction, params};
 
-/// The numbers of a case as SQL holds them.
+/// What a case has beside its texts, as SQL holds it.
 #[derive(Clone, Copy)]
 struct CaseNumbers {
+    kind: i64,
     opened: i64,
     attempts: i64,
     sent: i64,
+    profile: bool,
+    author: bool,
+    pages: bool,
     first: Option<i64>,
 }
 
@@ -29,13 +33,12 @@ pub fn put_case<S: Alter>(
     ensures kept { Keeps S.Store tx.old.conn.now tx.new.conn.now }
     ensures survives { LeavesNothing S.Store tx.old.conn.now tx.new.conn.now }
 {
-    let state = &case.state;
     let numbers = numbers_of(case)?;
     tx.execute(
         "INSERT INTO cases (name, kind, candidate, contact, work, why, opened, attempts, sent, profile, author, pages, first_sent) VALUES (?1, ?2, ?3, ?4, ?5, ?6, ?7, ?8, ?9, ?10, ?11, ?12, ?13) ON CONFLICT (name) DO UPDATE SET kind = excluded.kind, candidate = excluded.candidate, contact = excluded.contact, work = excluded.work, why = excluded.why, opened = excluded.opened, attempts = excluded.attempts, sent = excluded.sent, profile = excluded.profile, author = excluded.author, pages = excluded.pages, first_sent = excluded.first_sent",
         params![
             name,
-            number_of(case.kind),
+            numbers.kind,
             case.candidate.text(),
             case.contact.as_str(),
             case.work.as_str(),
@@ -43,21 +46,25 @@ pub fn put_case<S: Alter>(
             numbers.opened,
             numbers.attempts,
             numbers.sent,
-            state.profile(),
-            state.author(),
-            state.pages(),
+            numbers.profile,
+            numbers.author,
+            numbers.pages,
             numbers.first
         ],
     )?;
     Ok(())
 }
 
-/// The numbers of a case. `IntegralValueOutOfRange` where one is more than SQL can hold.
+/// What a case has beside its texts. `IntegralValueOutOfRange` where one is more than SQL can hold.
 fn numbers_of(case: &CaseRecord) -> Result<CaseNumbers, Error>
     ensures { IfOk result (λ it. it ≡ record {
+      kind = kind_number case.now.kind;
       opened = pos case.now.opened;
       attempts = pos case.now.state.attempts;
       sent = pos case.now.state.sent;
+      profile = case.now.state.profile;
+      author = case.now.state.author;
+      pages = case.now.state.pages;
       first = option_map pos case.now.state.first;
     }) }
 {
@@ -67,9 +74,13 @@ fn numbers_of(case: &CaseRecord) -> Result<CaseNumbers, Error>
     let sent = whole(state.sent())?;
     let first = whole_if_any(state.first())?;
     Ok(CaseNumbers {
+        kind: number_of(case.kind),
         opened,
         attempts,
         sent,
+        profile: state.profile(),
+        author: state.author(),
+        pages: state.pages(),
         first,
     })
 }
