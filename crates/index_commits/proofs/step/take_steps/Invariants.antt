@@ -1,0 +1,18 @@
+use Rattle.std.proofs.Common.{◌≡◌, drop}
+use Rattle.sqlite.specs.Held.{state}
+use Rattle.sqlite.specs.State.{HasCleanDisk, KeepsCommit, Survives}
+use Rattle.index_steps.specs.Inside.{IsReady}
+use Rattle.index_schema.specs.Records.{tables_in}
+use Rattle.index_commits.specs.Changed.{all_of}
+use Rattle.index_commits.proofs.step.take_steps.Given as goal
+
+abbrev pub invariant-loop-step : goal.invariant-loop-step
+invariant-loop-step g l =
+    let first = state g.S.Store l.fn.tx.conn.now in
+    let now = state g.S.Store l.tx.conn.now in
+    record {
+      same : l.tx.conn.ghost_name ≡ l.fn.tx.conn.ghost_name;
+      made : HasCleanDisk now → IsReady first → IsReady now × (all_of (drop l.step-index l.steps) (tables_in now.now.trees) ≡ all_of l.steps (tables_in first.now.trees)) × (now.committed ≡ first.committed);
+      kept : HasCleanDisk now → KeepsCommit first now;
+      survives : Survives first now (λ _. ⊥);
+    }

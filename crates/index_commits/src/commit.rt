@@ -1,0 +1,32 @@
+//! A change of the tables in one transaction.
+ghost use Rattle.std.specs.Prelude.{◌≡◌, false, IsTrue, OnOk, OnErr};
+ghost use Rattle.sqlite.specs.Held.{state};
+ghost use Rattle.sqlite.specs.State.{HasCleanDisk};
+ghost use Rattle.index_schema.specs.Index.{IsIndex};
+ghost use Rattle.index_commits.specs.Changed.{all_of, IsMade, IsUndone, LeavesAll};
+
+use crate::step::{Step, take_steps};
+use sqlite::{Alter, Connection, Error};
+
+/// Takes the steps in a transaction and commits it. After an error the tables are what was committed before, and a crash
+/// leaves that, or what all steps make of it.
+pub fn commit_steps<S: Alter>(conn: &mut Connection<S>, steps: &[Step<'_>]) -> Result<(), Error>
+    requires { conn.old.in_transaction ≡ false }
+    ensures made { HasCleanDisk (state S.Store conn.new)
+        → OnOk result (IsTrue (state S.Store conn.old).is_open → IsIndex (state S.Store conn.old).now
+        → IsMade (all_of steps.now) (state S.Store conn.old) (state S.Store conn.new)) }
+    ensures unchanged { HasCleanDisk (state S.Store conn.new)
+        → IsTrue (state S.Store conn.new).is_open → IsIndex (state S.Store conn.old).now
+        → OnErr result (IsUndone (state S.Store conn.old) (state S.Store conn.new)) }
+    ensures ended { conn.new.in_transaction ≡ false }
+    ensures was_clean { HasCleanDisk (state S.Store conn.new) → HasCleanDisk (state S.Store conn.old) }
+    ensures was_open { HasCleanDisk (state S.Store conn.new) → IsTrue (state S.Store conn.new).is_open
+        → IsTrue (state S.Store conn.old).is_open }
+    ensures crash { IsTrue (state S.Store conn.old).is_open → IsIndex (state S.Store conn.old).now
+        → LeavesAll (all_of steps.now) (state S.Store conn.old) (state S.Store conn.new) }
+{
+    let mut tx = conn.transaction();
+    take_steps(&mut tx, steps)?;
+    tx.commit()?;
+    Ok(())
+}
