@@ -1,8 +1,6 @@
--- Steps in turn, and their end.
-use Rattle.std.proofs.Common.{◌≡◌, inl, inr, true, List, ◌∷◌, sym, ap, ◌∙◌, IsTrue, true≢false}
-use Rattle.sqlite.specs.declared.error.Error.{Error}
+-- Steps in turn.
+use Rattle.std.proofs.Common.{◌≡◌, List, ◌∷◌, ap, ◌∙◌}
 use Rattle.sqlite.specs.State.{State, KeepsCommit}
-use Rattle.sqlite.specs.Steps.{FailsToCommit}
 use Rattle.index_schema.specs.Records.{tables_in}
 use Rattle.index_steps.specs.Inside.{IsReady, Makes}
 use Rattle.index_commits.specs.declared.step.Step.{Step}
@@ -16,8 +14,3 @@ pub one_more : (first mid last : State) (step : Step) (rest all : List Step)
     → IsReady mid × (all_of (step ∷ rest) (tables_in mid.now.trees) ≡ all_of all (tables_in first.now.trees)) × (mid.committed ≡ first.committed)
     → Makes (step_by step) mid last → IsReady last × (all_of rest (tables_in last.now.trees) ≡ all_of all (tables_in first.now.trees)) × (last.committed ≡ first.committed)
 one_more first mid last step rest all before made = (made.ready, ap (all_of rest) made.tables ∙ before.1, made.committed ∙ before.2)
-
--- a commit that failed took the transaction back
-pub commit_undone : (mid new : State) (e : Error) → FailsToCommit mid new e → mid.in_transaction ≡ true → IsTrue new.is_open → (new.now ≡ mid.committed) × (new.committed ≡ mid.committed)
-commit_undone mid new e (inl (cause, is, why, back, told)) inside is_open = back.undone is_open
-commit_undone mid new e (inr (is, outside, same)) inside is_open = absurd (true≢false (sym inside ∙ outside))
