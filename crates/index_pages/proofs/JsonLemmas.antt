@@ -13,7 +13,7 @@ use Rattle.index_rules.specs.Maps.{Bytes}
 use Rattle.index_rules.specs.declared.rows.FileRow.{FileRow}
 use Rattle.index_rules.specs.declared.rows.NameRow.{NameRow}
 use Rattle.index_pages.specs.Json.{file_data, hashes, names_of, project_json, reason_data, root_json, url_of, yanked_member}
-use Rattle.index_pages.specs.Parts.{file_text, files_bottom, files_top, json_rest, json_text, later_member, name_text, names_top, once, releases_text, requires_text, yanked_text}
+use Rattle.index_pages.specs.Parts.{file_front, file_text, files_bottom, files_top, json_rest, json_text, later_member, name_text, names_top, once, releases_text, requires_text, yanked_text}
 use Rattle.index_pages.specs.Versions.{with_release}
 use Rattle.index_pages.proofs.EscapeLemmas.{digest-plain, escape-plain}
 
@@ -33,13 +33,17 @@ file_by false file requires hashed size url (Some reason) = refl
 
 -- a file, member by member
 pub file-members : (project : Bytes) (row : FileRow)
-    → codes "{\"filename\":" ++ (json_text row.file ++ (later_member (codes "hashes") (hashes row.digest)
-    ++ (requires_text row.requires_python ++ (later_member (codes "size") (number (unsigned row.size))
-    ++ (later_member (codes "url") (string (url_of project row.file)) ++ (yanked_text row.yanked ++ codes "}"))))))
+    → file_front row ++ (later_member (codes "size") (number (unsigned row.size))
+    ++ (later_member (codes "url") (string (url_of project row.file)) ++ (yanked_text row.yanked ++ codes "}")))
     ≡ file_text project row
 unfolding file_text file_data
 file-members project row =
-    sym (file_by (length row.requires_python == 0) row.file row.requires_python (hashes row.digest) (number (unsigned row.size)) (string (url_of project row.file)) row.yanked)
+    let hashed = later_member (codes "hashes") (hashes row.digest) in
+    let requires = requires_text row.requires_python in
+    let url = later_member (codes "url") (string (url_of project row.file)) in
+    let last = later_member (codes "size") (number (unsigned row.size)) ++ (url ++ (yanked_text row.yanked ++ codes "}")) in
+    ap (λ x. codes "{\"filename\":" ++ x) (append_assoc (json_text row.file) (hashed ++ requires) last ∙ ap (λ x. json_text row.file ++ x) (append_assoc hashed requires last))
+    ∙ sym (file_by (length row.requires_python == 0) row.file row.requires_python (hashes row.digest) (number (unsigned row.size)) (string (url_of project row.file)) row.yanked)
 
 -- the digits of a digest are no bytes to escape
 pub hashes-text : (digest text : Bytes) → text ≡ text_of digest → read_digest text ≡ Some digest

@@ -11,7 +11,7 @@ use Rattle.index_rules.specs.declared.records.NameRecord.TheVariants.{Held, Proh
 use Rattle.index_rules.specs.declared.rows.FileRow.{FileRow}
 use Rattle.index_rules.specs.declared.rows.NameRow.{NameRow}
 use Rattle.index_pages.specs.Html.{bottom, file_anchor, name_anchor, project_top, root_top}
-use Rattle.index_pages.specs.Json.{file_data, name_data, reason_data}
+use Rattle.index_pages.specs.Json.{file_data, hashes, name_data, reason_data}
 use Rattle.index_pages.specs.Versions.{with_releases}
 
 -- a text that stands before the first row
@@ -39,6 +39,10 @@ later_member key value = 44 ∷ (quoted key ++ 58 ∷ compact_text value)
 -- the member of the Python versions, left out where nothing was declared
 abbrev pub requires_text : Bytes → Bytes
 requires_text requires = if length requires == 0 then [] else later_member (codes "requires-python") (string requires)
+
+-- a file up to its size
+abbrev pub file_front : FileRow → Bytes
+file_front row = codes "{\"filename\":" ++ (json_text row.file ++ (later_member (codes "hashes") (hashes row.digest) ++ requires_text row.requires_python))
 
 -- the member of the reason, left out where the file is not yanked
 abbrev pub yanked_text : Option Bytes → Bytes

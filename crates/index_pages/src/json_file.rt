@@ -3,7 +3,7 @@ ghost use Rattle.std.specs.Prelude.{codes, OnOk};
 ghost use Rattle.serde_json.specs.Data.{number, string, unsigned};
 ghost use Rattle.serde_json.specs.Written.{comma_if, compact_text};
 ghost use Rattle.index_pages.specs.Json.{hashes, reason_data, url_of};
-ghost use Rattle.index_pages.specs.Parts.{file_text, later_member, requires_text, yanked_text};
+ghost use Rattle.index_pages.specs.Parts.{file_front, file_text, later_member, requires_text, yanked_text};
 ghost use Rattle.index_pages.specs.Pieces.{Adds};
 
 use crate::bytes::append;
@@ -33,14 +33,22 @@ pub fn append_json_file<O: Pieces>(
 ) -> Result<(), AllocError>
     ensures { OnOk result (Adds O.holds out.old out.new (file_text project.now row.now)) }
 {
-    out.put(b"{\"filename\":")?;
-    append_json_text(out, row.file.text())?;
-    append_hashes(out, &row.digest)?;
-    append_requires(out, row.requires_python.as_str())?;
+    append_front(out, row)?;
     append_size(out, row.size)?;
     append_url(out, project, row.file.text())?;
     append_yanked(out, &row.yanked)?;
     out.put(b"}")?;
+    Ok(())
+}
+
+/// A file up to its size.
+fn append_front<O: Pieces>(out: &mut O, row: &FileRow) -> Result<(), AllocError>
+    ensures { OnOk result (Adds O.holds out.old out.new (file_front row.now)) }
+{
+    out.put(b"{\"filename\":")?;
+    append_json_text(out, row.file.text())?;
+    append_hashes(out, &row.digest)?;
+    append_requires(out, row.requires_python.as_str())?;
     Ok(())
 }
 
