@@ -87,7 +87,8 @@ fn take_put<S: Alter>(tx: &mut Transaction<'_, S>, put: Put<'_>) -> Result<(), E
 /// Takes out what goes.
 fn take_deletion<S: Alter>(tx: &mut Transaction<'_, S>, deletion: Deletion<'_>) -> Result<(), Error>
     ensures same_reference { tx.new.conn.ghost_name ≡ tx.old.conn.ghost_name }
-    ensures made { MakesIfOk S.Store (deletion_by deletion.entry) tx.old.conn.now tx.new.conn.now result }
+    ensures made { MakesIfOk S.Store (deletion_by deletion.entry)
+        tx.old.conn.now tx.new.conn.now result }
     ensures kept { Keeps S.Store tx.old.conn.now tx.new.conn.now }
     ensures survives { LeavesNothing S.Store tx.old.conn.now tx.new.conn.now }
 {

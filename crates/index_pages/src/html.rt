@@ -75,7 +75,8 @@ fn append_reference<O: Pieces>(
     file: &[u8],
     digest: &Digest256,
 ) -> Result<(), AllocError>
-    ensures { OnOk result (Adds O.holds out.old out.new (reference project.now file.now digest.now)) }
+    ensures { OnOk result
+        (Adds O.holds out.old out.new (reference project.now file.now digest.now)) }
 {
     let mut digits = [0u8; 64];
     digest.hex_into(&mut digits);
