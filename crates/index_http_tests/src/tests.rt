@@ -111,6 +111,24 @@ const CREATED: &str =
 /// Where she uploads it again.
 const ALREADY: &str = json_reply!("200 OK", "20", r#"{"answer":"already"}"#);
 
+/// What stands of `frob` with one file of three bytes.
+const CHARGED: [&str; 2] = [
+    look!("GET /names/frob"),
+    json_reply!(
+        "200 OK",
+        "104",
+        r#"{"case":null,"charge":3,"name":"frob","owners":["ann"],"quota":1073741824,"shown":"frob","state":"held"}"#
+    ),
+];
+
+/// The bytes of a file that are `abc`.
+const BYTES: &str = reply!(
+    "200 OK",
+    ["Content-Type: application/octet-stream"],
+    "3",
+    "abc"
+);
+
 /// Asks these exchanges in order of a new desk: each message as it is, and at another desk each one byte at a time.
 fn assert_exchanges(rt: &(impl Abort + AllocGlobal), parts: &[&[[&str; 2]]]) {
     let site = new_site(rt);

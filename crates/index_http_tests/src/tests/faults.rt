@@ -1,6 +1,9 @@
 //! Reads and writes that fail.
 use super::fakes::{FailingReader, FailingWriter, FullWriter};
-use super::{ALREADY, AT, CREATED, FILE, PUT, assert_part, assert_reply, desk_with_frob, new_site};
+use super::{
+    ALREADY, AT, BYTES, CHARGED, CREATED, FILE, PUT, assert_part, assert_reply, desk_with_frob,
+    new_site,
+};
 use index_desk::Desk;
 use index_http::{IoEnd, answer_one};
 use index_io::{Input, Output};
@@ -53,6 +56,26 @@ fn a_write_that_fails_leaves_the_upload(rt: HostRuntime) {
 fn a_write_that_takes_no_byte_leaves_the_upload(rt: HostRuntime) {
     assert_upload_cut(&rt, "", false);
     assert_upload_cut(&rt, "HTTP/1.1 2", false);
+}
+
+/// A wheel whose name has a plus sign, which is escaped in the path.
+const WHEEL: &str = put!("/files/frob/frob-1.0%2Bx-py3-none-any.whl" "X-Index-Token: abc");
+
+const WHEEL_STANDS: &[[&str; 2]] = &[
+    [WHEEL, ALREADY],
+    CHARGED,
+    [
+        look!("GET /files/frob/frob-1.0%2Bx-py3-none-any.whl"),
+        BYTES,
+    ],
+];
+
+#[test]
+fn a_write_that_fails_leaves_the_wheel(rt: HostRuntime) {
+    let site = new_site(&rt);
+    let mut desk = desk_with_frob(&rt, &site);
+    assert_cut(&rt, &site, &mut desk, WHEEL, "HTTP/1.1 2", true);
+    assert_part(&rt, &site, &mut desk, WHEEL_STANDS, usize::MAX);
 }
 
 /// After so many writes of the reply to an upload the next one fails, and the upload stands.

@@ -1,5 +1,5 @@
 //! Files that are uploaded, looked at and deleted.
-use super::{ALREADY, FILE, FROB, PUT, USERS, assert_exchanges};
+use super::{ALREADY, CHARGED, FILE, FROB, PUT, USERS, assert_exchanges};
 
 const NO_FILE: &str = json_reply!(
     "404 Not Found",
@@ -25,14 +25,7 @@ const UPLOADED: &[[&str; 2]] = &[
         ),
     ],
     [look!("GET /files/frob/frob-9.tar.gz"), NO_FILE],
-    [
-        look!("GET /names/frob"),
-        json_reply!(
-            "200 OK",
-            "104",
-            r#"{"case":null,"charge":3,"name":"frob","owners":["ann"],"quota":1073741824,"shown":"frob","state":"held"}"#
-        ),
-    ],
+    CHARGED,
 ];
 
 #[test]
