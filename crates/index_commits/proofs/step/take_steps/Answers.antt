@@ -1,7 +1,6 @@
-use Rattle.std.proofs.Common.{◌≡◌, ◌∷◌, drop, ◌+◌, rules, arith, ◌∙◌, subst, refl}
+use Rattle.std.proofs.Common.{◌≡◌, ◌∷◌, drop, ◌+◌, rules, arith, ◌∙◌, subst}
 use Rattle.std.proofs.Math.Seq.{drop-cons}
 use Rattle.sqlite.specs.Held.{state}
-use Rattle.sqlite.specs.State.{HasCleanDisk}
 use Rattle.sqlite.proofs.StateLemmas.{survives_then}
 use Rattle.index_commits.specs.Changed.{all_of}
 use Rattle.index_schema.specs.Records.{tables_in}
