@@ -20,4 +20,8 @@ user_fault_text user_fault.OutOfMemory = codes "out of memory"
 -- why no tables were opened
 abbrev pub open_fault_text : OpenFault → List ℕ
 open_fault_text open_fault.BadFirstUser = codes "BadFirstUser"
+open_fault_text open_fault.NotEmpty = codes "NotEmpty"
+open_fault_text open_fault.NotAnIndex = codes "NotAnIndex"
+open_fault_text open_fault.OtherVersion = codes "OtherVersion"
 open_fault_text open_fault.OutOfMemory = codes "OutOfMemory"
+open_fault_text open_fault.Store = codes "Store"

@@ -1,4 +1,4 @@
-//! The opening of a new index with its first user.
+//! The opening of an index, and the first user of a new one.
 ghost use Rattle.std.specs.Prelude.{◌≡◌, ◌⊎◌, ◌↔◌, IfOk, IfErr, IsErrOf};
 ghost use Rattle.index_rules.specs.FirstTables.{IsBadFirstUser, first_record};
 
@@ -14,7 +14,15 @@ use std::fmt;
 pub enum OpenFault {
     /// The bytes are no user id, or the digest is that of the empty text, which is no token.
     BadFirstUser,
+    /// A new index was asked for where there are tables of one.
+    NotEmpty,
+    /// What is there is no index.
+    NotAnIndex,
+    /// It is an index of a version that is not known here.
+    OtherVersion,
     OutOfMemory,
+    /// What keeps the tables failed, or has rows that are no records.
+    Store,
 }
 
 impl fmt::Display for OpenFault {
@@ -26,7 +34,11 @@ impl fmt::Display for OpenFault {
     fn fmt<W: fmt::Write>(&self, f: &mut fmt::Formatter<W>) -> fmt::Result {
         f.write_str(match self {
             OpenFault::BadFirstUser => "BadFirstUser",
+            OpenFault::NotEmpty => "NotEmpty",
+            OpenFault::NotAnIndex => "NotAnIndex",
+            OpenFault::OtherVersion => "OtherVersion",
             OpenFault::OutOfMemory => "OutOfMemory",
+            OpenFault::Store => "Store",
         })
     }
 }

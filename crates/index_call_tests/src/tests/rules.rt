@@ -127,10 +127,19 @@ fn faults_print_their_names(rt: HostRuntime) {
     let alloc = rt.alloc();
     assert_printed(&rt, Fault::OutOfMemory.to_string(alloc), "OutOfMemory");
     assert_printed(&rt, Fault::Store.to_string(alloc), "Store");
-    assert_printed(
-        &rt,
-        OpenFault::BadFirstUser.to_string(alloc),
-        "BadFirstUser",
-    );
-    assert_printed(&rt, OpenFault::OutOfMemory.to_string(alloc), "OutOfMemory");
+}
+
+#[test]
+fn reasons_not_to_open_print_their_names(rt: HostRuntime) {
+    let alloc = rt.alloc();
+    for (fault, name) in [
+        (OpenFault::BadFirstUser, "BadFirstUser"),
+        (OpenFault::NotEmpty, "NotEmpty"),
+        (OpenFault::NotAnIndex, "NotAnIndex"),
+        (OpenFault::OtherVersion, "OtherVersion"),
+        (OpenFault::OutOfMemory, "OutOfMemory"),
+        (OpenFault::Store, "Store"),
+    ] {
+        assert_printed(&rt, fault.to_string(alloc), name);
+    }
 }
