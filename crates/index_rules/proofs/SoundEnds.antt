@@ -17,7 +17,7 @@ use Rattle.index_rules.specs.Verdict.{held_project, is_held, is_undeleted}
 use Rattle.index_rules.specs.Effect.{as_deleted, as_deleted_of, is_file_of, without_name}
 use Rattle.index_rules.specs.Sound.{IsSound, IsRecordOf, IsBodyOf, undeleted_count_in}
 use Rattle.index_rules.proofs.KeyLemmas.{cases_same, get-kept, get-change_values, get-without_name, get-without_name_other}
-use Rattle.index_rules.proofs.PutLemmas.{other-sym, get-put_here, get-put_other, get-without_here, get-without_other, each_without, each_changed}
+use Rattle.index_rules.proofs.PutLemmas.{other-sym, get-put_here, get-put_other, get-without_here, get-without_other, each_changed}
 use Rattle.index_rules.proofs.FileTotals.{total-delete_all, none_undeleted}
 
 -- ---- a name that ends

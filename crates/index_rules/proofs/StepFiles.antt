@@ -9,7 +9,7 @@ use Rattle.index_digest.specs.Digest.{read_digest}
 use Rattle.index_rules.specs.declared.answer.Refusal.TheVariants.{BadDigest, BadFileName, BadName, FileNameTaken, NoFile}
 use Rattle.index_rules.specs.declared.call.Call.{Call}
 use Rattle.index_rules.specs.declared.call.Request.{Request}
-use Rattle.index_rules.specs.declared.call.Request.TheVariants.{AddUser, SetToken, SetQuota, Claim, AddOwner, RemoveOwner, Upload, Delete, BanFile, Yank, Unyank, Relinquish, Prohibit, Allow, OpenCase, RecordAttempt, Transfer, CloseCase, AnswerCase}
+use Rattle.index_rules.specs.declared.call.Request.TheVariants.{Upload, Delete, BanFile, Prohibit}
 use Rattle.index_rules.specs.declared.records.FileRecord.{FileRecord}
 use Rattle.index_rules.specs.Maps.{Bytes, same}
 use Rattle.index_rules.specs.Tables.{Tables}

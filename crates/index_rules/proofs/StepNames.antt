@@ -8,7 +8,7 @@ use Rattle.index_names.specs.FileName.{project_of}
 use Rattle.index_rules.specs.declared.answer.Refusal.TheVariants.{BadFileName, BadName, NoProject}
 use Rattle.index_rules.specs.declared.call.Call.{Call}
 use Rattle.index_rules.specs.declared.call.Request.{Request}
-use Rattle.index_rules.specs.declared.call.Request.TheVariants.{AddUser, SetToken, SetQuota, Claim, AddOwner, RemoveOwner, Upload, Delete, BanFile, Yank, Unyank, Relinquish, Prohibit, Allow, OpenCase, RecordAttempt, Transfer, CloseCase, AnswerCase}
+use Rattle.index_rules.specs.declared.call.Request.TheVariants.{SetQuota, Claim, Upload, Delete, BanFile, Relinquish, Prohibit, Allow}
 use Rattle.index_rules.specs.declared.records.NameRecord.{NameRecord}
 use Rattle.index_rules.specs.declared.records.NameRecord.TheVariants as name_record
 use Rattle.index_rules.specs.Projects.{Project, first_quota}

@@ -7,12 +7,12 @@ use Rattle.index_names.specs.Release.{read_release}
 use Rattle.index_rules.specs.declared.answer.Refusal.TheVariants.{BadName, BadRelease, BadUser, NoCase, NoProject}
 use Rattle.index_rules.specs.declared.call.Call.{Call}
 use Rattle.index_rules.specs.declared.call.Request.{Request}
-use Rattle.index_rules.specs.declared.call.Request.TheVariants.{AddUser, SetToken, SetQuota, Claim, AddOwner, RemoveOwner, Upload, Delete, Yank, Unyank, Relinquish, Prohibit, Allow, OpenCase, RecordAttempt, Transfer, CloseCase, AnswerCase}
+use Rattle.index_rules.specs.declared.call.Request.TheVariants.{Claim, AddOwner, RemoveOwner, Yank, Unyank, Relinquish, Prohibit, Allow, Transfer}
 use Rattle.index_rules.specs.Maps.{Bytes, same}
 use Rattle.index_rules.specs.Users.{read_user}
 use Rattle.index_rules.specs.Tables.{Tables}
 use Rattle.index_rules.specs.Facts.{bearer_in, caller_of, facts_in, owns_in, yank_in}
-use Rattle.index_rules.specs.Verdict.{Accept, verdict_now, is_held, is_prohibited}
+use Rattle.index_rules.specs.Verdict.{Accept, verdict_now, is_held}
 use Rattle.index_rules.specs.Effect.{or_empty, no_case, without_name, tables_with_call}
 use Rattle.index_rules.specs.History.{History, more, is_read_as}
 use Rattle.index_rules.specs.PastNames.{State, Free, Held, Prohibited, state_after, is_held_now, is_given_after, owns_after, reason_after, yank_after}
@@ -22,7 +22,7 @@ use Rattle.index_rules.proofs.OwnerLists.{same-is}
 use Rattle.index_rules.proofs.KeyLemmas.{same-sym, same_truth, cases_same, has-put, has-without, has-cleared, get-put_pair, get-without_pair, get-without_name}
 use Rattle.index_rules.proofs.Accepted.{accepted}
 use Rattle.index_rules.proofs.PastReading.{read_key}
-use Rattle.index_rules.proofs.StepNames.{held_at, prohibited_at}
+use Rattle.index_rules.proofs.StepNames.{held_at}
 
 pub flip : (a b : Bytes) → same a b ≡ same b a
 flip a b = same_truth _ _ (same-sym a b) (same-sym b a)

@@ -3,7 +3,7 @@ use Rattle.std.proofs.Common.{◌≡◌, refl, sym, ap, ◌∙◌, subst, List, 
 use mathlib.Core.List.{append_assoc}
 use Rattle.index_rules.specs.declared.rows.WalkEnd.{WalkEnd}
 use Rattle.index_rules.specs.declared.rows.WalkEnd.TheVariants.{Stopped, OutOfMemory, Store}
-use Rattle.index_rules.specs.Rows.{Took, TookFront, StoppedAt, StoppedAmong}
+use Rattle.index_rules.specs.Rows.{Took, TookFront, StoppedAmong}
 use Rattle.index_rules.specs.Walks.{EndsEarly, Walks}
 
 module _ {K R : Type 0} (takes stops : K → R → K → Type 0) where

@@ -1,5 +1,5 @@
 -- Verdicts on a history, legal histories, and calls in a row.
-use Rattle.std.specs.Prelude.{◌≡◌, false, List, [], ◌∷◌, Some, option_map, option_and_then}
+use Rattle.std.specs.Prelude.{◌≡◌, false, List, Some, option_map, option_and_then}
 use Rattle.std.specs.Option.{option_map_or}
 use Rattle.index_rules.specs.declared.call.Call.{Call}
 use Rattle.index_rules.specs.declared.answer.Answer.{Answer}
