@@ -20,6 +20,7 @@ use Rattle.index_rules.specs.Maps.{Bytes, same}
 use Rattle.index_rules.specs.Facts.{IsBearer}
 use Rattle.index_schema.specs.Schema.{index_schema, users_at}
 use Rattle.index_schema.specs.Records.{text_key, user_in, tables_in}
+use Rattle.index_schema.specs.ShownRows.{account_in}
 use Rattle.index_schema.specs.Index.{IsIndex}
 use Rattle.index_schema.specs.StatementTexts.{select_bearer_text}
 use Rattle.index_schema.proofs.QueryShapes.{is_param}
@@ -36,10 +37,6 @@ project = col 1 0 ∷ col 1 1 ∷ col 1 2 ∷ col 1 3 ∷ []
 pub shown : Selects (users_at 1) select_bearer_text (is_param 3 0 ∷ []) project
 unfolding understood everything
 shown = record { names = codes "rowid" ∷ codes "user" ∷ codes "office" ∷ codes "token" ∷ []; compiled = refl; is_plain = (refl, refl); unlisted = refl }
-
--- a row of users, with its key
-abbrev pub account_in : Row → Bytes × UserRecord
-account_in r = (text_key r, user_in r)
 
 module _ (token : Bytes) where
   abbrev bears : Row → Bool

@@ -34,7 +34,8 @@ use Rattle.index_rules.proofs.OwnerLists.{pair_total, exact_pair}
 use Rattle.index_rows.proofs.EntryLemmas.{sorted_entries}
 use Rattle.index_rows.proofs.RowLemmas.{get-map_from}
 use Rattle.index_schema.specs.Schema.{index_schema, files_at, yanks_at}
-use Rattle.index_schema.specs.Records.{tables_in, text_key, pair_key, file_in, reason_in, number_in, text_if_any}
+use Rattle.index_schema.specs.Records.{tables_in, text_key, pair_key, file_in, reason_in, text_if_any}
+use Rattle.index_schema.specs.ShownRows.{file_row_shown}
 use Rattle.index_schema.specs.Index.{IsIndex}
 use Rattle.index_schema.specs.StatementTexts.{select_files_text}
 use Rattle.index_schema.proofs.QueryShapes.{plan, from_with, is_param}
@@ -74,17 +75,6 @@ is_plain = (refl, refl)
 unlisted : reads_listing index_schema select_files_text ≡ false
 unfolding understood everything
 unlisted = refl
-
--- a row of the answer: a row of files, and then the reason of its yank, or NULL
-abbrev pub file_row_shown : Row → FileRow
-file_row_shown r = record {
-  file = bytes (column r 1);
-  release = bytes (column r 3);
-  digest = bytes (column r 4);
-  size = number_in (column r 5);
-  requires_python = bytes (column r 6);
-  yanked = text_if_any (column r 8);
-}
 
 record IsRow (r : Row) : Type 0 where
   file : IsText 1 r

@@ -27,6 +27,7 @@ use Rattle.index_rules.specs.Verdict.{is_held}
 use Rattle.index_rows.proofs.EntryLemmas.{sorted_entries}
 use Rattle.index_schema.specs.Schema.{index_schema, names_at}
 use Rattle.index_schema.specs.Records.{tables_in, text_key, name_in, name_by, project_in, number_in}
+use Rattle.index_schema.specs.ShownRows.{name_row_in}
 use Rattle.index_schema.specs.Index.{IsIndex}
 use Rattle.index_schema.specs.StatementTexts.{select_names_text, select_held_text}
 use Rattle.index_schema.proofs.QueryShapes.{plan, from_one}
@@ -54,10 +55,6 @@ all_shown = record { compiled = refl; is_plain = (refl, refl); unlisted = refl }
 pub held_shown : Lists select_held_text (is_number Ne 2 2 ∷ [])
 unfolding understood everything
 held_shown = record { compiled = refl; is_plain = (refl, refl); unlisted = refl }
-
--- a row of names as it is handed on
-abbrev pub name_row_in : Row → NameRow
-name_row_in r = name_row (text_key r, name_in r)
 
 lists : (text : List ℕ) (tests : List Term) → Lists text tests → (passes : Bytes × NameRecord → Bool) (old new : State) (rows : List Row) → IsIndex old.now
     → AllByRecursion (λ r. list_all (holds ([] ∷ r ∷ [])) tests ≡ passes (text_key r, name_in r)) (old.now.trees 4)

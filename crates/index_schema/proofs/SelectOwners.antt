@@ -23,6 +23,7 @@ use Rattle.index_rules.proofs.OwnerLists.{pair_total, exact_pair, IsStrictlySort
 use Rattle.index_rows.proofs.EntryLemmas.{ascends, entries_permutation}
 use Rattle.index_schema.specs.Schema.{index_schema}
 use Rattle.index_schema.specs.Records.{tables_in, text_key, pair_key, nothing_in}
+use Rattle.index_schema.specs.ShownRows.{user_shown}
 use Rattle.index_schema.specs.Index.{IsIndex}
 use Rattle.index_schema.specs.StatementTexts.{select_owners_text}
 use Rattle.index_schema.proofs.QueryShapes.{plan, from_one, is_param}
@@ -41,10 +42,6 @@ is_plain = (refl, refl)
 unlisted : reads_listing index_schema select_owners_text ≡ false
 unfolding understood everything
 unlisted = refl
-
--- the user that a row of the answer shows
-abbrev pub user_shown : Row → Bytes
-user_shown r = bytes (column r 0)
 
 module _ (name : Bytes) where
   abbrev params : Row
