@@ -1,0 +1,11 @@
+-- What a change is of.
+use Rattle.std.specs.Prelude.{Bool, true, false}
+use Rattle.index_rules.specs.declared.change.Change.{Change}
+use Rattle.index_rules.specs.declared.change.Change.TheVariants.{Upload, Delete, BanFile}
+
+-- a change of a file
+abbrev pub is_of_file : Change → Bool
+is_of_file (Upload name project file known body) = true
+is_of_file (Delete name project file known) = true
+is_of_file (BanFile name project file known) = true
+is_of_file change = false

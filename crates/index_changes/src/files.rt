@@ -1,0 +1,97 @@
+//! Changes of files.
+ghost use Rattle.std.specs.Prelude.{◌≡◌, true};
+ghost use Rattle.index_commits.specs.Changed.{all_of};
+ghost use Rattle.index_rules.specs.declared.change.Change.TheVariants.{Upload, Delete, BanFile};
+ghost use Rattle.index_rules.specs.Effect.{means};
+ghost use Rattle.index_changes.specs.Subjects.{is_of_file};
+
+use crate::steps::Steps;
+use index_commits::{Deletion, Put, Step};
+use index_digest::Sealed;
+use index_names::{FileName, NormalName};
+use index_rules::{Change, FileRecord, Project};
+
+/// The steps of a change of a file.
+pub(crate) fn file_steps(change: &Change) -> Steps<'_>
+    requires { is_of_file change.now ≡ true }
+    ensures { all_of result ≡ means change.now }
+{
+    match change {
+        Change::Upload {
+            name,
+            project,
+            file,
+            record,
+            body,
+        } => upload(name, project, file, record, body),
+        Change::Delete {
+            name,
+            project,
+            file,
+            record,
+        } => delete(name, project, file, record),
+        Change::BanFile {
+            name,
+            project,
+            file,
+            record,
+        } => ban(name, project, file, record),
+        _ => unreachable!(),
+    }
+}
+
+/// The name and the file have these records, and the bytes are kept.
+fn upload<'a>(
+    name: &'a NormalName,
+    project: &'a Project,
+    file: &'a FileName,
+    known: &'a FileRecord,
+    body: &'a Sealed,
+) -> Steps<'a>
+    ensures { all_of result
+        ≡ means (Upload name.now project.now file.now known.now body.now) }
+{
+    let name = name.text();
+    let file = file.text();
+    Steps::first(Step::Put(Put::Held(name, project)))
+        .then(Step::Put(Put::File(file, known)))
+        .then(Step::Put(Put::Body(file, body.bytes())))
+        .then(Step::Delete(Deletion::Case(name)))
+}
+
+/// The name and the file have these records, and the bytes go.
+fn delete<'a>(
+    name: &'a NormalName,
+    project: &'a Project,
+    file: &'a FileName,
+    known: &'a FileRecord,
+) -> Steps<'a>
+    ensures { all_of result ≡ means (Delete name.now project.now file.now known.now) }
+{
+    let name = name.text();
+    let file = file.text();
+    Steps::first(Step::Put(Put::Held(name, project)))
+        .then(Step::Put(Put::File(file, known)))
+        .then(Step::Delete(Deletion::Body(file)))
+        .then(Step::Delete(Deletion::Case(name)))
+}
+
+/// The file is banned and has this record, and its bytes go. The name has the record `project`, if there is one.
+fn ban<'a>(
+    name: &'a NormalName,
+    project: &'a Option<Project>,
+    file: &'a FileName,
+    known: &'a FileRecord,
+) -> Steps<'a>
+    ensures { all_of result ≡ means (BanFile name.now project.now file.now known.now) }
+{
+    let file = file.text();
+    let put_file = Step::Put(Put::File(file, known));
+    let steps = match project {
+        Some(project) => Steps::first(Step::Put(Put::Held(name.text(), project))).then(put_file),
+        None => Steps::first(put_file),
+    };
+    steps
+        .then(Step::Delete(Deletion::Body(file)))
+        .then(Step::Put(Put::Ban(file)))
+}

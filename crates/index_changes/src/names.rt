@@ -1,0 +1,47 @@
+//! Changes of a name and its record.
+ghost use Rattle.std.specs.Prelude.{◌≡◌};
+ghost use Rattle.index_commits.specs.Changed.{all_of};
+ghost use Rattle.index_rules.specs.declared.change.Change.{Change};
+ghost use Rattle.index_rules.specs.Effect.{means};
+
+use crate::steps::Steps;
+use index_commits::{Deletion, Put, Step};
+use index_names::NormalName;
+use index_rules::{Project, UserId};
+
+/// The name is held, with this record.
+pub(crate) fn set_project<'a>(name: &'a NormalName, project: &'a Project) -> Steps<'a>
+    ensures { all_of result ≡ means (Change.SetQuota name.now project.now) }
+{
+    Steps::first(Step::Put(Put::Held(name.text(), project)))
+}
+
+/// The name is held, with this record and no owner but this one. What there was of an earlier claim goes first.
+pub(crate) fn claim<'a>(name: &'a NormalName, project: &'a Project, owner: &'a UserId) -> Steps<'a>
+    ensures { all_of result ≡ means (Change.Claim name.now project.now owner.now) }
+{
+    let name = name.text();
+    Steps::first(Step::Delete(Deletion::Owners(name)))
+        .then(Step::Delete(Deletion::Yanks(name)))
+        .then(Step::Delete(Deletion::Case(name)))
+        .then(Step::Put(Put::Held(name, project)))
+        .then(Step::Put(Put::Owner(name, owner.text())))
+}
+
+/// The name is free. Its owners, its yanks and its case go with its row.
+pub(crate) fn free<'a>(name: &'a NormalName) -> Steps<'a>
+    ensures { all_of result ≡ means (Change.Relinquish name.now) }
+{
+    Steps::first(Step::Delete(Deletion::Name(name.text())))
+}
+
+/// The name is prohibited, and its files are deleted. Its owners, its yanks and its case go with the row that it had.
+pub(crate) fn prohibit<'a>(name: &'a NormalName) -> Steps<'a>
+    ensures { all_of result ≡ means (Change.Prohibit name.now) }
+{
+    let name = name.text();
+    Steps::first(Step::Delete(Deletion::Bodies(name)))
+        .then(Step::MarkFiles(name))
+        .then(Step::Delete(Deletion::Name(name)))
+        .then(Step::Put(Put::Prohibited(name)))
+}
