@@ -1,0 +1,78 @@
+//! What a new index holds.
+ghost use Rattle.std.specs.Prelude.{◌≡◌, false, IsTrue, OnOk, OnErr};
+ghost use Rattle.sqlite.specs.Held.{state};
+ghost use Rattle.sqlite.specs.State.{HasCleanDisk};
+ghost use Rattle.index_schema.specs.Stages.{no_tables};
+ghost use Rattle.index_steps.specs.Inside.{Keeps, LeavesNothing};
+ghost use Rattle.index_commits.specs.Changed.{IsMade, IsUndone, LeavesAll};
+ghost use Rattle.index_create.specs.Created.{one_user, IsBlank, FillsFrom};
+
+use crate::tables::{make_first_four, make_last_five};
+use index_rules::UserRecord;
+use index_steps::put_user;
+use sqlite::{Alter, Connection, Error, Transaction};
+
+/// Writes the version of the tables.
+fn put_version<S: Alter>(tx: &mut Transaction<'_, S>) -> Result<(), Error>
+    ensures same_reference { tx.new.conn.ghost_name ≡ tx.old.conn.ghost_name }
+    ensures made { FillsFrom S.Store 9 no_tables tx.old.conn.now tx.new.conn.now result }
+    ensures kept { Keeps S.Store tx.old.conn.now tx.new.conn.now }
+    ensures survives { LeavesNothing S.Store tx.old.conn.now tx.new.conn.now }
+{
+    tx.execute(
+        "INSERT INTO meta (id, kind, version) VALUES (1, 'python-index', 2)",
+        &[],
+    )?;
+    Ok(())
+}
+
+/// Makes the tables, with the version and one user.
+fn make_all<S: Alter>(
+    tx: &mut Transaction<'_, S>,
+    user: &str,
+    account: &UserRecord,
+) -> Result<(), Error>
+    ensures same_reference { tx.new.conn.ghost_name ≡ tx.old.conn.ghost_name }
+    ensures made { FillsFrom S.Store 0 (one_user user.now account.now)
+        tx.old.conn.now tx.new.conn.now result }
+    ensures kept { Keeps S.Store tx.old.conn.now tx.new.conn.now }
+    ensures survives { LeavesNothing S.Store tx.old.conn.now tx.new.conn.now }
+{
+    make_first_four(tx)?;
+    make_last_five(tx)?;
+    put_version(tx)?;
+    put_user(tx, user, account)?;
+    Ok(())
+}
+
+/// Makes a new index of a blank database, with this user and nothing else. After an error the database is as it was, and
+/// a crash leaves that, or the whole index.
+pub fn fill_new<S: Alter>(
+    conn: &mut Connection<S>,
+    user: &str,
+    account: &UserRecord,
+) -> Result<(), Error>
+    requires { conn.old.in_transaction ≡ false }
+    ensures made { HasCleanDisk (state S.Store conn.new)
+        → OnOk result (IsTrue (state S.Store conn.old).is_open
+        → IsBlank (state S.Store conn.old).now
+        → IsMade (λ _. one_user user.now account.now)
+        (state S.Store conn.old) (state S.Store conn.new)) }
+    ensures unchanged { HasCleanDisk (state S.Store conn.new)
+        → IsTrue (state S.Store conn.new).is_open → IsBlank (state S.Store conn.old).now
+        → OnErr result (IsUndone (state S.Store conn.old) (state S.Store conn.new)) }
+    ensures ended { conn.new.in_transaction ≡ false }
+    ensures was_clean { HasCleanDisk (state S.Store conn.new)
+        → HasCleanDisk (state S.Store conn.old) }
+    ensures was_open { HasCleanDisk (state S.Store conn.new)
+        → IsTrue (state S.Store conn.new).is_open
+        → IsTrue (state S.Store conn.old).is_open }
+    ensures crash { IsTrue (state S.Store conn.old).is_open → IsBlank (state S.Store conn.old).now
+        → LeavesAll (λ _. one_user user.now account.now)
+        (state S.Store conn.old) (state S.Store conn.new) }
+{
+    let mut tx = conn.transaction();
+    make_all(&mut tx, user, account)?;
+    tx.commit()?;
+    Ok(())
+}
