@@ -80,7 +80,7 @@ makes_cases : Makes (stage 7) cases_text (cases_at 0)
 unfolding understood everything digits
 makes_cases = record { command = refl; whole = refl; plain = (refl, refl); defined = refl; uncounted = refl }
 
-makes_bans : Makes (stage 8) bans_text (bans_at 0)
+pub makes_bans : Makes (stage 8) bans_text (bans_at 0)
 unfolding understood everything digits
 makes_bans = record { command = refl; whole = refl; plain = (refl, refl); defined = refl; uncounted = refl }
 

@@ -13,11 +13,13 @@ pub mod KeyedLemmas
 pub mod TableLemmas
 pub mod AfterLemmas
 pub mod CreateLemmas
+pub mod BanTable
 pub mod CascadeLemmas
 pub mod RemoveLemmas
 pub mod PutLemmas
 pub mod DeleteLemmas
 pub mod LookupLemmas
+pub mod VersionLemmas
 pub mod PutVersion
 pub mod PutUser
 pub mod PutName
@@ -36,6 +38,7 @@ pub mod DeleteBody
 pub mod DeleteName
 pub mod DeleteBodies
 pub mod UpdateFiles
+pub mod UpdateVersion
 pub mod SelectVersion
 pub mod SelectUser
 pub mod BearerLemmas

@@ -6,3 +6,4 @@ pub mod Index
 pub mod StatementTexts
 pub mod Stages
 pub mod Stays
+pub mod FirstVersion

@@ -79,6 +79,10 @@ delete_bodies_text = codes "DELETE FROM blobs WHERE EXISTS (SELECT 1 FROM files 
 abbrev pub update_files_text : List ℕ
 update_files_text = codes "UPDATE files SET live = 0 WHERE name = ?1"
 
+-- the version, where it was that of an earlier one
+abbrev pub update_version_text : List ℕ
+update_version_text = codes "UPDATE meta SET version = 2 WHERE id = 1"
+
 -- ---- rows that are looked up; where a row is shown whole, each column is in the place that it has in the table
 
 -- the version of the tables
