@@ -1,21 +1,21 @@
 //! What a new index holds.
-ghost use Rattle.std.specs.Prelude.{◌≡◌, false, IsTrue, OnOk, OnErr};
+ghost use Rattle.std.specs.Prelude.{◌≡◌, false, Some, IsTrue, OnOk, OnErr};
 ghost use Rattle.sqlite.specs.Held.{state};
 ghost use Rattle.sqlite.specs.State.{HasCleanDisk};
-ghost use Rattle.index_schema.specs.Stages.{no_tables};
+ghost use Rattle.index_schema.specs.Index.{version_in};
 ghost use Rattle.index_steps.specs.Inside.{Keeps, LeavesNothing};
 ghost use Rattle.index_commits.specs.Changed.{IsMade, IsUndone, LeavesAll};
-ghost use Rattle.index_create.specs.Created.{one_user, IsBlank, FillsFrom};
+ghost use Rattle.index_create.specs.Created.{one_user, IsBlank, VersionsIfOk, FillsIfOk, LeavesVersion};
 
 use crate::tables::{make_first_four, make_last_five};
 use index_rules::UserRecord;
 use index_steps::put_user;
 use sqlite::{Alter, Connection, Error, Transaction};
 
-/// Writes the version of the tables.
+/// Writes the version of the tables, where none is there yet.
 fn put_version<S: Alter>(tx: &mut Transaction<'_, S>) -> Result<(), Error>
     ensures same_reference { tx.new.conn.ghost_name ≡ tx.old.conn.ghost_name }
-    ensures made { FillsFrom S.Store 9 no_tables tx.old.conn.now tx.new.conn.now result }
+    ensures made { VersionsIfOk S.Store tx.old.conn.now tx.new.conn.now result }
     ensures kept { Keeps S.Store tx.old.conn.now tx.new.conn.now }
     ensures survives { LeavesNothing S.Store tx.old.conn.now tx.new.conn.now }
 {
@@ -33,15 +33,15 @@ fn make_all<S: Alter>(
     account: &UserRecord,
 ) -> Result<(), Error>
     ensures same_reference { tx.new.conn.ghost_name ≡ tx.old.conn.ghost_name }
-    ensures made { FillsFrom S.Store 0 (one_user user.now account.now)
+    ensures made { FillsIfOk S.Store (one_user user.now account.now)
         tx.old.conn.now tx.new.conn.now result }
     ensures kept { Keeps S.Store tx.old.conn.now tx.new.conn.now }
     ensures survives { LeavesNothing S.Store tx.old.conn.now tx.new.conn.now }
 {
     make_first_four(tx)?;
     make_last_five(tx)?;
-    put_version(tx)?;
     put_user(tx, user, account)?;
+    put_version(tx)?;
     Ok(())
 }
 
