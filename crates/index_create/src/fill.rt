@@ -7,7 +7,7 @@ ghost use Rattle.index_steps.specs.Inside.{Keeps, LeavesNothing};
 ghost use Rattle.index_commits.specs.Changed.{IsMade, IsUndone, LeavesAll};
 ghost use Rattle.index_create.specs.Created.{one_user, IsBlank, VersionsIfOk, FillsIfOk, LeavesVersion};
 
-use crate::tables::{make_first_four, make_last_five};
+use crate::tables::make_tables;
 use index_rules::UserRecord;
 use index_steps::put_user;
 use sqlite::{Alter, Connection, Error, Transaction};
@@ -38,8 +38,7 @@ fn make_all<S: Alter>(
     ensures kept { Keeps S.Store tx.old.conn.now tx.new.conn.now }
     ensures survives { LeavesNothing S.Store tx.old.conn.now tx.new.conn.now }
 {
-    make_first_four(tx)?;
-    make_last_five(tx)?;
+    make_tables(tx)?;
     put_user(tx, user, account)?;
     put_version(tx)?;
     Ok(())

@@ -5,3 +5,4 @@ mod fill;
 mod tables;
 
 pub use fill::fill_new;
+pub use tables::{make_first_version, make_tables};

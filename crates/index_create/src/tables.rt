@@ -19,7 +19,7 @@ fn make_table<S: Alter>(tx: &mut Transaction<'_, S>, sql: &str) -> Result<(), Er
 }
 
 /// Makes the tables of the version, the users, the names and the owners.
-pub fn make_first_four<S: Alter>(tx: &mut Transaction<'_, S>) -> Result<(), Error>
+fn make_first_four<S: Alter>(tx: &mut Transaction<'_, S>) -> Result<(), Error>
     ensures same_reference { tx.new.conn.ghost_name ≡ tx.old.conn.ghost_name }
     ensures made { Advances S.Store 0 4 tx.old.conn.now tx.new.conn.now result }
     ensures kept { Keeps S.Store tx.old.conn.now tx.new.conn.now }
@@ -44,10 +44,10 @@ pub fn make_first_four<S: Alter>(tx: &mut Transaction<'_, S>) -> Result<(), Erro
     Ok(())
 }
 
-/// Makes the tables of the files, their bytes, the yanks, the cases and the bans.
-pub fn make_last_five<S: Alter>(tx: &mut Transaction<'_, S>) -> Result<(), Error>
+/// Makes the tables of the files, their bytes, the yanks and the cases.
+fn make_next_four<S: Alter>(tx: &mut Transaction<'_, S>) -> Result<(), Error>
     ensures same_reference { tx.new.conn.ghost_name ≡ tx.old.conn.ghost_name }
-    ensures made { Advances S.Store 4 9 tx.old.conn.now tx.new.conn.now result }
+    ensures made { Advances S.Store 4 8 tx.old.conn.now tx.new.conn.now result }
     ensures kept { Keeps S.Store tx.old.conn.now tx.new.conn.now }
     ensures survives { LeavesNothing S.Store tx.old.conn.now tx.new.conn.now }
 {
@@ -67,6 +67,29 @@ pub fn make_last_five<S: Alter>(tx: &mut Transaction<'_, S>) -> Result<(), Error
         tx,
         "CREATE TABLE cases (name TEXT NOT NULL PRIMARY KEY REFERENCES names (name) ON DELETE CASCADE, kind INTEGER NOT NULL, candidate TEXT NOT NULL REFERENCES users (user), contact TEXT NOT NULL, work TEXT NOT NULL, why TEXT NOT NULL, opened INTEGER NOT NULL, attempts INTEGER NOT NULL, sent INTEGER NOT NULL, profile INTEGER NOT NULL, author INTEGER NOT NULL, pages INTEGER NOT NULL, first_sent INTEGER) STRICT",
     )?;
+    Ok(())
+}
+
+/// Makes the tables of version 1, which has none of bans.
+pub fn make_first_version<S: Alter>(tx: &mut Transaction<'_, S>) -> Result<(), Error>
+    ensures same_reference { tx.new.conn.ghost_name ≡ tx.old.conn.ghost_name }
+    ensures made { Advances S.Store 0 8 tx.old.conn.now tx.new.conn.now result }
+    ensures kept { Keeps S.Store tx.old.conn.now tx.new.conn.now }
+    ensures survives { LeavesNothing S.Store tx.old.conn.now tx.new.conn.now }
+{
+    make_first_four(tx)?;
+    make_next_four(tx)?;
+    Ok(())
+}
+
+/// Makes the tables of an index.
+pub fn make_tables<S: Alter>(tx: &mut Transaction<'_, S>) -> Result<(), Error>
+    ensures same_reference { tx.new.conn.ghost_name ≡ tx.old.conn.ghost_name }
+    ensures made { Advances S.Store 0 9 tx.old.conn.now tx.new.conn.now result }
+    ensures kept { Keeps S.Store tx.old.conn.now tx.new.conn.now }
+    ensures survives { LeavesNothing S.Store tx.old.conn.now tx.new.conn.now }
+{
+    make_first_version(tx)?;
     make_table(
         tx,
         "CREATE TABLE bans (file TEXT NOT NULL PRIMARY KEY REFERENCES files (file)) STRICT",

@@ -15,7 +15,7 @@ use Rattle.index_schema.specs.Index.{AreRows, Changes, is_version, version_in}
 use Rattle.index_schema.specs.Records.{number_in, tables_in}
 use Rattle.index_schema.proofs.CreateLemmas.{creates, makes_bans}
 
-first_eight : stage 8 ≡ first_version_schema
+pub first_eight : stage 8 ≡ first_version_schema
 unfolding digits
 first_eight = refl
 

@@ -107,7 +107,7 @@ stage_step (suc (suc (suc (suc (suc (suc (suc zero))))))) sql e = one_more 7 cas
 stage_step (suc (suc (suc (suc (suc (suc (suc (suc zero)))))))) sql e = one_more 8 bans_text (bans_at 0) makes_bans refl sql cc
 stage_step (suc (suc (suc (suc (suc (suc (suc (suc (suc n))))))))) sql e = absurd (let f = e in cc)
 
-all_made : stage 9 ≡ index_schema
+pub all_made : stage 9 ≡ index_schema
 unfolding digits
 all_made = refl
 
