@@ -1,0 +1,2 @@
+pub mod RowidLemmas
+pub mod LookLemmas

@@ -1,0 +1,23 @@
+-- Whether a schema has tables by the names of ours.
+use Rattle.std.specs.Prelude.{ℕ, Bool, false, ◌||◌, List, is_some, option_map, unwrap_or}
+use Rattle.std.specs.List.{list_all, list_any}
+use Rattle.sqlite_schema.specs.Names.{same_name, table_named}
+use Rattle.sqlite_schema.specs.declared.schema.Schema.{Schema}
+use Rattle.sqlite_schema.specs.declared.schema.Table.{Table}
+use Rattle.sqlite_schema.specs.declared.schema.View.{View}
+
+-- a table of that name that the database keeps as it is, or what belongs to it
+abbrev pub is_of : View → List ℕ → Bool
+is_of view name = unwrap_or (option_map (λ table. same_name table name) view.foreign) false
+
+-- a table of that name is there; the case of ASCII letters does not count
+abbrev pub has_table : Schema → List ℕ → Bool
+has_table schema name = is_some (table_named schema name) || list_any (λ view. is_of view name) schema.views
+
+-- one by the name of any of these
+abbrev pub has_any_of : Schema → List Table → Bool
+has_any_of schema = list_any (λ (t : Table). has_table schema t.name)
+
+-- one by the name of each of these
+abbrev pub has_all_of : Schema → List Table → Bool
+has_all_of schema = list_all (λ (t : Table). has_table schema t.name)
