@@ -1,0 +1,16 @@
+use Rattle.std.proofs.Common.{[], ◌∷◌, rules, is_some, slice_get, ap, ◌∙◌}
+use Rattle.sqlite_value.specs.declared.value.Value.TheVariants.{Text}
+use Rattle.sqlite.specs.Held.{state}
+use Rattle.index_schema.specs.StatementTexts.{select_release_text}
+use Rattle.index_schema.proofs.SelectRelease as statement
+use Rattle.index_reads.proofs.FindLemmas.{shown_with}
+use Rattle.index_reads.proofs.files.has_release.Goals as goal
+
+pub look-requires-clause-plain : goal.look-requires-clause-plain
+look-requires-clause-plain g c = statement.shown.is_plain
+
+pub returns-clause-found : goal.returns-clause-found
+returns-clause-found g c clean =
+    let shown = shown_with select_release_text (Text c.args.name.now ∷ Text c.args.release.now ∷ []) _ (state g.S.Store c.args.conn.now) (state g.S.Store c.look.new.conn) c.in_ok-rows.rows.items (search rules) (c.in_ok-rows.ensures.shown clean) in
+    c.has_row.ensures ∙ ap (λ l. is_some (slice_get l 0)) c.as_slice.ensures.value
+    ∙ statement.selects c.args.name.now c.args.release.now _ _ c.in_ok-rows.rows.items (c.in_ok-rows.ensures.index clean) shown

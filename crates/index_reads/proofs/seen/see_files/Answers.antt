@@ -1,0 +1,23 @@
+use Rattle.std.proofs.Common.{◌≡◌, true, false, option_and_then}
+use Rattle.std.specs.Option.{option_map_or}
+use Rattle.std.specs.FinMap.{get}
+use Rattle.index_rules.specs.Facts.{at_both, is_banned_in, yank_in}
+use Rattle.index_looks.proofs.LookLemmas.{looks_then}
+use Rattle.index_reads.proofs.SeenLemmas.{seen_before}
+use Rattle.index_reads.proofs.seen.see_files.Goals as goal
+
+pub returns-clause-found : goal.returns-clause-found
+returns-clause-found g c clean =
+    let keys = c.args.keys.now in
+    let one = c.in_ok-has_release.ensures.looks in
+    let two = looks_then g.S.Store c.args.conn.now c.release_at.new.conn c.ban_at.new.conn true one c.in_ok-is_banned.ensures.looks in
+    let three = looks_then g.S.Store c.args.conn.now c.ban_at.new.conn c.file_at.new.conn true two c.in_ok-file.ensures.looks in
+    let at_file = c.in_ok-yank.ensures.looks.was_clean clean in
+    let at_ban = c.in_ok-file.ensures.looks.was_clean at_file in
+    let at_release = c.in_ok-is_banned.ensures.looks.was_clean at_ban in
+    record {
+      file = seen_before g.S.Store c.args.conn.now c.ban_at.new.conn (λ T. c.in_ok-file.file ≡ option_and_then (get T.files) keys.file) two at_ban (c.in_ok-file.ensures.found at_file);
+      is_banned = seen_before g.S.Store c.args.conn.now c.release_at.new.conn (λ T. c.in_ok-is_banned.is_banned ≡ option_map_or (is_banned_in T) keys.file false) one at_release (c.in_ok-is_banned.ensures.found at_ban);
+      yank = seen_before g.S.Store c.args.conn.now c.file_at.new.conn (λ T. c.in_ok-yank.yank ≡ at_both (yank_in T) keys.name keys.release) three at_file (c.in_ok-yank.ensures.found clean);
+      has_release = c.in_ok-has_release.ensures.found at_release;
+    }

@@ -1,0 +1,18 @@
+use Rattle.std.proofs.Common.{true}
+use Rattle.index_rules.specs.Facts.{IsBearerAs, caller_of}
+use Rattle.index_looks.proofs.LookLemmas.{looks_then}
+use Rattle.index_reads.proofs.SeenLemmas.{seen_before}
+use Rattle.index_reads.proofs.seen.see_users.Goals as goal
+
+pub returns-clause-found : goal.returns-clause-found
+returns-clause-found g c clean =
+    let keys = c.args.keys.now in
+    let first = c.in_ok-user.ensures.looks in
+    let both = looks_then g.S.Store c.args.conn.now c.user_at.new.conn c.caller_at.new.conn true first c.in_ok-caller.ensures.looks in
+    let at_caller = c.in_ok-bearer.ensures.looks.was_clean clean in
+    let at_user = c.in_ok-caller.ensures.looks.was_clean at_caller in
+    record {
+      caller = seen_before g.S.Store c.args.conn.now c.user_at.new.conn (λ T. IsBearerAs caller_of T keys.caller c.in_ok-caller.caller) first at_user (c.in_ok-caller.ensures.found at_caller);
+      user = c.in_ok-user.ensures.found at_user;
+      bearer = seen_before g.S.Store c.args.conn.now c.caller_at.new.conn (λ T. IsBearerAs (λ user. user.0) T keys.token c.in_ok-bearer.bearer) both at_caller (c.in_ok-bearer.ensures.found clean);
+    }

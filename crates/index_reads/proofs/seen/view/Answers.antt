@@ -1,0 +1,12 @@
+use Rattle.index_reads.specs.Seen.{SeesFiles, SeesName}
+use Rattle.index_reads.proofs.SeenLemmas.{seen_before}
+use Rattle.index_reads.proofs.seen.view.Goals as goal
+
+pub returns-clause-found : goal.returns-clause-found
+returns-clause-found g c clean =
+    let keys = c.args.keys.now in
+    let first = c.in_ok-users.ensures.looks in
+    let at_users = c.in_ok-files.ensures.looks.was_clean clean in
+    c.view_of.ensures _ _ (c.in_ok-users.ensures.found at_users)
+    (seen_before g.S.Store c.args.conn.now c.see_users.new.conn (λ T. SeesFiles T keys c.in_ok-files.files) first at_users (c.in_ok-files.ensures.files clean))
+    (seen_before g.S.Store c.args.conn.now c.see_users.new.conn (λ T. SeesName T keys c.in_ok-files.name) first at_users (c.in_ok-files.ensures.name clean))

@@ -1,0 +1,18 @@
+//! Look-ups of records in the tables of an index in SQLite.
+#![tactic(auto)]
+
+mod at_keys;
+mod body;
+mod files;
+mod listed;
+mod projects;
+mod seen;
+mod shown;
+mod users;
+
+pub use body::find_body;
+pub use files::{find_file, find_yank, has_release, is_banned};
+pub use listed::{files_of, names, owners_of};
+pub use projects::{find_case, find_name};
+pub use seen::view;
+pub use users::{find_bearer, find_user};
