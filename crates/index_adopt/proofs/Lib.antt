@@ -1,2 +1,3 @@
 pub mod RowidLemmas
 pub mod LookLemmas
+pub mod MigrationLemmas

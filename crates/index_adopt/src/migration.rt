@@ -1,0 +1,84 @@
+//! How a database of version 1 becomes an index of today.
+ghost use Rattle.std.specs.Prelude.{◌≡◌, false, IsTrue, OnOk, OnErr};
+ghost use Rattle.sqlite.specs.Held.{state};
+ghost use Rattle.sqlite.specs.State.{HasCleanDisk};
+ghost use Rattle.index_adopt.specs.Migrated.{raised, BansIfOk, RaisesIfOk, MigratesIfOk, LeavesRaised};
+ghost use Rattle.index_commits.specs.Changed.{IsMade, IsUndone, LeavesAll};
+ghost use Rattle.index_schema.specs.FirstVersion.{IsFirstVersion, without_bans};
+ghost use Rattle.index_schema.specs.Index.{version_in};
+ghost use Rattle.index_steps.specs.Inside.{Keeps, LeavesNothing};
+
+use sqlite::{Alter, Connection, Error, Transaction};
+
+/// Makes the table of the bans.
+fn make_bans<S: Alter>(tx: &mut Transaction<'_, S>) -> Result<(), Error>
+    ensures same_reference { tx.new.conn.ghost_name ≡ tx.old.conn.ghost_name }
+    ensures made { BansIfOk S.Store tx.old.conn.now tx.new.conn.now result }
+    ensures kept { Keeps S.Store tx.old.conn.now tx.new.conn.now }
+    ensures survives { LeavesNothing S.Store tx.old.conn.now tx.new.conn.now }
+{
+    tx.execute(
+        "CREATE TABLE bans (file TEXT NOT NULL PRIMARY KEY REFERENCES files (file)) STRICT",
+        &[],
+    )?;
+    Ok(())
+}
+
+/// Sets the version, where one is told.
+fn raise_version<S: Alter>(tx: &mut Transaction<'_, S>) -> Result<(), Error>
+    ensures same_reference { tx.new.conn.ghost_name ≡ tx.old.conn.ghost_name }
+    ensures made { RaisesIfOk S.Store tx.old.conn.now tx.new.conn.now result }
+    ensures kept { Keeps S.Store tx.old.conn.now tx.new.conn.now }
+    ensures survives { LeavesNothing S.Store tx.old.conn.now tx.new.conn.now }
+{
+    tx.execute("UPDATE meta SET version = 2 WHERE id = 1", &[])?;
+    Ok(())
+}
+
+/// Makes an index of a database of version 1.
+fn migrate_tables<S: Alter>(tx: &mut Transaction<'_, S>) -> Result<(), Error>
+    ensures same_reference { tx.new.conn.ghost_name ≡ tx.old.conn.ghost_name }
+    ensures made { MigratesIfOk S.Store tx.old.conn.now tx.new.conn.now result }
+    ensures kept { Keeps S.Store tx.old.conn.now tx.new.conn.now }
+    ensures survives { LeavesNothing S.Store tx.old.conn.now tx.new.conn.now }
+{
+    make_bans(tx)?;
+    raise_version(tx)?;
+    Ok(())
+}
+
+/// Makes an index of a database of version 1, with the same tables and no bans, in one transaction. After an error the
+/// database is as it was, and a crash leaves that, or the whole index.
+pub fn migrate<S: Alter>(conn: &mut Connection<S>) -> Result<(), Error>
+    requires { conn.old.in_transaction ≡ false }
+    ensures made { HasCleanDisk (state S.Store conn.new)
+        → OnOk result (IsTrue (state S.Store conn.old).is_open
+        → IsFirstVersion (state S.Store conn.old).now
+        → IsMade without_bans (state S.Store conn.old) (state S.Store conn.new)) }
+    ensures version { HasCleanDisk (state S.Store conn.new)
+        → OnOk result (IsTrue (state S.Store conn.old).is_open
+        → IsFirstVersion (state S.Store conn.old).now
+        → version_in (state S.Store conn.new).now.trees
+        ≡ raised (version_in (state S.Store conn.old).now.trees)) }
+    ensures unchanged { HasCleanDisk (state S.Store conn.new)
+        → IsTrue (state S.Store conn.new).is_open
+        → IsFirstVersion (state S.Store conn.old).now
+        → OnErr result (IsUndone (state S.Store conn.old) (state S.Store conn.new)) }
+    ensures ended { conn.new.in_transaction ≡ false }
+    ensures was_clean { HasCleanDisk (state S.Store conn.new)
+        → HasCleanDisk (state S.Store conn.old) }
+    ensures was_open { HasCleanDisk (state S.Store conn.new)
+        → IsTrue (state S.Store conn.new).is_open
+        → IsTrue (state S.Store conn.old).is_open }
+    ensures crash { IsTrue (state S.Store conn.old).is_open
+        → IsFirstVersion (state S.Store conn.old).now
+        → LeavesAll without_bans (state S.Store conn.old) (state S.Store conn.new) }
+    ensures crash_version { IsTrue (state S.Store conn.old).is_open
+        → IsFirstVersion (state S.Store conn.old).now
+        → LeavesRaised (state S.Store conn.old) (state S.Store conn.new) }
+{
+    let mut tx = conn.transaction();
+    migrate_tables(&mut tx)?;
+    tx.commit()?;
+    Ok(())
+}
