@@ -1,0 +1,63 @@
+-- What is done after a look at the version.
+use Rattle.std.proofs.Common.{◌≡◌, ◌⊎◌, inl, inr, ◌∙◌, ap, refl, subst, true, IsTrue, ℕ, Option, Result, Ok, Err, IfOk, IfErr}
+use Rattle.sqlite_trees.specs.declared.store.Store.{Ghosts}
+use Rattle.sqlite.specs.Effect.{Database}
+use Rattle.sqlite.specs.Held.{Held, state}
+use Rattle.sqlite.specs.State.{HasCleanDisk}
+use Rattle.index_looks.specs.Looks.{Looks}
+use Rattle.index_rules.specs.declared.open.OpenFault.{OpenFault}
+use Rattle.index_rules.specs.declared.open.OpenFault.TheVariants.{BadFirstUser, NotEmpty, NotAnIndex, OtherVersion, OutOfMemory, Store}
+use Rattle.index_rules.specs.Tables.{Tables}
+use Rattle.index_schema.specs.FirstVersion.{IsFirstVersion, without_bans}
+use Rattle.index_schema.specs.Records.{tables_in}
+use Rattle.index_schema.specs.Stays.{Stays}
+use Rattle.index_tables.specs.Kept.{Leaves}
+use Rattle.index_tables.specs.Adopted.{IsReason, LeavesMigrated, TellsVersion, refusal_in}
+
+module _ {S : Type 0} (g : Ghosts S) where
+  -- what the version that is told says is a reason
+  pub reason_told : (held : Held S) (version : Option ℕ) (why : OpenFault) → TellsVersion g held version → why ≡ refusal_in (state g held).now.schema version → IsReason g held why
+  reason_told held version NotAnIndex tells is = inr (version, tells, is)
+  reason_told held version OutOfMemory tells is = tt
+  reason_told held version Store tells is = tt
+  reason_told held version BadFirstUser tells is = (version, tells, is)
+  reason_told held version NotEmpty tells is = (version, tells, is)
+  reason_told held version OtherVersion tells is = (version, tells, is)
+
+  module _ (a b c : Held S) (looks : Looks g a b true) (was_clean : HasCleanDisk (state g c) → HasCleanDisk (state g b)) where
+    pub stays_after : (HasCleanDisk (state g c) → Stays (state g b) (state g c)) → HasCleanDisk (state g c) → Stays (state g a) (state g c)
+    stays_after stays clean =
+        let it = stays clean in
+        record {
+          was_open = λ o. looks.was_open (was_clean clean) (it.was_open o);
+          now_is = λ o. it.now_is o ∙ looks.now_is (was_clean clean) (it.was_open o);
+          committed_is = λ o. it.committed_is o ∙ looks.committed_is (was_clean clean) (it.was_open o);
+        }
+
+    pub migrated_after : LeavesMigrated (state g b) (state g c) → LeavesMigrated (state g a) (state g c)
+    migrated_after it honest T left =
+        let clean = was_clean left.0 in
+        let is_open = looks.lasts refl clean honest.is_open in
+        let now = looks.same refl clean in
+        by_case now (it (record { clean = clean; is_open = is_open }) T left)
+      where
+        before : Leaves (state g b) T → Leaves (state g a) T
+        before (clean, (db, may, is)) = elim ((looks.survives clean honest.is_open).crash clean db may) [
+          | inl may ↦ (honest.clean, (db, may, is))
+          | inr none ↦ absurd none
+        ]
+
+        by_case : (state g b).now ≡ (state g a).now → Leaves (state g b) T ⊎ (IsFirstVersion (state g b).now × (T ≡ without_bans (tables_in (state g b).now.trees)))
+            → Leaves (state g a) T ⊎ (IsFirstVersion (state g a).now × (T ≡ without_bans (tables_in (state g a).now.trees)))
+        by_case now (inl left) = inl (before left)
+        by_case now (inr (first, is)) = inr (subst IsFirstVersion now first, is ∙ ap (λ (d : Database). without_bans (tables_in d.trees)) now)
+
+-- two facts of a refusal make a third
+pub both_refused : {A E : Type 0} {P Q R : E → Type 0} (r : Result A E) → ((e : E) → P e → Q e → R e) → IfErr r P → IfErr r Q → IfErr r R
+both_refused (Ok a) third p q = tt
+both_refused (Err e) third p q = third e p q
+
+-- the same of what is opened
+pub both_opened : {A E : Type 0} {P Q R : A → Type 0} (r : Result A E) → ((a : A) → P a → Q a → R a) → IfOk r P → IfOk r Q → IfOk r R
+both_opened (Ok a) third p q = third a p q
+both_opened (Err e) third p q = tt

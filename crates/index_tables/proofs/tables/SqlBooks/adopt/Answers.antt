@@ -1,0 +1,34 @@
+use Rattle.std.proofs.Common.{IfOk, IfErr, subst}
+use Rattle.std.proofs.lemmas.Result.{IfOk-weaker}
+use Rattle.sqlite.specs.Held.{state}
+use Rattle.index_schema.proofs.BearerLemmas.{one_bearer}
+use Rattle.index_tables.specs.Adopted.{LeavesMigrated}
+use Rattle.index_tables.proofs.tables.SqlBooks.adopt.Goals as goal
+
+pub returns-in-Ok-Index-clause-one_bearer : goal.returns-in-Ok-Index-clause-one_bearer
+returns-in-Ok-Index-clause-one_bearer g c =
+    IfOk-weaker c.adopt_index.result _ _ (λ books index honest. one_bearer (state g.S.Store books.conn).now (index honest)) c.adopt_index.ensures.index
+
+pub returns-in-Ok-Index-clause-crash : goal.returns-in-Ok-Index-clause-crash
+returns-in-Ok-Index-clause-crash g c =
+    subst (λ held. IfOk c.adopt_index.result (λ books. LeavesMigrated (state g.S.Store held) (state g.S.Store books.conn))) c.known-conn.ensures.same c.adopt_index.ensures.crash
+
+pub returns-in-Ok-Index-clause-crash_refused : goal.returns-in-Ok-Index-clause-crash_refused
+returns-in-Ok-Index-clause-crash_refused g c =
+    subst (λ held. IfErr c.adopt_index.result (λ refused. LeavesMigrated (state g.S.Store held) (state g.S.Store refused.conn))) c.known-conn.ensures.same c.adopt_index.ensures.crash_refused
+
+pub returns-in-Ok-FirstVersion-clause-one_bearer : goal.returns-in-Ok-FirstVersion-clause-one_bearer
+returns-in-Ok-FirstVersion-clause-one_bearer g c =
+    IfOk-weaker c.adopt_first_version.result _ _ (λ books index honest. one_bearer (state g.S.Store books.conn).now (index honest)) c.adopt_first_version.ensures.index
+
+pub returns-in-Ok-FirstVersion-clause-crash : goal.returns-in-Ok-FirstVersion-clause-crash
+returns-in-Ok-FirstVersion-clause-crash g c =
+    subst (λ held. IfOk c.adopt_first_version.result (λ books. LeavesMigrated (state g.S.Store held) (state g.S.Store books.conn))) c.known-conn.ensures.same c.adopt_first_version.ensures.crash
+
+pub returns-in-Ok-FirstVersion-clause-crash_refused : goal.returns-in-Ok-FirstVersion-clause-crash_refused
+returns-in-Ok-FirstVersion-clause-crash_refused g c =
+    subst (λ held. IfErr c.adopt_first_version.result (λ refused. LeavesMigrated (state g.S.Store held) (state g.S.Store refused.conn))) c.known-conn.ensures.same c.adopt_first_version.ensures.crash_refused
+
+pub returns-in-Ok-Other-clause-crash_refused : goal.returns-in-Ok-Other-clause-crash_refused
+returns-in-Ok-Other-clause-crash_refused g c =
+    subst (λ held. LeavesMigrated (state g.S.Store held) (state g.S.Store c.refuse_other.result.conn)) c.known-conn.ensures.same c.refuse_other.ensures.crash

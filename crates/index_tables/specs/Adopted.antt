@@ -1,0 +1,70 @@
+-- What a database that is there is taken for.
+use Rattle.std.specs.Prelude.{◌≡◌, ◌⊎◌, ℕ, ◌==◌, Bool, ◌&&◌, ◌||◌, false, if◌then◌else◌, List, Option, Some, None, codes, IsTrue, ⊤}
+use Rattle.sqlite_trees.specs.declared.store.Store.{Ghosts}
+use Rattle.sqlite_schema.specs.declared.schema.Schema.{Schema}
+use Rattle.sqlite.specs.Effect.{Database}
+use Rattle.sqlite.specs.Held.{Held, state}
+use Rattle.sqlite.specs.State.{State}
+use Rattle.index_adopt.specs.Names.{has_table, has_all_of}
+use Rattle.index_adopt.specs.Versions.{Tells, begun}
+use Rattle.index_rules.specs.declared.open.OpenFault.{OpenFault}
+use Rattle.index_rules.specs.declared.open.OpenFault.TheVariants.{NotAnIndex, OtherVersion, OutOfMemory, Store}
+use Rattle.index_rules.specs.Tables.{Tables}
+use Rattle.index_schema.specs.FirstVersion.{IsAnyVersion, IsFirstVersion, first_version_schema, without_bans}
+use Rattle.index_schema.specs.Index.{IsIndex, version_in}
+use Rattle.index_schema.specs.Records.{tables_in}
+use Rattle.index_schema.specs.Schema.{index_schema}
+use Rattle.index_tables.specs.declared.adopt.Kind.{Kind}
+use Rattle.index_tables.specs.declared.adopt.Kind.TheVariants as kind
+use Rattle.index_tables.specs.Kept.{IsHonest, Leaves}
+
+-- it is an index that tells version 2, with these tables
+pub record IsCurrent (db : Database) (T : Tables) : Type 0 where
+  pub index : IsIndex db
+  pub version : version_in db.trees ≡ Some 2
+  pub tables : T ≡ tables_in db.trees
+
+-- it is of version 1 and tells that, and these are its tables with no bans
+pub record IsFirst (db : Database) (T : Tables) : Type 0 where
+  pub first : IsFirstVersion db
+  pub version : version_in db.trees ≡ Some 1
+  pub tables : T ≡ without_bans (tables_in db.trees)
+
+-- an index is found in it, with these tables
+abbrev pub IsFound : Database → Tables → Type 0
+IsFound db T = IsCurrent db T ⊎ IsFirst db T
+
+-- of an honest store, a crash leaves what it left before; of version 1 it may leave the index that comes of it
+abbrev pub LeavesMigrated : State → State → Type 0
+LeavesMigrated old new = IsHonest old → (T : Tables) → Leaves new T → Leaves old T ⊎ (IsFirstVersion old.now × (T ≡ without_bans (tables_in old.now.trees)))
+
+-- the schema is that of an index of this kind
+abbrev pub IsOfKind : Schema → Kind → Type 0
+IsOfKind schema kind.Index = schema ≡ index_schema
+IsOfKind schema kind.FirstVersion = schema ≡ first_version_schema
+IsOfKind schema kind.Other = ⊤
+
+-- it tells this version: what its row of meta has where the tables are ours, else what the query of it shows
+abbrev pub TellsVersion : {S : Type 0} → Ghosts S → Held S → Option ℕ → Type 0
+TellsVersion g held version = ((IsTrue (state g held).is_open → IsAnyVersion (state g held).now) × (version ≡ version_in (state g held).now.trees)) ⊎ Tells g (begun held) version
+
+-- tables that are there by name, but are not as an index has them
+abbrev pub unlike : Bool → OpenFault
+unlike has_all = if has_all then Store else NotAnIndex
+
+-- why a database is refused that tells this version, and has all tables of version 1 by name, and that of the bans
+abbrev pub refusal_by : Option ℕ → Bool → Bool → OpenFault
+refusal_by None has_first has_bans = NotAnIndex
+refusal_by (Some version) has_first has_bans = if version == 1 then unlike has_first else if version == 2 then unlike (has_first && has_bans) else OtherVersion
+
+-- the same, by its schema
+abbrev pub refusal_in : Schema → Option ℕ → OpenFault
+refusal_in schema version = refusal_by version (has_all_of schema first_version_schema.tables) (has_table schema (codes "bans"))
+
+-- the reason is what the database has or tells, or want of memory, or a fault of the store
+abbrev pub IsReason : {S : Type 0} → Ghosts S → Held S → OpenFault → Type 0
+IsReason g held NotAnIndex =
+    (has_table (state g held).now.schema (codes "meta") ≡ false) ⊎ ((version : Option ℕ) × TellsVersion g held version × (NotAnIndex ≡ refusal_in (state g held).now.schema version))
+IsReason g held OutOfMemory = ⊤
+IsReason g held Store = ⊤
+IsReason g held why = (version : Option ℕ) × TellsVersion g held version × (why ≡ refusal_in (state g held).now.schema version)

@@ -1,0 +1,26 @@
+-- What holds the tables, and what is left of it.
+use Rattle.std.specs.Prelude.{◌≡◌, ℕ, IsTrue, refl}
+use Rattle.std.specs.Coded.{Coded, code_by, coded×, coded_ℕ}
+use Rattle.sqlite_trees.specs.Tree.{Trees}
+use Rattle.sqlite.specs.Held.{Held, held_code}
+use Rattle.sqlite.specs.State.{State, HasCleanDisk}
+use Rattle.index_rules.specs.Tables.{Tables}
+use Rattle.index_schema.specs.Records.{tables_in}
+
+-- a connection, and how many calls answered a fault
+pub record Kept (S : Type 0) : Type 0 where
+  pub conn : Held S
+  pub failures : ℕ
+
+abbrev pub kept_code : {S : Type 0} → Coded S → Coded (Kept S)
+kept_code {S} store =
+    code_by (Held S × ℕ) (coded× (held_code store) coded_ℕ) (λ kept. (kept.conn, kept.failures)) (λ p. record { conn = p.0; failures = p.1 }) (λ _. refl)
+
+-- so far the disk has returned what was written, and no fault has shut the connection
+pub record IsHonest (s : State) : Type 0 where
+  pub clean : HasCleanDisk s
+  pub is_open : IsTrue s.is_open
+
+-- the disk has returned what was written, and an open after a crash may find these tables
+abbrev pub Leaves : State → Tables → Type 0
+Leaves s T = HasCleanDisk s × ((db : Trees) × s.may_leave db × (T ≡ tables_in db))

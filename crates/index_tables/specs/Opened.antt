@@ -1,0 +1,40 @@
+-- What the opening of an index answers, and what it leaves of a connection.
+use Rattle.std.specs.Prelude.{◌≡◌, ◌⊎◌, Result, Ok, Err, Bool, IsTrue}
+use Rattle.sqlite_trees.specs.declared.store.Store.{Ghosts}
+use Rattle.sqlite_schema.specs.declared.schema.Schema.{Schema}
+use Rattle.sqlite.specs.declared.error.Error.{Error}
+use Rattle.sqlite.specs.Held.{Held, state}
+use Rattle.sqlite.specs.State.{State, HasCleanDisk}
+use Rattle.index_adopt.specs.Names.{has_any_of}
+use Rattle.index_looks.specs.Faults.{fault_by}
+use Rattle.index_rules.specs.declared.answer.Fault.{Fault}
+use Rattle.index_rules.specs.declared.answer.Fault.TheVariants as fault
+use Rattle.index_rules.specs.declared.open.OpenFault.{OpenFault}
+use Rattle.index_rules.specs.declared.open.OpenFault.TheVariants as open_fault
+use Rattle.index_rules.specs.FirstTables.{IsBadFirstUser}
+use Rattle.index_rules.specs.Maps.{Bytes}
+use Rattle.index_rules.specs.Tables.{Tables}
+use Rattle.index_schema.specs.Schema.{index_schema}
+use Rattle.index_tables.specs.declared.opening.Unopened.{Unopened}
+use Rattle.index_tables.specs.Kept.{Kept, IsHonest, Leaves}
+
+-- no index was opened, for this reason
+abbrev pub IsRefusedAs : {S A : Type 0} → OpenFault → Result A (Unopened S) → Type 0
+IsRefusedAs why (Ok opened) = ⊥
+IsRefusedAs why (Err refused) = refused.why ≡ why
+
+-- an error of the database as the reason
+abbrev pub open_fault_by : Error → OpenFault
+open_fault_by error = of_fault (fault_by error)
+  where
+    of_fault : Fault → OpenFault
+    of_fault fault.OutOfMemory = open_fault.OutOfMemory
+    of_fault fault.Store = open_fault.Store
+
+-- the first user will do, and a table has the name of one of ours
+abbrev pub IsTaken : Bytes → Bytes → Schema → Type 0
+IsTaken user token schema = (¬ IsBadFirstUser user token) × IsTrue (has_any_of schema index_schema.tables)
+
+-- of an honest store, a crash leaves what it left before, or these tables
+abbrev pub LeavesOr : Tables → State → State → Type 0
+LeavesOr made old new = IsHonest old → (T : Tables) → Leaves new T → Leaves old T ⊎ (T ≡ made)

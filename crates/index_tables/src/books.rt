@@ -1,0 +1,96 @@
+//! The tables as `Books`: each call is done by the connection, and then counted.
+ghost use Rattle.std.specs.Prelude.{◌≡◌};
+ghost use Rattle.index_rules.specs.Walks.{has_fault};
+
+use crate::tables::{SqlBooks, counted};
+use index_changes::make_change;
+use index_digest::Sealed;
+use index_looks::fault_of;
+use index_names::{FileName, NormalName};
+use index_rules::{
+    Books, Change, Fault, FileRow, FileTaker, Keys, NameRow, NameTaker, Owners, View, WalkEnd,
+};
+use sqlite::Alter;
+use std::alloc::Global;
+
+impl<S: Alter> Books for SqlBooks<S> {
+    ghost use Rattle.sqlite.specs.Held.{state};
+    ghost use Rattle.sqlite.specs.State.{HasCleanDisk};
+    ghost use Rattle.index_reads.specs.Held.{tables_of};
+    ghost use Rattle.index_tables.specs.Kept.{IsHonest, Leaves};
+
+    ghost tables = { λ books. tables_of S.Store books.conn };
+
+    ghost IsHonest = { λ books. IsHonest (state S.Store books.conn) };
+
+    ghost IsClean = { λ books. HasCleanDisk (state S.Store books.conn) };
+
+    ghost may_leave = { λ books. Leaves (state S.Store books.conn) };
+
+    ghost failures = { λ books. books.failures };
+
+    fn view(&mut self, alloc: Global, keys: &Keys) -> Result<View, Fault> {
+        let seen = index_reads::view(alloc, &mut self.conn, keys);
+        self.failures = counted(self.failures, seen.is_ok());
+        seen
+    }
+
+    fn write(&mut self, _alloc: Global, change: Change) -> Result<(), Fault> {
+        let made = make_change(&mut self.conn, &change);
+        self.failures = counted(self.failures, made.is_ok());
+        match made {
+            Ok(()) => Ok(()),
+            Err(error) => Err(fault_of(error)),
+        }
+    }
+
+    fn owners_of(&mut self, alloc: Global, name: &NormalName) -> Result<Owners, Fault> {
+        let owners = index_reads::owners_of(alloc, &mut self.conn, name);
+        self.failures = counted(self.failures, owners.is_ok());
+        owners
+    }
+
+    fn bytes_of(&mut self, alloc: Global, file: &FileName) -> Result<Option<Sealed>, Fault> {
+        let body = index_reads::find_body(alloc, &mut self.conn, file);
+        self.failures = counted(self.failures, body.is_ok());
+        body
+    }
+
+    fn names(&mut self, alloc: Global) -> Result<Vec<NameRow>, Fault> {
+        let rows = index_reads::names(alloc, &mut self.conn);
+        self.failures = counted(self.failures, rows.is_ok());
+        rows
+    }
+
+    fn files_of(&mut self, alloc: Global, name: &NormalName) -> Result<Vec<FileRow>, Fault> {
+        let rows = index_reads::files_of(alloc, &mut self.conn, name);
+        self.failures = counted(self.failures, rows.is_ok());
+        rows
+    }
+
+    fn walk_held<K: NameTaker>(&mut self, alloc: Global, taker: &mut K) -> Result<(), WalkEnd> {
+        let ended = index_walks::walk_held(alloc, &mut self.conn, taker);
+        self.failures = counted(self.failures, !is_broken(&ended));
+        ended
+    }
+
+    fn walk_files<K: FileTaker>(
+        &mut self,
+        alloc: Global,
+        name: &NormalName,
+        taker: &mut K,
+    ) -> Result<(), WalkEnd> {
+        let ended = index_walks::walk_files(alloc, &mut self.conn, name, taker);
+        self.failures = counted(self.failures, !is_broken(&ended));
+        ended
+    }
+
+    ghost honest_is_clean = { λ books honest. honest.clean };
+}
+
+/// Whether a fault ended the walk.
+fn is_broken(ended: &Result<(), WalkEnd>) -> bool
+    ensures { result ≡ has_fault ended.now }
+{
+    matches!(ended, Err(WalkEnd::OutOfMemory | WalkEnd::Store))
+}

@@ -1,0 +1,119 @@
+//! A new index in a database with nothing in it.
+ghost use Rattle.std.specs.Prelude.{◌≡◌, ◌≢◌, ◌⊎◌, ◌↔◌, false, IfOk, IfErr, IsTrue};
+ghost use Rattle.sqlite.specs.Held.{state};
+ghost use Rattle.sqlite.specs.State.{HasCleanDisk, IsLive};
+ghost use Rattle.index_rules.specs.FirstTables.{IsBadFirstUser, first_tables};
+ghost use Rattle.index_rules.specs.Sound.{IsSound};
+ghost use Rattle.index_rules.specs.History.{begins};
+ghost use Rattle.index_rules.specs.StandsFor.{StandsFor};
+ghost use Rattle.index_schema.specs.Stays.{Stays};
+ghost use Rattle.index_schema.specs.Schema.{index_schema, no_schema};
+ghost use Rattle.index_adopt.specs.Names.{has_any_of};
+ghost use Rattle.index_create.specs.Created.{one_user, IsBlank};
+ghost use Rattle.index_tables.specs.Kept.{IsHonest};
+ghost use Rattle.index_reads.specs.Held.{tables_of};
+ghost use Rattle.index_tables.specs.Opened.{IsRefusedAs, IsTaken, LeavesOr};
+
+use crate::opening::{Unopened, open_fault_of};
+use crate::tables::SqlBooks;
+use index_adopt::{has_any_table, is_blank, known};
+use index_create::fill_new;
+use index_digest::Digest256;
+use index_rules::{OpenFault, UserRecord, first_user};
+use sqlite::{Alter, Connection};
+use std::alloc::Global;
+
+impl<S: Alter> SqlBooks<S> {
+    /// A new index with one user, who is of the office and whose token has this SHA-256 digest, in one transaction.
+    ///
+    /// `BadFirstUser` exactly where the bytes are no user id, or the digest is that of the empty text; then `NotEmpty`
+    /// exactly where there is a table by the name of one of an index; `Store` where there is anything else, or the store
+    /// fails. A refused database is as it was. A crash leaves what was there, or the whole index.
+    pub fn create(
+        alloc: Global,
+        conn: Connection<S>,
+        user: &[u8],
+        token: Digest256,
+    ) -> Result<SqlBooks<S>, Unopened<S>>
+        requires outside { conn.in_transaction ≡ false }
+        ensures tables { IfOk result (λ books. IsHonest (state S.Store books.conn)
+            → tables_of S.Store books.conn ≡ first_tables user.now token) }
+        ensures sound { IfOk result (λ books. IsHonest (state S.Store books.conn)
+            → IsSound (tables_of S.Store books.conn)) }
+        ensures history { let h = begins user.now token in
+            IfOk result (λ books. IsHonest (state S.Store books.conn)
+            → StandsFor (tables_of S.Store books.conn) h) }
+        ensures honest { IfOk result (λ books. IsHonest (state S.Store books.conn)
+            → IsHonest (state S.Store conn)) }
+        ensures failures { IfOk result (λ books. books.failures ≡ 0) }
+        ensures bad_first_user { IsRefusedAs OpenFault.BadFirstUser result
+            ↔ IsBadFirstUser user.now token }
+        ensures taken { IsRefusedAs OpenFault.NotEmpty result
+            → IsTaken user.now token (state S.Store conn).now.schema }
+        ensures not_empty { IsTaken user.now token (state S.Store conn).now.schema
+            → IsRefusedAs OpenFault.NotEmpty result ⊎ IsRefusedAs OpenFault.OutOfMemory result }
+        ensures refused { IfErr result (λ refused. HasCleanDisk (state S.Store refused.conn)
+            → Stays (state S.Store conn) (state S.Store refused.conn)) }
+        ensures ended { IfErr result (λ refused. refused.conn.in_transaction ≡ false) }
+        ensures crash { IfOk result (λ books. LeavesOr (first_tables user.now token)
+            (state S.Store conn) (state S.Store books.conn)) }
+        ensures crash_refused { IfErr result (λ refused. LeavesOr (first_tables user.now token)
+            (state S.Store conn) (state S.Store refused.conn)) }
+    {
+        let conn = known(conn);
+        match first_user(alloc, user, token) {
+            Ok((user, account)) => fill_blank(conn, user.text(), &account),
+            Err(why) => Err(Unopened { why, conn }),
+        }
+    }
+}
+
+/// A new index with this user, where the database has nothing in it.
+fn fill_blank<S: Alter>(
+    conn: Connection<S>,
+    user: &str,
+    account: &UserRecord,
+) -> Result<SqlBooks<S>, Unopened<S>>
+    requires outside { conn.in_transaction ≡ false }
+    requires live { IsLive (state S.Store conn) }
+    requires settled { IsTrue (state S.Store conn).is_open
+        → (state S.Store conn).now ≡ (state S.Store conn).committed }
+    ensures tables { IfOk result (λ books. IsHonest (state S.Store books.conn)
+        → tables_of S.Store books.conn ≡ one_user user.now account.now) }
+    ensures honest { IfOk result (λ books. IsHonest (state S.Store books.conn)
+        → IsHonest (state S.Store conn)) }
+    ensures failures { IfOk result (λ books. books.failures ≡ 0) }
+    ensures first_user { IfErr result (λ refused. refused.why ≢ OpenFault.BadFirstUser) }
+    ensures taken { IsRefusedAs OpenFault.NotEmpty result
+        → IsTrue (has_any_of (state S.Store conn).now.schema index_schema.tables) }
+    ensures not_empty { IsTrue (has_any_of (state S.Store conn).now.schema index_schema.tables)
+        → IsRefusedAs OpenFault.NotEmpty result }
+    ensures refused { IfErr result (λ refused. HasCleanDisk (state S.Store refused.conn)
+        → Stays (state S.Store conn) (state S.Store refused.conn)) }
+    ensures ended { IfErr result (λ refused. refused.conn.in_transaction ≡ false) }
+    ensures crash { IfOk result (λ books. LeavesOr (one_user user.now account.now)
+        (state S.Store conn) (state S.Store books.conn)) }
+    ensures crash_refused { IfErr result (λ refused. LeavesOr (one_user user.now account.now)
+        (state S.Store conn) (state S.Store refused.conn)) }
+{
+    if has_any_table(conn.schema()) {
+        return Err(Unopened {
+            why: OpenFault::NotEmpty,
+            conn,
+        });
+    }
+    if !is_blank(&conn) {
+        return Err(Unopened {
+            why: OpenFault::Store,
+            conn,
+        });
+    }
+    let mut conn = conn;
+    match fill_new(&mut conn, user, account) {
+        Ok(()) => Ok(SqlBooks { conn, failures: 0 }),
+        Err(error) => Err(Unopened {
+            why: open_fault_of(error),
+            conn,
+        }),
+    }
+}

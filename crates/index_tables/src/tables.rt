@@ -1,0 +1,52 @@
+//! What holds the tables: a connection, outside a transaction.
+ghost use Rattle.std.specs.Prelude.{◌≡◌, false};
+ghost use Rattle.index_io.specs.Counts.{next_count};
+
+use sqlite::{Alter, Connection};
+use std::marker::Model;
+
+/// The tables in a database of SQLite. Contracts see the connection and how many calls answered a fault.
+///
+/// Each call is one look at the database or one transaction. After a fault of the store the connection may be shut, and
+/// each later call answers `Store`.
+pub struct SqlBooks<S: Alter> {
+    pub(crate) conn: Connection<S>,
+    pub(crate) failures: u64,
+}
+
+impl<S: Alter> Model for SqlBooks<S> {
+    ghost use Rattle.std.specs.Prelude.{◌≡◌, false};
+    ghost use Rattle.index_looks.specs.Looks.{IsKept};
+    ghost use Rattle.index_tables.specs.Kept.{Kept, kept_code};
+
+    ghost Value = { Kept S };
+
+    ghost coded = { kept_code S.code };
+
+    ghost view = { λ books. record { conn = books.conn; failures = books.failures } };
+
+    ghost invariant = { λ books. (books.conn.in_transaction ≡ false)
+        × IsKept S.Store books.conn };
+}
+
+impl<S: Alter> SqlBooks<S> {
+    /// The connection, outside a transaction.
+    pub fn into_connection(self) -> Connection<S>
+        ensures same { result ≡ self.conn }
+        ensures ended { result.in_transaction ≡ false }
+    {
+        let SqlBooks { conn, failures: _ } = self;
+        conn
+    }
+}
+
+/// The count of failures after one more call, up to 18,446,744,073,709,551,615.
+pub(crate) fn counted(failures: u64, is_right: bool) -> u64
+    ensures { result ≡ next_count failures is_right }
+{
+    if is_right {
+        failures
+    } else {
+        failures.saturating_add(1)
+    }
+}
