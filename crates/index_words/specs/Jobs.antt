@@ -1,5 +1,6 @@
 -- What the words of a command line ask for.
-use Rattle.std.specs.Prelude.{◌≡◌, ◌≤◌, ◌<◌, ◌^◌, ℕ, List, Option, Some, None, IsSomeAnd, codes}
+use Rattle.std.specs.Prelude.{◌≡◌, ◌≤◌, ◌<◌, ◌^◌, ℕ, List, Option, Some, None}
+use Rattle.std.specs.Prelude.{IsSomeAnd, codes, option_map}
 use Rattle.std.specs.Str.Parse.{IsNumeral, digits_value, without_leading_plus}
 use Rattle.clap.specs.Words.{Row, Text, first_of}
 use Rattle.index_words.specs.declared.job.Job.{Job}
@@ -26,7 +27,16 @@ HasMoment id rows (Some n) = HasNumber id rows n × (n < 2 ^ 64)
 -- the job is the subcommand that was entered, with the values of its options
 abbrev pub IsJob : Option (Text × List Row) → Job → Type 0
 IsJob None job = ⊥
-IsJob (Some (name, rows)) job.Apply = name ≡ codes "apply"
-IsJob (Some (name, rows)) (job.Serve listen requests at) = (name ≡ codes "serve")
+IsJob (Some (name, rows)) (job.Init db user token) = (name ≡ codes "init")
+    × HasText (codes "db") rows db.now × HasText (codes "user") rows user.now
+    × HasText (codes "token-sha256") rows token.now
+IsJob (Some (name, rows)) (job.Apply db) = (name ≡ codes "apply")
+    × (first_of (codes "db") rows ≡ option_map (λ db. db.now) db)
+IsJob (Some (name, rows)) (job.Serve db listen requests at) = (name ≡ codes "serve")
+    × HasText (codes "db") rows db.now
     × HasText (codes "listen") rows listen.now × HasNumber (codes "requests") rows requests
     × (1 ≤ requests) × (requests ≤ 1000000) × HasMoment (codes "at") rows at
+IsJob (Some (name, rows)) (job.Report db) = (name ≡ codes "report")
+    × HasText (codes "db") rows db.now
+IsJob (Some (name, rows)) (job.Check db) = (name ≡ codes "check")
+    × HasText (codes "db") rows db.now

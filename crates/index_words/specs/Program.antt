@@ -17,14 +17,24 @@ required name = record (option name) { required = true }
 abbrev pub number_in : ℕ → ℕ → Rule → Rule
 number_in least most rule = record rule { parser = Some (parser.Unsigned least most) }
 
--- the subcommand `apply`
+-- a subcommand that needs a database
+abbrev pub database_app : Text → App
+database_app name = with_rule (new_app name) (required (codes "db"))
+
+-- the subcommand `init` with its options
+abbrev pub init_app : App
+init_app =
+    with_rule (with_rule (database_app (codes "init")) (required (codes "user")))
+    (required (codes "token-sha256"))
+
+-- the subcommand `apply`, which may be given a database
 abbrev pub apply_app : App
-apply_app = new_app (codes "apply")
+apply_app = with_rule (new_app (codes "apply")) (option (codes "db"))
 
 -- the subcommand `serve` with its options
 abbrev pub serve_app : App
 serve_app =
-    with_rule (with_rule (with_rule (new_app (codes "serve")) (required (codes "listen")))
+    with_rule (with_rule (with_rule (database_app (codes "serve")) (required (codes "listen")))
     (number_in 1 1000000 (required (codes "requests"))))
     (number_in 0 18446744073709551615 (option (codes "at")))
 
@@ -34,7 +44,10 @@ program_app = record { top = record (new_app (codes "index")).top { subcommand_r
 
 -- the whole command line
 abbrev pub index_app : App
-index_app = with_subcommand (with_subcommand program_app apply_app.top) serve_app.top
+index_app =
+    with_subcommand (with_subcommand (with_subcommand (with_subcommand (with_subcommand program_app
+    init_app.top) apply_app.top) serve_app.top) (database_app (codes "report")).top)
+    (database_app (codes "check")).top
 
 -- the command is this one, as far as a parse reads it
 pub record IsApp (command : Command) (shape : App) : Type 0 where

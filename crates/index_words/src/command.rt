@@ -1,12 +1,15 @@
 //! The program's subcommands and their options.
 ghost use Rattle.std.specs.Prelude.{◌≡◌, false, codes, IfOk};
-ghost use Rattle.clap.specs.Words.{rule_of};
-ghost use Rattle.index_words.specs.Program.{IsApp, apply_app, index_app, serve_app};
-ghost use Rattle.index_words.specs.Program.{number_in, option, required};
+ghost use Rattle.clap.specs.Words.{App, rule_of, with_subcommand};
+ghost use Rattle.index_words.specs.Program.{IsApp, number_in, option, required};
+ghost use Rattle.index_words.specs.Program.{apply_app, database_app, index_app, init_app, serve_app};
 
 use clap::builder::ValueParser;
 use clap::{Arg, Command};
 use std::alloc::{AllocError, Global};
+
+/// What the option `--db` is.
+const DATABASE: &str = "The file of the index, an SQLite database";
 
 /// An option that may be left out.
 fn optional<'a>(alloc: Global, name: &'a str, help: &'a str) -> Arg<'a>
@@ -32,10 +35,34 @@ fn whole_number<'a>(arg: Arg<'a>, least: u64, most: u64) -> Arg<'a>
     arg.value_parser(ValueParser::Unsigned(least, most))
 }
 
-fn apply<'a>(alloc: Global) -> Command<'a>
-    ensures { IsApp result apply_app }
+/// A subcommand that needs a database.
+fn on_database<'a>(alloc: Global, name: &'a str, about: &'a str) -> Result<Command<'a>, AllocError>
+    ensures { IfOk result (λ command. IsApp command (database_app name.entry.now)) }
 {
-    Command::new(alloc, "apply").about("Answers each line of standard input")
+    Command::new(alloc, name)
+        .about(about)
+        .arg(needed(alloc, "db", DATABASE))
+}
+
+fn init<'a>(alloc: Global) -> Result<Command<'a>, AllocError>
+    ensures { IfOk result (λ command. IsApp command init_app) }
+{
+    let digest = "The SHA-256 digest of that user's token, as 64 hex digits";
+    on_database(
+        alloc,
+        "init",
+        "Makes a new index with one user, of the office",
+    )?
+    .arg(needed(alloc, "user", "The id of the first user"))?
+    .arg(needed(alloc, "token-sha256", digest))
+}
+
+fn apply<'a>(alloc: Global) -> Result<Command<'a>, AllocError>
+    ensures { IfOk result (λ command. IsApp command apply_app) }
+{
+    Command::new(alloc, "apply")
+        .about("Answers each line of standard input")
+        .arg(optional(alloc, "db", DATABASE))
 }
 
 fn requests<'a>(alloc: Global) -> Arg<'a>
@@ -58,19 +85,39 @@ fn serve<'a>(alloc: Global) -> Result<Command<'a>, AllocError>
     ensures { IfOk result (λ command. IsApp command serve_app) }
 {
     let help = "The address and port to listen on";
-    Command::new(alloc, "serve")
-        .about("Answers HTTP requests, one a connection")
+    on_database(alloc, "serve", "Answers HTTP requests, one a connection")?
         .arg(needed(alloc, "listen", help))?
         .arg(requests(alloc))?
         .arg(at(alloc))
+}
+
+/// The command with one more subcommand, where there was room to make that.
+fn joined<'a>(
+    command: Command<'a>,
+    made: Result<Command<'a>, AllocError>,
+) -> Result<Command<'a>, AllocError>
+    ensures { (app below : App) → IsApp command.entry app
+        → IfOk made.entry (λ made. IsApp made below)
+        → IfOk result (λ grown. IsApp grown (with_subcommand app below.top)) }
+{
+    match made {
+        Ok(made) => command.subcommand(made),
+        Err(error) => Err(error),
+    }
 }
 
 /// The whole command line.
 pub fn index<'a>(alloc: Global) -> Result<Command<'a>, AllocError>
     ensures { IfOk result (λ command. IsApp command index_app) }
 {
-    Command::new(alloc, "index")
-        .subcommand_required(true)
-        .subcommand(apply(alloc))?
-        .subcommand(serve(alloc)?)
+    let check = "Prints how many names have a wrong charge";
+    let index = Command::new(alloc, "index").subcommand_required(true);
+    let index = joined(index, init(alloc))?;
+    let index = joined(index, apply(alloc))?;
+    let index = joined(index, serve(alloc))?;
+    let index = joined(
+        index,
+        on_database(alloc, "report", "Prints a line for each name"),
+    )?;
+    joined(index, on_database(alloc, "check", check))
 }

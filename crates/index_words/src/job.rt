@@ -14,16 +14,40 @@ use std::alloc::{AllocError, Global};
 /// What the program is asked to do.
 #[derive(Clone, Copy, Debug, PartialEq, Eq)]
 pub enum Job<'a> {
+    /// To make a new index.
+    Init {
+        /// The path of its database.
+        db: &'a str,
+        /// The id of its first user, as it was given.
+        user: &'a str,
+        /// The hex digits of the digest of that user's token, as they were given.
+        token: &'a str,
+    },
     /// To answer the lines of standard input.
-    Apply,
+    Apply {
+        /// The path of the index's database, or none: the tables in memory.
+        db: Option<&'a str>,
+    },
     /// To answer HTTP requests, one a connection.
     Serve {
+        /// The path of the index's database.
+        db: &'a str,
         /// The address and port to listen on.
         listen: &'a str,
         /// How many connections are served, 1 to 1,000,000.
         requests: u32,
         /// The moment of every request in Unix seconds, or the clock's.
         at: Option<u64>,
+    },
+    /// To print the report.
+    Report {
+        /// The path of the index's database.
+        db: &'a str,
+    },
+    /// To count the names with a wrong charge.
+    Check {
+        /// The path of the index's database.
+        db: &'a str,
     },
 }
 
@@ -83,8 +107,11 @@ fn job_of<'a>(matches: &ArgMatches<'a>) -> Option<Job<'a>>
     ensures found { (job : Job) → IsJob (subcommand_rows_of matches.now) job → IsSome result }
 {
     match entered(matches)? {
-        ("apply", _) => Some(Job::Apply),
+        ("init", given) => init_of(given),
+        ("apply", given) => Some(apply_of(given)),
         ("serve", given) => serve_of(given),
+        ("report", given) => report_of(given),
+        ("check", given) => check_of(given),
         _ => None,
     }
 }
@@ -97,16 +124,58 @@ fn entered<'m, 'a>(matches: &'m ArgMatches<'a>) -> Option<(&'a str, &'m ArgMatch
     matches.subcommand()
 }
 
+/// The job of the subcommand `init` with these options.
+fn init_of<'a>(given: &ArgMatches<'a>) -> Option<Job<'a>>
+    ensures job { IfSome result (IsJob (Some (codes "init", rows_of (found_of given.now)))) }
+    ensures found { (job : Job) → IsJob (Some (codes "init", rows_of (found_of given.now))) job
+        → IsSome result }
+{
+    let db = text(given, "db")?;
+    let user = text(given, "user")?;
+    let token = text(given, "token-sha256")?;
+    Some(Job::Init { db, user, token })
+}
+
+/// The job of the subcommand `apply` with these options.
+fn apply_of<'a>(given: &ArgMatches<'a>) -> Job<'a>
+    ensures { IsJob (Some (codes "apply", rows_of (found_of given.now))) result }
+{
+    let db = text(given, "db");
+    Job::Apply { db }
+}
+
+/// The job of the subcommand `report` with these options.
+fn report_of<'a>(given: &ArgMatches<'a>) -> Option<Job<'a>>
+    ensures job { IfSome result (IsJob (Some (codes "report", rows_of (found_of given.now)))) }
+    ensures found { (job : Job) → IsJob (Some (codes "report", rows_of (found_of given.now))) job
+        → IsSome result }
+{
+    let db = text(given, "db")?;
+    Some(Job::Report { db })
+}
+
+/// The job of the subcommand `check` with these options.
+fn check_of<'a>(given: &ArgMatches<'a>) -> Option<Job<'a>>
+    ensures job { IfSome result (IsJob (Some (codes "check", rows_of (found_of given.now)))) }
+    ensures found { (job : Job) → IsJob (Some (codes "check", rows_of (found_of given.now))) job
+        → IsSome result }
+{
+    let db = text(given, "db")?;
+    Some(Job::Check { db })
+}
+
 /// The job of the subcommand `serve` with these options.
 fn serve_of<'a>(given: &ArgMatches<'a>) -> Option<Job<'a>>
     ensures job { IfSome result (IsJob (Some (codes "serve", rows_of (found_of given.now)))) }
     ensures found { (job : Job) → IsJob (Some (codes "serve", rows_of (found_of given.now))) job
         → IsSome result }
 {
+    let db = text(given, "db")?;
     let listen = text(given, "listen")?;
     let requests = count(text(given, "requests")?)?;
     let at = moment(given, "at")?;
     Some(Job::Serve {
+        db,
         listen,
         requests,
         at,

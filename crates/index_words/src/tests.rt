@@ -31,19 +31,26 @@ fn assert_ends(rt: &(impl Abort + AllocGlobal), line: &str, status: i32) {
 
 #[test]
 fn reads_the_words(rt: HostRuntime) {
-    assert_asks(&rt, "index apply", Job::Apply);
-    let refused = [
-        ("index", 2),
-        ("index claim", 2),
-        ("index apply now", 2),
-        ("index apply --db", 2),
-        ("index --help", 0),
-        ("index help", 0),
-        ("index apply --help", 0),
-    ];
-    for (line, status) in refused {
-        assert_ends(&rt, line, status);
-    }
+    let token = "ba78";
+    let made = Job::Init {
+        db: "a",
+        user: "office",
+        token,
+    };
+    assert_asks(
+        &rt,
+        "index init --db a --user office --token-sha256 ba78",
+        made,
+    );
+    assert_asks(
+        &rt,
+        "index init --token-sha256=ba78 --user=office --db=a",
+        made,
+    );
+    assert_asks(&rt, "index apply", Job::Apply { db: None });
+    assert_asks(&rt, "index apply --db a", Job::Apply { db: Some("a") });
+    assert_asks(&rt, "index report --db a", Job::Report { db: "a" });
+    assert_asks(&rt, "index check --db a", Job::Check { db: "a" });
 }
 
 #[test]
@@ -59,9 +66,10 @@ fn reads_serve(rt: HostRuntime) {
         ),
     ];
     for (options, requests, at) in rows {
-        let line = format!(in rt.alloc(); "index serve --listen {listen} {options}");
+        let line = format!(in rt.alloc(); "index serve --db a --listen {listen} {options}");
         let line = line.expect(&rt, "a line");
         let job = Job::Serve {
+            db: "a",
             listen,
             requests,
             at,
@@ -71,26 +79,58 @@ fn reads_serve(rt: HostRuntime) {
 }
 
 #[test]
+fn refuses_other_words(rt: HostRuntime) {
+    let refused = [
+        "index",
+        "index claim",
+        "index init",
+        "index init --db a --user office",
+        "index init --db a --token-sha256 ba78",
+        "index init --user office --token-sha256 ba78",
+        "index apply now",
+        "index apply --db",
+        "index apply --db a --db b",
+        "index report",
+        "index report --db",
+        "index check",
+        "index check --db a b",
+    ];
+    for line in refused {
+        assert_ends(&rt, line, 2);
+    }
+}
+
+#[test]
+fn helps(rt: HostRuntime) {
+    let asked = [
+        "index --help",
+        "index help",
+        "index init --help",
+        "index apply --help",
+        "index serve --help",
+        "index report --help",
+        "index check --help",
+    ];
+    for line in asked {
+        assert_ends(&rt, line, 0);
+    }
+}
+
+#[test]
 fn refuses_other_serves(rt: HostRuntime) {
     let refused = [
-        ("index serve", 2),
-        ("index serve --requests 1", 2),
-        ("index serve --listen 127.0.0.1:0", 2),
-        ("index serve --listen 127.0.0.1:0 --requests 0", 2),
-        ("index serve --listen 127.0.0.1:0 --requests 1000001", 2),
-        ("index serve --listen 127.0.0.1:0 --requests x", 2),
-        ("index serve --listen 127.0.0.1:0 --requests 1 --at -1", 2),
-        (
-            "index serve --listen 127.0.0.1:0 --requests 1 --at 18446744073709551616",
-            2,
-        ),
-        (
-            "index serve --listen 127.0.0.1:0 --requests 1 --requests 2",
-            2,
-        ),
-        ("index serve --help", 0),
+        "index serve",
+        "index serve --db a --requests 1",
+        "index serve --db a --listen 127.0.0.1:0",
+        "index serve --listen 127.0.0.1:0 --requests 1",
+        "index serve --db a --listen 127.0.0.1:0 --requests 0",
+        "index serve --db a --listen 127.0.0.1:0 --requests 1000001",
+        "index serve --db a --listen 127.0.0.1:0 --requests x",
+        "index serve --db a --listen 127.0.0.1:0 --requests 1 --at -1",
+        "index serve --db a --listen 127.0.0.1:0 --requests 1 --at 18446744073709551616",
+        "index serve --db a --listen 127.0.0.1:0 --requests 1 --requests 2",
     ];
-    for (line, status) in refused {
-        assert_ends(&rt, line, status);
+    for line in refused {
+        assert_ends(&rt, line, 2);
     }
 }

@@ -1,0 +1,8 @@
+use Rattle.std.proofs.lemmas.Result.{IfOk-weaker}
+use Rattle.index_words.proofs.Apps.{IsApp-arg}
+use Rattle.index_words.proofs.command.init.Goals as goal
+
+pub returns : goal.returns
+returns c =
+    let one = IsApp-arg _ _ _ _ _ c.in_ok-on_database.ensures c.needed.ensures.rule c.needed.ensures.local c.in_ok-arg.ensures in
+    IfOk-weaker c.arg-2.result _ _ (λ command adds. IsApp-arg _ _ _ _ _ one c.needed-2.ensures.rule c.needed-2.ensures.local adds) c.arg-2.ensures
