@@ -44,15 +44,27 @@ class Running:
             self.process.stdout.close()
 
 
-class Index(Running):
-    """The built program, serving on loopback. What it says on standard error is kept."""
+def make_index(program, path):
+    """Makes a new index in this file. Its one user is `office`, with the token `office`."""
+    words = [program, "init", "--db", path, "--user", "office", "--token-sha256", sha256(b"office")]
+    ended = subprocess.run(words, stdin=subprocess.DEVNULL, stdout=subprocess.PIPE, stderr=subprocess.STDOUT, timeout=10)
+    if (ended.returncode, ended.stdout) != (0, b"created\n"):
+        raise SystemExit(f"{program} init ended with {ended.returncode} {ended.stdout!r}")
+    return path
 
-    def __init__(self, program, requests=1_000_000):
-        self.said = tempfile.TemporaryFile()
-        words = [program, "serve", "--listen", "127.0.0.1:0", "--requests", str(requests)]
+
+class Index(Running):
+    """The built program, serving on loopback the index in a file, or a new one. What it says on standard error is kept."""
+
+    def __init__(self, program, requests=1_000_000, path=None):
+        self.said, self.folder = tempfile.TemporaryFile(), tempfile.TemporaryDirectory()
+        self.path = path or f"{self.folder.name}/index.db"
+        words = [program, "serve", "--db", self.path, "--listen", "127.0.0.1:0", "--requests", str(requests)]
         super().__init__(words, stdout=subprocess.PIPE, stderr=self.said)
 
     def __enter__(self):
+        if not os.path.exists(self.path):
+            make_index(self.words[0], self.path)
         super().__enter__()
         try:
             self.port = self.told_port()
@@ -64,6 +76,7 @@ class Index(Running):
     def __exit__(self, *_):
         super().__exit__()
         self.said.close()
+        self.folder.cleanup()
 
     def told_port(self):
         """The port in the line `listening on 127.0.0.1:PORT`, which has to come within ten seconds."""
