@@ -1,5 +1,6 @@
 //! The tables as `Books`: each call is done by the connection, and then counted.
-ghost use Rattle.std.specs.Prelude.{◌≡◌};
+ghost use Rattle.std.specs.Prelude.{◌≡◌, Err, IfErr, is_ok};
+ghost use Rattle.index_looks.specs.Faults.{fault_by};
 ghost use Rattle.index_rules.specs.Walks.{has_fault};
 
 use crate::tables::{SqlBooks, counted};
@@ -10,7 +11,7 @@ use index_names::{FileName, NormalName};
 use index_rules::{
     Books, Change, Fault, FileRow, FileTaker, Keys, NameRow, NameTaker, Owners, View, WalkEnd,
 };
-use sqlite::Alter;
+use sqlite::{Alter, Error};
 use std::alloc::Global;
 
 impl<S: Alter> Books for SqlBooks<S> {
@@ -37,11 +38,9 @@ impl<S: Alter> Books for SqlBooks<S> {
 
     fn write(&mut self, _alloc: Global, change: Change) -> Result<(), Fault> {
         let made = make_change(&mut self.conn, &change);
+        drop(change);
         self.failures = counted(self.failures, made.is_ok());
-        match made {
-            Ok(()) => Ok(()),
-            Err(error) => Err(fault_of(error)),
-        }
+        told(made)
     }
 
     fn owners_of(&mut self, alloc: Global, name: &NormalName) -> Result<Owners, Fault> {
@@ -86,6 +85,17 @@ impl<S: Alter> Books for SqlBooks<S> {
     }
 
     ghost honest_is_clean = { λ books honest. honest.clean };
+}
+
+/// An error of the database as a fault.
+fn told(made: Result<(), Error>) -> Result<(), Fault>
+    ensures ok { is_ok result ≡ is_ok made }
+    ensures fault { IfErr made (λ error. result ≡ Err (fault_by error)) }
+{
+    match made {
+        Ok(()) => Ok(()),
+        Err(error) => Err(fault_of(error)),
+    }
 }
 
 /// Whether a fault ended the walk.
