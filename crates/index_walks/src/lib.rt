@@ -2,6 +2,7 @@
 #![tactic(auto)]
 
 mod hand;
+mod rows;
 mod walk;
 
 pub use walk::{walk_files, walk_held};

@@ -1,20 +1,19 @@
-//! Walks over the rows that a query gives.
+//! The walks over the tables.
 ghost use Rattle.std.specs.Prelude.{◌≡◌, false, not, List};
 ghost use Rattle.sqlite.specs.Held.{state};
 ghost use Rattle.sqlite.specs.State.{HasCleanDisk};
-ghost use Rattle.index_looks.specs.Faults.{fault_by};
 ghost use Rattle.index_looks.specs.Looks.{IsKept, Looks};
 ghost use Rattle.index_rules.specs.declared.rows.FileRow.{FileRow as FileRowData};
 ghost use Rattle.index_rules.specs.declared.rows.NameRow.{NameRow as NameRowData};
 ghost use Rattle.index_rules.specs.TableRows.{file_rows_in, held_rows_in};
-ghost use Rattle.index_rules.specs.Walks.{Walks, has_fault, walk_end_of};
+ghost use Rattle.index_rules.specs.Walks.{Walks, has_fault};
 ghost use Rattle.index_schema.specs.Records.{tables_in};
 
-use crate::hand::{hand_file, hand_name};
-use index_looks::fault_of;
+use crate::hand::{Files, Names};
+use crate::rows::walk;
 use index_names::NormalName;
 use index_rules::{FileTaker, NameTaker, WalkEnd};
-use sqlite::{Alter, Connection, Error, params};
+use sqlite::{Alter, Connection, params};
 use std::alloc::Global;
 
 /// Hands the held names to a taker one at a time, in byte order, until it wants no more. The tables stay as they are.
@@ -37,21 +36,13 @@ pub fn walk_held<S: Alter, K: NameTaker>(
         Walks K.takes K.stops rows taker.old taker.new result }
     ensures looks { Looks S.Store conn.old conn.new (not (has_fault result)) }
 {
-    let mut rows = match conn.query(
+    walk::<S, K, Names>(
+        alloc,
+        conn,
         "SELECT rowid, * FROM names WHERE state <> 2 ORDER BY name",
         &[],
-    ) {
-        Ok(rows) => rows,
-        Err(error) => return Err(end_of(error)),
-    };
-    'rows: for _ in 0..u64::MAX {
-        match rows.next() {
-            Ok(Some(row)) => hand_name(alloc, row, taker)?,
-            Ok(None) => return Ok(()),
-            Err(error) => return Err(end_of(error)),
-        }
-    }
-    Err(WalkEnd::Store)
+        taker,
+    )
 }
 
 /// Hands the undeleted files of a name to a taker one at a time, in byte order, until it wants no more. The tables stay
@@ -76,26 +67,11 @@ pub fn walk_files<S: Alter, K: FileTaker>(
         Walks K.takes K.stops rows taker.old taker.new result }
     ensures looks { Looks S.Store conn.old conn.new (not (has_fault result)) }
 {
-    let mut rows = match conn.query(
+    walk::<S, K, Files>(
+        alloc,
+        conn,
         "SELECT files.rowid, files.*, yanks.reason FROM files LEFT JOIN yanks ON yanks.name = files.name AND yanks.rel = files.rel WHERE files.live = 1 AND files.name = ?1 ORDER BY files.file",
         params![name.text()],
-    ) {
-        Ok(rows) => rows,
-        Err(error) => return Err(end_of(error)),
-    };
-    'rows: for _ in 0..u64::MAX {
-        match rows.next() {
-            Ok(Some(row)) => hand_file(alloc, row, taker)?,
-            Ok(None) => return Ok(()),
-            Err(error) => return Err(end_of(error)),
-        }
-    }
-    Err(WalkEnd::Store)
-}
-
-/// The end of a walk that an error of the database is.
-fn end_of(error: Error) -> WalkEnd
-    ensures { result ≡ walk_end_of (fault_by error) }
-{
-    WalkEnd::from(fault_of(error))
+        taker,
+    )
 }
