@@ -5,6 +5,9 @@ use index_desk::Desk;
 use index_digest::Digest256;
 use index_io::{Input, Output};
 use index_plain::PlainBooks;
+use index_rules::Books;
+use index_tables::{SqlBooks, Unopened};
+use sqlite::{Connection, MemStore};
 use std::alloc::AllocGlobal;
 use std::fmt;
 use std::process::Abort;
@@ -49,16 +52,53 @@ const CASE: &str = r#"
 = {"answer":"accepted"}
 "#;
 
-/// Asks the requests of these texts in one run, at a desk whose one user is `office`, of the office, with the token
-/// `office`. Each is answered as the texts have it.
+/// Asks the requests of these texts in one run of each kind of books, whose one user is `office`, of the office, with
+/// the token `office`. Each is answered as the texts have it.
 fn assert_transcript(rt: &(impl Abort + AllocGlobal), texts: &[&str]) {
     let mut requests = String::new(rt.alloc());
     let mut answers = String::new(rt.alloc());
     for text in texts {
         split(text, &mut requests, &mut answers).expect(rt, "a transcript");
     }
-    let told = answers_to(rt, requests.as_str());
-    assert_lines(rt, requests.as_str(), told.as_str(), answers.as_str());
+    assert_in_memory(rt, requests.as_str(), answers.as_str());
+    assert_in_database(rt, requests.as_str(), answers.as_str());
+}
+
+/// A desk over vectors answers so.
+fn assert_in_memory(rt: &(impl Abort + AllocGlobal), requests: &str, answers: &str) {
+    let opened = PlainBooks::new(rt.alloc(), b"office", Digest256::of(b"office"));
+    let mut desk = Desk::new(opened.expect(rt, "books"));
+    assert_answers(rt, &mut desk, requests, answers);
+}
+
+/// A desk over a database answers so.
+fn assert_in_database(rt: &(impl Abort + AllocGlobal), requests: &str, answers: &str) {
+    let mut desk = Desk::new(new_tables(rt));
+    assert_answers(rt, &mut desk, requests, answers);
+    drop(desk.into_books().into_connection());
+}
+
+/// An index in a new database.
+fn new_tables(rt: &(impl Abort + AllocGlobal)) -> SqlBooks<MemStore> {
+    let conn = Connection::open_in_memory(rt.alloc()).expect(rt, "a database");
+    match SqlBooks::create(rt.alloc(), conn, b"office", Digest256::of(b"office")) {
+        Ok(books) => books,
+        Err(Unopened { why, conn }) => {
+            drop(conn);
+            panic!(rt; "{why:?}")
+        }
+    }
+}
+
+/// The desk answers each request by the line that the answers have for it.
+fn assert_answers<B: Books>(
+    rt: &(impl Abort + AllocGlobal),
+    desk: &mut Desk<B>,
+    requests: &str,
+    answers: &str,
+) {
+    let told = answers_to(rt, desk, requests);
+    assert_lines(rt, requests, told.as_str(), answers);
 }
 
 /// Adds the requests and the answers of a transcript to others, a line each.
@@ -86,14 +126,15 @@ fn assert_line(rt: &impl Abort, request: &str, told: &str, answer: &str) {
     assert_eq!(rt; told, answer, "{request}");
 }
 
-/// What a new desk writes for these lines.
-fn answers_to(rt: &(impl Abort + AllocGlobal), lines: &str) -> String {
-    let token = Digest256::of(b"office");
-    let books = PlainBooks::new(rt.alloc(), b"office", token);
-    let mut desk = Desk::new(books.expect(rt, "books"));
+/// What a desk writes for these lines.
+fn answers_to<B: Books>(
+    rt: &(impl Abort + AllocGlobal),
+    desk: &mut Desk<B>,
+    lines: &str,
+) -> String {
     let mut input = Input::new(lines.as_bytes());
     let mut output = Output::new(Vec::new(rt.alloc()));
-    let ended = apply_lines(rt.alloc(), &mut input, &mut output, &mut desk);
+    let ended = apply_lines(rt.alloc(), &mut input, &mut output, desk);
     ended.expect(rt, "a run to its end");
     String::from_utf8(output.writer).expect(rt, "UTF-8")
 }
