@@ -1,0 +1,155 @@
+//! Indexes in databases, and lines asked of them.
+use index_cli::apply_lines;
+use index_desk::Desk;
+use index_digest::Digest256;
+use index_io::{Input, Output};
+use index_rules::Books;
+use index_tables::{SqlBooks, Unopened};
+use sqlite::{Alter, Connection, MemStore};
+use std::alloc::AllocGlobal;
+use std::process::Abort;
+
+mod looks;
+mod migrations;
+mod opening;
+mod rows;
+
+const ACCEPTED: &str = r#"{"answer":"accepted"}"#;
+
+const ALREADY: &str = r#"{"answer":"already"}"#;
+
+/// The office adds ann, whose token is `abc`, and bob, whose token is `hello`. Then ann claims `frob`.
+const FROB: &[[&str; 2]] = &[[ADD_ANN, ACCEPTED], [ADD_BOB, ACCEPTED], [CLAIM, ACCEPTED]];
+
+const ADD_ANN: &str =
+    r#"{"at":1,"token":"office","do":"add_user","user":"ann","office":false,"token_sha256":"ba7816bf8f01cfea414140de5dae2223b00361a396177a9cb410ff61f20015ad"}"#;
+
+const ADD_BOB: &str =
+    r#"{"at":1,"token":"office","do":"add_user","user":"bob","office":false,"token_sha256":"2cf24dba5fb0a30e26e83b2ac5b9e29e1b161e5c1fa7425e73043362938b9824"}"#;
+
+const CLAIM: &str = r#"{"at":10,"token":"abc","do":"claim","name":"frob"}"#;
+
+/// Then ann uploads `frob-1.0.tar.gz`, the bytes `abc`.
+const FILE: &[[&str; 2]] = &[[UPLOAD, ACCEPTED]];
+
+const UPLOAD: &str =
+    r#"{"at":11,"token":"abc","do":"upload","file":"frob-1.0.tar.gz","sha256":"ba7816bf8f01cfea414140de5dae2223b00361a396177a9cb410ff61f20015ad","hex":"616263","requires_python":""}"#;
+
+/// Then the standing of `frob` is asked.
+const STANDING: &str = r#"{"do":"standing","name":"frob"}"#;
+
+const FREE: &str = r#"{"name":"frob","state":"free"}"#;
+
+const UNCHARGED: &str =
+    r#"{"case":null,"charge":0,"name":"frob","owners":["ann"],"quota":1073741824,"shown":"frob","state":"held"}"#;
+
+const CHARGED: &str =
+    r#"{"case":null,"charge":3,"name":"frob","owners":["ann"],"quota":1073741824,"shown":"frob","state":"held"}"#;
+
+/// An upload of the same file name, the byte `a`.
+const OTHER_UPLOAD: &str =
+    r#"{"at":14,"token":"abc","do":"upload","file":"frob-1.0.tar.gz","sha256":"ca978112ca1bbdcafac231b39a23dc4da786eff8147c4e72b9807785afee48bb","hex":"61","requires_python":""}"#;
+
+const FILE_NAME_TAKEN: &str = r#"{"answer":"refused","code":24,"name":"FileNameTaken"}"#;
+
+/// ann deletes the file.
+const DELETE: &str = r#"{"at":12,"token":"abc","do":"delete","file":"frob-1.0.tar.gz"}"#;
+
+/// An empty database.
+fn new_database(rt: &(impl Abort + AllocGlobal)) -> Connection<MemStore> {
+    Connection::open_in_memory(rt.alloc()).expect(rt, "a database")
+}
+
+/// A new index in an empty database, whose one user is `office`, with the token `office`.
+fn create<S: Alter + Drop>(
+    rt: &(impl Abort + AllocGlobal),
+    conn: Connection<S>,
+) -> Result<SqlBooks<S>, Unopened<S>> {
+    assert!(rt; conn.is_autocommit());
+    SqlBooks::create(rt.alloc(), conn, b"office", Digest256::of(b"office"))
+}
+
+/// The index that is there.
+fn adopt<S: Alter + Drop>(
+    rt: &(impl Abort + AllocGlobal),
+    conn: Connection<S>,
+) -> Result<SqlBooks<S>, Unopened<S>> {
+    assert!(rt; conn.is_autocommit());
+    SqlBooks::adopt(rt.alloc(), conn)
+}
+
+/// A desk over an index that was opened.
+fn desk_over<S: Alter + Drop>(
+    rt: &impl Abort,
+    books: Result<SqlBooks<S>, Unopened<S>>,
+) -> Desk<SqlBooks<S>> {
+    match books {
+        Ok(books) => Desk::new(books),
+        Err(Unopened { why, conn }) => {
+            drop(conn);
+            panic!(rt; "{why:?}")
+        }
+    }
+}
+
+/// A desk over a new index in memory, of which these exchanges were asked.
+fn new_desk(rt: &(impl Abort + AllocGlobal), parts: &[&[[&str; 2]]]) -> Desk<SqlBooks<MemStore>> {
+    let books = create(rt, new_database(rt));
+    let mut desk = desk_over(rt, books);
+    assert_parts(rt, &mut desk, parts);
+    desk
+}
+
+/// The connection of a desk, on which SQL is run.
+fn connection_of<S: Alter + Drop>(desk: Desk<SqlBooks<S>>) -> Connection<S> {
+    desk.into_books().into_connection()
+}
+
+/// Asks these exchanges in order: each request is answered so.
+fn assert_parts<B: Books>(
+    rt: &(impl Abort + AllocGlobal),
+    desk: &mut Desk<B>,
+    parts: &[&[[&str; 2]]],
+) {
+    for part in parts {
+        for [request, answer] in *part {
+            assert_answer(rt, desk, request, answer);
+        }
+    }
+}
+
+/// A request is answered so.
+fn assert_answer<B: Books>(
+    rt: &(impl Abort + AllocGlobal),
+    desk: &mut Desk<B>,
+    request: &str,
+    answer: &str,
+) {
+    let told = answer_to(rt, desk, request);
+    assert_eq!(rt; told.as_str().trim_end(), answer, "{request}");
+}
+
+/// What a desk answers, with a line feed at the end.
+fn answer_to<B: Books>(
+    rt: &(impl Abort + AllocGlobal),
+    desk: &mut Desk<B>,
+    request: &str,
+) -> String {
+    let mut input = Input::new(request.as_bytes());
+    let mut output = Output::new(Vec::new(rt.alloc()));
+    let ended = apply_lines(rt.alloc(), &mut input, &mut output, desk);
+    ended.expect(rt, request);
+    String::from_utf8(output.writer).expect(rt, request)
+}
+
+/// Runs statements of SQL.
+fn run<S: Alter>(rt: &impl Abort, conn: &mut Connection<S>, sql: &str) {
+    conn.execute_batch(sql).expect(rt, sql);
+}
+
+/// The number that a query finds.
+fn assert_number<S: Alter>(rt: &impl Abort, conn: &mut Connection<S>, sql: &str, number: i64) {
+    let row = conn.query_row(sql, &[]).expect(rt, sql);
+    let found: i64 = row.get(0).expect(rt, sql);
+    assert_eq!(rt; found, number, "{sql}");
+}
