@@ -56,7 +56,8 @@ def make_index(program, path):
 class Index(Running):
     """The built program, serving on loopback the index in a file, or a new one. What it says on standard error is kept."""
 
-    def __init__(self, program, requests=1_000_000, path=None):
+    def __init__(self, program, requests=1_000_000, path=None, patience=10):
+        self.patience = patience
         self.said, self.folder = tempfile.TemporaryFile(), tempfile.TemporaryDirectory()
         self.path = path or f"{self.folder.name}/index.db"
         words = [program, "serve", "--db", self.path, "--listen", "127.0.0.1:0", "--requests", str(requests)]
@@ -79,8 +80,8 @@ class Index(Running):
         self.folder.cleanup()
 
     def told_port(self):
-        """The port in the line `listening on 127.0.0.1:PORT`, which has to come within ten seconds."""
-        line, until = b"", time.monotonic() + 10
+        """The port in the line `listening on 127.0.0.1:PORT`, which has to come within so many seconds."""
+        line, until = b"", time.monotonic() + self.patience
         while not line.endswith(b"\n"):
             ready, _, _ = select.select([self.process.stdout], [], [], max(0, until - time.monotonic()))
             read = os.read(self.process.stdout.fileno(), 4096) if ready else b""
