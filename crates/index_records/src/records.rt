@@ -28,7 +28,8 @@ pub fn user_record(row: &Row) -> Result<UserRecord, Fault>
 /// fit together, or where a prohibited one has any.
 pub fn name_record(alloc: Global, row: &Row) -> Result<NameRecord, Fault>
     ensures record { IfOk result (λ it. it ≡ name_in row.now) }
-    ensures bare { IfOk result (λ it. it ≡ NameRecord.Prohibited → project_in row.now ≡ bare_project) }
+    ensures bare { IfOk result (λ it. it ≡ NameRecord.Prohibited
+        → project_in row.now ≡ bare_project) }
 {
     match number(row, 2)? {
         1 => Ok(NameRecord::Held(project(alloc, row)?)),
