@@ -1,5 +1,5 @@
 -- The tables after one of them changed.
-use Rattle.std.proofs.Common.{◌≡◌, refl, ap, ◌∙◌, arith}
+use Rattle.std.proofs.Common.{◌≡◌, ◌≢◌, ℕ, Option, refl, ap, ◌∙◌, arith}
 use Rattle.sqlite_trees.specs.Tree.{Trees}
 use Rattle.sqlite.specs.Effect.{Database}
 use Rattle.index_rules.specs.declared.records.UserRecord.{UserRecord}
@@ -9,7 +9,7 @@ use Rattle.index_rules.specs.declared.records.CaseRecord.{CaseRecord}
 use Rattle.index_rules.specs.Maps.{Bytes, Map, PairMap, Pairs, TextSet}
 use Rattle.index_rules.specs.Tables.{Tables}
 use Rattle.index_schema.specs.Records.{tables_in}
-use Rattle.index_schema.specs.Index.{IsIndex, Changes}
+use Rattle.index_schema.specs.Index.{IsIndex, Rewrites, Changes, version_in}
 use Rattle.index_schema.proofs.EditLemmas.{KeepsOthers}
 
 module _ (db next : Trees) where
@@ -40,30 +40,34 @@ module _ (db next : Trees) where
   meta_alone : KeepsOthers 0 db next → tables_in next ≡ tables_in db
   meta_alone h = rw (h.1.0 (omega arith), h.1.1.0 (omega arith), h.1.1.1.0 (omega arith), h.1.1.1.1.0 (omega arith), h.1.1.1.1.1.0 (omega arith), h.1.1.1.1.1.1.0 (omega arith), h.1.1.1.1.1.1.1.0 (omega arith), h.1.1.1.1.1.1.1.1.0 (omega arith)) refl
 
+  -- a change of another table than meta
+  version_kept : (tree : ℕ) → 0 ≢ tree → KeepsOthers tree db next → version_in next ≡ version_in db
+  version_kept tree apart h = rw (h.0 apart) refl
+
 module _ (old new : Database) (index : IsIndex new) where
   pub users_change : (f : Tables → Map UserRecord) → (tables_in new.trees).users ≡ f (tables_in old.trees) → KeepsOthers 1 old.trees new.trees → Changes (λ T. record T { users = f T }) old new
-  users_change f is others = record { tables = users_alone old.trees new.trees others ∙ ap (λ it. record (tables_in old.trees) { users = it }) is; index = index }
+  users_change f is others = record { tables = users_alone old.trees new.trees others ∙ ap (λ it. record (tables_in old.trees) { users = it }) is; index = index; version = version_kept old.trees new.trees 1 (omega arith) others }
 
   pub names_change : (f : Tables → Map NameRecord) → (tables_in new.trees).names ≡ f (tables_in old.trees) → KeepsOthers 4 old.trees new.trees → Changes (λ T. record T { names = f T }) old new
-  names_change f is others = record { tables = names_alone old.trees new.trees others ∙ ap (λ it. record (tables_in old.trees) { names = it }) is; index = index }
+  names_change f is others = record { tables = names_alone old.trees new.trees others ∙ ap (λ it. record (tables_in old.trees) { names = it }) is; index = index; version = version_kept old.trees new.trees 4 (omega arith) others }
 
   pub owners_change : (f : Tables → Pairs) → (tables_in new.trees).owners ≡ f (tables_in old.trees) → KeepsOthers 6 old.trees new.trees → Changes (λ T. record T { owners = f T }) old new
-  owners_change f is others = record { tables = owners_alone old.trees new.trees others ∙ ap (λ it. record (tables_in old.trees) { owners = it }) is; index = index }
+  owners_change f is others = record { tables = owners_alone old.trees new.trees others ∙ ap (λ it. record (tables_in old.trees) { owners = it }) is; index = index; version = version_kept old.trees new.trees 6 (omega arith) others }
 
   pub files_change : (f : Tables → Map FileRecord) → (tables_in new.trees).files ≡ f (tables_in old.trees) → KeepsOthers 8 old.trees new.trees → Changes (λ T. record T { files = f T }) old new
-  files_change f is others = record { tables = files_alone old.trees new.trees others ∙ ap (λ it. record (tables_in old.trees) { files = it }) is; index = index }
+  files_change f is others = record { tables = files_alone old.trees new.trees others ∙ ap (λ it. record (tables_in old.trees) { files = it }) is; index = index; version = version_kept old.trees new.trees 8 (omega arith) others }
 
   pub bodies_change : (f : Tables → Map Bytes) → (tables_in new.trees).bodies ≡ f (tables_in old.trees) → KeepsOthers 11 old.trees new.trees → Changes (λ T. record T { bodies = f T }) old new
-  bodies_change f is others = record { tables = bodies_alone old.trees new.trees others ∙ ap (λ it. record (tables_in old.trees) { bodies = it }) is; index = index }
+  bodies_change f is others = record { tables = bodies_alone old.trees new.trees others ∙ ap (λ it. record (tables_in old.trees) { bodies = it }) is; index = index; version = version_kept old.trees new.trees 11 (omega arith) others }
 
   pub yanks_change : (f : Tables → PairMap Bytes) → (tables_in new.trees).yanks ≡ f (tables_in old.trees) → KeepsOthers 13 old.trees new.trees → Changes (λ T. record T { yanks = f T }) old new
-  yanks_change f is others = record { tables = yanks_alone old.trees new.trees others ∙ ap (λ it. record (tables_in old.trees) { yanks = it }) is; index = index }
+  yanks_change f is others = record { tables = yanks_alone old.trees new.trees others ∙ ap (λ it. record (tables_in old.trees) { yanks = it }) is; index = index; version = version_kept old.trees new.trees 13 (omega arith) others }
 
   pub cases_change : (f : Tables → Map CaseRecord) → (tables_in new.trees).cases ≡ f (tables_in old.trees) → KeepsOthers 15 old.trees new.trees → Changes (λ T. record T { cases = f T }) old new
-  cases_change f is others = record { tables = cases_alone old.trees new.trees others ∙ ap (λ it. record (tables_in old.trees) { cases = it }) is; index = index }
+  cases_change f is others = record { tables = cases_alone old.trees new.trees others ∙ ap (λ it. record (tables_in old.trees) { cases = it }) is; index = index; version = version_kept old.trees new.trees 15 (omega arith) others }
 
   pub bans_change : (f : Tables → TextSet) → (tables_in new.trees).bans ≡ f (tables_in old.trees) → KeepsOthers 17 old.trees new.trees → Changes (λ T. record T { bans = f T }) old new
-  bans_change f is others = record { tables = bans_alone old.trees new.trees others ∙ ap (λ it. record (tables_in old.trees) { bans = it }) is; index = index }
+  bans_change f is others = record { tables = bans_alone old.trees new.trees others ∙ ap (λ it. record (tables_in old.trees) { bans = it }) is; index = index; version = version_kept old.trees new.trees 17 (omega arith) others }
 
-  pub meta_change : KeepsOthers 0 old.trees new.trees → Changes (λ T. T) old new
-  meta_change others = record { tables = meta_alone old.trees new.trees others; index = index }
+  pub meta_change : (told : Option ℕ → Option ℕ) → version_in new.trees ≡ told (version_in old.trees) → KeepsOthers 0 old.trees new.trees → Rewrites (λ T. T) told old new
+  meta_change told version others = record { tables = meta_alone old.trees new.trees others; index = index; version = version }

@@ -11,7 +11,7 @@ use Rattle.index_schema.specs.TableTexts.{bans_text}
 use Rattle.index_schema.specs.Schema.{index_schema, bans_at}
 use Rattle.index_schema.specs.Stages.{stage}
 use Rattle.index_schema.specs.FirstVersion.{first_version_schema, IsFirstVersion, without_bans}
-use Rattle.index_schema.specs.Index.{AreRows, Changes, is_version, version_in}
+use Rattle.index_schema.specs.Index.{AreRows, Changes, is_version}
 use Rattle.index_schema.specs.Records.{number_in, tables_in}
 use Rattle.index_schema.proofs.CreateLemmas.{creates, makes_bans}
 
@@ -28,14 +28,16 @@ tables_after db next h none = rw (h.1.0, h.1.1.0, h.1.1.1.0, h.1.1.1.1.0, h.1.1.
 
 -- an index with the same tables, where nothing is banned, and with the same version
 pub creates_bans : (old new : State) (count : ℕ) → IsFirstVersion old.now → Executes bans_text [] old new (Ok count)
-    → Changes without_bans old.now new.now × (version_in new.now.trees ≡ version_in old.now.trees)
+    → Changes without_bans old.now new.now
 unfolding digits
 creates_bans old new count h ran =
     let it = creates (stage 8) bans_text (bans_at 0) makes_bans old new count (h.schema ∙ sym first_eight) ran in
     let empty : new.now.trees 17 ≡ [] = it.1 in
     let kept : KeepsRows first_version_schema.tables old.now.trees new.now.trees = it.2 in
     let eight = all_both (λ (t : Table). new.now.trees t.tree ≡ old.now.trees t.tree) (λ (t : Table). AreRows (old.now.trees t.tree)) (λ (t : Table). AreRows (new.now.trees t.tree)) (λ t same are. subst AreRows (sym same) are) first_version_schema.tables kept h.numbered in
-    let nine = all-append (λ (t : Table). AreRows (new.now.trees t.tree)) first_version_schema.tables (bans_at 17 ∷ []) eight (subst AreRows (sym empty) (tt, tt), tt) in (
-      record { tables = tables_after old.now.trees new.now.trees kept empty; index = record { schema = it.0 ∙ all_nine; sound = it.3; numbered = nine } },
-      ap (λ rows. option_map (λ r. number_in (column r 3)) (find is_version rows)) kept.0,
-    )
+    let nine = all-append (λ (t : Table). AreRows (new.now.trees t.tree)) first_version_schema.tables (bans_at 17 ∷ []) eight (subst AreRows (sym empty) (tt, tt), tt) in
+    record {
+      tables = tables_after old.now.trees new.now.trees kept empty;
+      index = record { schema = it.0 ∙ all_nine; sound = it.3; numbered = nine };
+      version = ap (λ rows. option_map (λ r. number_in (column r 3)) (find is_version rows)) kept.0;
+    }

@@ -30,7 +30,7 @@ use Rattle.index_rules.proofs.OwnerLists.{pair_total, exact_pair}
 use Rattle.index_schema.specs.Records.{tables_in, text_key, user_in, case_in, pair_key, name_in, nothing_in, reason_in, file_in, body_in}
 use Rattle.index_rows.proofs.Permutations.{short_permutation}
 use Rattle.index_schema.specs.Schema.{index_schema, names_at, owners_at, yanks_at, cases_at}
-use Rattle.index_schema.specs.Index.{rowid_in, IsIndex, Changes}
+use Rattle.index_schema.specs.Index.{rowid_in, IsIndex, Changes, version_in}
 use Rattle.index_schema.proofs.QueryShapes.{plan, from_one, is_param}
 use Rattle.index_schema.proofs.KeyLemmas.{IsText, IsPair, agree_texts}
 use Rattle.index_schema.proofs.KeyedLemmas.{once, gone_is, kept_is}
@@ -235,6 +235,9 @@ module _ (name : Bytes) where
         bans = map_from {R = bytes_cmp} text_key nothing_in (d.rest.4 i);
       }
 
+  version_kept : (old new : Database) → Dropped old.trees new.trees → version_in new.trees ≡ version_in old.trees
+  version_kept old new d = rw d.rest.0 refl
+
   -- no row has the name, so nothing goes
   dropped_none : (old : Database) (next : Trees) → IsIndex old → filter named (old.trees 4) ≡ [] → Writes index_schema Enforced old.trees (edit_with (names_at 4) [] []) (Ok next) → Dropped old.trees next
   dropped_none old next h none wrote =
@@ -301,4 +304,4 @@ module _ (name : Bytes) where
         | inl none ↦ dropped_none old.now new.now.trees h none (subst (λ l. Writes index_schema Enforced db (edit_with (names_at 4) l []) (Ok new.now.trees)) none writes)
         | inr one ↦ dropped_one old.now new.now.trees h one.0 one.1 (subst (λ l. Writes index_schema Enforced db (edit_with (names_at 4) l []) (Ok new.now.trees)) one.1 writes)
       ] in
-      record { tables = tables_after old.now new.now dropped; index = indexed old.now new.now h wrote.2 w.sound dropped }
+      record { tables = tables_after old.now new.now dropped; index = indexed old.now new.now h wrote.2 w.sound dropped; version = version_kept old.now new.now dropped }

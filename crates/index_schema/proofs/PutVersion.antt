@@ -12,7 +12,7 @@ use Rattle.sqlite.specs.Listing.{understood}
 use Rattle.sqlite.specs.State.{State, Executes}
 use Rattle.sqlite.proofs.Callers.{IsPlain, command_of}
 use Rattle.index_schema.specs.Schema.{index_schema}
-use Rattle.index_schema.specs.Index.{IsIndex, Changes, is_version, version_in}
+use Rattle.index_schema.specs.Index.{IsIndex, Rewrites, is_version, version_in}
 use Rattle.index_schema.specs.Records.{number_in}
 use Rattle.index_schema.proofs.VersionLemmas.{same_version}
 use Rattle.index_schema.proofs.KeyLemmas.{are_rows}
@@ -48,7 +48,7 @@ row_cast : cast_row (meta_at 0) row ≡ row
 row_cast = rw (cast_int (pos 1), cast_int (pos 2), cast_null) refl
 
 -- the tables are as they were, and the version is 2
-pub puts : (old new : State) (count : ℕ) → IsIndex old.now → Executes put_version_text [] old new (Ok count) → Changes (λ T. T) old.now new.now × (version_in new.now.trees ≡ Some 2)
+pub puts : (old new : State) (count : ℕ) → IsIndex old.now → Executes put_version_text [] old new (Ok count) → Rewrites (λ T. T) (λ _. Some 2) old.now new.now
 puts old new count h ran =
     let db = old.now.trees in
     let command = Insert 0 (Values terms 4) in
@@ -61,4 +61,4 @@ puts old new count h ran =
     let put = put_all_fresh (row ∷ []) (db 0) (refl, tt) (subst (λ ns. are_fresh (db 0) ns ≡ true) cast it.fresh) (are_rows 0 (meta_at 0) refl old.now h) in
     let next : new.now.trees 0 ≡ put_all (db 0) (row ∷ []) = it.rows ∙ ap (put_all (db 0)) cast in
     let told : version_in new.now.trees ≡ Some 2 = ap (λ rows. option_map (λ r. number_in (column r 3)) (find is_version rows)) next ∙ ap (option_map (λ r. number_in (column r 3))) (sym (same_version (put_all (db 0) (row ∷ [])) (row ∷ db 0) put.1 (IsPermutation-sym _ _ put.0))) in
-    (meta_change old.now new.now (record { schema = wrote.0; sound = w.sound; numbered = numbered_after 0 db new.now.trees it.tables (subst AreRows (sym next) put.1) h.numbered }) it.tables, told)
+    meta_change old.now new.now (record { schema = wrote.0; sound = w.sound; numbered = numbered_after 0 db new.now.trees it.tables (subst AreRows (sym next) put.1) h.numbered }) (λ _. Some 2) told it.tables

@@ -29,7 +29,7 @@ use Rattle.sqlite_typed.proofs.TestLemmas.{at_ints, last_term}
 use Rattle.index_rows.proofs.RowLemmas.{split_update}
 use Rattle.index_schema.specs.Records.{number_in}
 use Rattle.index_schema.specs.Schema.{index_schema, meta_at}
-use Rattle.index_schema.specs.Index.{rowid_in, IsWhole, IsIndex, Changes, is_version, version_in}
+use Rattle.index_schema.specs.Index.{rowid_in, IsWhole, IsIndex, Rewrites, is_version}
 use Rattle.index_schema.specs.StatementTexts.{update_version_text}
 use Rattle.index_schema.proofs.QueryShapes.{plan, from_one}
 use Rattle.index_schema.proofs.EditLemmas.{as_int}
@@ -89,9 +89,9 @@ told (r ∷ rows) = go (here r) (bytes_eq (bytes (column r 2)) (codes "python-in
     go true false id kind more = rw (id, kind) more
     go false b id kind more = rw id more
 
--- the tables are as they were
+-- the tables are as they were, and the version is 2 if one was told
 pub updates : (old new : State) (count : ℕ) → IsIndex old.now → Executes update_version_text [] old new (Ok count)
-    → Changes (λ T. T) old.now new.now × (version_in new.now.trees ≡ option_map (λ _. 2) (version_in old.now.trees))
+    → Rewrites (λ T. T) (option_map (λ _. 2)) old.now new.now
 updates old new count h ran =
     let rs = old.now.trees 0 in
     let whole = (are_rows 0 (meta_at 0) refl old.now h).1 in
@@ -100,4 +100,4 @@ updates old new count h ran =
     let it = updates_rows 0 (meta_at 0) refl (λ db. refl) update_version_text [] is_plain old new count h tests project here becomes compiled (no_works rs) (all-filter _ here rs all) passes ran in
     let order = IsPermutation-trans _ _ _ (IsPermutation-sym _ _ it.0) (split_update here becomes rs) in
     let found = same_version (new.now.trees 0) (update_where here becomes rs) (are_rows 0 (meta_at 0) refl new.now it.1.1) order in
-    (meta_change old.now new.now it.1.1 it.1.0, ap (option_map (λ r. number_in (column r 3))) (sym found) ∙ told rs)
+    meta_change old.now new.now it.1.1 (option_map (λ _. 2)) (ap (option_map (λ r. number_in (column r 3))) (sym found) ∙ told rs) it.1.0

@@ -34,11 +34,6 @@ pub record IsIndex (db : Database) : Type 0 where
   pub sound : IsDatabase db
   pub numbered : IsNumbered db.trees
 
--- an index after a statement, which made this of the tables
-pub record Changes (change : Tables → Tables) (old new : Database) : Type 0 where
-  pub tables : tables_in new.trees ≡ change (tables_in old.trees)
-  pub index : IsIndex new
-
 -- the row of meta that has the version
 abbrev pub is_version : Row → Bool
 is_version r = int_eq (rowid_in r) (pos 1) && bytes_eq (bytes (column r 2)) (codes "python-index")
@@ -46,3 +41,17 @@ is_version r = int_eq (rowid_in r) (pos 1) && bytes_eq (bytes (column r 2)) (cod
 -- the version that meta tells, if it does
 abbrev pub version_in : Trees → Option ℕ
 version_in db = option_map (λ r. number_in (column r 3)) (find is_version (db 0))
+
+-- an index after a statement, which made this of the tables, and tells this for the version that was told
+pub record Rewrites (change : Tables → Tables) (told : Option ℕ → Option ℕ) (old new : Database) : Type 0 where
+  pub tables : tables_in new.trees ≡ change (tables_in old.trees)
+  pub index : IsIndex new
+  pub version : version_in new.trees ≡ told (version_in old.trees)
+
+-- the version that was told
+abbrev pub as_told : Option ℕ → Option ℕ
+as_told version = version
+
+-- the same, where the version stays
+abbrev pub Changes : (Tables → Tables) → Database → Database → Type 0
+Changes change = Rewrites change as_told
