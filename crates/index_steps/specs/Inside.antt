@@ -1,11 +1,11 @@
 -- What a step does inside a transaction.
-use Rattle.std.specs.Prelude.{◌≡◌, true, IsTrue, OnOk, Result}
+use Rattle.std.specs.Prelude.{◌≡◌, ℕ, true, IsTrue, OnOk, Option, Result}
 use Rattle.sqlite_trees.specs.declared.store.Store.{Ghosts}
 use Rattle.sqlite.specs.Held.{Held, state}
 use Rattle.sqlite.specs.State.{State, HasCleanDisk, KeepsCommit, Survives}
 use Rattle.index_rules.specs.Tables.{Tables}
 use Rattle.index_schema.specs.Records.{tables_in}
-use Rattle.index_schema.specs.Index.{IsIndex}
+use Rattle.index_schema.specs.Index.{IsIndex, as_told, version_in}
 
 -- a transaction on an index is under way
 pub record IsReady (s : State) : Type 0 where
@@ -13,15 +13,20 @@ pub record IsReady (s : State) : Type 0 where
   pub inside : s.in_transaction ≡ true
   pub index : IsIndex s.now
 
--- the transaction sees this made of the tables, and nothing was committed
-pub record Makes (change : Tables → Tables) (old new : State) : Type 0 where
+-- the transaction sees this made of the tables and told for the version that was told, and nothing was committed
+pub record Makes (change : Tables → Tables) (told : Option ℕ → Option ℕ) (old new : State) : Type 0 where
   pub ready : IsReady new
   pub tables : tables_in new.now.trees ≡ change (tables_in old.now.trees)
   pub committed : new.committed ≡ old.committed
+  pub version : version_in new.now.trees ≡ told (version_in old.now.trees)
 
--- a step that succeeds makes this of the tables, on a clean disk
+-- a step that succeeds does so on a clean disk
+abbrev pub TellsIfOk : {S A E : Type 0} → Ghosts S → (Tables → Tables) → (Option ℕ → Option ℕ) → Held S → Held S → Result A E → Type 0
+TellsIfOk g change told old new result = HasCleanDisk (state g new) → OnOk result (IsReady (state g old) → Makes change told (state g old) (state g new))
+
+-- the same, where the version stays
 abbrev pub MakesIfOk : {S A E : Type 0} → Ghosts S → (Tables → Tables) → Held S → Held S → Result A E → Type 0
-MakesIfOk g change old new result = HasCleanDisk (state g new) → OnOk result (IsReady (state g old) → Makes change (state g old) (state g new))
+MakesIfOk g change = TellsIfOk g change as_told
 
 -- what is committed stays, on a clean disk
 abbrev pub Keeps : {S : Type 0} → Ghosts S → Held S → Held S → Type 0

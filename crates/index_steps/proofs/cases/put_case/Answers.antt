@@ -10,7 +10,7 @@ pub returns-clause-made : goal.returns-clause-made
 returns-clause-made g c clean ready =
     makes put_case_text
     (statement.cells c.args.name.now (kind_number c.args.case.now.kind) c.args.case.now.candidate c.args.case.now.contact c.args.case.now.work c.args.case.now.why (pos c.args.case.now.opened) (pos c.args.case.now.state.attempts) (pos c.args.case.now.state.sent) (flag c.args.case.now.state.profile) (flag c.args.case.now.state.author) (flag c.args.case.now.state.pages)
-    (option_map pos c.args.case.now.state.first)) _ _ _ _ c.in_ok-execute.field-0 (case_put c.args.name.now c.args.case.now _ _ _) ready (c.in_ok-execute.ensures.runs clean ready.inside) (search rules)
+    (option_map pos c.args.case.now.state.first)) _ _ _ _ _ c.in_ok-execute.field-0 (case_put c.args.name.now c.args.case.now _ _ _) ready (c.in_ok-execute.ensures.runs clean ready.inside) (search rules)
 
 pub returns-in_err-execute-clause-kept : goal.returns-in_err-execute-clause-kept
 returns-in_err-execute-clause-kept g c clean =

@@ -7,4 +7,4 @@ use Rattle.index_steps.proofs.delete.delete_owner.Goals as goal
 
 pub returns-clause-made : goal.returns-clause-made
 returns-clause-made g c clean ready =
-    makes delete_owner_text (Text c.args.name.now ∷ Text c.args.user.now ∷ []) _ _ _ _ c.in_ok-execute.field-0 (deletes c.args.name.now c.args.user.now _ _ _) ready (c.in_ok-execute.ensures.runs clean ready.inside) (search rules)
+    makes delete_owner_text (Text c.args.name.now ∷ Text c.args.user.now ∷ []) _ _ _ _ _ c.in_ok-execute.field-0 (deletes c.args.name.now c.args.user.now _ _ _) ready (c.in_ok-execute.ensures.runs clean ready.inside) (search rules)

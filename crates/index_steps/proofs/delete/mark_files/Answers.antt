@@ -7,4 +7,4 @@ use Rattle.index_steps.proofs.delete.mark_files.Goals as goal
 
 pub returns-clause-made : goal.returns-clause-made
 returns-clause-made g c clean ready =
-    makes update_files_text (Text c.args.name.now ∷ []) _ _ _ _ c.in_ok-execute.field-0 (updates c.args.name.now _ _ _) ready (c.in_ok-execute.ensures.runs clean ready.inside) (search rules)
+    makes update_files_text (Text c.args.name.now ∷ []) _ _ _ _ _ c.in_ok-execute.field-0 (updates c.args.name.now _ _ _) ready (c.in_ok-execute.ensures.runs clean ready.inside) (search rules)

@@ -8,7 +8,7 @@ use Rattle.index_steps.proofs.put.put_file.Goals as goal
 
 pub returns-clause-made : goal.returns-clause-made
 returns-clause-made g c clean ready =
-    makes put_file_text (statement.cells c.args.file.now c.args.known.now.project c.args.known.now.release c.args.known.now.digest (pos c.args.known.now.size) c.args.known.now.requires_python (flag c.args.known.now.is_undeleted)) _ _ _ _ c.in_ok-execute.field-0 (file_put c.args.file.now c.args.known.now _ _ _) ready (c.in_ok-execute.ensures.runs clean ready.inside) (search rules)
+    makes put_file_text (statement.cells c.args.file.now c.args.known.now.project c.args.known.now.release c.args.known.now.digest (pos c.args.known.now.size) c.args.known.now.requires_python (flag c.args.known.now.is_undeleted)) _ _ _ _ _ c.in_ok-execute.field-0 (file_put c.args.file.now c.args.known.now _ _ _) ready (c.in_ok-execute.ensures.runs clean ready.inside) (search rules)
 
 pub returns-in_err-execute-clause-kept : goal.returns-in_err-execute-clause-kept
 returns-in_err-execute-clause-kept g c clean =

@@ -8,4 +8,4 @@ use Rattle.index_steps.proofs.put.put_user.Goals as goal
 
 pub returns-clause-made : goal.returns-clause-made
 returns-clause-made g c clean ready =
-    makes put_user_text (statement.cells c.args.user.now (flag c.args.account.now.office) c.args.account.now.token) _ _ _ _ c.in_ok-execute.field-0 (user_put c.args.user.now c.args.account.now _ _ _) ready (c.in_ok-execute.ensures.runs clean ready.inside) (search rules)
+    makes put_user_text (statement.cells c.args.user.now (flag c.args.account.now.office) c.args.account.now.token) _ _ _ _ _ c.in_ok-execute.field-0 (user_put c.args.user.now c.args.account.now _ _ _) ready (c.in_ok-execute.ensures.runs clean ready.inside) (search rules)
