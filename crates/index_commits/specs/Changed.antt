@@ -1,11 +1,11 @@
 -- A change of the tables as a list of steps.
-use Rattle.std.specs.Prelude.{◌≡◌, List, [], ◌∷◌, false, IsTrue}
+use Rattle.std.specs.Prelude.{◌≡◌, ℕ, Option, List, [], ◌∷◌, false, IsTrue}
 use Rattle.sqlite.specs.State.{State, Survives}
 use Rattle.index_rules.specs.declared.records.NameRecord.TheVariants.{Held, Prohibited}
 use Rattle.index_rules.specs.Effect.{without_record}
 use Rattle.index_rules.specs.Tables.{Tables}
 use Rattle.index_schema.specs.Records.{tables_in}
-use Rattle.index_schema.specs.Index.{IsIndex}
+use Rattle.index_schema.specs.Index.{IsIndex, version_in}
 use Rattle.index_steps.specs.Writes.{puts_user, puts_name, puts_owner, puts_file, puts_body, puts_yank, puts_case, puts_ban, deletes_owners, deletes_owner, deletes_yanks, deletes_yank, deletes_case, deletes_body, deletes_bodies, marks_files}
 use Rattle.index_commits.specs.declared.step.Put.{Put}
 use Rattle.index_commits.specs.declared.step.Put.TheVariants as put
@@ -48,11 +48,12 @@ abbrev pub all_of : List Step → Tables → Tables
 all_of [] T = T
 all_of (it ∷ rest) T = all_of rest (step_by it T)
 
--- the change is made and committed
-pub record IsMade (change : Tables → Tables) (old new : State) : Type 0 where
+-- the change is made and committed, and the version is what `told` makes of the one before
+pub record IsMade (change : Tables → Tables) (told : Option ℕ → Option ℕ) (old new : State) : Type 0 where
   pub is_open : IsTrue new.is_open
   pub index : IsIndex new.now
   pub tables : tables_in new.now.trees ≡ change (tables_in old.now.trees)
+  pub version : version_in new.now.trees ≡ told (version_in old.now.trees)
   pub committed : new.committed ≡ new.now
   pub ended : new.in_transaction ≡ false
 
@@ -60,6 +61,6 @@ pub record IsMade (change : Tables → Tables) (old new : State) : Type 0 where
 abbrev pub IsUndone : State → State → Type 0
 IsUndone old new = (new.now ≡ old.committed) × (new.committed ≡ old.committed)
 
--- a crash leaves what could be left before, or the change as a whole
-abbrev pub LeavesAll : (Tables → Tables) → State → State → Type 0
-LeavesAll change old new = Survives old new (λ db. tables_in db ≡ change (tables_in old.now.trees))
+-- a crash leaves what could be left before, or the change as a whole, with its version
+abbrev pub LeavesAll : (Tables → Tables) → (Option ℕ → Option ℕ) → State → State → Type 0
+LeavesAll change told old new = Survives old new (λ db. (tables_in db ≡ change (tables_in old.now.trees)) × (version_in db ≡ told (version_in old.now.trees)))

@@ -2,7 +2,7 @@
 ghost use Rattle.std.specs.Prelude.{◌≡◌, false, IsTrue, OnOk, OnErr};
 ghost use Rattle.sqlite.specs.Held.{state};
 ghost use Rattle.sqlite.specs.State.{HasCleanDisk};
-ghost use Rattle.index_schema.specs.Index.{IsIndex};
+ghost use Rattle.index_schema.specs.Index.{IsIndex, as_told};
 ghost use Rattle.index_commits.specs.Changed.{all_of, IsMade, IsUndone, LeavesAll};
 
 use crate::step::{Step, take_steps};
@@ -15,7 +15,7 @@ pub fn commit_steps<S: Alter>(conn: &mut Connection<S>, steps: &[Step<'_>]) -> R
     ensures made { HasCleanDisk (state S.Store conn.new)
         → OnOk result (IsTrue (state S.Store conn.old).is_open
         → IsIndex (state S.Store conn.old).now
-        → IsMade (all_of steps.now) (state S.Store conn.old) (state S.Store conn.new)) }
+        → IsMade (all_of steps.now) as_told (state S.Store conn.old) (state S.Store conn.new)) }
     ensures unchanged { HasCleanDisk (state S.Store conn.new)
         → IsTrue (state S.Store conn.new).is_open → IsIndex (state S.Store conn.old).now
         → OnErr result (IsUndone (state S.Store conn.old) (state S.Store conn.new)) }
@@ -26,7 +26,7 @@ pub fn commit_steps<S: Alter>(conn: &mut Connection<S>, steps: &[Step<'_>]) -> R
         → IsTrue (state S.Store conn.new).is_open
         → IsTrue (state S.Store conn.old).is_open }
     ensures crash { IsTrue (state S.Store conn.old).is_open → IsIndex (state S.Store conn.old).now
-        → LeavesAll (all_of steps.now) (state S.Store conn.old) (state S.Store conn.new) }
+        → LeavesAll (all_of steps.now) as_told (state S.Store conn.old) (state S.Store conn.new) }
 {
     let mut tx = conn.transaction();
     take_steps(&mut tx, steps)?;
