@@ -3,7 +3,7 @@ ghost use Rattle.std.specs.Prelude.{◌≡◌, false, IsTrue, OnOk, OnErr};
 ghost use Rattle.sqlite.specs.Held.{state};
 ghost use Rattle.sqlite.specs.State.{HasCleanDisk};
 ghost use Rattle.index_rules.specs.Effect.{means};
-ghost use Rattle.index_schema.specs.Index.{IsIndex};
+ghost use Rattle.index_schema.specs.Index.{IsIndex, as_told};
 ghost use Rattle.index_commits.specs.Changed.{all_of, IsMade, IsUndone, LeavesAll};
 
 use crate::cases::{end_case, set_case};
@@ -25,7 +25,7 @@ pub fn make_change<S: Alter>(conn: &mut Connection<S>, change: &Change) -> Resul
     ensures made { HasCleanDisk (state S.Store conn.new)
         → OnOk result (IsTrue (state S.Store conn.old).is_open
         → IsIndex (state S.Store conn.old).now
-        → IsMade (means change.now) (state S.Store conn.old) (state S.Store conn.new)) }
+        → IsMade (means change.now) as_told (state S.Store conn.old) (state S.Store conn.new)) }
     ensures unchanged { HasCleanDisk (state S.Store conn.new)
         → IsTrue (state S.Store conn.new).is_open → IsIndex (state S.Store conn.old).now
         → OnErr result (IsUndone (state S.Store conn.old) (state S.Store conn.new)) }
@@ -36,7 +36,7 @@ pub fn make_change<S: Alter>(conn: &mut Connection<S>, change: &Change) -> Resul
         → IsTrue (state S.Store conn.new).is_open
         → IsTrue (state S.Store conn.old).is_open }
     ensures crash { IsTrue (state S.Store conn.old).is_open → IsIndex (state S.Store conn.old).now
-        → LeavesAll (means change.now) (state S.Store conn.old) (state S.Store conn.new) }
+        → LeavesAll (means change.now) as_told (state S.Store conn.old) (state S.Store conn.new) }
 {
     let steps = steps_of(change);
     commit_steps(conn, steps.as_slice())
