@@ -1,11 +1,10 @@
 //! What a new index holds.
-ghost use Rattle.std.specs.Prelude.{◌≡◌, false, Some, IsTrue, OnOk, OnErr};
+ghost use Rattle.std.specs.Prelude.{◌≡◌, false, IsTrue, OnOk, OnErr};
 ghost use Rattle.sqlite.specs.Held.{state};
 ghost use Rattle.sqlite.specs.State.{HasCleanDisk};
-ghost use Rattle.index_schema.specs.Index.{version_in};
-ghost use Rattle.index_steps.specs.Inside.{Keeps, LeavesNothing};
+ghost use Rattle.index_steps.specs.Inside.{TellsIfOk, Keeps, LeavesNothing};
 ghost use Rattle.index_commits.specs.Changed.{IsMade, IsUndone, LeavesAll};
-ghost use Rattle.index_create.specs.Created.{one_user, IsBlank, VersionsIfOk, FillsIfOk, LeavesVersion};
+ghost use Rattle.index_create.specs.Created.{as_new, one_user, IsBlank, FillsIfOk};
 
 use crate::tables::make_tables;
 use index_rules::UserRecord;
@@ -15,7 +14,8 @@ use sqlite::{Alter, Connection, Error, Transaction};
 /// Writes the version of the tables, where none is there yet.
 fn put_version<S: Alter>(tx: &mut Transaction<'_, S>) -> Result<(), Error>
     ensures same_reference { tx.new.conn.ghost_name ≡ tx.old.conn.ghost_name }
-    ensures made { VersionsIfOk S.Store tx.old.conn.now tx.new.conn.now result }
+    ensures made { TellsIfOk S.Store (λ T. T) as_new
+        tx.old.conn.now tx.new.conn.now result }
     ensures kept { Keeps S.Store tx.old.conn.now tx.new.conn.now }
     ensures survives { LeavesNothing S.Store tx.old.conn.now tx.new.conn.now }
 {
@@ -55,7 +55,7 @@ pub fn fill_new<S: Alter>(
     ensures made { HasCleanDisk (state S.Store conn.new)
         → OnOk result (IsTrue (state S.Store conn.old).is_open
         → IsBlank (state S.Store conn.old).now
-        → IsMade (λ _. one_user user.now account.now)
+        → IsMade (λ _. one_user user.now account.now) as_new
         (state S.Store conn.old) (state S.Store conn.new)) }
     ensures unchanged { HasCleanDisk (state S.Store conn.new)
         → IsTrue (state S.Store conn.new).is_open → IsBlank (state S.Store conn.old).now
@@ -67,7 +67,7 @@ pub fn fill_new<S: Alter>(
         → IsTrue (state S.Store conn.new).is_open
         → IsTrue (state S.Store conn.old).is_open }
     ensures crash { IsTrue (state S.Store conn.old).is_open → IsBlank (state S.Store conn.old).now
-        → LeavesAll (λ _. one_user user.now account.now)
+        → LeavesAll (λ _. one_user user.now account.now) as_new
         (state S.Store conn.old) (state S.Store conn.new) }
 {
     let mut tx = conn.transaction();

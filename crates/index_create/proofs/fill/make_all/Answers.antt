@@ -1,10 +1,12 @@
-use Rattle.std.proofs.Common.{arith}
+use Rattle.std.proofs.Common.{None, arith}
 use Rattle.sqlite.specs.Held.{state}
 use Rattle.sqlite.specs.State.{HasCleanDisk}
 use Rattle.index_schema.specs.Stages.{no_tables}
 use Rattle.index_steps.specs.Writes.{puts_user}
-use Rattle.index_create.specs.Created.{one_user}
-use Rattle.index_create.proofs.FillLemmas.{made_all, then_changed}
+use Rattle.index_schema.specs.Index.{as_told}
+use Rattle.index_steps.proofs.InTurn.{makes_then}
+use Rattle.index_create.specs.Created.{as_new, one_user}
+use Rattle.index_create.proofs.FillLemmas.{made_all}
 use Rattle.index_create.proofs.fill.make_all.Goals as goal
 
 pub returns-clause-made : goal.returns-clause-made
@@ -15,6 +17,5 @@ returns-clause-made g c clean ready =
     let account = c.args.account.now in
     let nine = c.in_ok-make_tables.ensures.made second ready in
     let empty = made_all (state g.S.Store c.args.tx.now.conn.now) _ nine.1 nine.0 in
-    let filled = then_changed (puts_user user account) no_tables _ _ _ empty (c.in_ok-put_user.ensures.made third empty.ready) in
-    let told = c.in_ok-put_version.ensures.made clean filled.ready in
-    record { made = then_changed (λ T. T) (one_user user account) _ _ _ filled told.0; version = told.1 }
+    let filled = makes_then (λ _. no_tables) (puts_user user account) (λ _. None) as_told _ _ _ empty (c.in_ok-put_user.ensures.made third empty.ready) in
+    makes_then (λ _. one_user user account) (λ T. T) (λ _. None) as_new _ _ _ filled (c.in_ok-put_version.ensures.made clean filled.ready)
