@@ -2,18 +2,18 @@
 ghost use Rattle.std.specs.Prelude.{◌≡◌, false, IsTrue, OnOk, OnErr};
 ghost use Rattle.sqlite.specs.Held.{state};
 ghost use Rattle.sqlite.specs.State.{HasCleanDisk};
-ghost use Rattle.index_adopt.specs.Migrated.{raised, BansIfOk, RaisesIfOk, MigratesIfOk, LeavesRaised};
+ghost use Rattle.index_adopt.specs.Migrated.{raised, MigratesIfOk};
 ghost use Rattle.index_commits.specs.Changed.{IsMade, IsUndone, LeavesAll};
 ghost use Rattle.index_schema.specs.FirstVersion.{IsFirstVersion, without_bans};
-ghost use Rattle.index_schema.specs.Index.{version_in};
-ghost use Rattle.index_steps.specs.Inside.{Keeps, LeavesNothing};
+ghost use Rattle.index_schema.specs.Index.{as_told};
+ghost use Rattle.index_steps.specs.Inside.{TellsIfOk, Keeps, LeavesNothing};
 
 use sqlite::{Alter, Connection, Error, Transaction};
 
 /// Makes the table of the bans.
 fn make_bans<S: Alter>(tx: &mut Transaction<'_, S>) -> Result<(), Error>
     ensures same_reference { tx.new.conn.ghost_name ≡ tx.old.conn.ghost_name }
-    ensures made { BansIfOk S.Store tx.old.conn.now tx.new.conn.now result }
+    ensures made { MigratesIfOk S.Store as_told tx.old.conn.now tx.new.conn.now result }
     ensures kept { Keeps S.Store tx.old.conn.now tx.new.conn.now }
     ensures survives { LeavesNothing S.Store tx.old.conn.now tx.new.conn.now }
 {
@@ -27,7 +27,8 @@ fn make_bans<S: Alter>(tx: &mut Transaction<'_, S>) -> Result<(), Error>
 /// Sets the version, where one is told.
 fn raise_version<S: Alter>(tx: &mut Transaction<'_, S>) -> Result<(), Error>
     ensures same_reference { tx.new.conn.ghost_name ≡ tx.old.conn.ghost_name }
-    ensures made { RaisesIfOk S.Store tx.old.conn.now tx.new.conn.now result }
+    ensures made { TellsIfOk S.Store (λ T. T) raised
+        tx.old.conn.now tx.new.conn.now result }
     ensures kept { Keeps S.Store tx.old.conn.now tx.new.conn.now }
     ensures survives { LeavesNothing S.Store tx.old.conn.now tx.new.conn.now }
 {
@@ -38,7 +39,7 @@ fn raise_version<S: Alter>(tx: &mut Transaction<'_, S>) -> Result<(), Error>
 /// Makes an index of a database of version 1.
 fn migrate_tables<S: Alter>(tx: &mut Transaction<'_, S>) -> Result<(), Error>
     ensures same_reference { tx.new.conn.ghost_name ≡ tx.old.conn.ghost_name }
-    ensures made { MigratesIfOk S.Store tx.old.conn.now tx.new.conn.now result }
+    ensures made { MigratesIfOk S.Store raised tx.old.conn.now tx.new.conn.now result }
     ensures kept { Keeps S.Store tx.old.conn.now tx.new.conn.now }
     ensures survives { LeavesNothing S.Store tx.old.conn.now tx.new.conn.now }
 {
@@ -54,12 +55,7 @@ pub fn migrate<S: Alter>(conn: &mut Connection<S>) -> Result<(), Error>
     ensures made { HasCleanDisk (state S.Store conn.new)
         → OnOk result (IsTrue (state S.Store conn.old).is_open
         → IsFirstVersion (state S.Store conn.old).now
-        → IsMade without_bans (state S.Store conn.old) (state S.Store conn.new)) }
-    ensures version { HasCleanDisk (state S.Store conn.new)
-        → OnOk result (IsTrue (state S.Store conn.old).is_open
-        → IsFirstVersion (state S.Store conn.old).now
-        → version_in (state S.Store conn.new).now.trees
-        ≡ raised (version_in (state S.Store conn.old).now.trees)) }
+        → IsMade without_bans raised (state S.Store conn.old) (state S.Store conn.new)) }
     ensures unchanged { HasCleanDisk (state S.Store conn.new)
         → IsTrue (state S.Store conn.new).is_open
         → IsFirstVersion (state S.Store conn.old).now
@@ -72,10 +68,7 @@ pub fn migrate<S: Alter>(conn: &mut Connection<S>) -> Result<(), Error>
         → IsTrue (state S.Store conn.old).is_open }
     ensures crash { IsTrue (state S.Store conn.old).is_open
         → IsFirstVersion (state S.Store conn.old).now
-        → LeavesAll without_bans (state S.Store conn.old) (state S.Store conn.new) }
-    ensures crash_version { IsTrue (state S.Store conn.old).is_open
-        → IsFirstVersion (state S.Store conn.old).now
-        → LeavesRaised (state S.Store conn.old) (state S.Store conn.new) }
+        → LeavesAll without_bans raised (state S.Store conn.old) (state S.Store conn.new) }
 {
     let mut tx = conn.transaction();
     migrate_tables(&mut tx)?;
