@@ -1,10 +1,10 @@
 //! The index in a database that is there.
-ghost use Rattle.std.specs.Prelude.{◌≡◌, ◌⊎◌, false, IfOk, IfErr, IsTrue, codes};
+ghost use Rattle.std.specs.Prelude.{◌≡◌, ◌⊎◌, false, Some, IfOk, IfErr, IsTrue, codes};
 ghost use Rattle.sqlite.specs.Held.{state};
 ghost use Rattle.sqlite.specs.State.{HasCleanDisk};
 ghost use Rattle.index_rules.specs.Facts.{HasOneBearer};
 ghost use Rattle.index_schema.specs.FirstVersion.{IsFirstVersion, first_version_schema, without_bans};
-ghost use Rattle.index_schema.specs.Index.{IsIndex};
+ghost use Rattle.index_schema.specs.Index.{IsIndex, version_in};
 ghost use Rattle.index_schema.specs.Stays.{Stays};
 ghost use Rattle.index_adopt.specs.Names.{has_all_of, has_table};
 ghost use Rattle.index_reads.specs.Held.{tables_of};
@@ -224,6 +224,8 @@ fn raise<S: Alter>(conn: Connection<S>) -> Result<SqlBooks<S>, Unopened<S>>
         → IsFirstVersion (state S.Store conn).now }
     requires settled { HasCleanDisk (state S.Store conn) → IsTrue (state S.Store conn).is_open
         → (state S.Store conn).now ≡ (state S.Store conn).committed }
+    requires told { HasCleanDisk (state S.Store conn) → IsTrue (state S.Store conn).is_open
+        → version_in (state S.Store conn).now.trees ≡ Some 1 }
     ensures made { IfOk result (λ books. IsHonest (state S.Store books.conn)
         → tables_of S.Store books.conn ≡ without_bans (tables_of S.Store conn)) }
     ensures index { IfOk result (λ books. IsHonest (state S.Store books.conn)
