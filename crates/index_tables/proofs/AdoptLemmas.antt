@@ -1,5 +1,5 @@
 -- What is done after a look at the version.
-use Rattle.std.proofs.Common.{◌≡◌, ◌⊎◌, inl, inr, ◌∙◌, ap, refl, subst, true, IsTrue, ℕ, Option, Result, Ok, Err, IfOk, IfErr}
+use Rattle.std.proofs.Common.{◌≡◌, ◌⊎◌, inl, inr, ◌∙◌, ap, codes, refl, subst, sym, true, false, true≢false, IsTrue, ℕ, Option, Result, Ok, Err, IfOk, IfErr}
 use Rattle.sqlite_trees.specs.declared.store.Store.{Ghosts}
 use Rattle.sqlite.specs.Effect.{Database}
 use Rattle.sqlite.specs.Held.{Held, state}
@@ -8,13 +8,50 @@ use Rattle.index_looks.specs.Looks.{Looks}
 use Rattle.index_rules.specs.declared.open.OpenFault.{OpenFault}
 use Rattle.index_rules.specs.declared.open.OpenFault.TheVariants.{BadFirstUser, NotEmpty, NotAnIndex, OtherVersion, OutOfMemory, Store}
 use Rattle.index_rules.specs.Tables.{Tables}
-use Rattle.index_schema.specs.FirstVersion.{IsFirstVersion, without_bans}
+use Rattle.sqlite_schema.specs.Names.{same_name}
+use Rattle.index_adopt.specs.Names.{has_table}
+use Rattle.index_adopt.specs.Versions.{begun}
+use Rattle.index_schema.proofs.SelectVersion.{selects}
+use Rattle.index_schema.specs.FirstVersion.{IsAnyVersion, IsFirstVersion, without_bans}
+use Rattle.index_schema.specs.Index.{version_in}
 use Rattle.index_schema.specs.Records.{tables_in}
 use Rattle.index_schema.specs.Stays.{Stays}
 use Rattle.index_tables.specs.Kept.{Leaves}
-use Rattle.index_tables.specs.Adopted.{IsReason, LeavesMigrated, TellsVersion, refusal_in}
+use Rattle.index_tables.specs.Adopted.{IsFault, IsOurs, IsReason, LeavesMigrated, TellsVersion, refusal_in}
+
+-- the version that such a database tells leaves the store to blame
+store_alone : (db : Database) → IsOurs db → refusal_in db.schema (version_in db.trees) ≡ Store
+unfolding same_name
+store_alone db (inl (h, told)) = rw (h.schema, told) refl
+store_alone db (inr (h, told)) = rw (h.schema, told) refl
+
+has_meta : (db : Database) → IsOurs db → has_table db.schema (codes "meta") ≡ true
+unfolding same_name
+has_meta db (inl (h, told)) = rw h.schema refl
+has_meta db (inr (h, told)) = rw h.schema refl
+
+any_version : (db : Database) → IsOurs db → IsAnyVersion db
+any_version db (inl (h, told)) = inl h
+any_version db (inr (h, told)) = inr h
 
 module _ {S : Type 0} (g : Ghosts S) where
+  told_is : (held : Held S) (version : Option ℕ) → IsTrue (state g held).is_open → IsOurs (state g held).now → TellsVersion g held version → version ≡ version_in (state g held).now.trees
+  told_is held version o ours (inl (_, is)) = is
+  told_is held version o ours (inr tells) = tells.first ∙ selects (state g (begun held)) (state g tells.after) tells.rows (any_version (state g held).now ours) tells.shown
+
+  by_version : (held : Held S) (version : Option ℕ) (why : OpenFault) → IsTrue (state g held).is_open → IsOurs (state g held).now → TellsVersion g held version → why ≡ refusal_in (state g held).now.schema version → IsFault why
+  by_version held version why o ours tells is = inr (is ∙ ap (refusal_in (state g held).now.schema) (told_is held version o ours tells) ∙ store_alone (state g held).now ours)
+
+  -- of an index only a fault is a reason
+  pub fault_alone : (held : Held S) (why : OpenFault) → IsReason g held why → IsTrue (state g held).is_open → IsOurs (state g held).now → IsFault why
+  fault_alone held NotAnIndex (inl none) o ours = absurd (true≢false (sym (has_meta (state g held).now ours) ∙ none))
+  fault_alone held NotAnIndex (inr (version, tells, is)) o ours = by_version held version NotAnIndex o ours tells is
+  fault_alone held OutOfMemory reason o ours = inl refl
+  fault_alone held Store reason o ours = inr refl
+  fault_alone held BadFirstUser (version, tells, is) o ours = by_version held version BadFirstUser o ours tells is
+  fault_alone held NotEmpty (version, tells, is) o ours = by_version held version NotEmpty o ours tells is
+  fault_alone held OtherVersion (version, tells, is) o ours = by_version held version OtherVersion o ours tells is
+
   -- what the version that is told says is a reason
   pub reason_told : (held : Held S) (version : Option ℕ) (why : OpenFault) → TellsVersion g held version → why ≡ refusal_in (state g held).now.schema version → IsReason g held why
   reason_told held version NotAnIndex tells is = inr (version, tells, is)

@@ -30,6 +30,14 @@ pub record IsFirst (db : Database) (T : Tables) : Type 0 where
   pub version : version_in db.trees ≡ Some 1
   pub tables : T ≡ without_bans (tables_in db.trees)
 
+-- it is an index, or of version 1, and tells so
+abbrev pub IsOurs : Database → Type 0
+IsOurs db = (IsIndex db × (version_in db.trees ≡ Some 2)) ⊎ (IsFirstVersion db × (version_in db.trees ≡ Some 1))
+
+-- for want of memory, or by a fault of the store
+abbrev pub IsFault : OpenFault → Type 0
+IsFault why = (why ≡ OutOfMemory) ⊎ (why ≡ Store)
+
 -- an index is found in it, with these tables
 abbrev pub IsFound : Database → Tables → Type 0
 IsFound db T = IsCurrent db T ⊎ IsFirst db T

@@ -10,7 +10,7 @@ ghost use Rattle.index_adopt.specs.Names.{has_all_of, has_table};
 ghost use Rattle.index_reads.specs.Held.{tables_of};
 ghost use Rattle.index_tables.specs.Kept.{IsHonest};
 ghost use Rattle.index_tables.specs.Opened.{IsRefusedAs};
-ghost use Rattle.index_tables.specs.Adopted.{IsFound, IsOfKind, IsReason, LeavesMigrated, refusal_by, unlike};
+ghost use Rattle.index_tables.specs.Adopted.{IsFault, IsFound, IsOfKind, IsOurs, IsReason, LeavesMigrated, refusal_by, unlike};
 
 use crate::opening::{Unopened, open_fault_of};
 use crate::tables::SqlBooks;
@@ -53,6 +53,9 @@ impl<S: Alter> SqlBooks<S> {
             → IsRefusedAs OpenFault.NotAnIndex result }
         ensures reason { IfErr result (λ refused. HasCleanDisk (state S.Store refused.conn)
             → IsReason S.Store conn refused.why) }
+        ensures again { IfErr result (λ refused. HasCleanDisk (state S.Store refused.conn)
+            → IsTrue (state S.Store conn).is_open → IsOurs (state S.Store conn).now
+            → IsFault refused.why) }
         ensures refused { IfErr result (λ refused. HasCleanDisk (state S.Store refused.conn)
             → Stays (state S.Store conn) (state S.Store refused.conn)) }
         ensures ended { IfErr result (λ refused. refused.conn.in_transaction ≡ false) }

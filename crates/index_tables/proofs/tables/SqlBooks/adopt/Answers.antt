@@ -1,8 +1,10 @@
-use Rattle.std.proofs.Common.{IfOk, IfErr, subst}
-use Rattle.std.proofs.lemmas.Result.{IfOk-weaker}
+use Rattle.std.proofs.Common.{rules, inl, IfOk, IfErr, subst}
+use Rattle.std.proofs.lemmas.Result.{IfErr-weaker, IfOk-weaker}
 use Rattle.sqlite.specs.Held.{state}
 use Rattle.index_schema.proofs.BearerLemmas.{one_bearer}
-use Rattle.index_tables.specs.Adopted.{LeavesMigrated}
+use Rattle.index_rules.specs.declared.open.OpenFault.TheVariants.{NotAnIndex}
+use Rattle.index_tables.proofs.AdoptLemmas.{fault_alone}
+use Rattle.index_tables.specs.Adopted.{IsReason, LeavesMigrated}
 use Rattle.index_tables.proofs.tables.SqlBooks.adopt.Goals as goal
 
 pub returns-in-Ok-Index-clause-one_bearer : goal.returns-in-Ok-Index-clause-one_bearer
@@ -32,3 +34,19 @@ returns-in-Ok-FirstVersion-clause-crash_refused g c =
 pub returns-in-Ok-Other-clause-crash_refused : goal.returns-in-Ok-Other-clause-crash_refused
 returns-in-Ok-Other-clause-crash_refused g c =
     subst (λ held. LeavesMigrated (state g.S.Store held) (state g.S.Store c.refuse_other.result.conn)) c.known-conn.ensures.same c.refuse_other.ensures.crash
+
+pub returns-then-not-has_table-clause-again : goal.returns-then-not-has_table-clause-again
+returns-then-not-has_table-clause-again g c clean o ours = fault_alone g.S.Store c.args.conn NotAnIndex (inl (search rules)) o ours
+
+pub returns-in-Ok-Index-clause-again : goal.returns-in-Ok-Index-clause-again
+returns-in-Ok-Index-clause-again g c =
+    IfErr-weaker c.adopt_index.result _ _ (λ refused reason clean o ours. fault_alone g.S.Store c.args.conn refused.why (subst (λ held. IsReason g.S.Store held refused.why) c.known-conn.ensures.same (reason clean)) o ours) c.adopt_index.ensures.reason
+
+pub returns-in-Ok-FirstVersion-clause-again : goal.returns-in-Ok-FirstVersion-clause-again
+returns-in-Ok-FirstVersion-clause-again g c =
+    IfErr-weaker c.adopt_first_version.result _ _
+    (λ refused reason clean o ours. fault_alone g.S.Store c.args.conn refused.why (subst (λ held. IsReason g.S.Store held refused.why) c.known-conn.ensures.same (reason clean)) o ours) c.adopt_first_version.ensures.reason
+
+pub returns-in-Ok-Other-clause-again : goal.returns-in-Ok-Other-clause-again
+returns-in-Ok-Other-clause-again g c clean o ours =
+    fault_alone g.S.Store c.args.conn c.refuse_other.result.why (subst (λ held. IsReason g.S.Store held c.refuse_other.result.why) c.known-conn.ensures.same (c.refuse_other.ensures.reason clean)) o ours
