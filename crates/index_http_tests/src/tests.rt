@@ -1,12 +1,17 @@
-//! Exchanges: a message and the whole reply to it, as they come in and go out.
+//! Exchanges: a message and the whole reply to it, as they come in and go out. Each is asked of a desk over vectors and of
+//! one over a database.
 use fakes::PieceReader;
 use index_desk::Desk;
 use index_digest::Digest256;
-use index_http::answer_one;
+use index_http::{IoEnd, answer_one};
 use index_io::{Input, Output};
 use index_message::Site;
 use index_plain::PlainBooks;
+use index_rules::Books;
+use index_tables::{SqlBooks, Unopened};
+use sqlite::{Connection, MemStore};
 use std::alloc::AllocGlobal;
+use std::io::{Read, Write};
 use std::process::Abort;
 
 /// A message without a body: its method and target, and its header lines.
@@ -68,11 +73,26 @@ macro_rules! json_reply {
     };
 }
 
+/// Tries this at a new desk over vectors, and at one over a database.
+macro_rules! at_both_desks {
+    ($rt:ident, $story:ident) => {
+        let site = new_site(&$rt);
+        let mut desk = desk_in_memory(&$rt);
+        $story(&$rt, &site, &mut desk);
+        let mut desk = desk_in_database(&$rt);
+        $story(&$rt, &site, &mut desk);
+        let_go(desk);
+    };
+}
+
 mod fakes;
 mod faults;
 mod files;
+mod long_runs;
 mod messages;
 mod pages;
+mod prohibitions;
+mod yanks;
 
 /// When each message comes.
 const AT: u64 = 10;
@@ -121,6 +141,12 @@ const CHARGED: [&str; 2] = [
     ),
 ];
 
+/// She deletes it.
+const DELETE: &str = look!("DELETE /files/frob/frob-1.0.tar.gz" "X-Index-Token: abc");
+
+/// It is asked for.
+const GET: &str = look!("GET /files/frob/frob-1.0.tar.gz");
+
 /// The bytes of a file that are `abc`.
 const BYTES: &str = reply!(
     "200 OK",
@@ -129,14 +155,30 @@ const BYTES: &str = reply!(
     "abc"
 );
 
-/// Asks these exchanges in order of a new desk: each message as it is, and at another desk each one byte at a time.
+/// Where it is not there.
+const NO_FILE: &str = json_reply!(
+    "404 Not Found",
+    "46",
+    r#"{"answer":"refused","code":22,"name":"NoFile"}"#
+);
+
+/// Where no such name is held.
+const NO_PROJECT: &str = json_reply!(
+    "404 Not Found",
+    "49",
+    r#"{"answer":"refused","code":17,"name":"NoProject"}"#
+);
+
+/// Asks these exchanges in order of a new desk over each kind of books: each message as it is, and at another desk each
+/// one byte at a time.
 fn assert_exchanges(rt: &(impl Abort + AllocGlobal), parts: &[&[[&str; 2]]]) {
     let site = new_site(rt);
     for most in [usize::MAX, 1] {
-        let mut desk = new_desk(rt);
-        for part in parts {
-            assert_part(rt, &site, &mut desk, part, most);
-        }
+        let mut desk = desk_in_memory(rt);
+        assert_parts(rt, &site, &mut desk, parts, most);
+        let mut desk = desk_in_database(rt);
+        assert_parts(rt, &site, &mut desk, parts, most);
+        let_go(desk);
     }
 }
 
@@ -145,47 +187,80 @@ fn new_site(rt: &(impl Abort + AllocGlobal)) -> Site {
     Site::new(rt.alloc()).expect(rt, "routes")
 }
 
-/// A desk whose one user is `office`, of the office, with the token `office`.
-fn new_desk(rt: &(impl Abort + AllocGlobal)) -> Desk<PlainBooks> {
+/// A desk over vectors, whose one user is `office`, of the office, with the token `office`.
+fn desk_in_memory(rt: &(impl Abort + AllocGlobal)) -> Desk<PlainBooks> {
     let token = Digest256::of(b"office");
     Desk::new(PlainBooks::new(rt.alloc(), b"office", token).expect(rt, "books"))
 }
 
-/// A desk where ann has claimed `frob`.
-fn desk_with_frob(rt: &(impl Abort + AllocGlobal), site: &Site) -> Desk<PlainBooks> {
-    let mut desk = new_desk(rt);
-    assert_part(rt, site, &mut desk, USERS, usize::MAX);
-    assert_part(rt, site, &mut desk, FROB, usize::MAX);
-    desk
+/// A desk over a new database, with the same user.
+fn desk_in_database(rt: &(impl Abort + AllocGlobal)) -> Desk<SqlBooks<MemStore>> {
+    let conn = Connection::open_in_memory(rt.alloc()).expect(rt, "a database");
+    match SqlBooks::create(rt.alloc(), conn, b"office", Digest256::of(b"office")) {
+        Ok(books) => Desk::new(books),
+        Err(Unopened { why, conn }) => {
+            drop(conn);
+            panic!(rt; "{why:?}")
+        }
+    }
+}
+
+/// Lets go of a desk over a database.
+fn let_go(desk: Desk<SqlBooks<MemStore>>) {
+    drop(desk.into_books().into_connection());
+}
+
+/// ann claims `frob`.
+fn claim_frob<B: Books>(rt: &(impl Abort + AllocGlobal), site: &Site, desk: &mut Desk<B>) {
+    assert_parts(rt, site, desk, &[USERS, FROB], usize::MAX);
 }
 
 /// Asks these exchanges in order, of which a read gives at most so many bytes.
-fn assert_part(
+fn assert_parts<B: Books>(
     rt: &(impl Abort + AllocGlobal),
     site: &Site,
-    desk: &mut Desk<PlainBooks>,
-    part: &[[&str; 2]],
+    desk: &mut Desk<B>,
+    parts: &[&[[&str; 2]]],
     most: usize,
 ) {
-    for [message, reply] in part {
-        assert_reply(rt, site, desk, message, reply, most);
+    for part in parts {
+        for [message, reply] in *part {
+            assert_reply(rt, site, desk, message, reply, most);
+        }
     }
 }
 
 /// This is the reply to a message, of which a read gives at most so many bytes.
-fn assert_reply(
+fn assert_reply<B: Books>(
     rt: &(impl Abort + AllocGlobal),
     site: &Site,
-    desk: &mut Desk<PlainBooks>,
+    desk: &mut Desk<B>,
     message: &str,
     reply: &str,
     most: usize,
 ) {
     let rest = message.as_bytes();
-    let mut input = Input::new(PieceReader { rest, most });
-    let mut output = Output::new(Vec::new(rt.alloc()));
-    let ended = answer_one(rt.alloc(), site, &mut input, &mut output, desk, AT);
-    let told = String::from_utf8(output.writer).expect(rt, "UTF-8");
-    assert_eq!(rt; told.as_str(), reply, "{message}");
+    let mut told = Vec::new(rt.alloc());
+    let ended = tell(rt, site, desk, PieceReader { rest, most }, &mut told);
     assert!(rt; ended == Ok(()), "{message}");
+    assert_text(rt, told, reply, message);
+}
+
+/// What is written to a message are the bytes of this reply.
+fn assert_text(rt: &(impl Abort + AllocGlobal), told: Vec<u8>, reply: &str, message: &str) {
+    let told = String::from_utf8(told).expect(rt, message);
+    assert_eq!(rt; told.as_str(), reply, "{message}");
+}
+
+/// How a desk ends that answers what a reader gives, to a writer.
+fn tell<R: Read + Drop, W: Write, B: Books>(
+    rt: &impl AllocGlobal,
+    site: &Site,
+    desk: &mut Desk<B>,
+    reader: R,
+    writer: &mut W,
+) -> Result<(), IoEnd> {
+    let mut input = Input::new(reader);
+    let mut output = Output::new(writer);
+    answer_one(rt.alloc(), site, &mut input, &mut output, desk, AT)
 }

@@ -1,67 +1,72 @@
 //! Reads and writes that fail.
 use super::fakes::{FailingReader, FailingWriter, FullWriter};
 use super::{
-    ALREADY, AT, BYTES, CHARGED, CREATED, FILE, PUT, assert_part, assert_reply, desk_with_frob,
-    new_site,
+    ACCEPTED, ALREADY, BYTES, CHARGED, CREATED, DELETE, FILE, PUT, assert_parts, claim_frob,
+    desk_in_database, desk_in_memory, let_go, new_site, tell,
 };
 use index_desk::Desk;
-use index_http::{IoEnd, answer_one};
-use index_io::{Input, Output};
+use index_http::IoEnd;
 use index_message::Site;
-use index_plain::PlainBooks;
+use index_rules::Books;
 use std::alloc::AllocGlobal;
 use std::process::Abort;
 
 /// A writer takes this front of the reply to a message and then none, or fails.
-fn assert_cut(
+fn assert_cut<B: Books>(
     rt: &(impl Abort + AllocGlobal),
     site: &Site,
-    desk: &mut Desk<PlainBooks>,
+    desk: &mut Desk<B>,
     message: &str,
     front: &str,
     fails: bool,
 ) {
-    let mut input = Input::new(message.as_bytes());
-    let mut output = Output::new(FullWriter {
+    let mut writer = FullWriter {
         taken: Vec::new(rt.alloc()),
         room: front.len(),
         fails,
-    });
-    let ended = answer_one(rt.alloc(), site, &mut input, &mut output, desk, AT);
+    };
+    let ended = tell(rt, site, desk, message.as_bytes(), &mut writer);
+    let is_front = writer.taken.as_slice() == front.as_bytes();
+    drop(writer);
+    assert!(rt; is_front, "{front}");
     assert!(rt;
         ended == Err(IoEnd::WriteFault(front.len() as u64)),
         "{front}"
     );
-    assert!(rt;
-        output.writer.taken.as_slice() == front.as_bytes(),
-        "{front}"
-    );
 }
 
-/// The upload whose reply was cut stands.
-fn assert_upload_cut(rt: &(impl Abort + AllocGlobal), front: &str, fails: bool) {
-    let site = new_site(rt);
-    let mut desk = desk_with_frob(rt, &site);
-    assert_cut(rt, &site, &mut desk, PUT, front, fails);
-    assert_reply(rt, &site, &mut desk, PUT, ALREADY, usize::MAX);
+/// The upload stands. It is deleted.
+const STOOD: &[[&str; 2]] = &[[PUT, ALREADY], CHARGED, [DELETE, ACCEPTED]];
+
+/// The reply to an upload is cut behind this front, by a writer that fails and by one that takes no byte.
+fn cut_upload<B: Books>(
+    rt: &(impl Abort + AllocGlobal),
+    site: &Site,
+    desk: &mut Desk<B>,
+    front: &str,
+) {
+    for fails in [true, false] {
+        assert_cut(rt, site, desk, PUT, front, fails);
+        assert_parts(rt, site, desk, &[STOOD], usize::MAX);
+    }
+}
+
+fn cut_uploads<B: Books>(rt: &(impl Abort + AllocGlobal), site: &Site, desk: &mut Desk<B>) {
+    claim_frob(rt, site, desk);
+    cut_upload(rt, site, desk, "HTTP/1.1 2");
+    cut_upload(rt, site, desk, "");
 }
 
 #[test]
 fn a_write_that_fails_leaves_the_upload(rt: HostRuntime) {
-    assert_upload_cut(&rt, "HTTP/1.1 2", true);
-    assert_upload_cut(&rt, "", true);
-}
-
-#[test]
-fn a_write_that_takes_no_byte_leaves_the_upload(rt: HostRuntime) {
-    assert_upload_cut(&rt, "", false);
-    assert_upload_cut(&rt, "HTTP/1.1 2", false);
+    at_both_desks!(rt, cut_uploads);
 }
 
 /// A wheel whose name has a plus sign, which is escaped in the path.
 const WHEEL: &str = put!("/files/frob/frob-1.0%2Bx-py3-none-any.whl" "X-Index-Token: abc");
 
 const WHEEL_STANDS: &[[&str; 2]] = &[
+    CHARGED,
     [WHEEL, ALREADY],
     CHARGED,
     [
@@ -70,39 +75,48 @@ const WHEEL_STANDS: &[[&str; 2]] = &[
     ],
 ];
 
-#[test]
-fn a_write_that_fails_leaves_the_wheel(rt: HostRuntime) {
-    let site = new_site(&rt);
-    let mut desk = desk_with_frob(&rt, &site);
-    assert_cut(&rt, &site, &mut desk, WHEEL, "HTTP/1.1 2", true);
-    assert_part(&rt, &site, &mut desk, WHEEL_STANDS, usize::MAX);
+fn cut_wheel<B: Books>(rt: &(impl Abort + AllocGlobal), site: &Site, desk: &mut Desk<B>) {
+    claim_frob(rt, site, desk);
+    assert_cut(rt, site, desk, WHEEL, "HTTP/1.1 2", true);
+    assert_parts(rt, site, desk, &[WHEEL_STANDS], usize::MAX);
 }
 
-/// After so many writes of the reply to an upload the next one fails, and the upload stands.
-fn assert_write_fails(rt: &(impl Abort + AllocGlobal), site: &Site, writes: u64) {
-    let mut desk = desk_with_frob(rt, site);
-    let mut input = Input::new(PUT.as_bytes());
-    let mut output = Output::new(FailingWriter {
+#[test]
+fn a_write_that_fails_leaves_the_wheel(rt: HostRuntime) {
+    at_both_desks!(rt, cut_wheel);
+}
+
+/// After so many writes of the reply to an upload the next one fails.
+fn assert_write_fails<B: Books>(
+    rt: &(impl Abort + AllocGlobal),
+    site: &Site,
+    desk: &mut Desk<B>,
+    writes: u64,
+) {
+    let mut writer = FailingWriter {
         taken: Vec::new(rt.alloc()),
         writes,
-    });
-    let ended = answer_one(rt.alloc(), site, &mut input, &mut output, &mut desk, AT);
-    let taken = output.writer.taken.as_slice();
-    assert!(rt;
-        ended == Err(IoEnd::WriteFault(taken.len() as u64)),
-        "{writes}"
-    );
-    assert!(rt; CREATED.as_bytes().starts_with(taken), "{writes}");
-    assert_reply(rt, site, &mut desk, PUT, ALREADY, usize::MAX);
+    };
+    let ended = tell(rt, site, desk, PUT.as_bytes(), &mut writer);
+    let is_front = CREATED.as_bytes().starts_with(writer.taken.as_slice());
+    let count = writer.taken.len();
+    drop(writer);
+    assert!(rt; is_front, "{writes}");
+    assert!(rt; ended == Err(IoEnd::WriteFault(count as u64)), "{writes}");
 }
 
 /// The reply goes out in ten writes.
+fn fail_writes<B: Books>(rt: &(impl Abort + AllocGlobal), site: &Site, desk: &mut Desk<B>) {
+    claim_frob(rt, site, desk);
+    for writes in 0..10 {
+        assert_write_fails(rt, site, desk, writes);
+        assert_parts(rt, site, desk, &[STOOD], usize::MAX);
+    }
+}
+
 #[test]
 fn each_write_fails_in_turn(rt: HostRuntime) {
-    let site = new_site(&rt);
-    for writes in 0..10 {
-        assert_write_fails(&rt, &site, writes);
-    }
+    at_both_desks!(rt, fail_writes);
 }
 
 /// The first 120 bytes of the 168 of a page and its head.
@@ -111,38 +125,45 @@ const FRONT_OF_NAMES: &str =
 
 const NAMES: &str = look!("GET /simple/" "Accept: application/vnd.pypi.simple.v1+json");
 
+fn cut_page<B: Books>(rt: &(impl Abort + AllocGlobal), site: &Site, desk: &mut Desk<B>) {
+    claim_frob(rt, site, desk);
+    assert_parts(rt, site, desk, &[FILE], usize::MAX);
+    for front in [FRONT_OF_NAMES, "HTTP/1.1 2"] {
+        assert_cut(rt, site, desk, NAMES, front, true);
+        assert_cut(rt, site, desk, NAMES, front, false);
+    }
+}
+
 #[test]
 fn a_page_is_cut(rt: HostRuntime) {
     assert_eq!(rt; FRONT_OF_NAMES.len(), 120);
-    let site = new_site(&rt);
-    let mut desk = desk_with_frob(&rt, &site);
-    assert_cut(&rt, &site, &mut desk, NAMES, FRONT_OF_NAMES, true);
-    assert_cut(&rt, &site, &mut desk, NAMES, FRONT_OF_NAMES, false);
-    assert_cut(&rt, &site, &mut desk, NAMES, "HTTP/1.1 2", true);
+    at_both_desks!(rt, cut_page);
 }
 
 /// A read fails behind this front of a message. Nothing is written.
-fn assert_read_fails(
+fn assert_read_fails<B: Books>(
     rt: &(impl Abort + AllocGlobal),
     site: &Site,
-    desk: &mut Desk<PlainBooks>,
+    desk: &mut Desk<B>,
     front: &[u8],
 ) {
-    let mut input = Input::new(FailingReader { rest: front });
-    let mut output = Output::new(Vec::new(rt.alloc()));
-    let ended = answer_one(rt.alloc(), site, &mut input, &mut output, desk, AT);
+    let mut told = Vec::new(rt.alloc());
+    let ended = tell(rt, site, desk, FailingReader { rest: front }, &mut told);
+    assert!(rt; told.is_empty());
     assert!(rt; ended == Err(IoEnd::ReadFault));
-    assert!(rt; output.writer.is_empty());
 }
 
 /// The upload whose message was cut was not applied.
-#[test]
-fn each_read_fails_in_turn(rt: HostRuntime) {
-    let site = new_site(&rt);
-    let mut desk = desk_with_frob(&rt, &site);
+fn fail_reads<B: Books>(rt: &(impl Abort + AllocGlobal), site: &Site, desk: &mut Desk<B>) {
+    claim_frob(rt, site, desk);
     let message = PUT.as_bytes();
     for count in 0..message.len() {
-        assert_read_fails(&rt, &site, &mut desk, &message[..count]);
+        assert_read_fails(rt, site, desk, &message[..count]);
     }
-    assert_part(&rt, &site, &mut desk, FILE, 1);
+    assert_parts(rt, site, desk, &[FILE], 1);
+}
+
+#[test]
+fn each_read_fails_in_turn(rt: HostRuntime) {
+    at_both_desks!(rt, fail_reads);
 }

@@ -1,13 +1,7 @@
 //! Files that are uploaded, looked at and deleted.
-use super::{ALREADY, CHARGED, FILE, FROB, PUT, USERS, assert_exchanges};
-
-const NO_FILE: &str = json_reply!(
-    "404 Not Found",
-    "46",
-    r#"{"answer":"refused","code":22,"name":"NoFile"}"#
-);
-
-const GET: &str = look!("GET /files/frob/frob-1.0.tar.gz");
+use super::{
+    ACCEPTED, ALREADY, CHARGED, DELETE, FILE, FROB, GET, NO_FILE, PUT, USERS, assert_exchanges,
+};
 
 const UPLOADED: &[[&str; 2]] = &[
     [PUT, ALREADY],
@@ -55,13 +49,8 @@ fn uploads_are_refused(rt: HostRuntime) {
     assert_exchanges(&rt, &[USERS, FROB, REFUSED]);
 }
 
-const DELETE: &str = look!("DELETE /files/frob/frob-1.0.tar.gz" "X-Index-Token: abc");
-
 const DELETED: &[[&str; 2]] = &[
-    [
-        DELETE,
-        json_reply!("200 OK", "21", r#"{"answer":"accepted"}"#),
-    ],
+    [DELETE, ACCEPTED],
     [GET, NO_FILE],
     [DELETE, ALREADY],
     [

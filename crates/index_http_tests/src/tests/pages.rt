@@ -1,5 +1,5 @@
 //! Pages, and the ways to them.
-use super::{FILE, FROB, USERS, assert_exchanges};
+use super::{FILE, FROB, NO_PROJECT, USERS, assert_exchanges};
 
 const ROOT: &str = look!("GET /simple/");
 
@@ -63,12 +63,6 @@ const PROJECT: &[[&str; 2]] = &[
 fn the_page_of_a_project(rt: HostRuntime) {
     assert_exchanges(&rt, &[USERS, FROB, FILE, PROJECT]);
 }
-
-const NO_PROJECT: &str = json_reply!(
-    "404 Not Found",
-    "49",
-    r#"{"answer":"refused","code":17,"name":"NoProject"}"#
-);
 
 /// A way has no type (PEP 503: to the normal form).
 const WAYS: &[[&str; 2]] = &[

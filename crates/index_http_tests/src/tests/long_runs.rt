@@ -1,0 +1,62 @@
+//! Many messages in a row.
+use super::{
+    ACCEPTED, ALREADY, BYTES, CHARGED, CREATED, DELETE, FROB, GET, NO_FILE, PUT, USERS,
+    assert_parts, desk_in_database, desk_in_memory, let_go, new_site,
+};
+use index_desk::Desk;
+use index_message::Site;
+use index_rules::Books;
+use std::alloc::AllocGlobal;
+use std::process::Abort;
+
+/// A file comes, is looked at in each way, and goes.
+const ROUND: &[[&str; 2]] = &[
+    [PUT, CREATED],
+    [PUT, ALREADY],
+    CHARGED,
+    [NAMES, NAMES_IN_JSON],
+    [PROJECT, PROJECT_WITH_FILE],
+    [GET, BYTES],
+    [DELETE, ACCEPTED],
+    [DELETE, ALREADY],
+    [PROJECT, PROJECT_WITHOUT_FILES],
+    [GET, NO_FILE],
+];
+
+const NAMES: &str = look!("GET /simple/" "Accept: application/vnd.pypi.simple.v1+json");
+
+const NAMES_IN_JSON: &str = reply!(
+    "200 OK",
+    ["Content-Type: application/vnd.pypi.simple.v1+json"],
+    "59",
+    r#"{"meta":{"api-version":"1.1"},"projects":[{"name":"frob"}]}"#
+);
+
+const PROJECT: &str = look!("GET /simple/frob/" "Accept: application/vnd.pypi.simple.v1+json");
+
+const PROJECT_WITH_FILE: &str = reply!(
+    "200 OK",
+    ["Content-Type: application/vnd.pypi.simple.v1+json"],
+    "236",
+    r#"{"files":[{"filename":"frob-1.0.tar.gz","hashes":{"sha256":"ba7816bf8f01cfea414140de5dae2223b00361a396177a9cb410ff61f20015ad"},"size":3,"url":"/files/frob/frob-1.0.tar.gz"}],"meta":{"api-version":"1.1"},"name":"frob","versions":["1.0"]}"#
+);
+
+const PROJECT_WITHOUT_FILES: &str = reply!(
+    "200 OK",
+    ["Content-Type: application/vnd.pypi.simple.v1+json"],
+    "69",
+    r#"{"files":[],"meta":{"api-version":"1.1"},"name":"frob","versions":[]}"#
+);
+
+/// A hundred times, each answered by the rules, however many came before.
+fn look_and_change<B: Books>(rt: &(impl Abort + AllocGlobal), site: &Site, desk: &mut Desk<B>) {
+    assert_parts(rt, site, desk, &[USERS, FROB], usize::MAX);
+    for _ in 0..100 {
+        assert_parts(rt, site, desk, &[ROUND], usize::MAX);
+    }
+}
+
+#[test]
+fn no_message_gives_up_without_a_cause(rt: HostRuntime) {
+    at_both_desks!(rt, look_and_change);
+}
