@@ -13,6 +13,7 @@ mod looks;
 mod migrations;
 mod opening;
 mod rows;
+mod stops;
 
 const ACCEPTED: &str = r#"{"answer":"accepted"}"#;
 
@@ -148,8 +149,13 @@ fn run<S: Alter>(rt: &impl Abort, conn: &mut Connection<S>, sql: &str) {
 }
 
 /// The number that a query finds.
-fn assert_number<S: Alter>(rt: &impl Abort, conn: &mut Connection<S>, sql: &str, number: i64) {
+fn number<S: Alter>(rt: &impl Abort, conn: &mut Connection<S>, sql: &str) -> i64 {
     let row = conn.query_row(sql, &[]).expect(rt, sql);
-    let found: i64 = row.get(0).expect(rt, sql);
-    assert_eq!(rt; found, number, "{sql}");
+    row.get(0).expect(rt, sql)
+}
+
+/// A query finds this number.
+fn assert_number<S: Alter>(rt: &impl Abort, conn: &mut Connection<S>, sql: &str, want: i64) {
+    let found = number(rt, conn, sql);
+    assert_eq!(rt; found, want, "{sql}");
 }

@@ -20,7 +20,7 @@ const SECOND_VERSION: &str =
     "CREATE TABLE meta (id INTEGER PRIMARY KEY, kind TEXT NOT NULL, version INTEGER NOT NULL) STRICT; INSERT INTO meta VALUES (1, 'python-index', 2)";
 
 /// The connection that was refused for this reason.
-fn refused<S: Alter + Drop>(
+pub(super) fn refused<S: Alter + Drop>(
     rt: &impl Abort,
     books: Result<SqlBooks<S>, Unopened<S>>,
     want: OpenFault,
