@@ -1,5 +1,5 @@
-//! Schemas that are compared with those of an index. An answer of false says nothing of them.
-ghost use Rattle.std.specs.Prelude.{◌≡◌, ℕ, false, IsTrue, IfOk, OnOk};
+//! Schemas that are compared with those of an index. Where `is_ours` or `is_first_version` is false, nothing is known.
+ghost use Rattle.std.specs.Prelude.{◌≡◌, ◌↔◌, ℕ, false, IsTrue, IfOk, OnOk};
 ghost use Rattle.sqlite.specs.Held.{state};
 ghost use Rattle.sqlite.specs.State.{HasCleanDisk};
 ghost use Rattle.sqlite.specs.Steps.{over_memory};
@@ -15,7 +15,7 @@ use std::alloc::Global;
 
 /// Whether nothing is in the database.
 pub fn is_blank<S: Alter>(conn: &Connection<S>) -> bool
-    ensures schema { IsTrue result → (state S.Store conn.now).now.schema ≡ no_schema }
+    ensures schema { IsTrue result ↔ ((state S.Store conn.now).now.schema ≡ no_schema) }
 {
     let schema = conn.schema();
     schema.tables.is_empty() && schema.indexes.is_empty() && schema.views.is_empty()
