@@ -1,11 +1,12 @@
 //! Indexes in databases, and lines asked of them.
 use index_cli::apply_lines;
 use index_desk::Desk;
-use index_digest::Digest256;
+use index_digest::{Digest256, Sealed};
 use index_io::{Input, Output};
-use index_rules::Books;
+use index_names::FileName;
+use index_rules::{Books, Fault, OpenFault};
 use index_tables::{SqlBooks, Unopened};
-use sqlite::{Alter, Connection, MemStore};
+use sqlite::{Alter, Connection, MemStore, Row};
 use std::alloc::AllocGlobal;
 use std::process::Abort;
 
@@ -56,6 +57,9 @@ const FILE_NAME_TAKEN: &str = r#"{"answer":"refused","code":24,"name":"FileNameT
 /// ann deletes the file.
 const DELETE: &str = r#"{"at":12,"token":"abc","do":"delete","file":"frob-1.0.tar.gz"}"#;
 
+/// The version that tables tell.
+const VERSION: &str = "SELECT version FROM meta";
+
 /// An empty database.
 fn new_database(rt: &(impl Abort + AllocGlobal)) -> Connection<MemStore> {
     Connection::open_in_memory(rt.alloc()).expect(rt, "a database")
@@ -93,12 +97,53 @@ fn desk_over<S: Alter + Drop>(
     }
 }
 
-/// A desk over a new index in memory, of which these exchanges were asked.
-fn new_desk(rt: &(impl Abort + AllocGlobal), parts: &[&[[&str; 2]]]) -> Desk<SqlBooks<MemStore>> {
-    let books = create(rt, new_database(rt));
-    let mut desk = desk_over(rt, books);
+/// A desk over a new index in an empty database, of which these exchanges were asked.
+fn new_desk<S: Alter + Drop>(
+    rt: &(impl Abort + AllocGlobal),
+    conn: Connection<S>,
+    parts: &[&[[&str; 2]]],
+) -> Desk<SqlBooks<S>> {
+    let mut desk = desk_over(rt, create(rt, conn));
     assert_parts(rt, &mut desk, parts);
     desk
+}
+
+/// The database of a new index, of which these exchanges were asked.
+fn new_index<S: Alter + Drop>(
+    rt: &(impl Abort + AllocGlobal),
+    conn: Connection<S>,
+    parts: &[&[[&str; 2]]],
+) -> Connection<S> {
+    connection_of(new_desk(rt, conn, parts))
+}
+
+/// The index that is there answers these exchanges.
+fn assert_adopted<S: Alter + Drop>(
+    rt: &(impl Abort + AllocGlobal),
+    conn: Connection<S>,
+    exchanges: &[[&str; 2]],
+) {
+    let mut desk = desk_over(rt, adopt(rt, conn));
+    assert_part(rt, &mut desk, exchanges);
+    drop(connection_of(desk));
+}
+
+/// The connection that was refused for this reason.
+fn refused<S: Alter + Drop>(
+    rt: &impl Abort,
+    books: Result<SqlBooks<S>, Unopened<S>>,
+    want: OpenFault,
+) -> Connection<S> {
+    match books {
+        Ok(books) => {
+            drop(books.into_connection());
+            panic!(rt; "an index was opened")
+        }
+        Err(Unopened { why, conn }) => {
+            assert_eq!(rt; why, want);
+            conn
+        }
+    }
 }
 
 /// The connection of a desk, on which SQL is run.
@@ -113,9 +158,13 @@ fn assert_parts<B: Books>(
     parts: &[&[[&str; 2]]],
 ) {
     for part in parts {
-        for [request, answer] in *part {
-            assert_answer(rt, desk, request, answer);
-        }
+        assert_part(rt, desk, part);
+    }
+}
+
+fn assert_part<B: Books>(rt: &(impl Abort + AllocGlobal), desk: &mut Desk<B>, part: &[[&str; 2]]) {
+    for [request, answer] in part {
+        assert_answer(rt, desk, request, answer);
     }
 }
 
@@ -143,6 +192,21 @@ fn answer_to<B: Books>(
     String::from_utf8(output.writer).expect(rt, request)
 }
 
+/// The bytes of `frob-1.0.tar.gz`, as far as they are found.
+fn body<B: Books>(
+    rt: &(impl Abort + AllocGlobal),
+    desk: &mut Desk<B>,
+) -> Result<Option<Sealed>, Fault> {
+    let file = FileName::read(rt.alloc(), b"frob-1.0.tar.gz").expect(rt, "a file name");
+    desk.body(rt.alloc(), &file)
+}
+
+/// So many names have a wrong charge.
+fn assert_wrong_charges<B: Books>(rt: &(impl Abort + AllocGlobal), desk: &mut Desk<B>, count: u64) {
+    let wrong = desk.check(rt.alloc());
+    assert_eq!(rt; wrong, Ok(count));
+}
+
 /// Runs statements of SQL.
 fn run<S: Alter>(rt: &impl Abort, conn: &mut Connection<S>, sql: &str) {
     conn.execute_batch(sql).expect(rt, sql);
@@ -150,8 +214,16 @@ fn run<S: Alter>(rt: &impl Abort, conn: &mut Connection<S>, sql: &str) {
 
 /// The number that a query finds.
 fn number<S: Alter>(rt: &impl Abort, conn: &mut Connection<S>, sql: &str) -> i64 {
-    let row = conn.query_row(sql, &[]).expect(rt, sql);
-    row.get(0).expect(rt, sql)
+    first_number(rt, &row(rt, conn, sql))
+}
+
+/// The row that a query finds.
+fn row<S: Alter>(rt: &impl Abort, conn: &mut Connection<S>, sql: &str) -> Row {
+    conn.query_row(sql, &[]).expect(rt, sql)
+}
+
+fn first_number(rt: &impl Abort, row: &Row) -> i64 {
+    row.get(0).expect(rt, "a number")
 }
 
 /// A query finds this number.

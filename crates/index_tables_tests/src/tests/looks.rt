@@ -1,8 +1,12 @@
 //! Each look at the tables finds what was written.
-use super::{FILE, FROB, connection_of, new_desk};
+use super::{FILE, FROB, body, connection_of, new_database, new_desk};
+use index_desk::Desk;
 use index_io::Output;
-use index_names::{FileName, normal};
-use index_rules::{FileRow, FileTaker, NameRow, NameTaker};
+use index_names::{NormalName, normal};
+use index_rules::{Books, FileRow, FileTaker, NameRow, NameTaker};
+use sqlite::{Alter, Connection};
+use std::alloc::AllocGlobal;
+use std::process::Abort;
 
 /// Takes each row, and counts them.
 #[derive(Drop)]
@@ -36,40 +40,83 @@ impl FileTaker for Count {
     }
 }
 
+/// The bytes of the file are those that were uploaded.
+fn assert_bytes<B: Books>(rt: &(impl Abort + AllocGlobal), desk: &mut Desk<B>) {
+    let found = body(rt, desk).expect(rt, "a look").expect(rt, "a body");
+    assert_eq!(rt; found.bytes(), b"abc".as_slice());
+}
+
+fn find_bytes<S: Alter + Drop>(rt: &(impl Abort + AllocGlobal), conn: Connection<S>) {
+    let mut desk = new_desk(rt, conn, &[FROB, FILE]);
+    assert_bytes(rt, &mut desk);
+    drop(connection_of(desk));
+}
+
 #[test]
 fn bytes_are_found(rt: HostRuntime) {
-    let mut desk = new_desk(&rt, &[FROB, FILE]);
-    let file = FileName::read(rt.alloc(), b"frob-1.0.tar.gz").expect(&rt, "a file name");
-    let found = desk.body(rt.alloc(), &file).expect(&rt, "a look");
-    let body = found.expect(&rt, "a body");
-    assert_eq!(rt; body.bytes(), b"abc".as_slice());
+    find_bytes(&rt, new_database(&rt));
+}
+
+/// One look finds one file of a held name.
+fn assert_one_file<B: Books>(
+    rt: &(impl Abort + AllocGlobal),
+    desk: &mut Desk<B>,
+    name: &NormalName,
+) {
+    let found = desk.project_rows(rt.alloc(), name).expect(rt, "a look");
+    let rows = found.expect(rt, "a held name");
+    assert_eq!(rt; rows.len(), 1);
+}
+
+/// A walk hands over one file of a held name.
+fn assert_one_file_walked<B: Books>(
+    rt: &(impl Abort + AllocGlobal),
+    desk: &mut Desk<B>,
+    name: &NormalName,
+) {
+    let mut count = Count { rows: 0 };
+    let held = desk.walk_project(rt.alloc(), name, &mut count);
+    assert!(rt; matches!(&held, Ok(true)));
+    assert_eq!(rt; count.rows, 1);
+}
+
+fn find_files<S: Alter + Drop>(rt: &(impl Abort + AllocGlobal), conn: Connection<S>) {
+    let mut desk = new_desk(rt, conn, &[FROB, FILE]);
+    let name = normal(rt.alloc(), b"frob").expect(rt, "a name");
+    assert_one_file(rt, &mut desk, &name);
+    assert_one_file_walked(rt, &mut desk, &name);
     drop(connection_of(desk));
 }
 
 #[test]
 fn rows_of_files_are_found(rt: HostRuntime) {
-    let mut desk = new_desk(&rt, &[FROB, FILE]);
-    let name = normal(rt.alloc(), b"frob").expect(&rt, "a name");
-    let found = desk.project_rows(rt.alloc(), &name).expect(&rt, "a look");
-    let rows = found.expect(&rt, "a held name");
+    find_files(&rt, new_database(&rt));
+}
+
+/// One look finds one held name.
+fn assert_one_name<B: Books>(rt: &(impl Abort + AllocGlobal), desk: &mut Desk<B>) {
+    let rows = desk.root_rows(rt.alloc()).expect(rt, "a look");
     assert_eq!(rt; rows.len(), 1);
+}
+
+/// A walk hands over one held name.
+fn assert_one_name_walked<B: Books>(rt: &(impl Abort + AllocGlobal), desk: &mut Desk<B>) {
     let mut count = Count { rows: 0 };
-    let held = desk.walk_project(rt.alloc(), &name, &mut count);
-    assert!(rt; matches!(&held, Ok(true)));
+    let walked = desk.walk_root(rt.alloc(), &mut count);
+    assert!(rt; matches!(&walked, Ok(())));
     assert_eq!(rt; count.rows, 1);
+}
+
+fn find_names<S: Alter + Drop>(rt: &(impl Abort + AllocGlobal), conn: Connection<S>) {
+    let mut desk = new_desk(rt, conn, &[FROB, FILE]);
+    assert_one_name(rt, &mut desk);
+    assert_one_name_walked(rt, &mut desk);
     drop(connection_of(desk));
 }
 
 #[test]
 fn rows_of_names_are_found(rt: HostRuntime) {
-    let mut desk = new_desk(&rt, &[FROB, FILE]);
-    let rows = desk.root_rows(rt.alloc()).expect(&rt, "a look");
-    assert_eq!(rt; rows.len(), 1);
-    let mut count = Count { rows: 0 };
-    let walked = desk.walk_root(rt.alloc(), &mut count);
-    assert!(rt; matches!(&walked, Ok(())));
-    assert_eq!(rt; count.rows, 1);
-    drop(connection_of(desk));
+    find_names(&rt, new_database(&rt));
 }
 
 /// The office prohibits a free name.
@@ -83,12 +130,21 @@ frob                     held              1              3     1073741824
 spam                     prohibited        0              0              0
 ";
 
-#[test]
-fn names_are_reported(rt: HostRuntime) {
-    let mut desk = new_desk(&rt, &[FROB, FILE, SPAM]);
+/// The names are reported so.
+fn assert_report<B: Books>(rt: &(impl Abort + AllocGlobal), desk: &mut Desk<B>, want: &str) {
     let mut output = Output::new(Vec::new(rt.alloc()));
     let ended = desk.report(rt.alloc(), &mut output);
     assert!(rt; matches!(&ended, Ok(())));
-    assert_eq!(rt; output.writer.as_slice(), REPORT.as_bytes());
+    assert_eq!(rt; output.writer.as_slice(), want.as_bytes());
+}
+
+fn report_names<S: Alter + Drop>(rt: &(impl Abort + AllocGlobal), conn: Connection<S>) {
+    let mut desk = new_desk(rt, conn, &[FROB, FILE, SPAM]);
+    assert_report(rt, &mut desk, REPORT);
     drop(connection_of(desk));
+}
+
+#[test]
+fn names_are_reported(rt: HostRuntime) {
+    report_names(&rt, new_database(&rt));
 }

@@ -1,10 +1,9 @@
 //! Tables of version 1 are adopted.
 use super::{
-    ACCEPTED, CHARGED, FILE_NAME_TAKEN, OTHER_UPLOAD, STANDING, UNCHARGED, UPLOAD, adopt,
-    assert_answer, assert_number, connection_of, desk_over, new_database, run,
+    ACCEPTED, CHARGED, FILE_NAME_TAKEN, OTHER_UPLOAD, STANDING, UNCHARGED, UPLOAD, VERSION, adopt,
+    assert_adopted, assert_number, connection_of, desk_over, new_database, refused, run,
 };
 use index_rules::OpenFault;
-use index_tables::Unopened;
 use sqlite::{Alter, Connection};
 use std::alloc::AllocGlobal;
 use std::process::Abort;
@@ -29,63 +28,65 @@ INSERT INTO names VALUES ('frob', 1, 'frob', 1073741824, 0, 0, 11);
 INSERT INTO owners VALUES ('frob', 'ann');
 INSERT INTO files VALUES ('frob-1.0.tar.gz', 'frob', '1.0', x'ba7816bf8f01cfea414140de5dae2223b00361a396177a9cb410ff61f20015ad', 3, '', 0)";
 
-const VERSION: &str = "SELECT version FROM meta";
+/// A database with tables of version 1 that hold a deleted file.
+pub(super) fn with_first_version<S: Alter>(rt: &impl Abort, conn: Connection<S>) -> Connection<S> {
+    let mut conn = conn;
+    run(rt, &mut conn, FIRST_VERSION);
+    run(rt, &mut conn, DELETED_FILE);
+    conn
+}
 
-/// Makes tables of version 1 that hold a deleted file.
-pub(super) fn make_first_version<S: Alter>(rt: &impl Abort, conn: &mut Connection<S>) {
-    run(rt, conn, FIRST_VERSION);
-    run(rt, conn, DELETED_FILE);
+/// The deleted file is not uploaded with other bytes, and is uploaded again with its own.
+const UPLOADED_AGAIN: &[[&str; 2]] = &[
+    [STANDING, UNCHARGED],
+    [OTHER_UPLOAD, FILE_NAME_TAKEN],
+    [UPLOAD, ACCEPTED],
+    [STANDING, CHARGED],
+];
+
+fn upload_again<S: Alter + Drop>(rt: &(impl Abort + AllocGlobal), conn: Connection<S>) {
+    assert_adopted(rt, with_first_version(rt, conn), UPLOADED_AGAIN);
 }
 
 #[test]
 fn a_deleted_file_stays_bound_over_a_migration(rt: HostRuntime) {
-    let mut conn = new_database(&rt);
-    make_first_version(&rt, &mut conn);
-    let mut desk = desk_over(&rt, adopt(&rt, conn));
-    assert_answer(&rt, &mut desk, STANDING, UNCHARGED);
-    assert_answer(&rt, &mut desk, OTHER_UPLOAD, FILE_NAME_TAKEN);
-    assert_answer(&rt, &mut desk, UPLOAD, ACCEPTED);
-    assert_answer(&rt, &mut desk, STANDING, CHARGED);
-    drop(connection_of(desk));
+    upload_again(&rt, new_database(&rt));
+}
+
+fn migrate<S: Alter + Drop>(rt: &(impl Abort + AllocGlobal), conn: Connection<S>) {
+    let conn = with_first_version(rt, conn);
+    let mut conn = connection_of(desk_over(rt, adopt(rt, conn)));
+    assert_number(rt, &mut conn, VERSION, 2);
+    assert_number(rt, &mut conn, "SELECT count(*) FROM bans", 0);
+    assert_adopted(rt, conn, &[[STANDING, UNCHARGED]]);
 }
 
 #[test]
 fn a_migration_makes_the_second_version(rt: HostRuntime) {
-    let mut conn = new_database(&rt);
-    make_first_version(&rt, &mut conn);
-    let mut conn = connection_of(desk_over(&rt, adopt(&rt, conn)));
-    assert_number(&rt, &mut conn, VERSION, 2);
-    assert_number(&rt, &mut conn, "SELECT count(*) FROM bans", 0);
-    let mut desk = desk_over(&rt, adopt(&rt, conn));
-    assert_answer(&rt, &mut desk, STANDING, UNCHARGED);
-    drop(connection_of(desk));
+    migrate(&rt, new_database(&rt));
 }
 
 /// Tables of version 1 that are changed so are refused, and stay of the version that they tell.
-fn assert_refused(rt: &(impl Abort + AllocGlobal), sql: &str, want: OpenFault, version: i64) {
-    let mut conn = new_database(rt);
-    make_first_version(rt, &mut conn);
+fn assert_refused<S: Alter + Drop>(
+    rt: &(impl Abort + AllocGlobal),
+    conn: Connection<S>,
+    sql: &str,
+    want: OpenFault,
+    version: i64,
+) {
+    let mut conn = with_first_version(rt, conn);
     run(rt, &mut conn, sql);
-    match adopt(rt, conn) {
-        Ok(books) => {
-            drop(books.into_connection());
-            panic!(rt; "{sql}")
-        }
-        Err(Unopened { why, conn }) => {
-            let mut conn = conn;
-            assert_number(rt, &mut conn, VERSION, version);
-            drop(conn);
-            assert_eq!(rt; why, want, "{sql}");
-        }
-    }
+    let mut conn = refused(rt, adopt(rt, conn), want);
+    assert_number(rt, &mut conn, VERSION, version);
+    drop(conn);
 }
 
 #[test]
 fn tables_that_are_not_there_are_missed(rt: HostRuntime) {
     let no_yanks = "DROP TABLE yanks";
-    assert_refused(&rt, no_yanks, OpenFault::NotAnIndex, 1);
+    assert_refused(&rt, new_database(&rt), no_yanks, OpenFault::NotAnIndex, 1);
     let no_bans = "UPDATE meta SET version = 2";
-    assert_refused(&rt, no_bans, OpenFault::NotAnIndex, 2);
+    assert_refused(&rt, new_database(&rt), no_bans, OpenFault::NotAnIndex, 2);
     let third = "UPDATE meta SET version = 3";
-    assert_refused(&rt, third, OpenFault::OtherVersion, 3);
+    assert_refused(&rt, new_database(&rt), third, OpenFault::OtherVersion, 3);
 }

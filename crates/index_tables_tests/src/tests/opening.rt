@@ -1,11 +1,11 @@
 //! Indexes are made and adopted, and databases refused.
 use super::{
-    CHARGED, FILE, FROB, STANDING, adopt, assert_answer, assert_number, connection_of, create,
-    desk_over, new_database, new_desk, run,
+    CHARGED, FILE, FROB, STANDING, VERSION, adopt, assert_adopted, assert_number, create,
+    new_database, new_index, refused, run,
 };
 use index_digest::Digest256;
 use index_rules::OpenFault;
-use index_tables::{SqlBooks, Unopened};
+use index_tables::SqlBooks;
 use sqlite::{Alter, Connection};
 use std::alloc::AllocGlobal;
 use std::process::Abort;
@@ -13,39 +13,20 @@ use std::process::Abort;
 /// How many tables and indexes a database has.
 const COUNT: &str = "SELECT count(*) FROM sqlite_schema";
 
-const VERSION: &str = "SELECT version FROM meta";
-
 /// A table `meta` of an index of this version.
 const SECOND_VERSION: &str =
     "CREATE TABLE meta (id INTEGER PRIMARY KEY, kind TEXT NOT NULL, version INTEGER NOT NULL) STRICT; INSERT INTO meta VALUES (1, 'python-index', 2)";
 
-/// The connection that was refused for this reason.
-pub(super) fn refused<S: Alter + Drop>(
-    rt: &impl Abort,
-    books: Result<SqlBooks<S>, Unopened<S>>,
-    want: OpenFault,
-) -> Connection<S> {
-    match books {
-        Ok(books) => {
-            drop(books.into_connection());
-            panic!(rt; "an index was opened")
-        }
-        Err(Unopened { why, conn }) => {
-            assert_eq!(rt; why, want);
-            conn
-        }
-    }
-}
-
 /// A database of which a query finds a number is not adopted, for this reason. The query then finds the same.
-fn assert_not_adopted(
+fn assert_not_adopted<S: Alter + Drop>(
     rt: &(impl Abort + AllocGlobal),
+    conn: Connection<S>,
     sql: &str,
     why: OpenFault,
     query: &str,
     number: i64,
 ) {
-    let mut conn = new_database(rt);
+    let mut conn = conn;
     run(rt, &mut conn, sql);
     assert_number(rt, &mut conn, query, number);
     let mut conn = refused(rt, adopt(rt, conn), why);
@@ -54,34 +35,48 @@ fn assert_not_adopted(
 }
 
 /// An index whose row of `meta` is changed so is not adopted, for this reason.
-fn assert_changed(rt: &(impl Abort + AllocGlobal), sql: &str, why: OpenFault, version: i64) {
-    let mut conn = connection_of(new_desk(rt, &[FROB]));
+fn assert_changed<S: Alter + Drop>(
+    rt: &(impl Abort + AllocGlobal),
+    conn: Connection<S>,
+    sql: &str,
+    why: OpenFault,
+    version: i64,
+) {
+    let mut conn = new_index(rt, conn, &[FROB]);
     run(rt, &mut conn, sql);
     let mut conn = refused(rt, adopt(rt, conn), why);
     assert_number(rt, &mut conn, VERSION, version);
     drop(conn);
 }
 
+fn adopt_new<S: Alter + Drop>(rt: &(impl Abort + AllocGlobal), conn: Connection<S>) {
+    let conn = new_index(rt, conn, &[FROB, FILE]);
+    assert_adopted(rt, conn, &[[STANDING, CHARGED]]);
+}
+
 #[test]
 fn a_new_index_is_adopted(rt: HostRuntime) {
-    let conn = connection_of(new_desk(&rt, &[FROB, FILE]));
-    let mut desk = desk_over(&rt, adopt(&rt, conn));
-    assert_answer(&rt, &mut desk, STANDING, CHARGED);
-    drop(connection_of(desk));
+    adopt_new(&rt, new_database(&rt));
+}
+
+fn make_twice<S: Alter + Drop>(rt: &(impl Abort + AllocGlobal), conn: Connection<S>) {
+    let conn = new_index(rt, conn, &[FROB, FILE]);
+    let conn = refused(rt, create(rt, conn), OpenFault::NotEmpty);
+    assert_adopted(rt, conn, &[[STANDING, CHARGED]]);
 }
 
 #[test]
 fn an_index_is_made_once(rt: HostRuntime) {
-    let conn = connection_of(new_desk(&rt, &[FROB, FILE]));
-    let conn = refused(&rt, create(&rt, conn), OpenFault::NotEmpty);
-    let mut desk = desk_over(&rt, adopt(&rt, conn));
-    assert_answer(&rt, &mut desk, STANDING, CHARGED);
-    drop(connection_of(desk));
+    make_twice(&rt, new_database(&rt));
 }
 
 /// No index is made with this first user and this text for a token.
-fn assert_bad_first_user(rt: &(impl Abort + AllocGlobal), user: &str, token: &str) {
-    let conn = new_database(rt);
+fn assert_bad_first_user<S: Alter + Drop>(
+    rt: &(impl Abort + AllocGlobal),
+    conn: Connection<S>,
+    user: &str,
+    token: &str,
+) {
     assert!(rt; conn.is_autocommit());
     let token = Digest256::of(token.as_bytes());
     let books = SqlBooks::create(rt.alloc(), conn, user.as_bytes(), token);
@@ -92,27 +87,41 @@ fn assert_bad_first_user(rt: &(impl Abort + AllocGlobal), user: &str, token: &st
 
 #[test]
 fn a_bad_first_user_is_refused(rt: HostRuntime) {
-    assert_bad_first_user(&rt, "Office", "office");
-    assert_bad_first_user(&rt, "", "office");
-    assert_bad_first_user(&rt, "office", "");
+    assert_bad_first_user(&rt, new_database(&rt), "Office", "office");
+    assert_bad_first_user(&rt, new_database(&rt), "", "office");
+    assert_bad_first_user(&rt, new_database(&rt), "office", "");
 }
 
 #[test]
 fn other_tables_are_no_index(rt: HostRuntime) {
-    assert_not_adopted(&rt, "", OpenFault::NotAnIndex, COUNT, 0);
+    assert_not_adopted(&rt, new_database(&rt), "", OpenFault::NotAnIndex, COUNT, 0);
     let other = "CREATE TABLE note (id INTEGER PRIMARY KEY) STRICT";
-    assert_not_adopted(&rt, other, OpenFault::NotAnIndex, COUNT, 1);
-    assert_not_adopted(&rt, SECOND_VERSION, OpenFault::NotAnIndex, COUNT, 1);
+    assert_not_adopted(
+        &rt,
+        new_database(&rt),
+        other,
+        OpenFault::NotAnIndex,
+        COUNT,
+        1,
+    );
+    assert_not_adopted(
+        &rt,
+        new_database(&rt),
+        SECOND_VERSION,
+        OpenFault::NotAnIndex,
+        COUNT,
+        1,
+    );
 }
 
 #[test]
 fn another_row_of_meta_is_refused(rt: HostRuntime) {
     let kind = "UPDATE meta SET kind = 'index'";
-    assert_changed(&rt, kind, OpenFault::NotAnIndex, 2);
+    assert_changed(&rt, new_database(&rt), kind, OpenFault::NotAnIndex, 2);
     let third = "UPDATE meta SET version = 3";
-    assert_changed(&rt, third, OpenFault::OtherVersion, 3);
+    assert_changed(&rt, new_database(&rt), third, OpenFault::OtherVersion, 3);
     let ninth = "UPDATE meta SET version = 9";
-    assert_changed(&rt, ninth, OpenFault::OtherVersion, 9);
+    assert_changed(&rt, new_database(&rt), ninth, OpenFault::OtherVersion, 9);
 }
 
 /// Tables by the names of those of an index, of which one is not as an index has it.
@@ -121,15 +130,26 @@ const OTHER_SHAPE: &str =
 
 #[test]
 fn tables_of_another_shape_are_refused(rt: HostRuntime) {
-    assert_not_adopted(&rt, OTHER_SHAPE, OpenFault::Store, COUNT, 9);
+    assert_not_adopted(
+        &rt,
+        new_database(&rt),
+        OTHER_SHAPE,
+        OpenFault::Store,
+        COUNT,
+        9,
+    );
+}
+
+fn make_beside<S: Alter + Drop>(rt: &(impl Abort + AllocGlobal), conn: Connection<S>) {
+    let mut conn = conn;
+    run(rt, &mut conn, "CREATE TABLE names (name TEXT)");
+    let conn = refused(rt, create(rt, conn), OpenFault::NotEmpty);
+    let mut conn = refused(rt, adopt(rt, conn), OpenFault::NotAnIndex);
+    assert_number(rt, &mut conn, COUNT, 1);
+    drop(conn);
 }
 
 #[test]
 fn an_index_is_made_in_an_empty_database_alone(rt: HostRuntime) {
-    let mut conn = new_database(&rt);
-    run(&rt, &mut conn, "CREATE TABLE names (name TEXT)");
-    let conn = refused(&rt, create(&rt, conn), OpenFault::NotEmpty);
-    let mut conn = refused(&rt, adopt(&rt, conn), OpenFault::NotAnIndex);
-    assert_number(&rt, &mut conn, COUNT, 1);
-    drop(conn);
+    make_beside(&rt, new_database(&rt));
 }

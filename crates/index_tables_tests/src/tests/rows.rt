@@ -1,25 +1,45 @@
 //! The tables as SQL finds them, and tables that SQL spoilt.
 use super::{
     ACCEPTED, CHARGED, DELETE, FILE, FROB, STANDING, adopt, assert_answer, assert_number,
-    connection_of, desk_over, new_desk, run,
+    assert_wrong_charges, body, connection_of, desk_over, new_database, new_index, run,
 };
-use index_names::FileName;
-use index_rules::Fault;
+use index_desk::Desk;
+use index_rules::{Books, Fault};
+use sqlite::{Alter, Connection};
 use std::alloc::AllocGlobal;
 use std::process::Abort;
 
 const NO_FILES_LEFT: &str =
     "SELECT count(*) FROM names WHERE name = 'frob' AND state = 1 AND shown = 'frob' AND quota = 1073741824 AND charged = 0 AND live = 0 AND last_upload = 11";
 
+const DELETED_ROWS: &[(&str, i64)] = &[
+    ("SELECT count(*) FROM names", 1),
+    (NO_FILES_LEFT, 1),
+    (
+        "SELECT count(*) FROM files WHERE file = 'frob-1.0.tar.gz' AND live = 0",
+        1,
+    ),
+    ("SELECT count(*) FROM blobs", 0),
+];
+
+/// After these exchanges each query finds its number.
+fn assert_rows<S: Alter + Drop>(
+    rt: &(impl Abort + AllocGlobal),
+    conn: Connection<S>,
+    parts: &[&[[&str; 2]]],
+    queries: &[(&str, i64)],
+) {
+    let mut conn = new_index(rt, conn, parts);
+    for (query, count) in queries {
+        assert_number(rt, &mut conn, query, *count);
+    }
+    drop(conn);
+}
+
 #[test]
 fn a_deleted_file_keeps_its_row(rt: HostRuntime) {
-    let mut conn = connection_of(new_desk(&rt, &[FROB, FILE, &[[DELETE, ACCEPTED]]]));
-    assert_number(&rt, &mut conn, "SELECT count(*) FROM names", 1);
-    assert_number(&rt, &mut conn, NO_FILES_LEFT, 1);
-    let deleted = "SELECT count(*) FROM files WHERE file = 'frob-1.0.tar.gz' AND live = 0";
-    assert_number(&rt, &mut conn, deleted, 1);
-    assert_number(&rt, &mut conn, "SELECT count(*) FROM blobs", 0);
-    drop(conn);
+    let deleted = &[FROB, FILE, &[[DELETE, ACCEPTED]]];
+    assert_rows(&rt, new_database(&rt), deleted, DELETED_ROWS);
 }
 
 /// ann uploads a second file and yanks the release of the first, and the office prohibits the name.
@@ -41,43 +61,61 @@ const PROHIBITED: &[[&str; 2]] = &[
 const PROHIBITED_ROW: &str =
     "SELECT count(*) FROM names WHERE name = 'frob' AND state = 2 AND shown = '' AND quota = 0 AND charged = 0 AND live = 0 AND last_upload IS NULL";
 
+const PROHIBITED_ROWS: &[(&str, i64)] = &[
+    (PROHIBITED_ROW, 1),
+    ("SELECT count(*) FROM owners", 0),
+    ("SELECT count(*) FROM yanks", 0),
+    ("SELECT count(*) FROM cases", 0),
+    ("SELECT count(*) FROM blobs", 0),
+    (
+        "SELECT count(*) FROM files WHERE name = 'frob' AND live = 0",
+        2,
+    ),
+];
+
 #[test]
 fn a_prohibited_name_keeps_its_files_alone(rt: HostRuntime) {
-    let mut conn = connection_of(new_desk(&rt, &[FROB, FILE, PROHIBITED]));
-    assert_number(&rt, &mut conn, PROHIBITED_ROW, 1);
-    assert_number(&rt, &mut conn, "SELECT count(*) FROM owners", 0);
-    assert_number(&rt, &mut conn, "SELECT count(*) FROM yanks", 0);
-    assert_number(&rt, &mut conn, "SELECT count(*) FROM cases", 0);
-    assert_number(&rt, &mut conn, "SELECT count(*) FROM blobs", 0);
-    let deleted = "SELECT count(*) FROM files WHERE name = 'frob' AND live = 0";
-    assert_number(&rt, &mut conn, deleted, 2);
-    drop(conn);
+    let prohibited = &[FROB, FILE, PROHIBITED];
+    assert_rows(&rt, new_database(&rt), prohibited, PROHIBITED_ROWS);
 }
 
 /// So many names have a wrong charge after a statement.
-fn assert_check(rt: &(impl Abort + AllocGlobal), sql: &str, count: u64) {
-    let mut conn = connection_of(new_desk(rt, &[FROB, FILE]));
+fn assert_check<S: Alter + Drop>(
+    rt: &(impl Abort + AllocGlobal),
+    conn: Connection<S>,
+    sql: &str,
+    count: u64,
+) {
+    let mut conn = new_index(rt, conn, &[FROB, FILE]);
     run(rt, &mut conn, sql);
     let mut desk = desk_over(rt, adopt(rt, conn));
-    let found = desk.check(rt.alloc());
-    assert_eq!(rt; found, Ok(count), "{sql}");
+    assert_wrong_charges(rt, &mut desk, count);
     drop(connection_of(desk));
 }
 
 #[test]
 fn a_wrong_charge_is_found(rt: HostRuntime) {
-    assert_check(&rt, "", 0);
-    assert_check(&rt, "UPDATE names SET charged = 4", 1);
+    assert_check(&rt, new_database(&rt), "", 0);
+    let raised = "UPDATE names SET charged = 4";
+    assert_check(&rt, new_database(&rt), raised, 1);
+}
+
+/// The bytes of the file are not told, by a fault of the store.
+fn assert_no_bytes<B: Books>(rt: &(impl Abort + AllocGlobal), desk: &mut Desk<B>) {
+    let found = body(rt, desk);
+    assert!(rt; matches!(&found, Err(Fault::Store)));
+}
+
+fn spoil_bytes<S: Alter + Drop>(rt: &(impl Abort + AllocGlobal), conn: Connection<S>) {
+    let mut conn = new_index(rt, conn, &[FROB, FILE]);
+    run(rt, &mut conn, "UPDATE blobs SET body = x'61'");
+    let mut desk = desk_over(rt, adopt(rt, conn));
+    assert_no_bytes(rt, &mut desk);
+    assert_answer(rt, &mut desk, STANDING, CHARGED);
+    drop(connection_of(desk));
 }
 
 #[test]
 fn bytes_without_their_digest_are_not_told(rt: HostRuntime) {
-    let mut conn = connection_of(new_desk(&rt, &[FROB, FILE]));
-    run(&rt, &mut conn, "UPDATE blobs SET body = x'61'");
-    let mut desk = desk_over(&rt, adopt(&rt, conn));
-    let file = FileName::read(rt.alloc(), b"frob-1.0.tar.gz").expect(&rt, "a file name");
-    let body = desk.body(rt.alloc(), &file);
-    assert!(&rt; matches!(&body, Err(Fault::Store)));
-    assert_answer(&rt, &mut desk, STANDING, CHARGED);
-    drop(connection_of(desk));
+    spoil_bytes(&rt, new_database(&rt));
 }

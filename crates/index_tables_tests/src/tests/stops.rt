@@ -1,11 +1,10 @@
 //! An index in files of which one stops: at its first call, at its second, and so on until a run ends without a stop.
-use super::{adopt, assert_parts, connection_of, create, desk_over};
+use super::new_index;
 use files::{
     Database, File, Which, closed, crashed, have_stopped, killed, new_files, opened, stopping,
 };
-use index_desk::Desk;
-use index_rules::Books;
-use sqlite::{Connection, Files};
+use index_rules::OpenFault;
+use sqlite::{Alter, Connection, Files};
 use std::alloc::AllocGlobal;
 use std::process::Abort;
 
@@ -28,14 +27,19 @@ enum Told {
 /// Work on a database that may be cut short, and what has to stand then.
 trait Trial {
     /// Does the work.
-    fn run<R: Abort + AllocGlobal>(
+    fn run<R: Abort + AllocGlobal, S: Alter + Drop>(
         &self,
         rt: &R,
-        conn: Connection<Database>,
-    ) -> (Told, Connection<Database>);
+        conn: Connection<S>,
+    ) -> (Told, Connection<S>);
 
     /// The work is done as a whole or not at all, and it is done where that was told.
-    fn assert_whole<R: Abort + AllocGlobal>(&self, rt: &R, conn: Connection<Database>, told: Told);
+    fn assert_whole<R: Abort + AllocGlobal, S: Alter + Drop>(
+        &self,
+        rt: &R,
+        conn: Connection<S>,
+        told: Told,
+    );
 }
 
 /// More calls than any run makes of one file.
@@ -119,16 +123,12 @@ fn reopened(rt: &(impl Abort + AllocGlobal), files: Files<File>) -> Connection<D
     }
 }
 
-/// No name has a wrong charge.
-fn assert_charges<B: Books>(rt: &(impl Abort + AllocGlobal), desk: &mut Desk<B>) {
-    let wrong = desk.check(rt.alloc());
-    assert_eq!(rt; wrong, Ok(0));
+/// No index was opened, by a fault of the store.
+fn assert_store_fault(rt: &impl Abort, why: OpenFault) {
+    assert_eq!(rt; why, OpenFault::Store);
 }
 
 /// The files of an index of which these exchanges were asked.
 fn files_after(rt: &(impl Abort + AllocGlobal), parts: &[&[[&str; 2]]]) -> Files<File> {
-    let conn = reopened(rt, new_files(rt));
-    let mut desk = desk_over(rt, create(rt, conn));
-    assert_parts(rt, &mut desk, parts);
-    closed(connection_of(desk))
+    closed(new_index(rt, reopened(rt, new_files(rt)), parts))
 }

@@ -1,14 +1,13 @@
 //! A stop at each call of a change: a claim, an upload, a delete, a prohibition, a ban and a transfer.
 use super::super::{
     ACCEPTED, ALREADY, CHARGED, CLAIM, DELETE, FILE, FREE, FROB, STANDING, UNCHARGED, UPLOAD,
-    adopt, answer_to, assert_answer, connection_of, desk_over,
+    adopt, answer_to, assert_answer, assert_wrong_charges, connection_of, desk_over,
 };
-use super::files::Database;
-use super::{Told, Trial, assert_charges, assert_stops, files_after};
+use super::{Told, Trial, assert_stops, assert_store_fault, files_after};
 use index_desk::Desk;
 use index_rules::Books;
 use index_tables::Unopened;
-use sqlite::Connection;
+use sqlite::{Alter, Connection};
 use std::alloc::AllocGlobal;
 use std::process::Abort;
 
@@ -27,25 +26,32 @@ struct Asked {
 }
 
 impl Trial for Asked {
-    fn run<R: Abort + AllocGlobal>(
+    fn run<R: Abort + AllocGlobal, S: Alter + Drop>(
         &self,
         rt: &R,
-        conn: Connection<Database>,
-    ) -> (Told, Connection<Database>) {
+        conn: Connection<S>,
+    ) -> (Told, Connection<S>) {
         match adopt(rt, conn) {
             Ok(books) => {
                 let mut desk = Desk::new(books);
-                let answer = answer_to(rt, &mut desk, self.request);
-                let told = told_by(rt, answer.as_str().trim_end());
+                let told = told_by(rt, &mut desk, self.request);
                 (told, connection_of(desk))
             }
-            Err(Unopened { why: _, conn }) => (Told::Unopened, conn),
+            Err(Unopened { why, conn }) => {
+                assert_store_fault(rt, why);
+                (Told::Unopened, conn)
+            }
         }
     }
 
-    fn assert_whole<R: Abort + AllocGlobal>(&self, rt: &R, conn: Connection<Database>, told: Told) {
+    fn assert_whole<R: Abort + AllocGlobal, S: Alter + Drop>(
+        &self,
+        rt: &R,
+        conn: Connection<S>,
+        told: Told,
+    ) {
         let mut desk = desk_over(rt, adopt(rt, conn));
-        assert_charges(rt, &mut desk);
+        assert_wrong_charges(rt, &mut desk, 0);
         self.assert_made_or_not(rt, &mut desk, told);
         drop(connection_of(desk));
     }
@@ -79,8 +85,13 @@ fn is_answer<B: Books>(
     answer_to(rt, desk, request).as_str().trim_end() == answer
 }
 
+/// How far a request comes.
+fn told_by<B: Books>(rt: &(impl Abort + AllocGlobal), desk: &mut Desk<B>, request: &str) -> Told {
+    told_of(rt, answer_to(rt, desk, request).as_str().trim_end())
+}
+
 /// How far a request came that was answered so.
-fn told_by(rt: &impl Abort, answer: &str) -> Told {
+fn told_of(rt: &impl Abort, answer: &str) -> Told {
     if answer == ACCEPTED {
         return Told::Done;
     }

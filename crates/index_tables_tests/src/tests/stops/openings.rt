@@ -1,26 +1,26 @@
 //! A stop at each call of an opening that writes: a new index is made, and one of version 1 brought to version 2.
-use super::super::migrations::make_first_version;
+use super::super::migrations::with_first_version;
 use super::super::{
-    ACCEPTED, ADD_ANN, FILE_NAME_TAKEN, OTHER_UPLOAD, STANDING, UNCHARGED, adopt, assert_answer,
-    assert_number, connection_of, create, desk_over, number,
+    ACCEPTED, ADD_ANN, FILE_NAME_TAKEN, OTHER_UPLOAD, STANDING, UNCHARGED, VERSION, adopt,
+    assert_answer, assert_number, assert_wrong_charges, connection_of, create, desk_over, number,
 };
-use super::files::{Database, closed, new_files};
-use super::{Told, Trial, assert_charges, assert_stops, reopened};
+use super::files::{closed, new_files};
+use super::{Told, Trial, assert_stops, assert_store_fault, reopened};
 use index_rules::OpenFault;
 use index_tables::{SqlBooks, Unopened};
-use sqlite::Connection;
+use sqlite::{Alter, Connection};
 use std::alloc::AllocGlobal;
 use std::process::Abort;
 
 /// How far an opening came, and its connection.
-fn told_of(
+fn told_of<S: Alter + Drop>(
     rt: &impl Abort,
-    books: Result<SqlBooks<Database>, Unopened<Database>>,
-) -> (Told, Connection<Database>) {
+    books: Result<SqlBooks<S>, Unopened<S>>,
+) -> (Told, Connection<S>) {
     match books {
         Ok(books) => (Told::Done, books.into_connection()),
         Err(Unopened { why, conn }) => {
-            assert_eq!(rt; why, OpenFault::Store);
+            assert_store_fault(rt, why);
             (Told::Fault, conn)
         }
     }
@@ -31,15 +31,20 @@ fn told_of(
 struct Creation;
 
 impl Trial for Creation {
-    fn run<R: Abort + AllocGlobal>(
+    fn run<R: Abort + AllocGlobal, S: Alter + Drop>(
         &self,
         rt: &R,
-        conn: Connection<Database>,
-    ) -> (Told, Connection<Database>) {
+        conn: Connection<S>,
+    ) -> (Told, Connection<S>) {
         told_of(rt, create(rt, conn))
     }
 
-    fn assert_whole<R: Abort + AllocGlobal>(&self, rt: &R, conn: Connection<Database>, told: Told) {
+    fn assert_whole<R: Abort + AllocGlobal, S: Alter + Drop>(
+        &self,
+        rt: &R,
+        conn: Connection<S>,
+        told: Told,
+    ) {
         let books = match adopt(rt, conn) {
             Ok(books) => Ok(books),
             Err(Unopened { why, conn }) => {
@@ -48,7 +53,7 @@ impl Trial for Creation {
             }
         };
         let mut desk = desk_over(rt, books);
-        assert_charges(rt, &mut desk);
+        assert_wrong_charges(rt, &mut desk, 0);
         assert_answer(rt, &mut desk, ADD_ANN, ACCEPTED);
         drop(connection_of(desk));
     }
@@ -65,8 +70,6 @@ fn an_index_is_created_or_not(rt: HostRuntime) {
     assert_stops(&rt, &new_files(&rt), &Creation);
 }
 
-const VERSION: &str = "SELECT version FROM meta";
-
 const BANS: &str = "SELECT count(*) FROM sqlite_schema WHERE name = 'bans'";
 
 /// Tables of version 1, which hold a deleted file, are adopted.
@@ -74,19 +77,24 @@ const BANS: &str = "SELECT count(*) FROM sqlite_schema WHERE name = 'bans'";
 struct Migration;
 
 impl Trial for Migration {
-    fn run<R: Abort + AllocGlobal>(
+    fn run<R: Abort + AllocGlobal, S: Alter + Drop>(
         &self,
         rt: &R,
-        conn: Connection<Database>,
-    ) -> (Told, Connection<Database>) {
+        conn: Connection<S>,
+    ) -> (Told, Connection<S>) {
         told_of(rt, adopt(rt, conn))
     }
 
-    fn assert_whole<R: Abort + AllocGlobal>(&self, rt: &R, conn: Connection<Database>, told: Told) {
+    fn assert_whole<R: Abort + AllocGlobal, S: Alter + Drop>(
+        &self,
+        rt: &R,
+        conn: Connection<S>,
+        told: Told,
+    ) {
         let mut conn = conn;
         assert_version(rt, &mut conn, told);
         let mut desk = desk_over(rt, adopt(rt, conn));
-        assert_charges(rt, &mut desk);
+        assert_wrong_charges(rt, &mut desk, 0);
         assert_answer(rt, &mut desk, STANDING, UNCHARGED);
         assert_answer(rt, &mut desk, OTHER_UPLOAD, FILE_NAME_TAKEN);
         drop(connection_of(desk));
@@ -94,7 +102,7 @@ impl Trial for Migration {
 }
 
 /// The tables are of version 1 without one of bans, or of version 2 with one, as they are where that was told.
-fn assert_version(rt: &impl Abort, conn: &mut Connection<Database>, told: Told) {
+fn assert_version<S: Alter>(rt: &impl Abort, conn: &mut Connection<S>, told: Told) {
     let bans = number(rt, conn, BANS);
     assert!(rt; told != Told::Done || bans == 1);
     let version = if bans == 1 { 2 } else { 1 };
@@ -103,7 +111,6 @@ fn assert_version(rt: &impl Abort, conn: &mut Connection<Database>, told: Told) 
 
 #[test]
 fn the_first_version_is_migrated_or_not(rt: HostRuntime) {
-    let mut conn = reopened(&rt, new_files(&rt));
-    make_first_version(&rt, &mut conn);
+    let conn = with_first_version(&rt, reopened(&rt, new_files(&rt)));
     assert_stops(&rt, &closed(conn), &Migration);
 }

@@ -1,28 +1,35 @@
 //! An index whose files are closed and opened again.
-use super::super::opening::refused;
 use super::super::{
-    ACCEPTED, ALREADY, CHARGED, CLAIM, DELETE, FILE, FROB, STANDING, adopt, assert_answer,
-    connection_of, create, desk_over,
+    ACCEPTED, ALREADY, CHARGED, CLAIM, DELETE, FILE, FROB, STANDING, assert_adopted, create,
+    refused,
 };
 use super::files::closed;
 use super::{files_after, reopened};
 use index_rules::OpenFault;
+use sqlite::{Alter, Connection};
+use std::alloc::AllocGlobal;
+use std::process::Abort;
+
+/// What was written is there, and the index goes on.
+const GOES_ON: &[[&str; 2]] = &[[STANDING, CHARGED], [CLAIM, ALREADY], [DELETE, ACCEPTED]];
 
 #[test]
 fn a_closed_index_is_found_again(rt: HostRuntime) {
     let files = files_after(&rt, &[FROB, FILE]);
-    let mut desk = desk_over(&rt, adopt(&rt, reopened(&rt, files)));
-    assert_answer(&rt, &mut desk, STANDING, CHARGED);
-    assert_answer(&rt, &mut desk, CLAIM, ALREADY);
-    assert_answer(&rt, &mut desk, DELETE, ACCEPTED);
-    drop(connection_of(desk));
+    assert_adopted(&rt, reopened(&rt, files), GOES_ON);
+}
+
+/// No second index is made.
+fn assert_made<S: Alter + Drop>(
+    rt: &(impl Abort + AllocGlobal),
+    conn: Connection<S>,
+) -> Connection<S> {
+    refused(rt, create(rt, conn), OpenFault::NotEmpty)
 }
 
 #[test]
 fn files_hold_one_index(rt: HostRuntime) {
     let files = files_after(&rt, &[FROB, FILE]);
-    let conn = refused(&rt, create(&rt, reopened(&rt, files)), OpenFault::NotEmpty);
-    let mut desk = desk_over(&rt, adopt(&rt, reopened(&rt, closed(conn))));
-    assert_answer(&rt, &mut desk, STANDING, CHARGED);
-    drop(connection_of(desk));
+    let files = closed(assert_made(&rt, reopened(&rt, files)));
+    assert_adopted(&rt, reopened(&rt, files), &[[STANDING, CHARGED]]);
 }
