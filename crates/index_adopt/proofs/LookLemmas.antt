@@ -1,5 +1,5 @@
 -- What looks at the version leave.
-use Rattle.std.proofs.Common.{◌≡◌, ◌⊎◌, inl, inr, ◌∙◌, ℕ, Bool, true, false, List, [], Option, Some, None, IsTrue, sym, subst, arith}
+use Rattle.std.proofs.Common.{◌≡◌, ◌⊎◌, inl, inr, ◌∙◌, ℕ, Bool, true, false, List, [], Option, Some, None, IsTrue, refl, sym, subst, arith}
 use Rattle.sqlite_value.specs.Order.{Row}
 use Rattle.sqlite_trees.specs.declared.store.Store.{Ghosts}
 use Rattle.sqlite_schema.specs.declared.command.Returning.{Returning}
@@ -7,7 +7,9 @@ use Rattle.sqlite.specs.declared.error.Error.{Error}
 use Rattle.sqlite.specs.Clock.{timed}
 use Rattle.sqlite.specs.Held.{Held, state}
 use Rattle.sqlite.specs.State.{State, HasCleanDisk, Survives, CommitsShowing, Shown, ShowsRows, FailsToQuery, FailsToShow, IsNotRun, IsTooLate, IsUnchanged, IsRolledBack, KeepsCommit}
-use Rattle.sqlite.proofs.Callers.{never_commits, survives_begin}
+use Rattle.sqlite_tied.specs.Compute.{everything}
+use Rattle.sqlite.specs.Listing.{understood}
+use Rattle.sqlite.proofs.Callers.{IsPlain, survives_begin}
 use Rattle.sqlite.proofs.StateLemmas.{survives_then, survives_weaker}
 use Rattle.index_schema.specs.Stays.{Stays}
 use Rattle.index_schema.specs.FirstVersion.{IsAnyVersion}
@@ -15,8 +17,14 @@ use Rattle.index_schema.specs.StatementTexts.{select_version_text}
 use Rattle.index_schema.proofs.StateLemmas.{shown_same}
 use Rattle.index_schema.proofs.StayLemmas.{unchanged_stays, shown_open, refused_stays}
 use Rattle.index_schema.proofs.SelectVersion as select_version
+use Rattle.index_schema.specs.Schema.{index_schema}
 use Rattle.index_looks.specs.Looks.{Looks}
+use Rattle.index_looks.proofs.PlainLemmas.{commits_nowhere}
 use Rattle.index_adopt.specs.Versions.{begun}
+
+plain_text : IsPlain (understood index_schema select_version_text)
+unfolding understood everything
+plain_text = (refl, refl)
 
 -- ---- under a schema of ours
 
@@ -31,8 +39,7 @@ module _ {S : Type 0} (g : Ghosts S) (old new : Held S) (known : IsTrue (state g
     committed_is = λ clean. (stays clean).committed_is;
     lasts = λ it clean was. is_open it clean;
     same = λ it clean. (stays clean).now_is (is_open it clean);
-    survives = λ clean was.
-        survives_weaker (state g old) (state g new) _ _ (λ _ db. never_commits select_version_text [] (state g old) db (select_version.is_plain (state g old).now (known was))) survives;
+    survives = survives_weaker (state g old) (state g new) _ _ (λ _ db. commits_nowhere index_schema select_version_text [] (state g old) db plain_text) survives;
   }
 
   pub looks_shown : (rows : List Row) → (HasCleanDisk (state g new) → Shown select_version_text [] (state g old) (state g new) rows) → (did : Bool) → Looks g old new did
@@ -94,6 +101,5 @@ looks_dropped g old start mid new is settled kept_start ran_start ended undone d
       committed_is = λ clean o. ((undone clean).undone o).1 ∙ same clean o;
       lasts = λ it. absurd (cc);
       same = λ it. absurd (cc);
-      survives = λ clean o.
-          survives_begin g old (state g new) (λ _. ⊥) (survives_then (state g (begun old)) (state g mid) (state g new) _ _ _ (λ _ db none. none) (λ _ db none. none) ran dropped);
+      survives = survives_begin g old (state g new) (λ _. ⊥) (survives_then (state g (begun old)) (state g mid) (state g new) _ _ _ (λ _ db none. none) (λ _ db none. none) ran dropped);
     }

@@ -4,6 +4,7 @@ ghost use Rattle.sqlite.specs.Held.{state};
 ghost use Rattle.sqlite.specs.State.{HasCleanDisk};
 ghost use Rattle.index_rules.specs.Effect.{means};
 ghost use Rattle.index_schema.specs.Index.{IsIndex, as_told};
+ghost use Rattle.index_steps.specs.Inside.{LeavesNothing};
 ghost use Rattle.index_commits.specs.Changed.{all_of, IsMade, IsUndone, LeavesAll};
 
 use crate::cases::{end_case, set_case};
@@ -19,13 +20,15 @@ use sqlite::{Alter, Connection, Error};
 
 /// Makes the change in a transaction and commits it. A fault of the store is an error, and so are a number that SQL
 /// can't hold and what the schema refuses: the tables are then what was committed before. A crash leaves that, or the
-/// whole change.
+/// whole change. A connection that was shut does none of it.
 pub fn make_change<S: Alter>(conn: &mut Connection<S>, change: &Change) -> Result<(), Error>
     requires { conn.old.in_transaction ≡ false }
     ensures made { HasCleanDisk (state S.Store conn.new)
         → OnOk result (IsTrue (state S.Store conn.old).is_open
         → IsIndex (state S.Store conn.old).now
         → IsMade (means change.now) as_told (state S.Store conn.old) (state S.Store conn.new)) }
+    ensures opened { HasCleanDisk (state S.Store conn.new)
+        → OnOk result (IsTrue (state S.Store conn.new).is_open) }
     ensures unchanged { HasCleanDisk (state S.Store conn.new)
         → IsTrue (state S.Store conn.new).is_open → IsIndex (state S.Store conn.old).now
         → OnErr result (IsUndone (state S.Store conn.old) (state S.Store conn.new)) }
@@ -37,6 +40,8 @@ pub fn make_change<S: Alter>(conn: &mut Connection<S>, change: &Change) -> Resul
         → IsTrue (state S.Store conn.old).is_open }
     ensures crash { IsTrue (state S.Store conn.old).is_open → IsIndex (state S.Store conn.old).now
         → LeavesAll (means change.now) as_told (state S.Store conn.old) (state S.Store conn.new) }
+    ensures shut { (state S.Store conn.old).is_open ≡ false
+        → LeavesNothing S.Store conn.old conn.new }
 {
     let steps = steps_of(change);
     commit_steps(conn, steps.as_slice())

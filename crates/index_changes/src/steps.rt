@@ -16,7 +16,7 @@ pub(crate) struct Steps<'a> {
 }
 
 impl<'a> Model for Steps<'a> {
-    ghost use Rattle.std.specs.Prelude.{◌≡◌, ◌≤◌, List, length, take};
+    ghost use Rattle.std.specs.Prelude.{◌≡◌, ◌<◌, ◌≤◌, List, length, take};
     ghost use Rattle.index_commits.specs.declared.step.Step.{Step};
     ghost use Rattle.index_changes.specs.declared.steps.TheConstants.{MOST_STEPS};
 
@@ -24,7 +24,8 @@ impl<'a> Model for Steps<'a> {
 
     ghost view = { λ s. take s.count s.steps };
 
-    ghost invariant = { λ s. (s.count ≤ MOST_STEPS) × (length s.steps ≡ MOST_STEPS) };
+    ghost invariant = { λ s. (0 < s.count) × (s.count ≤ MOST_STEPS)
+        × (length s.steps ≡ MOST_STEPS) };
 }
 
 impl<'a> Steps<'a> {
@@ -54,7 +55,8 @@ impl<'a> Steps<'a> {
 
     /// The steps in their order.
     pub(crate) fn as_slice(&self) -> &[Step<'a>]
-        ensures { result.now ≡ self.now }
+        ensures steps { result.now ≡ self.now }
+        ensures some { 0 < length result.now }
     {
         &self.steps[..self.count]
     }

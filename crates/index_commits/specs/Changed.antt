@@ -1,10 +1,12 @@
 -- A change of the tables as a list of steps.
 use Rattle.std.specs.Prelude.{◌≡◌, ℕ, Option, List, [], ◌∷◌, false, IsTrue}
+use Rattle.sqlite_trees.specs.Tree.{Trees}
 use Rattle.sqlite.specs.State.{State, Survives}
 use Rattle.index_rules.specs.declared.records.NameRecord.TheVariants.{Held, Prohibited}
 use Rattle.index_rules.specs.Effect.{without_record}
 use Rattle.index_rules.specs.Tables.{Tables}
 use Rattle.index_schema.specs.Records.{tables_in}
+use Rattle.index_schema.specs.Schema.{index_schema}
 use Rattle.index_schema.specs.Index.{IsIndex, version_in}
 use Rattle.index_steps.specs.Writes.{puts_user, puts_name, puts_owner, puts_file, puts_body, puts_yank, puts_case, puts_ban, deletes_owners, deletes_owner, deletes_yanks, deletes_yank, deletes_case, deletes_body, deletes_bodies, marks_files}
 use Rattle.index_commits.specs.declared.step.Put.{Put}
@@ -61,6 +63,10 @@ pub record IsMade (change : Tables → Tables) (told : Option ℕ → Option ℕ
 abbrev pub IsUndone : State → State → Type 0
 IsUndone old new = (new.now ≡ old.committed) × (new.committed ≡ old.committed)
 
--- a crash leaves what could be left before, or the change as a whole, with its version
+-- the trees of an index
+abbrev pub HoldsIndex : Trees → Type 0
+HoldsIndex db = IsIndex (record { schema = index_schema; trees = db })
+
+-- a crash leaves what could be left before, or the change as a whole, with its version, in an index
 abbrev pub LeavesAll : (Tables → Tables) → (Option ℕ → Option ℕ) → State → State → Type 0
-LeavesAll change told old new = Survives old new (λ db. (tables_in db ≡ change (tables_in old.now.trees)) × (version_in db ≡ told (version_in old.now.trees)))
+LeavesAll change told old new = Survives old new (λ db. (tables_in db ≡ change (tables_in old.now.trees)) × (version_in db ≡ told (version_in old.now.trees)) × HoldsIndex db)

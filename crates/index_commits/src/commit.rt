@@ -1,21 +1,24 @@
 //! A change of the tables in one transaction.
-ghost use Rattle.std.specs.Prelude.{◌≡◌, false, IsTrue, OnOk, OnErr};
+ghost use Rattle.std.specs.Prelude.{◌≡◌, ◌<◌, false, length, IsTrue, OnOk, OnErr};
 ghost use Rattle.sqlite.specs.Held.{state};
 ghost use Rattle.sqlite.specs.State.{HasCleanDisk};
 ghost use Rattle.index_schema.specs.Index.{IsIndex, as_told};
+ghost use Rattle.index_steps.specs.Inside.{LeavesNothing};
 ghost use Rattle.index_commits.specs.Changed.{all_of, IsMade, IsUndone, LeavesAll};
 
 use crate::step::{Step, take_steps};
 use sqlite::{Alter, Connection, Error};
 
 /// Takes the steps in a transaction and commits it. After an error the tables are what was committed before, and a crash
-/// leaves that, or what all steps make of it.
+/// leaves that, or what all steps make of it. A connection that was shut does none of it.
 pub fn commit_steps<S: Alter>(conn: &mut Connection<S>, steps: &[Step<'_>]) -> Result<(), Error>
     requires { conn.old.in_transaction ≡ false }
     ensures made { HasCleanDisk (state S.Store conn.new)
         → OnOk result (IsTrue (state S.Store conn.old).is_open
         → IsIndex (state S.Store conn.old).now
         → IsMade (all_of steps.now) as_told (state S.Store conn.old) (state S.Store conn.new)) }
+    ensures opened { HasCleanDisk (state S.Store conn.new)
+        → OnOk result (IsTrue (state S.Store conn.new).is_open) }
     ensures unchanged { HasCleanDisk (state S.Store conn.new)
         → IsTrue (state S.Store conn.new).is_open → IsIndex (state S.Store conn.old).now
         → OnErr result (IsUndone (state S.Store conn.old) (state S.Store conn.new)) }
@@ -27,6 +30,8 @@ pub fn commit_steps<S: Alter>(conn: &mut Connection<S>, steps: &[Step<'_>]) -> R
         → IsTrue (state S.Store conn.old).is_open }
     ensures crash { IsTrue (state S.Store conn.old).is_open → IsIndex (state S.Store conn.old).now
         → LeavesAll (all_of steps.now) as_told (state S.Store conn.old) (state S.Store conn.new) }
+    ensures shut { 0 < length steps.now → (state S.Store conn.old).is_open ≡ false
+        → LeavesNothing S.Store conn.old conn.new }
 {
     let mut tx = conn.transaction();
     take_steps(&mut tx, steps)?;

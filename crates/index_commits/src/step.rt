@@ -1,6 +1,6 @@
 //! One step of a change.
-ghost use Rattle.std.specs.Prelude.{◌≡◌};
-ghost use Rattle.index_steps.specs.Inside.{MakesIfOk, Keeps, LeavesNothing};
+ghost use Rattle.std.specs.Prelude.{◌≡◌, ◌<◌, length};
+ghost use Rattle.index_steps.specs.Inside.{MakesIfOk, Keeps, LeavesNothing, WasOpenIfOk};
 ghost use Rattle.index_commits.specs.Changed.{put_by, deletion_by, step_by, all_of};
 
 use index_rules::{CaseRecord, FileRecord, Project, UserRecord};
@@ -69,6 +69,7 @@ fn take_put<S: Alter>(tx: &mut Transaction<'_, S>, put: Put<'_>) -> Result<(), E
     ensures same_reference { tx.new.conn.ghost_name ≡ tx.old.conn.ghost_name }
     ensures made { MakesIfOk S.Store (put_by put.entry) tx.old.conn.now tx.new.conn.now result }
     ensures kept { Keeps S.Store tx.old.conn.now tx.new.conn.now }
+    ensures opened { WasOpenIfOk S.Store tx.old.conn.now tx.new.conn.now result }
     ensures survives { LeavesNothing S.Store tx.old.conn.now tx.new.conn.now }
 {
     match put {
@@ -90,6 +91,7 @@ fn take_deletion<S: Alter>(tx: &mut Transaction<'_, S>, deletion: Deletion<'_>) 
     ensures made { MakesIfOk S.Store (deletion_by deletion.entry)
         tx.old.conn.now tx.new.conn.now result }
     ensures kept { Keeps S.Store tx.old.conn.now tx.new.conn.now }
+    ensures opened { WasOpenIfOk S.Store tx.old.conn.now tx.new.conn.now result }
     ensures survives { LeavesNothing S.Store tx.old.conn.now tx.new.conn.now }
 {
     match deletion {
@@ -109,6 +111,7 @@ fn take_step<S: Alter>(tx: &mut Transaction<'_, S>, step: &Step<'_>) -> Result<(
     ensures same_reference { tx.new.conn.ghost_name ≡ tx.old.conn.ghost_name }
     ensures made { MakesIfOk S.Store (step_by step.now) tx.old.conn.now tx.new.conn.now result }
     ensures kept { Keeps S.Store tx.old.conn.now tx.new.conn.now }
+    ensures opened { WasOpenIfOk S.Store tx.old.conn.now tx.new.conn.now result }
     ensures survives { LeavesNothing S.Store tx.old.conn.now tx.new.conn.now }
 {
     match *step {
@@ -123,6 +126,8 @@ pub fn take_steps<S: Alter>(tx: &mut Transaction<'_, S>, steps: &[Step<'_>]) -> 
     ensures same_reference { tx.new.conn.ghost_name ≡ tx.old.conn.ghost_name }
     ensures made { MakesIfOk S.Store (all_of steps.now) tx.old.conn.now tx.new.conn.now result }
     ensures kept { Keeps S.Store tx.old.conn.now tx.new.conn.now }
+    ensures opened { 0 < length steps.now →
+        WasOpenIfOk S.Store tx.old.conn.now tx.new.conn.now result }
     ensures survives { LeavesNothing S.Store tx.old.conn.now tx.new.conn.now }
 {
     for step in steps {

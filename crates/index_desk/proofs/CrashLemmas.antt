@@ -1,9 +1,18 @@
 -- What a crash may leave after a call.
-use Rattle.std.proofs.Common.{inl, inr}
+use Rattle.std.proofs.Common.{◌≡◌, ◌≢◌, ◌⊎◌, ◌∙◌, inl, inr, ap, refl, subst, sym, List, [], ◌∷◌, ◌++◌, Contains, arith}
+use Rattle.std.proofs.lemmas.List.Elements.{Contains-push_cases}
 use Rattle.index_rules.specs.declared.answer.Answer.{Answer}
 use Rattle.index_rules.specs.declared.answer.Answer.TheVariants.{Accepted, Already, Refused, Fault}
+use Rattle.index_rules.specs.declared.answer.Fault.{Fault as FaultData}
+use Rattle.index_rules.specs.declared.call.Call.{Call}
 use Rattle.index_rules.specs.Tables.{Tables}
-use Rattle.index_desk.specs.Crashes.{Leaves}
+use Rattle.index_rules.specs.Verdict.{Accept, verdict_now}
+use Rattle.index_rules.specs.Runs.{Runs, tables_after}
+use Rattle.index_rules.specs.History.{History}
+use Rattle.index_rules.specs.StandsFor.{StandsFor}
+use Rattle.index_rules.specs.Legal.{IsLegal, with_call}
+use Rattle.index_rules.proofs.StandsOn.{CarriesOn-answer}
+use Rattle.index_desk.specs.Crashes.{IsWithCall, Lasts, LastsAll, Leaves, LeavesAll, LeavesAllOf}
 
 -- more may be left where each of its two parts is more
 pub Leaves-weaker : (before before' with_call with_call' : Tables → Type 0) → ((T : Tables) → before T → before' T) → ((T : Tables) → with_call T → with_call' T) → (answer : Answer) (T : Tables) → Leaves before with_call answer T → Leaves before' with_call' answer T
@@ -11,3 +20,101 @@ Leaves-weaker before before' with_call with_call' f g Accepted T left = g T left
 Leaves-weaker before before' with_call with_call' f g Already T left = f T left
 Leaves-weaker before before' with_call with_call' f g (Refused refusal) T left = f T left
 Leaves-weaker before before' with_call with_call' f g (Fault fault) T left = elim left [ inl b ↦ inl (f T b) | inr w ↦ inr (g T w) ]
+
+-- one more answer
+pub LastsAll-push : (answers : List Answer) (answer : Answer) (first before after : Type 0) → LastsAll answers first before → Lasts answer before after → LastsAll (answers ++ answer ∷ []) first after
+LastsAll-push [] Accepted first before after so_far last = λ _. last
+LastsAll-push [] Already first before after so_far last = λ h. last (so_far h)
+LastsAll-push [] (Refused refusal) first before after so_far last = λ h. last (so_far h)
+LastsAll-push [] (Fault fault) first before after so_far last = λ none. absurd none
+LastsAll-push (Accepted ∷ answers) answer first before after so_far last = LastsAll-push answers answer (Unit {0}) before after so_far last
+LastsAll-push (Already ∷ answers) answer first before after so_far last = LastsAll-push answers answer first before after so_far last
+LastsAll-push (Refused refusal ∷ answers) answer first before after so_far last = LastsAll-push answers answer first before after so_far last
+LastsAll-push (Fault fault ∷ answers) answer first before after so_far last = LastsAll-push answers answer ⊥ before after so_far last
+
+-- what follows from honesty
+pub LastsAll-weaker : (answers : List Answer) (first after after' : Type 0) → (after → after') → LastsAll answers first after → LastsAll answers first after'
+LastsAll-weaker [] first after after' f lasts = λ h. f (lasts h)
+LastsAll-weaker (Accepted ∷ answers) first after after' f lasts = LastsAll-weaker answers (Unit {0}) after after' f lasts
+LastsAll-weaker (Already ∷ answers) first after after' f lasts = LastsAll-weaker answers first after after' f lasts
+LastsAll-weaker (Refused refusal ∷ answers) first after after' f lasts = LastsAll-weaker answers first after after' f lasts
+LastsAll-weaker (Fault fault ∷ answers) first after after' f lasts = LastsAll-weaker answers ⊥ after after' f lasts
+
+-- what it was honest by before
+pub Lasts-earlier : (answer : Answer) (first before after : Type 0) → (first → before) → Lasts answer before after → Lasts answer first after
+Lasts-earlier Accepted first before after f lasts = lasts
+Lasts-earlier Already first before after f lasts = λ h. lasts (f h)
+Lasts-earlier (Refused refusal) first before after f lasts = λ h. lasts (f h)
+Lasts-earlier (Fault fault) first before after f lasts = tt
+
+-- ---- calls in a row, and one more
+
+-- that was not accepted
+pub LeavesAll-more : (T : Tables) (calls : List Call) (answers : List Answer) (call : Call) (answer : Answer) (T' : Tables) → answer ≢ Accepted → LeavesAll T calls answers T'
+    → LeavesAll T (calls ++ call ∷ []) (answers ++ answer ∷ []) T'
+LeavesAll-more T [] [] call Accepted T' other left = absurd (other refl)
+LeavesAll-more T [] [] call Already T' other left = left
+LeavesAll-more T [] [] call (Refused refusal) T' other left = left
+LeavesAll-more T [] [] call (Fault fault) T' other left = inl left
+LeavesAll-more T [] (b ∷ answers) call answer T' other left = absurd left
+LeavesAll-more T (d ∷ calls) [] call answer T' other left = absurd left
+LeavesAll-more T (d ∷ calls) (Accepted ∷ answers) call answer T' other left = (left.0, LeavesAll-more (tables_after T d Accepted) calls answers call answer T' other left.1)
+LeavesAll-more T (d ∷ calls) (Already ∷ answers) call answer T' other left = LeavesAll-more T calls answers call answer T' other left
+LeavesAll-more T (d ∷ calls) (Refused refusal ∷ answers) call answer T' other left = LeavesAll-more T calls answers call answer T' other left
+LeavesAll-more T (d ∷ calls) (Fault fault ∷ answers) call answer T' other left = elim left [
+  | inl rest ↦ inl (LeavesAll-more T calls answers call answer T' other rest)
+  | inr it ↦ inr ((λ found. elim (Contains-push_cases answers answer Accepted found) [ inl there ↦ it.0 there | inr this ↦ other this ]), it.1, it.2)
+]
+
+-- that was accepted
+pub LeavesAll-accepted : (T : Tables) (calls : List Call) (answers : List Answer) (T1 : Tables) (call : Call) (T' : Tables) → Runs T calls answers T1 → IsWithCall T1 call T'
+    → LeavesAll T (calls ++ call ∷ []) (answers ++ Accepted ∷ []) T'
+LeavesAll-accepted T [] [] T1 call T' run is = subst (λ x. IsWithCall x call T') run is
+LeavesAll-accepted T [] (b ∷ answers) T1 call T' run is = absurd run
+LeavesAll-accepted T (d ∷ calls) [] T1 call T' run is = absurd run
+LeavesAll-accepted T (d ∷ calls) (Accepted ∷ answers) T1 call T' run is = (run.0, LeavesAll-accepted (tables_after T d Accepted) calls answers T1 call T' run.1 is)
+LeavesAll-accepted T (d ∷ calls) (Already ∷ answers) T1 call T' run is = LeavesAll-accepted T calls answers T1 call T' run.1 is
+LeavesAll-accepted T (d ∷ calls) (Refused refusal ∷ answers) T1 call T' run is = LeavesAll-accepted T calls answers T1 call T' run.1 is
+LeavesAll-accepted T (d ∷ calls) (Fault fault ∷ answers) T1 call T' run is = inl (LeavesAll-accepted T calls answers T1 call T' run.1 is)
+
+-- to which a fault was answered, where it is left
+pub LeavesAll-fault : (T : Tables) (calls : List Call) (answers : List Answer) (T1 : Tables) (call : Call) (fault : FaultData) (T' : Tables) → Runs T calls answers T1 → IsWithCall T1 call T'
+    → LeavesAll T (calls ++ call ∷ []) (answers ++ Fault fault ∷ []) T'
+LeavesAll-fault T [] [] T1 call fault T' run is = let it = subst (λ x. IsWithCall x call T') run is in inr ((λ found. absurd (omega (arith, found.1))), it.0, it.1)
+LeavesAll-fault T [] (b ∷ answers) T1 call fault T' run is = absurd run
+LeavesAll-fault T (d ∷ calls) [] T1 call fault T' run is = absurd run
+LeavesAll-fault T (d ∷ calls) (Accepted ∷ answers) T1 call fault T' run is = (run.0, LeavesAll-fault (tables_after T d Accepted) calls answers T1 call fault T' run.1 is)
+LeavesAll-fault T (d ∷ calls) (Already ∷ answers) T1 call fault T' run is = LeavesAll-fault T calls answers T1 call fault T' run.1 is
+LeavesAll-fault T (d ∷ calls) (Refused refusal ∷ answers) T1 call fault T' run is = LeavesAll-fault T calls answers T1 call fault T' run.1 is
+LeavesAll-fault T (d ∷ calls) (Fault b ∷ answers) T1 call fault T' run is = inl (LeavesAll-fault T calls answers T1 call fault T' run.1 is)
+
+-- whatever was answered: `before` is what could be left before the call
+pub LeavesAll-push : (T : Tables) (calls : List Call) (answers : List Answer) (T1 : Tables) (call : Call) (answer : Answer) (before : Tables → Type 0) (honest honest' : Type 0) (T' : Tables)
+    → (honest → Runs T calls answers T1) → ((U : Tables) → before U → LeavesAll T calls answers U) → Lasts answer honest honest' → (honest' → honest) → before T' ⊎ honest
+    → (honest → Leaves before (IsWithCall T1 call) answer T') → LeavesAll T (calls ++ call ∷ []) (answers ++ answer ∷ []) T'
+LeavesAll-push T calls answers T1 call Accepted before honest honest' T' runs earlier lasts back either leaves = LeavesAll-accepted T calls answers T1 call T' (runs (back lasts)) (leaves (back lasts))
+LeavesAll-push T calls answers T1 call Already before honest honest' T' runs earlier lasts back either leaves =
+    LeavesAll-more T calls answers call Already T' (λ h. absurd (cc)) (earlier T' (elim either [ inl b ↦ b | inr h ↦ leaves h ]))
+LeavesAll-push T calls answers T1 call (Refused refusal) before honest honest' T' runs earlier lasts back either leaves =
+    LeavesAll-more T calls answers call (Refused refusal) T' (λ h. absurd (cc)) (earlier T' (elim either [ inl b ↦ b | inr h ↦ leaves h ]))
+LeavesAll-push T calls answers T1 call (Fault fault) before honest honest' T' runs earlier lasts back either leaves =
+    let more = λ (b : before T'). LeavesAll-more T calls answers call (Fault fault) T' (λ h. absurd (cc)) (earlier T' b) in
+    elim either [
+      | inl b ↦ more b
+      | inr h ↦ elim (leaves h) [ inl b ↦ more b | inr w ↦ LeavesAll-fault T calls answers T1 call fault T' (runs h) w ]
+    ]
+
+-- tables that are left stand for a legal history
+pub LeavesAllOf-LeavesAll : (h : History) → IsLegal h → (T : Tables) → StandsFor T h → (calls : List Call) (answers : List Answer) (T' : Tables) → LeavesAll T calls answers T' → LeavesAllOf h calls answers T'
+LeavesAllOf-LeavesAll h legal T stands [] [] T' left = (legal, subst (λ x. StandsFor x h) (sym left) stands)
+LeavesAllOf-LeavesAll h legal T stands [] (b ∷ answers) T' left = absurd left
+LeavesAllOf-LeavesAll h legal T stands (d ∷ calls) [] T' left = absurd left
+LeavesAllOf-LeavesAll h legal T stands (d ∷ calls) (Accepted ∷ answers) T' left =
+    let it = CarriesOn-answer h legal T stands d Accepted (tables_after T d Accepted) (λ _. left.0) (λ _. refl) in
+    (it.verdict, LeavesAllOf-LeavesAll (with_call h d) it.legal (tables_after T d Accepted) it.stands calls answers T' left.1)
+LeavesAllOf-LeavesAll h legal T stands (d ∷ calls) (Already ∷ answers) T' left = LeavesAllOf-LeavesAll h legal T stands calls answers T' left
+LeavesAllOf-LeavesAll h legal T stands (d ∷ calls) (Refused refusal ∷ answers) T' left = LeavesAllOf-LeavesAll h legal T stands calls answers T' left
+LeavesAllOf-LeavesAll h legal T stands (d ∷ calls) (Fault fault ∷ answers) T' left = elim left [
+  | inl rest ↦ inl (LeavesAllOf-LeavesAll h legal T stands calls answers T' rest)
+  | inr it ↦ let with = CarriesOn-answer h legal T stands d Accepted T' (λ _. it.1) (λ _. it.2) in inr (it.0, with.verdict, (with.legal, with.stands))
+]

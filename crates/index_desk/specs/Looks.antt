@@ -17,7 +17,7 @@ pub record Looks {S X : Type 0} (is_honest is_clean : S → Type 0) (tables : S 
   pub honest : is_honest new → is_honest old
   pub clean : is_clean new → is_clean old
   pub lasts : OnOk result (is_honest old → is_clean new → is_honest new)
-  pub crash : is_honest old → is_clean new → (T : Tables) → may_leave new T → may_leave old T
+  pub crash : (T : Tables) → may_leave new T → may_leave old T
 
 -- the same of a walk over rows: that its taker wants no more of them is no failure
 pub record LooksInWalk {S X : Type 0} (is_honest is_clean : S → Type 0) (tables : S → Tables) (failures : S → ℕ) (may_leave : S → Tables → Type 0) (old new : S) (result : Result X WalkEnd) : Type 0 where
@@ -28,4 +28,4 @@ pub record LooksInWalk {S X : Type 0} (is_honest is_clean : S → Type 0) (table
   pub honest : is_honest new → is_honest old
   pub clean : is_clean new → is_clean old
   pub lasts : has_fault result ≡ false → is_honest old → is_clean new → is_honest new
-  pub crash : is_honest old → is_clean new → (T : Tables) → may_leave new T → may_leave old T
+  pub crash : (T : Tables) → may_leave new T → may_leave old T

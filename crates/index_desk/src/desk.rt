@@ -1,5 +1,5 @@
 //! Calls in order, over any books.
-ghost use Rattle.std.specs.Prelude.{◌≡◌, ◌≢◌, [], IfOk, IfErr, OnOk, OnErr, Contains, length, vec_len, vec_capacity};
+ghost use Rattle.std.specs.Prelude.{◌≡◌, ◌≢◌, ◌⊎◌, [], IfOk, IfErr, OnOk, OnErr, Contains, length, vec_len, vec_capacity};
 ghost use Rattle.std.specs.FinMap.{get};
 ghost use Rattle.index_io.specs.Counts.{FailsAtMostOnce, HasFailed};
 ghost use Rattle.index_rules.specs.Runs.{Answers, Runs, tables_after, tables_after_change};
@@ -13,7 +13,7 @@ ghost use Rattle.index_rules.specs.Sound.{IsSound};
 ghost use Rattle.index_rules.specs.History.{History};
 ghost use Rattle.index_rules.specs.StandsFor.{StandsFor, body_after};
 ghost use Rattle.index_rules.specs.Legal.{CarriesOn, CarriesOnAll, IsLegal};
-ghost use Rattle.index_desk.specs.Crashes.{IsWithCall, Leaves};
+ghost use Rattle.index_desk.specs.Crashes.{IsWithCall, Lasts, LastsAll, Leaves, LeavesAll, LeavesAllOf};
 ghost use Rattle.index_desk.specs.Looks.{Looks};
 ghost use Rattle.index_desk.specs.Standings.{IsStandingAfter, held_with, standing_in};
 
@@ -98,6 +98,14 @@ impl<B: Books> Desk<B> {
             (h : History) → IsLegal h → StandsFor (B.tables self.old) h →
             (T : Tables) → B.may_leave self.new T →
             Leaves (B.may_leave self.old) (CarriesOn h call Answer.Accepted) result T }
+
+        // Of a store that was not honest it leaves nothing new.
+        ensures nothing_new { (T : Tables) → B.may_leave self.new T →
+            B.may_leave self.old T ⊎ B.IsHonest self.old }
+
+        // After an acceptance the store is honest, where it is still clean, and after another answer but a fault if it was.
+        ensures lasts { B.IsClean self.new →
+            Lasts result (B.IsHonest self.old) (B.IsHonest self.new) }
         ensures store { result ≡ Answer.Fault Fault.Store →
             HasFailed (B.failures self.old) (B.failures self.new) }
         ensures failures { FailsAtMostOnce (B.failures self.old) (B.failures self.new) }
@@ -131,6 +139,25 @@ impl<B: Books> Desk<B> {
         ensures store { IfOk result (λ answers.
             Contains answers.items (Answer.Fault Fault.Store) →
             HasFailed (B.failures self.old) (B.failures self.new)) }
+
+        // Where no fault was answered since the last acceptance, or since the first call of an honest store, it is honest,
+        // so a crash leaves the tables as they stand.
+        ensures lasts { B.IsClean self.new → IfOk result (λ answers.
+            LastsAll answers.items (B.IsHonest self.old) (B.IsHonest self.new)) }
+        ensures alone { B.IsClean self.new → IfOk result (λ answers.
+            LastsAll answers.items (B.IsHonest self.old) ((T : Tables) →
+            B.may_leave self.new T → T ≡ B.tables self.new)) }
+
+        // Where faults were answered, a crash leaves the tables after the accepted calls, or these with one call to which
+        // a fault was answered since the last of them.
+        ensures crash { B.IsHonest self.old → B.IsClean self.new →
+            HasOneBearer (B.tables self.old) → IfOk result (λ answers. (T : Tables) →
+            B.may_leave self.new T →
+            LeavesAll (B.tables self.old) calls.items answers.items T) }
+        ensures crash_history { B.IsHonest self.old → B.IsClean self.new →
+            IfOk result (λ answers. (h : History) → IsLegal h → StandsFor (B.tables self.old) h →
+            (T : Tables) → B.may_leave self.new T →
+            LeavesAllOf h calls.items answers.items T) }
         ensures none { OnErr result (self.new ≡ self.old) }
         ensures fault { IfErr result (λ fault. fault ≡ Fault.OutOfMemory) }
         ensures honest { B.IsHonest self.new → B.IsHonest self.old }
@@ -148,6 +175,11 @@ impl<B: Books> Desk<B> {
             Runs (B.tables self.old) calls.items answers.new.items (B.tables self.new) }
         ensures store { Contains answers.new.items (Answer.Fault Fault.Store) →
             HasFailed (B.failures self.old) (B.failures self.new) }
+        ensures lasts { B.IsClean self.new →
+            LastsAll answers.new.items (B.IsHonest self.old) (B.IsHonest self.new) }
+        ensures crash { B.IsHonest self.old → B.IsClean self.new →
+            HasOneBearer (B.tables self.old) → (T : Tables) → B.may_leave self.new T →
+            LeavesAll (B.tables self.old) calls.items answers.new.items T }
         ensures honest { B.IsHonest self.new → B.IsHonest self.old }
     {
         for call in calls {
@@ -245,6 +277,10 @@ fn settle<B: Books>(books: &mut B, alloc: Global, decision: Result<Decision, Sto
         Decides decision verdict change → (T : Tables) → B.may_leave books.new T →
         let after = means change (B.tables books.old) in
         Leaves (B.may_leave books.old) (λ T'. (verdict ≡ Accept) × (T' ≡ after)) result T }
+    ensures nothing_new { (T : Tables) → B.may_leave books.new T →
+        B.may_leave books.old T ⊎ B.IsHonest books.old }
+    ensures lasts { B.IsClean books.new →
+        Lasts result (B.IsHonest books.old) (B.IsHonest books.new) }
     ensures store { result ≡ Answer.Fault Fault.Store →
         HasFailed (B.failures books.old) (B.failures books.new) }
     ensures failures { FailsAtMostOnce (B.failures books.old) (B.failures books.new) }

@@ -60,4 +60,4 @@ pub record KeepsTables {S : Type 0} (is_honest is_clean : S → Type 0) (tables 
   pub honest : is_honest new → is_honest old
   pub clean : is_clean new → is_clean old
   pub lasts : has_fault ≡ false → is_honest old → is_clean new → is_honest new
-  pub crash : is_honest old → is_clean new → (T : Tables) → may_leave new T → may_leave old T
+  pub crash : (T : Tables) → may_leave new T → may_leave old T

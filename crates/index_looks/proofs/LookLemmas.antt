@@ -8,13 +8,14 @@ use Rattle.sqlite.specs.Effect.{Database}
 use Rattle.sqlite.specs.Held.{Held, state}
 use Rattle.sqlite.specs.Listing.{understood}
 use Rattle.sqlite.specs.State.{State, HasCleanDisk, Survives, CommitsShowing, Shown, FailsToQuery}
-use Rattle.sqlite.proofs.Callers.{IsPlain, never_commits}
+use Rattle.sqlite.proofs.Callers.{IsPlain}
 use Rattle.sqlite.proofs.StateLemmas.{survives_then, survives_weaker}
 use Rattle.index_schema.specs.Schema.{index_schema}
 use Rattle.index_schema.specs.Index.{IsIndex, version_in}
 use Rattle.index_schema.specs.Stays.{Stays}
 use Rattle.index_schema.proofs.StayLemmas.{shown_open, shown_stays, refused_stays}
 use Rattle.index_looks.specs.Looks.{IsKept, Looks}
+use Rattle.index_looks.proofs.PlainLemmas.{commits_nowhere}
 
 pub clean_before : (old new : State) (P : Trees → Type 0) → Survives old new P → HasCleanDisk new → HasCleanDisk old
 clean_before old new P it clean = omega (arith, it.clean)
@@ -48,9 +49,7 @@ module _ {S : Type 0} (g : Ghosts S) where
       committed_is = λ clean. (stays clean).committed_is;
       lasts = λ it clean was. is_open it clean;
       same = λ it clean. (stays clean).now_is (is_open it clean);
-      survives = λ clean was.
-          let at_schema = subst (λ s. IsPlain (understood s sql)) (sym (kept.index (was_clean clean) was).schema) plain in
-          survives_weaker (state g old) (state g new) _ _ (λ _ db. never_commits sql params (state g old) db at_schema) survives;
+      survives = survives_weaker (state g old) (state g new) _ _ (λ _ db. commits_nowhere index_schema sql params (state g old) db plain) survives;
     }
 
     -- what shows rows was open
@@ -79,7 +78,7 @@ module _ {S : Type 0} (g : Ghosts S) where
     committed_is = λ clean o. refl;
     lasts = λ it clean o. o;
     same = λ it clean. refl;
-    survives = λ clean o. survives_nothing (state g held);
+    survives = survives_nothing (state g held);
   }
 
   -- one after another
@@ -92,9 +91,7 @@ module _ {S : Type 0} (g : Ghosts S) where
     committed_is = λ clean o. second.committed_is clean o ∙ first.committed_is (second.was_clean clean) (second.was_open clean o);
     lasts = λ it clean o. second.lasts it clean (first.lasts refl (second.was_clean clean) o);
     same = λ it clean. second.same it clean ∙ first.same refl (second.was_clean clean);
-    survives = λ clean o.
-        let before = second.was_clean clean in
-        survives_then (state g a) (state g b) (state g c) _ _ _ (λ _ db none. none) (λ _ db none. none) (first.survives before o) (second.survives clean (first.lasts refl before o));
+    survives = survives_then (state g a) (state g b) (state g c) _ _ _ (λ _ db none. none) (λ _ db none. none) first.survives second.survives;
   }
 
   -- what follows looks that succeeded may fail

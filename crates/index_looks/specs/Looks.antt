@@ -22,5 +22,5 @@ pub record Looks {S : Type 0} (g : Ghosts S) (old new : Held S) (did : Bool) : T
   -- a look that succeeds leaves it open if it was, and what it holds, open or not
   pub lasts : IsTrue did → HasCleanDisk (state g new) → IsTrue (state g old).is_open → IsTrue (state g new).is_open
   pub same : IsTrue did → HasCleanDisk (state g new) → (state g new).now ≡ (state g old).now
-  -- a crash leaves nothing that it did not leave before
-  pub survives : HasCleanDisk (state g new) → IsTrue (state g old).is_open → Survives (state g old) (state g new) (λ _. ⊥)
+  -- a crash leaves nothing that it did not leave before, open or not
+  pub survives : Survives (state g old) (state g new) (λ _. ⊥)

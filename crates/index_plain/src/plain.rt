@@ -251,4 +251,6 @@ impl Books for PlainBooks {
     }
 
     ghost honest_is_clean = { λ books honest. honest };
+
+    ghost settled = { λ books honest T left. absurd left };
 }

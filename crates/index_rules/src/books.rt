@@ -20,7 +20,8 @@ use index_names::{FileName, NormalName};
 use std::alloc::Global;
 
 /// The tables, however they are kept. A store that is honest as a call ends was honest before it. One that is honest
-/// as a look at the tables begins is so as it ends, where the look succeeds and the store is still clean.
+/// as a look at the tables begins is so as it ends, where the look succeeds and the store is still clean. A write that
+/// succeeds leaves a store honest that is still clean.
 pub trait Books {
     /// What the tables hold.
     ghost tables: { Self → Tables };
@@ -44,8 +45,7 @@ pub trait Books {
         ensures honest { IsHonest self.new → IsHonest self.old }
         ensures clean { IsClean self.new → IsClean self.old }
         ensures lasts { OnOk result (IsHonest self.old → IsClean self.new → IsHonest self.new) }
-        ensures crash { IsHonest self.old → (T : Tables) → may_leave self.new T →
-            may_leave self.old T }
+        ensures crash { (T : Tables) → may_leave self.new T → may_leave self.old T }
         ensures failures { failures self.new ≡ next_count (failures self.old) (is_ok result) };
 
     /// Writes a change. After a fault the tables are what they were, and a crash may leave them as they were or with
@@ -56,8 +56,9 @@ pub trait Books {
         ensures unchanged { IsHonest self.new → OnErr result (tables self.new ≡ tables self.old) }
         ensures honest { IsHonest self.new → IsHonest self.old }
         ensures clean { IsClean self.new → IsClean self.old }
-        ensures crash { IsHonest self.old → (T : Tables) → may_leave self.new T →
-            may_leave self.old T ⊎ (T ≡ means change (tables self.old)) }
+        ensures lasts { OnOk result (IsClean self.new → IsHonest self.new) }
+        ensures crash { (T : Tables) → may_leave self.new T →
+            may_leave self.old T ⊎ (IsHonest self.old × (T ≡ means change (tables self.old))) }
         ensures alone { IsHonest self.old → OnOk result ((T : Tables) → may_leave self.new T →
             T ≡ means change (tables self.old)) }
         ensures failures { failures self.new ≡ next_count (failures self.old) (is_ok result) };
@@ -70,8 +71,7 @@ pub trait Books {
         ensures honest { IsHonest self.new → IsHonest self.old }
         ensures clean { IsClean self.new → IsClean self.old }
         ensures lasts { OnOk result (IsHonest self.old → IsClean self.new → IsHonest self.new) }
-        ensures crash { IsHonest self.old → (T : Tables) → may_leave self.new T →
-            may_leave self.old T }
+        ensures crash { (T : Tables) → may_leave self.new T → may_leave self.old T }
         ensures failures { failures self.new ≡ next_count (failures self.old) (is_ok result) };
 
     /// The bytes that are kept of a file, or `None` where none are: in sound tables, where it is not undeleted. It changes
@@ -83,8 +83,7 @@ pub trait Books {
         ensures honest { IsHonest self.new → IsHonest self.old }
         ensures clean { IsClean self.new → IsClean self.old }
         ensures lasts { OnOk result (IsHonest self.old → IsClean self.new → IsHonest self.new) }
-        ensures crash { IsHonest self.old → (T : Tables) → may_leave self.new T →
-            may_leave self.old T }
+        ensures crash { (T : Tables) → may_leave self.new T → may_leave self.old T }
         ensures failures { failures self.new ≡ next_count (failures self.old) (is_ok result) };
 
     /// The held names and the prohibited ones with their records, in byte order. It changes no table.
@@ -95,8 +94,7 @@ pub trait Books {
         ensures honest { IsHonest self.new → IsHonest self.old }
         ensures clean { IsClean self.new → IsClean self.old }
         ensures lasts { OnOk result (IsHonest self.old → IsClean self.new → IsHonest self.new) }
-        ensures crash { IsHonest self.old → (T : Tables) → may_leave self.new T →
-            may_leave self.old T }
+        ensures crash { (T : Tables) → may_leave self.new T → may_leave self.old T }
         ensures failures { failures self.new ≡ next_count (failures self.old) (is_ok result) };
 
     /// The undeleted files of a name, in byte order. It changes no table.
@@ -107,8 +105,7 @@ pub trait Books {
         ensures honest { IsHonest self.new → IsHonest self.old }
         ensures clean { IsClean self.new → IsClean self.old }
         ensures lasts { OnOk result (IsHonest self.old → IsClean self.new → IsHonest self.new) }
-        ensures crash { IsHonest self.old → (T : Tables) → may_leave self.new T →
-            may_leave self.old T }
+        ensures crash { (T : Tables) → may_leave self.new T → may_leave self.old T }
         ensures failures { failures self.new ≡ next_count (failures self.old) (is_ok result) };
 
     /// Hands the held names to a taker one at a time, in byte order, until it wants no more. It changes no table.
@@ -126,8 +123,7 @@ pub trait Books {
         ensures clean { IsClean self.new → IsClean self.old }
         ensures lasts { has_fault result ≡ false →
             IsHonest self.old → IsClean self.new → IsHonest self.new }
-        ensures crash { IsHonest self.old → (T : Tables) → may_leave self.new T →
-            may_leave self.old T }
+        ensures crash { (T : Tables) → may_leave self.new T → may_leave self.old T }
         ensures failures { let is_right = not (has_fault result) in
             failures self.new ≡ next_count (failures self.old) is_right };
 
@@ -152,11 +148,14 @@ pub trait Books {
         ensures clean { IsClean self.new → IsClean self.old }
         ensures lasts { has_fault result ≡ false →
             IsHonest self.old → IsClean self.new → IsHonest self.new }
-        ensures crash { IsHonest self.old → (T : Tables) → may_leave self.new T →
-            may_leave self.old T }
+        ensures crash { (T : Tables) → may_leave self.new T → may_leave self.old T }
         ensures failures { let is_right = not (has_fault result) in
             failures self.new ≡ next_count (failures self.old) is_right };
 
     /// An honest store is clean.
     ghost honest_is_clean: { (books : Self) → IsHonest books → IsClean books };
+
+    /// While it is honest, a crash leaves the tables as they stand, and nothing else.
+    ghost settled: { (books : Self) → IsHonest books → (T : Tables) → may_leave books T →
+        T ≡ tables books };
 }

@@ -32,6 +32,10 @@ MakesIfOk g change = TellsIfOk g change as_told
 abbrev pub Keeps : {S : Type 0} → Ghosts S → Held S → Held S → Type 0
 Keeps g old new = HasCleanDisk (state g new) → KeepsCommit (state g old) (state g new)
 
+-- what succeeds on a clean disk does so on an open connection
+abbrev pub WasOpenIfOk : {S A E : Type 0} → Ghosts S → Held S → Held S → Result A E → Type 0
+WasOpenIfOk g old new result = HasCleanDisk (state g new) → OnOk result (IsTrue (state g old).is_open)
+
 -- nothing of it outlasts a crash
 abbrev pub LeavesNothing : {S : Type 0} → Ghosts S → Held S → Held S → Type 0
 LeavesNothing g old new = Survives (state g old) (state g new) (λ _. ⊥)

@@ -1,6 +1,6 @@
 //! The statement that puts an open case.
 ghost use Rattle.std.specs.Prelude.{◌≡◌, pos, IfOk, option_map};
-ghost use Rattle.index_steps.specs.Inside.{MakesIfOk, Keeps, LeavesNothing};
+ghost use Rattle.index_steps.specs.Inside.{MakesIfOk, Keeps, LeavesNothing, WasOpenIfOk};
 ghost use Rattle.index_steps.specs.Writes.{puts_case, kind_number};
 
 use crate::number::{whole, whole_if_any};
@@ -31,6 +31,7 @@ pub fn put_case<S: Alter>(
     ensures made { MakesIfOk S.Store (puts_case name.now case.now)
         tx.old.conn.now tx.new.conn.now result }
     ensures kept { Keeps S.Store tx.old.conn.now tx.new.conn.now }
+    ensures opened { WasOpenIfOk S.Store tx.old.conn.now tx.new.conn.now result }
     ensures survives { LeavesNothing S.Store tx.old.conn.now tx.new.conn.now }
 {
     let numbers = numbers_of(case)?;

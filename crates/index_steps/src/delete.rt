@@ -1,7 +1,7 @@
 //! Statements that take rows out, and the one that marks files as deleted. Where there is no such row, that is no
 //! error.
 ghost use Rattle.std.specs.Prelude.{◌≡◌};
-ghost use Rattle.index_steps.specs.Inside.{MakesIfOk, Keeps, LeavesNothing};
+ghost use Rattle.index_steps.specs.Inside.{MakesIfOk, Keeps, LeavesNothing, WasOpenIfOk};
 ghost use Rattle.index_rules.specs.Effect.{without_record};
 ghost use Rattle.index_steps.specs.Writes.{deletes_owners, deletes_owner, deletes_yanks, deletes_yank, deletes_case, deletes_body, deletes_bodies, marks_files};
 
@@ -13,6 +13,7 @@ pub fn delete_name<S: Alter>(tx: &mut Transaction<'_, S>, name: &str) -> Result<
     ensures made { MakesIfOk S.Store (without_record name.now)
         tx.old.conn.now tx.new.conn.now result }
     ensures kept { Keeps S.Store tx.old.conn.now tx.new.conn.now }
+    ensures opened { WasOpenIfOk S.Store tx.old.conn.now tx.new.conn.now result }
     ensures survives { LeavesNothing S.Store tx.old.conn.now tx.new.conn.now }
 {
     tx.execute("DELETE FROM names WHERE name = ?1", params![name])?;
@@ -25,6 +26,7 @@ pub fn delete_owners<S: Alter>(tx: &mut Transaction<'_, S>, name: &str) -> Resul
     ensures made { MakesIfOk S.Store (deletes_owners name.now)
         tx.old.conn.now tx.new.conn.now result }
     ensures kept { Keeps S.Store tx.old.conn.now tx.new.conn.now }
+    ensures opened { WasOpenIfOk S.Store tx.old.conn.now tx.new.conn.now result }
     ensures survives { LeavesNothing S.Store tx.old.conn.now tx.new.conn.now }
 {
     tx.execute("DELETE FROM owners WHERE name = ?1", params![name])?;
@@ -41,6 +43,7 @@ pub fn delete_owner<S: Alter>(
     ensures made { MakesIfOk S.Store (deletes_owner name.now user.now)
         tx.old.conn.now tx.new.conn.now result }
     ensures kept { Keeps S.Store tx.old.conn.now tx.new.conn.now }
+    ensures opened { WasOpenIfOk S.Store tx.old.conn.now tx.new.conn.now result }
     ensures survives { LeavesNothing S.Store tx.old.conn.now tx.new.conn.now }
 {
     tx.execute(
@@ -56,6 +59,7 @@ pub fn delete_yanks<S: Alter>(tx: &mut Transaction<'_, S>, name: &str) -> Result
     ensures made { MakesIfOk S.Store (deletes_yanks name.now)
         tx.old.conn.now tx.new.conn.now result }
     ensures kept { Keeps S.Store tx.old.conn.now tx.new.conn.now }
+    ensures opened { WasOpenIfOk S.Store tx.old.conn.now tx.new.conn.now result }
     ensures survives { LeavesNothing S.Store tx.old.conn.now tx.new.conn.now }
 {
     tx.execute("DELETE FROM yanks WHERE name = ?1", params![name])?;
@@ -72,6 +76,7 @@ pub fn delete_yank<S: Alter>(
     ensures made { MakesIfOk S.Store (deletes_yank name.now release.now)
         tx.old.conn.now tx.new.conn.now result }
     ensures kept { Keeps S.Store tx.old.conn.now tx.new.conn.now }
+    ensures opened { WasOpenIfOk S.Store tx.old.conn.now tx.new.conn.now result }
     ensures survives { LeavesNothing S.Store tx.old.conn.now tx.new.conn.now }
 {
     tx.execute(
@@ -87,6 +92,7 @@ pub fn delete_case<S: Alter>(tx: &mut Transaction<'_, S>, name: &str) -> Result<
     ensures made { MakesIfOk S.Store (deletes_case name.now)
         tx.old.conn.now tx.new.conn.now result }
     ensures kept { Keeps S.Store tx.old.conn.now tx.new.conn.now }
+    ensures opened { WasOpenIfOk S.Store tx.old.conn.now tx.new.conn.now result }
     ensures survives { LeavesNothing S.Store tx.old.conn.now tx.new.conn.now }
 {
     tx.execute("DELETE FROM cases WHERE name = ?1", params![name])?;
@@ -99,6 +105,7 @@ pub fn delete_body<S: Alter>(tx: &mut Transaction<'_, S>, file: &str) -> Result<
     ensures made { MakesIfOk S.Store (deletes_body file.now)
         tx.old.conn.now tx.new.conn.now result }
     ensures kept { Keeps S.Store tx.old.conn.now tx.new.conn.now }
+    ensures opened { WasOpenIfOk S.Store tx.old.conn.now tx.new.conn.now result }
     ensures survives { LeavesNothing S.Store tx.old.conn.now tx.new.conn.now }
 {
     tx.execute("DELETE FROM blobs WHERE file = ?1", params![file])?;
@@ -111,6 +118,7 @@ pub fn delete_bodies<S: Alter>(tx: &mut Transaction<'_, S>, name: &str) -> Resul
     ensures made { MakesIfOk S.Store (deletes_bodies name.now)
         tx.old.conn.now tx.new.conn.now result }
     ensures kept { Keeps S.Store tx.old.conn.now tx.new.conn.now }
+    ensures opened { WasOpenIfOk S.Store tx.old.conn.now tx.new.conn.now result }
     ensures survives { LeavesNothing S.Store tx.old.conn.now tx.new.conn.now }
 {
     tx.execute(
@@ -125,6 +133,7 @@ pub fn mark_files<S: Alter>(tx: &mut Transaction<'_, S>, name: &str) -> Result<(
     ensures same_reference { tx.new.conn.ghost_name ≡ tx.old.conn.ghost_name }
     ensures made { MakesIfOk S.Store (marks_files name.now) tx.old.conn.now tx.new.conn.now result }
     ensures kept { Keeps S.Store tx.old.conn.now tx.new.conn.now }
+    ensures opened { WasOpenIfOk S.Store tx.old.conn.now tx.new.conn.now result }
     ensures survives { LeavesNothing S.Store tx.old.conn.now tx.new.conn.now }
 {
     tx.execute("UPDATE files SET live = 0 WHERE name = ?1", params![name])?;

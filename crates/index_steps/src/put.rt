@@ -1,7 +1,7 @@
 //! Statements that put a row, in place of the one with its key if there is one. Where a number is more than SQL can
 //! hold, that is an error, and nothing is written.
 ghost use Rattle.std.specs.Prelude.{◌≡◌};
-ghost use Rattle.index_steps.specs.Inside.{MakesIfOk, Keeps, LeavesNothing};
+ghost use Rattle.index_steps.specs.Inside.{MakesIfOk, Keeps, LeavesNothing, WasOpenIfOk};
 ghost use Rattle.index_rules.specs.declared.records.NameRecord.TheVariants.{Held, Prohibited};
 ghost use Rattle.index_steps.specs.Writes.{puts_user, puts_name, name_of, puts_owner, puts_file, puts_body, puts_yank, puts_ban};
 
@@ -19,6 +19,7 @@ pub fn put_user<S: Alter>(
     ensures made { MakesIfOk S.Store (puts_user user.now account.now)
         tx.old.conn.now tx.new.conn.now result }
     ensures kept { Keeps S.Store tx.old.conn.now tx.new.conn.now }
+    ensures opened { WasOpenIfOk S.Store tx.old.conn.now tx.new.conn.now result }
     ensures survives { LeavesNothing S.Store tx.old.conn.now tx.new.conn.now }
 {
     let token = account.token.to_bytes();
@@ -39,6 +40,7 @@ pub fn hold_name<S: Alter>(
     ensures made { MakesIfOk S.Store (puts_name name.now (Held project.now))
         tx.old.conn.now tx.new.conn.now result }
     ensures kept { Keeps S.Store tx.old.conn.now tx.new.conn.now }
+    ensures opened { WasOpenIfOk S.Store tx.old.conn.now tx.new.conn.now result }
     ensures survives { LeavesNothing S.Store tx.old.conn.now tx.new.conn.now }
 {
     let quota = whole(project.quota())?;
@@ -64,6 +66,7 @@ pub fn prohibit_name<S: Alter>(tx: &mut Transaction<'_, S>, name: &str) -> Resul
     ensures made { MakesIfOk S.Store (puts_name name.now Prohibited)
         tx.old.conn.now tx.new.conn.now result }
     ensures kept { Keeps S.Store tx.old.conn.now tx.new.conn.now }
+    ensures opened { WasOpenIfOk S.Store tx.old.conn.now tx.new.conn.now result }
     ensures survives { LeavesNothing S.Store tx.old.conn.now tx.new.conn.now }
 {
     put_name(tx, name, 2, "", 0, 0, 0, None)?;
@@ -86,6 +89,7 @@ fn put_name<S: Alter>(
         (puts_name name.now (name_of standing shown.now quota charge undeleted last))
         tx.old.conn.now tx.new.conn.now result }
     ensures kept { Keeps S.Store tx.old.conn.now tx.new.conn.now }
+    ensures opened { WasOpenIfOk S.Store tx.old.conn.now tx.new.conn.now result }
     ensures survives { LeavesNothing S.Store tx.old.conn.now tx.new.conn.now }
 {
     tx.execute(
@@ -101,6 +105,7 @@ pub fn put_owner<S: Alter>(tx: &mut Transaction<'_, S>, name: &str, user: &str) 
     ensures made { MakesIfOk S.Store (puts_owner name.now user.now)
         tx.old.conn.now tx.new.conn.now result }
     ensures kept { Keeps S.Store tx.old.conn.now tx.new.conn.now }
+    ensures opened { WasOpenIfOk S.Store tx.old.conn.now tx.new.conn.now result }
     ensures survives { LeavesNothing S.Store tx.old.conn.now tx.new.conn.now }
 {
     tx.execute(
@@ -120,6 +125,7 @@ pub fn put_file<S: Alter>(
     ensures made { MakesIfOk S.Store (puts_file file.now known.now)
         tx.old.conn.now tx.new.conn.now result }
     ensures kept { Keeps S.Store tx.old.conn.now tx.new.conn.now }
+    ensures opened { WasOpenIfOk S.Store tx.old.conn.now tx.new.conn.now result }
     ensures survives { LeavesNothing S.Store tx.old.conn.now tx.new.conn.now }
 {
     let size = whole(known.size)?;
@@ -145,6 +151,7 @@ pub fn put_body<S: Alter>(tx: &mut Transaction<'_, S>, file: &str, body: &[u8]) 
     ensures made { MakesIfOk S.Store (puts_body file.now body.now)
         tx.old.conn.now tx.new.conn.now result }
     ensures kept { Keeps S.Store tx.old.conn.now tx.new.conn.now }
+    ensures opened { WasOpenIfOk S.Store tx.old.conn.now tx.new.conn.now result }
     ensures survives { LeavesNothing S.Store tx.old.conn.now tx.new.conn.now }
 {
     tx.execute(
@@ -165,6 +172,7 @@ pub fn put_yank<S: Alter>(
     ensures made { MakesIfOk S.Store (puts_yank name.now release.now reason.now)
         tx.old.conn.now tx.new.conn.now result }
     ensures kept { Keeps S.Store tx.old.conn.now tx.new.conn.now }
+    ensures opened { WasOpenIfOk S.Store tx.old.conn.now tx.new.conn.now result }
     ensures survives { LeavesNothing S.Store tx.old.conn.now tx.new.conn.now }
 {
     tx.execute(
@@ -179,6 +187,7 @@ pub fn put_ban<S: Alter>(tx: &mut Transaction<'_, S>, file: &str) -> Result<(), 
     ensures same_reference { tx.new.conn.ghost_name ≡ tx.old.conn.ghost_name }
     ensures made { MakesIfOk S.Store (puts_ban file.now) tx.old.conn.now tx.new.conn.now result }
     ensures kept { Keeps S.Store tx.old.conn.now tx.new.conn.now }
+    ensures opened { WasOpenIfOk S.Store tx.old.conn.now tx.new.conn.now result }
     ensures survives { LeavesNothing S.Store tx.old.conn.now tx.new.conn.now }
 {
     tx.execute(

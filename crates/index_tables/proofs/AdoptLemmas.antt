@@ -1,5 +1,5 @@
 -- What is done after a look at the version.
-use Rattle.std.proofs.Common.{◌≡◌, ◌⊎◌, inl, inr, ◌∙◌, ap, codes, refl, subst, sym, true, false, true≢false, IsTrue, ℕ, Option, Result, Ok, Err, IfOk, IfErr}
+use Rattle.std.proofs.Common.{◌≡◌, inl, inr, ◌∙◌, ap, codes, refl, subst, sym, true, true≢false, IsTrue, ℕ, Option, Result, Ok, Err, IfOk, IfErr}
 use Rattle.sqlite_trees.specs.declared.store.Store.{Ghosts}
 use Rattle.sqlite.specs.Effect.{Database}
 use Rattle.sqlite.specs.Held.{Held, state}
@@ -7,7 +7,6 @@ use Rattle.sqlite.specs.State.{HasCleanDisk}
 use Rattle.index_looks.specs.Looks.{Looks}
 use Rattle.index_rules.specs.declared.open.OpenFault.{OpenFault}
 use Rattle.index_rules.specs.declared.open.OpenFault.TheVariants.{BadFirstUser, NotEmpty, NotAnIndex, OtherVersion, OutOfMemory, Store}
-use Rattle.index_rules.specs.Tables.{Tables}
 use Rattle.sqlite_schema.specs.Names.{same_name}
 use Rattle.index_adopt.specs.Names.{has_table}
 use Rattle.index_adopt.specs.Versions.{begun}
@@ -16,7 +15,7 @@ use Rattle.index_schema.specs.FirstVersion.{IsAnyVersion, IsFirstVersion, withou
 use Rattle.index_schema.specs.Index.{version_in}
 use Rattle.index_schema.specs.Records.{tables_in}
 use Rattle.index_schema.specs.Stays.{Stays}
-use Rattle.index_tables.specs.Kept.{Leaves}
+use Rattle.index_tables.specs.Kept.{AreCurrent}
 use Rattle.index_tables.specs.Adopted.{IsFault, IsOurs, IsReason, LeavesMigrated, TellsVersion, refusal_in}
 
 -- the version that such a database tells leaves the store to blame
@@ -72,22 +71,13 @@ module _ {S : Type 0} (g : Ghosts S) where
         }
 
     pub migrated_after : LeavesMigrated (state g b) (state g c) → LeavesMigrated (state g a) (state g c)
-    migrated_after it honest T left =
-        let clean = was_clean left.0 in
-        let is_open = looks.lasts refl clean honest.is_open in
-        let now = looks.same refl clean in
-        by_case now (it (record { clean = clean; is_open = is_open }) T left)
-      where
-        before : Leaves (state g b) T → Leaves (state g a) T
-        before (clean, (db, may, is)) = elim ((looks.survives clean honest.is_open).crash clean db may) [
-          | inl may ↦ (honest.clean, (db, may, is))
-          | inr none ↦ absurd none
+    migrated_after it honest clean db may =
+        let at_b = was_clean clean in
+        let is_open = looks.lasts refl at_b honest.is_open in
+        elim (it (record { clean = at_b; is_open = is_open }) clean db may) [
+          | inl was ↦ elim (looks.survives.crash at_b db was) [ inl before ↦ inl before | inr none ↦ absurd none ]
+          | inr made ↦ inr (subst (λ (d : Database). IsFirstVersion d × AreCurrent db × (tables_in db ≡ without_bans (tables_in d.trees))) (looks.same refl at_b) made)
         ]
-
-        by_case : (state g b).now ≡ (state g a).now → Leaves (state g b) T ⊎ (IsFirstVersion (state g b).now × (T ≡ without_bans (tables_in (state g b).now.trees)))
-            → Leaves (state g a) T ⊎ (IsFirstVersion (state g a).now × (T ≡ without_bans (tables_in (state g a).now.trees)))
-        by_case now (inl left) = inl (before left)
-        by_case now (inr (first, is)) = inr (subst IsFirstVersion now first, is ∙ ap (λ (d : Database). without_bans (tables_in d.trees)) now)
 
 -- two facts of a refusal make a third
 pub both_refused : {A E : Type 0} {P Q R : E → Type 0} (r : Result A E) → ((e : E) → P e → Q e → R e) → IfErr r P → IfErr r Q → IfErr r R

@@ -1,10 +1,11 @@
 -- What a database that is there is taken for.
-use Rattle.std.specs.Prelude.{◌≡◌, ◌⊎◌, ℕ, ◌==◌, Bool, ◌&&◌, ◌||◌, false, if◌then◌else◌, List, Option, Some, None, codes, IsTrue, ⊤}
+use Rattle.std.specs.Prelude.{◌≡◌, ◌⊎◌, ℕ, ◌==◌, Bool, ◌&&◌, false, if◌then◌else◌, Option, Some, None, codes, IsTrue, ⊤}
+use Rattle.sqlite_trees.specs.Tree.{Trees}
 use Rattle.sqlite_trees.specs.declared.store.Store.{Ghosts}
 use Rattle.sqlite_schema.specs.declared.schema.Schema.{Schema}
 use Rattle.sqlite.specs.Effect.{Database}
 use Rattle.sqlite.specs.Held.{Held, state}
-use Rattle.sqlite.specs.State.{State}
+use Rattle.sqlite.specs.State.{State, HasCleanDisk}
 use Rattle.index_adopt.specs.Names.{has_table, has_all_of}
 use Rattle.index_adopt.specs.Versions.{Tells, begun}
 use Rattle.index_rules.specs.declared.open.OpenFault.{OpenFault}
@@ -16,7 +17,7 @@ use Rattle.index_schema.specs.Records.{tables_in}
 use Rattle.index_schema.specs.Schema.{index_schema}
 use Rattle.index_tables.specs.declared.adopt.Kind.{Kind}
 use Rattle.index_tables.specs.declared.adopt.Kind.TheVariants as kind
-use Rattle.index_tables.specs.Kept.{IsHonest, Leaves}
+use Rattle.index_tables.specs.Kept.{AreCurrent, IsWorking}
 
 -- it is an index that tells version 2, with these tables
 pub record IsCurrent (db : Database) (T : Tables) : Type 0 where
@@ -42,9 +43,11 @@ IsFault why = (why ≡ OutOfMemory) ⊎ (why ≡ Store)
 abbrev pub IsFound : Database → Tables → Type 0
 IsFound db T = IsCurrent db T ⊎ IsFirst db T
 
--- of an honest store, a crash leaves what it left before; of version 1 it may leave the index that comes of it
+-- of an honest store, an open after a crash may find what it could find before; of version 1 it may find the index that
+-- comes of it, which tells version 2
 abbrev pub LeavesMigrated : State → State → Type 0
-LeavesMigrated old new = IsHonest old → (T : Tables) → Leaves new T → Leaves old T ⊎ (IsFirstVersion old.now × (T ≡ without_bans (tables_in old.now.trees)))
+LeavesMigrated old new =
+    IsWorking old → HasCleanDisk new → (db : Trees) → new.may_leave db → old.may_leave db ⊎ (IsFirstVersion old.now × AreCurrent db × (tables_in db ≡ without_bans (tables_in old.now.trees)))
 
 -- the schema is that of an index of this kind
 abbrev pub IsOfKind : Schema → Kind → Type 0

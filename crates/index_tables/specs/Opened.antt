@@ -1,9 +1,8 @@
 -- What the opening of an index answers, and what it leaves of a connection.
-use Rattle.std.specs.Prelude.{◌≡◌, ◌⊎◌, Result, Ok, Err, Bool, IsTrue}
-use Rattle.sqlite_trees.specs.declared.store.Store.{Ghosts}
+use Rattle.std.specs.Prelude.{◌≡◌, ◌⊎◌, Result, Ok, Err, IsTrue}
+use Rattle.sqlite_trees.specs.Tree.{Trees}
 use Rattle.sqlite_schema.specs.declared.schema.Schema.{Schema}
 use Rattle.sqlite.specs.declared.error.Error.{Error}
-use Rattle.sqlite.specs.Held.{Held, state}
 use Rattle.sqlite.specs.State.{State, HasCleanDisk}
 use Rattle.index_adopt.specs.Names.{has_any_of}
 use Rattle.index_looks.specs.Faults.{fault_by}
@@ -14,9 +13,10 @@ use Rattle.index_rules.specs.declared.open.OpenFault.TheVariants as open_fault
 use Rattle.index_rules.specs.FirstTables.{IsBadFirstUser}
 use Rattle.index_rules.specs.Maps.{Bytes}
 use Rattle.index_rules.specs.Tables.{Tables}
+use Rattle.index_schema.specs.Records.{tables_in}
 use Rattle.index_schema.specs.Schema.{index_schema}
 use Rattle.index_tables.specs.declared.opening.Unopened.{Unopened}
-use Rattle.index_tables.specs.Kept.{Kept, IsHonest, Leaves}
+use Rattle.index_tables.specs.Kept.{AreCurrent, IsWorking}
 
 -- no index was opened, for this reason
 abbrev pub IsRefusedAs : {S A : Type 0} → OpenFault → Result A (Unopened S) → Type 0
@@ -35,6 +35,7 @@ open_fault_by error = of_fault (fault_by error)
 abbrev pub IsTaken : Bytes → Bytes → Schema → Type 0
 IsTaken user token schema = (¬ IsBadFirstUser user token) × IsTrue (has_any_of schema index_schema.tables)
 
--- of an honest store, a crash leaves what it left before, or these tables
+-- of an honest store, an open after a crash may find what it could find before, or an index that tells version 2, with
+-- these tables
 abbrev pub LeavesOr : Tables → State → State → Type 0
-LeavesOr made old new = IsHonest old → (T : Tables) → Leaves new T → Leaves old T ⊎ (T ≡ made)
+LeavesOr made old new = IsWorking old → HasCleanDisk new → (db : Trees) → new.may_leave db → old.may_leave db ⊎ (AreCurrent db × (tables_in db ≡ made))

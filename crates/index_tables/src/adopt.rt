@@ -3,12 +3,13 @@ ghost use Rattle.std.specs.Prelude.{◌≡◌, ◌⊎◌, false, Some, IfOk, IfE
 ghost use Rattle.sqlite.specs.Held.{state};
 ghost use Rattle.sqlite.specs.State.{HasCleanDisk};
 ghost use Rattle.index_rules.specs.Facts.{HasOneBearer};
+ghost use Rattle.index_rules.specs.Tables.{Tables};
 ghost use Rattle.index_schema.specs.FirstVersion.{IsFirstVersion, first_version_schema, without_bans};
 ghost use Rattle.index_schema.specs.Index.{IsIndex, version_in};
 ghost use Rattle.index_schema.specs.Stays.{Stays};
 ghost use Rattle.index_adopt.specs.Names.{has_all_of, has_table};
 ghost use Rattle.index_reads.specs.Held.{tables_of};
-ghost use Rattle.index_tables.specs.Kept.{IsHonest};
+ghost use Rattle.index_tables.specs.Kept.{IsHonest, IsWorking, Leaves};
 ghost use Rattle.index_tables.specs.Opened.{IsRefusedAs};
 ghost use Rattle.index_tables.specs.Adopted.{IsFault, IsFound, IsOfKind, IsOurs, IsReason, LeavesMigrated, refusal_by, unlike};
 
@@ -39,15 +40,22 @@ impl<S: Alter> SqlBooks<S> {
     /// `NotAnIndex` where there is no table `meta`, where it has no row with id 1 and kind `python-index`, or where a
     /// table of the version that it tells is not there by name; `OtherVersion` where that version is neither 1 nor 2;
     /// else `OutOfMemory` for want of memory, and `Store` where the tables are not as an index has them or the store
-    /// fails. A refused database is as it was. A crash leaves what was there, or of version 1 the whole index.
+    /// fails. A refused database is as it was. A crash leaves what was there, or of version 1 the whole index; once it is
+    /// adopted, the index alone.
     pub fn adopt(alloc: Global, conn: Connection<S>) -> Result<SqlBooks<S>, Unopened<S>>
         requires outside { conn.in_transaction ≡ false }
-        ensures found { IfOk result (λ books. IsHonest (state S.Store books.conn)
+        ensures found { IfOk result (λ books. IsWorking (state S.Store books.conn)
             → IsFound (state S.Store conn).now (tables_of S.Store books.conn)) }
-        ensures one_bearer { IfOk result (λ books. IsHonest (state S.Store books.conn)
+        ensures one_bearer { IfOk result (λ books. IsWorking (state S.Store books.conn)
             → HasOneBearer (tables_of S.Store books.conn)) }
-        ensures honest { IfOk result (λ books. IsHonest (state S.Store books.conn)
-            → IsHonest (state S.Store conn)) }
+        ensures honest { IfOk result (λ books. IsWorking (state S.Store books.conn)
+            → IsWorking (state S.Store conn)) }
+        ensures lasts { IfOk result (λ books. IsWorking (state S.Store conn)
+            → HasCleanDisk (state S.Store books.conn) → IsHonest (state S.Store books.conn)) }
+        ensures clean { IfOk result (λ books. HasCleanDisk (state S.Store books.conn)
+            → HasCleanDisk (state S.Store conn)) }
+        ensures clean_refused { IfErr result (λ refused.
+            HasCleanDisk (state S.Store refused.conn) → HasCleanDisk (state S.Store conn)) }
         ensures failures { IfOk result (λ books. books.failures ≡ 0) }
         ensures no_meta { has_table (state S.Store conn).now.schema (codes "meta") ≡ false
             → IsRefusedAs OpenFault.NotAnIndex result }
@@ -59,6 +67,8 @@ impl<S: Alter> SqlBooks<S> {
         ensures refused { IfErr result (λ refused. HasCleanDisk (state S.Store refused.conn)
             → Stays (state S.Store conn) (state S.Store refused.conn)) }
         ensures ended { IfErr result (λ refused. refused.conn.in_transaction ≡ false) }
+        ensures alone { IfOk result (λ books. IsWorking (state S.Store conn) → (T : Tables)
+            → Leaves (state S.Store books.conn) T → T ≡ tables_of S.Store books.conn) }
         ensures crash { IfOk result (λ books. LeavesMigrated
             (state S.Store conn) (state S.Store books.conn)) }
         ensures crash_refused { IfErr result (λ refused. LeavesMigrated
@@ -102,12 +112,18 @@ fn adopt_index<S: Alter>(conn: Connection<S>) -> Result<SqlBooks<S>, Unopened<S>
     requires index { IsTrue (state S.Store conn).is_open → IsIndex (state S.Store conn).now }
     requires settled { IsTrue (state S.Store conn).is_open
         → (state S.Store conn).now ≡ (state S.Store conn).committed }
-    ensures found { IfOk result (λ books. IsHonest (state S.Store books.conn)
+    ensures found { IfOk result (λ books. IsWorking (state S.Store books.conn)
         → IsFound (state S.Store conn).now (tables_of S.Store books.conn)) }
-    ensures index { IfOk result (λ books. IsHonest (state S.Store books.conn)
+    ensures index { IfOk result (λ books. IsWorking (state S.Store books.conn)
         → IsIndex (state S.Store books.conn).now) }
-    ensures honest { IfOk result (λ books. IsHonest (state S.Store books.conn)
-        → IsHonest (state S.Store conn)) }
+    ensures honest { IfOk result (λ books. IsWorking (state S.Store books.conn)
+        → IsWorking (state S.Store conn)) }
+    ensures lasts { IfOk result (λ books. IsWorking (state S.Store conn)
+        → HasCleanDisk (state S.Store books.conn) → IsHonest (state S.Store books.conn)) }
+    ensures clean { IfOk result (λ books. HasCleanDisk (state S.Store books.conn)
+        → HasCleanDisk (state S.Store conn)) }
+    ensures clean_refused { IfErr result (λ refused.
+        HasCleanDisk (state S.Store refused.conn) → HasCleanDisk (state S.Store conn)) }
     ensures failures { IfOk result (λ books. books.failures ≡ 0) }
     ensures reason { IfErr result (λ refused. HasCleanDisk (state S.Store refused.conn)
         → IsReason S.Store conn refused.why) }
@@ -142,12 +158,18 @@ fn adopt_first_version<S: Alter>(conn: Connection<S>) -> Result<SqlBooks<S>, Uno
         → IsFirstVersion (state S.Store conn).now }
     requires settled { IsTrue (state S.Store conn).is_open
         → (state S.Store conn).now ≡ (state S.Store conn).committed }
-    ensures found { IfOk result (λ books. IsHonest (state S.Store books.conn)
+    ensures found { IfOk result (λ books. IsWorking (state S.Store books.conn)
         → IsFound (state S.Store conn).now (tables_of S.Store books.conn)) }
-    ensures index { IfOk result (λ books. IsHonest (state S.Store books.conn)
+    ensures index { IfOk result (λ books. IsWorking (state S.Store books.conn)
         → IsIndex (state S.Store books.conn).now) }
-    ensures honest { IfOk result (λ books. IsHonest (state S.Store books.conn)
-        → IsHonest (state S.Store conn)) }
+    ensures honest { IfOk result (λ books. IsWorking (state S.Store books.conn)
+        → IsWorking (state S.Store conn)) }
+    ensures lasts { IfOk result (λ books. IsWorking (state S.Store conn)
+        → HasCleanDisk (state S.Store books.conn) → IsHonest (state S.Store books.conn)) }
+    ensures clean { IfOk result (λ books. HasCleanDisk (state S.Store books.conn)
+        → HasCleanDisk (state S.Store conn)) }
+    ensures clean_refused { IfErr result (λ refused.
+        HasCleanDisk (state S.Store refused.conn) → HasCleanDisk (state S.Store conn)) }
     ensures failures { IfOk result (λ books. books.failures ≡ 0) }
     ensures reason { IfErr result (λ refused. HasCleanDisk (state S.Store refused.conn)
         → IsReason S.Store conn refused.why) }
@@ -203,6 +225,8 @@ fn refuse_other<S: Alter>(conn: Connection<S>) -> Unopened<S>
     requires outside { conn.in_transaction ≡ false }
     requires settled { IsTrue (state S.Store conn).is_open
         → (state S.Store conn).now ≡ (state S.Store conn).committed }
+    ensures clean { HasCleanDisk (state S.Store result.conn)
+        → HasCleanDisk (state S.Store conn) }
     ensures reason { HasCleanDisk (state S.Store result.conn)
         → IsReason S.Store conn result.why }
     ensures refused { HasCleanDisk (state S.Store result.conn)
@@ -229,12 +253,14 @@ fn raise<S: Alter>(conn: Connection<S>) -> Result<SqlBooks<S>, Unopened<S>>
         → (state S.Store conn).now ≡ (state S.Store conn).committed }
     requires told { HasCleanDisk (state S.Store conn) → IsTrue (state S.Store conn).is_open
         → version_in (state S.Store conn).now.trees ≡ Some 1 }
-    ensures made { IfOk result (λ books. IsHonest (state S.Store books.conn)
+    ensures made { IfOk result (λ books. IsWorking (state S.Store books.conn)
         → tables_of S.Store books.conn ≡ without_bans (tables_of S.Store conn)) }
-    ensures index { IfOk result (λ books. IsHonest (state S.Store books.conn)
+    ensures index { IfOk result (λ books. IsWorking (state S.Store books.conn)
         → IsIndex (state S.Store books.conn).now) }
-    ensures honest { IfOk result (λ books. IsHonest (state S.Store books.conn)
-        → IsHonest (state S.Store conn)) }
+    ensures honest { IfOk result (λ books. IsWorking (state S.Store books.conn)
+        → IsWorking (state S.Store conn)) }
+    ensures lasts { IfOk result (λ books. IsWorking (state S.Store conn)
+        → HasCleanDisk (state S.Store books.conn) → IsHonest (state S.Store books.conn)) }
     ensures clean { IfOk result (λ books. HasCleanDisk (state S.Store books.conn)
         → HasCleanDisk (state S.Store conn)) }
     ensures clean_refused { IfErr result (λ refused. HasCleanDisk (state S.Store refused.conn)

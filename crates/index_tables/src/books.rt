@@ -19,6 +19,7 @@ impl<S: Alter> Books for SqlBooks<S> {
     ghost use Rattle.sqlite.specs.State.{HasCleanDisk};
     ghost use Rattle.index_reads.specs.Held.{tables_of};
     ghost use Rattle.index_tables.specs.Kept.{IsHonest, Leaves};
+    ghost use Rattle.index_tables.specs.Laws.{settled_at};
 
     ghost tables = { λ books. tables_of S.Store books.conn };
 
@@ -85,6 +86,9 @@ impl<S: Alter> Books for SqlBooks<S> {
     }
 
     ghost honest_is_clean = { λ books honest. honest.clean };
+
+    ghost settled = { λ books honest T left.
+        settled_at honest (S.Store.settled books.conn.store) T left };
 }
 
 /// An error of the database as a fault.

@@ -3,6 +3,7 @@ ghost use Rattle.std.specs.Prelude.{◌≡◌, ◌≢◌, ◌⊎◌, ◌↔◌, 
 ghost use Rattle.sqlite.specs.Held.{state};
 ghost use Rattle.sqlite.specs.State.{HasCleanDisk, IsLive};
 ghost use Rattle.index_rules.specs.FirstTables.{IsBadFirstUser, first_tables};
+ghost use Rattle.index_rules.specs.Tables.{Tables};
 ghost use Rattle.index_rules.specs.Sound.{IsSound};
 ghost use Rattle.index_rules.specs.History.{begins};
 ghost use Rattle.index_rules.specs.StandsFor.{StandsFor};
@@ -10,7 +11,7 @@ ghost use Rattle.index_schema.specs.Stays.{Stays};
 ghost use Rattle.index_schema.specs.Schema.{index_schema, no_schema};
 ghost use Rattle.index_adopt.specs.Names.{has_any_of};
 ghost use Rattle.index_create.specs.Created.{one_user, IsBlank};
-ghost use Rattle.index_tables.specs.Kept.{IsHonest};
+ghost use Rattle.index_tables.specs.Kept.{IsHonest, IsWorking, Leaves};
 ghost use Rattle.index_reads.specs.Held.{tables_of};
 ghost use Rattle.index_tables.specs.Opened.{IsRefusedAs, IsTaken, LeavesOr};
 
@@ -28,7 +29,8 @@ impl<S: Alter> SqlBooks<S> {
     ///
     /// `BadFirstUser` exactly where the bytes are no user id, or the digest is that of the empty text; then `NotEmpty`
     /// exactly where there is a table by the name of one of an index; `Store` where there is anything else, or the store
-    /// fails. A refused database is as it was. A crash leaves what was there, or the whole index.
+    /// fails. A refused database is as it was. A crash leaves what was there, or the whole index; once it is made, the
+    /// index alone.
     pub fn create(
         alloc: Global,
         conn: Connection<S>,
@@ -36,15 +38,17 @@ impl<S: Alter> SqlBooks<S> {
         token: Digest256,
     ) -> Result<SqlBooks<S>, Unopened<S>>
         requires outside { conn.in_transaction ≡ false }
-        ensures tables { IfOk result (λ books. IsHonest (state S.Store books.conn)
+        ensures tables { IfOk result (λ books. IsWorking (state S.Store books.conn)
             → tables_of S.Store books.conn ≡ first_tables user.now token) }
-        ensures sound { IfOk result (λ books. IsHonest (state S.Store books.conn)
+        ensures sound { IfOk result (λ books. IsWorking (state S.Store books.conn)
             → IsSound (tables_of S.Store books.conn)) }
         ensures history { let h = begins user.now token in
-            IfOk result (λ books. IsHonest (state S.Store books.conn)
+            IfOk result (λ books. IsWorking (state S.Store books.conn)
             → StandsFor (tables_of S.Store books.conn) h) }
-        ensures honest { IfOk result (λ books. IsHonest (state S.Store books.conn)
-            → IsHonest (state S.Store conn)) }
+        ensures honest { IfOk result (λ books. IsWorking (state S.Store books.conn)
+            → IsWorking (state S.Store conn)) }
+        ensures lasts { IfOk result (λ books. IsWorking (state S.Store conn)
+            → HasCleanDisk (state S.Store books.conn) → IsHonest (state S.Store books.conn)) }
         ensures failures { IfOk result (λ books. books.failures ≡ 0) }
         ensures bad_first_user { IsRefusedAs OpenFault.BadFirstUser result
             ↔ IsBadFirstUser user.now token }
@@ -55,6 +59,8 @@ impl<S: Alter> SqlBooks<S> {
         ensures refused { IfErr result (λ refused. HasCleanDisk (state S.Store refused.conn)
             → Stays (state S.Store conn) (state S.Store refused.conn)) }
         ensures ended { IfErr result (λ refused. refused.conn.in_transaction ≡ false) }
+        ensures alone { IfOk result (λ books. IsWorking (state S.Store conn) → (T : Tables)
+            → Leaves (state S.Store books.conn) T → T ≡ tables_of S.Store books.conn) }
         ensures crash { IfOk result (λ books. LeavesOr (first_tables user.now token)
             (state S.Store conn) (state S.Store books.conn)) }
         ensures crash_refused { IfErr result (λ refused. LeavesOr (first_tables user.now token)
@@ -78,10 +84,12 @@ fn fill_blank<S: Alter>(
     requires live { IsLive (state S.Store conn) }
     requires settled { IsTrue (state S.Store conn).is_open
         → (state S.Store conn).now ≡ (state S.Store conn).committed }
-    ensures tables { IfOk result (λ books. IsHonest (state S.Store books.conn)
+    ensures tables { IfOk result (λ books. IsWorking (state S.Store books.conn)
         → tables_of S.Store books.conn ≡ one_user user.now account.now) }
-    ensures honest { IfOk result (λ books. IsHonest (state S.Store books.conn)
-        → IsHonest (state S.Store conn)) }
+    ensures honest { IfOk result (λ books. IsWorking (state S.Store books.conn)
+        → IsWorking (state S.Store conn)) }
+    ensures lasts { IfOk result (λ books. IsWorking (state S.Store conn)
+        → HasCleanDisk (state S.Store books.conn) → IsHonest (state S.Store books.conn)) }
     ensures failures { IfOk result (λ books. books.failures ≡ 0) }
     ensures first_user { IfErr result (λ refused. refused.why ≢ OpenFault.BadFirstUser) }
     ensures taken { IsRefusedAs OpenFault.NotEmpty result

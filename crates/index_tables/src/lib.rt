@@ -4,6 +4,7 @@
 mod adopt;
 mod books;
 mod create;
+pub mod laws;
 mod opening;
 mod tables;
 

@@ -1,6 +1,8 @@
 //! What holds the tables: a connection, outside a transaction.
 ghost use Rattle.std.specs.Prelude.{◌≡◌, false};
 ghost use Rattle.index_io.specs.Counts.{next_count};
+ghost use Rattle.sqlite.specs.Held.{state};
+ghost use Rattle.index_tables.specs.Kept.{IsHonest, IsWorking};
 
 use sqlite::{Alter, Connection};
 use std::marker::Model;
@@ -30,10 +32,11 @@ impl<S: Alter> Model for SqlBooks<S> {
 }
 
 impl<S: Alter> SqlBooks<S> {
-    /// The connection, outside a transaction.
+    /// The connection, outside a transaction. While it works it is one to an index, all of which is committed.
     pub fn into_connection(self) -> Connection<S>
         ensures same { result ≡ self.conn }
         ensures ended { result.in_transaction ≡ false }
+        ensures honest { IsWorking (state S.Store result) → IsHonest (state S.Store result) }
     {
         let SqlBooks { conn, failures: _ } = self;
         conn

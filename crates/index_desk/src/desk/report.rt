@@ -52,8 +52,7 @@ impl<B: Books> Desk<B> {
         ensures failures { FailsAtMostOnce (B.failures self.old) (B.failures self.new) }
         ensures honest { B.IsHonest self.new → B.IsHonest self.old }
         ensures clean { B.IsClean self.new → B.IsClean self.old }
-        ensures crash { B.IsHonest self.old → B.IsClean self.new → (T : Tables) →
-            B.may_leave self.new T → B.may_leave self.old T }
+        ensures crash { (T : Tables) → B.may_leave self.new T → B.may_leave self.old T }
     {
         let text = report_text(&mut self.books, alloc)?;
         match write_bytes(sink, text.as_slice()) {

@@ -221,6 +221,8 @@ impl Books for FailingBooks {
     }
 
     ghost honest_is_clean = { λ _ honest. honest };
+
+    ghost settled = { λ _ honest _ _. absurd honest };
 }
 
 /// Takes each row.

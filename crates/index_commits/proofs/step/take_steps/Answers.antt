@@ -22,6 +22,7 @@ loop-step-preserved g c =
           let was = before.made (omega (arith, did.survives.clean)) ready in
           let split : drop c.loop-step.step-index c.args.steps.now ≡ c.step-item.result ∷ drop (c.loop-step.step-index + 1) c.args.steps.now = search (rules, drop-cons) in
           one_more first mid last c.step-item.result (drop (c.loop-step.step-index + 1) c.args.steps.now) c.args.steps.now (subst (λ rest. IsReady mid × (all_of rest (tables_in mid.now.trees) ≡ all_of c.args.steps.now (tables_in first.now.trees)) × (mid.committed ≡ first.committed) × (version_in mid.now.trees ≡ version_in first.now.trees)) split was) (c.in_ok-take_step.ensures.made clean was.0);
+      opened = λ some clean. (before.kept (omega (arith, did.survives.clean))).was_open (c.in_ok-take_step.ensures.opened clean);
       kept = λ clean. keeps_then first mid last (before.kept (omega (arith, did.survives.clean))) (did.kept clean);
       survives = survives_then first mid last _ _ _ (λ _ db none. none) (λ _ db none. none) before.survives did.survives;
     }

@@ -1,4 +1,4 @@
-use Rattle.std.proofs.Common.{◌≡◌, drop}
+use Rattle.std.proofs.Common.{◌≡◌, ◌<◌, IsTrue, drop}
 use Rattle.sqlite.specs.Held.{state}
 use Rattle.sqlite.specs.State.{HasCleanDisk, KeepsCommit, Survives}
 use Rattle.index_steps.specs.Inside.{IsReady}
@@ -15,5 +15,6 @@ invariant-loop-step g l =
       same : l.tx.conn.ghost_name ≡ l.fn.tx.conn.ghost_name;
       made : HasCleanDisk now → IsReady first → IsReady now × (all_of (drop l.step-index l.steps) (tables_in now.now.trees) ≡ all_of l.steps (tables_in first.now.trees)) × (now.committed ≡ first.committed) × (version_in now.now.trees ≡ version_in first.now.trees);
       kept : HasCleanDisk now → KeepsCommit first now;
+      opened : 0 < l.step-index → HasCleanDisk now → IsTrue first.is_open;
       survives : Survives first now (λ _. ⊥);
     }

@@ -1,5 +1,4 @@
-use Rattle.std.proofs.Common.{rules, inl, inr, ◌∙◌, subst, sym}
-use Rattle.sqlite.specs.Held.{state}
+use Rattle.std.proofs.Common.{rules, refl, inl, inr, ◌∙◌, subst, sym}
 use Rattle.index_schema.specs.FirstVersion.{IsFirstVersion}
 use Rattle.index_tables.proofs.AdoptLemmas.{both_opened, both_refused, migrated_after, reason_told, stays_after}
 use Rattle.index_tables.proofs.adopt.adopt_first_version.Goals as goal
@@ -29,3 +28,7 @@ returns-in-Ok-Some-eq1-clause-crash_refused g c =
 pub returns-in-Ok-clause-reason : goal.returns-in-Ok-clause-reason
 returns-in-Ok-clause-reason g c clean =
     reason_told g.S.Store c.args.conn c.in-Ok.version c.refusal.result (inl (λ o. inr (c.requires.first o), c.in-Ok.ensures.found clean)) (search rules)
+
+pub returns-in-Ok-Some-eq1-clause-lasts : goal.returns-in-Ok-Some-eq1-clause-lasts
+returns-in-Ok-Some-eq1-clause-lasts g c =
+    both_opened c.raise.result (λ books was_clean last working clean. last (record { clean = was_clean clean; is_open = c.in-Ok-Some-eq1.ensures.looks.lasts refl (was_clean clean) working.is_open }) clean) c.raise.ensures.clean c.raise.ensures.lasts

@@ -9,14 +9,14 @@ room most count places taken fits all is fewer =
     omega arith
 
 pub bounds-places-count : goal.bounds-places-count
-bounds-places-count c = rw c.as_mut_slice-places.ensures.value (room _ _ _ _ c.self.invariant.0 c.self.invariant.1 c.self.view_is c.requires)
+bounds-places-count c = rw c.as_mut_slice-places.ensures.value (room _ _ _ _ c.self.invariant.1 c.self.invariant.2 c.self.view_is c.requires)
 
 pub invariant_of-result : goal.invariant_of-result
 invariant_of-result c =
-    let inside = room _ _ _ _ c.self.invariant.0 c.self.invariant.1 c.self.view_is c.requires in
-    rw c.as_mut_slice-places.ensures.value (omega arith, length-set _ _ _ ∙ c.self.invariant.1)
+    let inside = room _ _ _ _ c.self.invariant.1 c.self.invariant.2 c.self.view_is c.requires in
+    rw c.as_mut_slice-places.ensures.value (omega arith, omega arith, length-set _ _ _ ∙ c.self.invariant.2)
 
 pub returns : goal.returns
 returns c =
-    let inside = room _ _ _ _ c.self.invariant.0 c.self.invariant.1 c.self.view_is c.requires in
+    let inside = room _ _ _ _ c.self.invariant.1 c.self.invariant.2 c.self.view_is c.requires in
     rw c.as_mut_slice-places.ensures.value (take_more_set _ _ _ inside ∙ ap (λ taken. taken ++ c.args.step ∷ []) c.self.view_is)

@@ -1,4 +1,4 @@
-use Rattle.std.proofs.Common.{◌≡◌, ◌∙◌, ap, subst, sym}
+use Rattle.std.proofs.Common.{◌≡◌, ◌⊎◌, ◌∙◌, inl, inr, ap, subst, sym}
 use Rattle.index_rules.specs.declared.answer.Answer.TheVariants.{Accepted}
 use Rattle.index_rules.specs.Tables.{Tables}
 use Rattle.index_rules.specs.Effect.{effect, means}
@@ -9,8 +9,8 @@ use Rattle.index_rules.specs.Sound.{IsSound}
 use Rattle.index_rules.proofs.StandsOn.{CarriesOn-answer, sound_when_legal}
 use Rattle.index_rules.proofs.OneBearer.{HasOneBearer-tables_after}
 use Rattle.index_rules.proofs.SoundLemmas.{IsSound-tables_after}
-use Rattle.index_desk.specs.Crashes.{IsWithCall, Leaves}
-use Rattle.index_desk.proofs.CrashLemmas.{Leaves-weaker}
+use Rattle.index_desk.specs.Crashes.{IsWithCall, Lasts, Leaves}
+use Rattle.index_desk.proofs.CrashLemmas.{Lasts-earlier, Leaves-weaker}
 use Rattle.index_desk.proofs.desk.Desk.apply.Goals as goal
 
 pub returns-in-Ok-clause-answer : goal.returns-in-Ok-clause-answer
@@ -59,7 +59,7 @@ returns-in-Ok-clause-crash g c =
     let look = c.in-Ok.ensures.look in
     let clean_then = c.settle.ensures.clean clean in
     let honest_then = look.lasts honest clean_then in
-    Leaves-weaker _ _ _ _ (look.crash honest clean_then)
+    Leaves-weaker _ _ _ _ look.crash
     (λ T' after. (after.0, after.1 ∙ ap (means change) (look.unchanged honest_then)))
     c.settle.result T
     (c.settle.ensures.crash honest_then (verdict_now before call) change (c.in-Ok.ensures.decision honest_then one) T left))
@@ -71,3 +71,16 @@ returns-in-Ok-clause-crash_history g c = λ honest clean h legal stands T left.
     (λ T' after. CarriesOn-answer h legal before stands c.args.call Accepted T' (λ _. after.0) (λ _. after.1))
     c.settle.result T
     (returns-in-Ok-clause-crash g c honest clean (sound_when_legal h legal before stands).one_bearer T left)
+
+pub returns-in-Ok-clause-lasts : goal.returns-in-Ok-clause-lasts
+returns-in-Ok-clause-lasts g c =
+    let is_honest = g.B.Books.IsHonest in
+    subst (λ x. g.B.Books.IsClean c.settle.new.books → Lasts c.settle.result (is_honest x) (is_honest c.settle.new.books)) c.self.view_is
+    (λ clean. Lasts-earlier c.settle.result _ _ _ (λ honest. c.in-Ok.ensures.look.lasts honest (c.settle.ensures.clean clean)) (c.settle.ensures.lasts clean))
+
+pub returns-in-Ok-clause-nothing_new : goal.returns-in-Ok-clause-nothing_new
+returns-in-Ok-clause-nothing_new g c =
+    let may_leave = g.B.Books.may_leave in
+    let look = c.in-Ok.ensures.look in
+    subst (λ x. (T : Tables) → may_leave c.settle.new.books T → may_leave x T ⊎ g.B.Books.IsHonest x) c.self.view_is
+    (λ T left. elim (c.settle.ensures.nothing_new T left) [ inl was ↦ inl (look.crash T was) | inr honest ↦ inr (look.honest honest) ])

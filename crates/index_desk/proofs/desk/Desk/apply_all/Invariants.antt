@@ -5,6 +5,8 @@ use Rattle.index_rules.specs.declared.answer.Fault.TheVariants.{Store}
 use Rattle.index_rules.specs.Facts.{HasOneBearer}
 use Rattle.index_rules.specs.Runs.{Runs}
 use Rattle.index_rules.proofs.Counts.{NotFewer}
+use Rattle.index_rules.specs.Tables.{Tables}
+use Rattle.index_desk.specs.Crashes.{LastsAll, LeavesAll}
 use Rattle.index_desk.proofs.desk.Desk.apply_all.Given as goal
 
 abbrev pub invariant-loop-call : goal.invariant-loop-call
@@ -15,5 +17,7 @@ invariant-loop-call g l = record {
   room : length l.fn.calls.items ≤ vec_capacity l.answers;
   store : Contains l.answers.items (answer.Fault Store) → HasFailed (g.B.Books.failures l.fn.self) (g.B.Books.failures l.self);
   counts : NotFewer (g.B.Books.failures l.fn.self) (g.B.Books.failures l.self);
+  lasts : g.B.Books.IsClean l.self → LastsAll l.answers.items (g.B.Books.IsHonest l.fn.self) (g.B.Books.IsHonest l.self);
+  crash : g.B.Books.IsHonest l.fn.self → g.B.Books.IsClean l.self → HasOneBearer (g.B.Books.tables l.fn.self) → (T : Tables) → g.B.Books.may_leave l.self T → LeavesAll (g.B.Books.tables l.fn.self) l.yielded l.answers.items T;
   honest : g.B.Books.IsHonest l.self → g.B.Books.IsHonest l.fn.self;
 }

@@ -1,10 +1,13 @@
 use Rattle.std.proofs.Common.{rules, inl, IfOk, IfErr, subst}
 use Rattle.std.proofs.lemmas.Result.{IfErr-weaker, IfOk-weaker}
 use Rattle.sqlite.specs.Held.{state}
+use Rattle.sqlite.specs.State.{HasCleanDisk}
 use Rattle.index_schema.proofs.BearerLemmas.{one_bearer}
 use Rattle.index_rules.specs.declared.open.OpenFault.TheVariants.{NotAnIndex}
 use Rattle.index_tables.proofs.AdoptLemmas.{fault_alone}
 use Rattle.index_tables.specs.Adopted.{IsReason, LeavesMigrated}
+use Rattle.index_tables.specs.Kept.{IsHonest, IsWorking}
+use Rattle.index_tables.specs.Laws.{settled_at}
 use Rattle.index_tables.proofs.tables.SqlBooks.adopt.Goals as goal
 
 pub returns-in-Ok-Index-clause-one_bearer : goal.returns-in-Ok-Index-clause-one_bearer
@@ -50,3 +53,13 @@ returns-in-Ok-FirstVersion-clause-again g c =
 pub returns-in-Ok-Other-clause-again : goal.returns-in-Ok-Other-clause-again
 returns-in-Ok-Other-clause-again g c clean o ours =
     fault_alone g.S.Store c.args.conn c.refuse_other.result.why (subst (λ held. IsReason g.S.Store held c.refuse_other.result.why) c.known-conn.ensures.same (c.refuse_other.ensures.reason clean)) o ours
+
+pub returns-in-Ok-Index-clause-alone : goal.returns-in-Ok-Index-clause-alone
+returns-in-Ok-Index-clause-alone g c =
+    let lasts = subst (λ held. IfOk c.adopt_index.result (λ books. IsWorking (state g.S.Store held) → HasCleanDisk (state g.S.Store books.conn) → IsHonest (state g.S.Store books.conn))) c.known-conn.ensures.same c.adopt_index.ensures.lasts in
+    IfOk-weaker c.adopt_index.result _ _ (λ books last working T left. settled_at (last working left.0) (g.met.S.Store.settled books.conn.store) T left) lasts
+
+pub returns-in-Ok-FirstVersion-clause-alone : goal.returns-in-Ok-FirstVersion-clause-alone
+returns-in-Ok-FirstVersion-clause-alone g c =
+    let lasts = subst (λ held. IfOk c.adopt_first_version.result (λ books. IsWorking (state g.S.Store held) → HasCleanDisk (state g.S.Store books.conn) → IsHonest (state g.S.Store books.conn))) c.known-conn.ensures.same c.adopt_first_version.ensures.lasts in
+    IfOk-weaker c.adopt_first_version.result _ _ (λ books last working T left. settled_at (last working left.0) (g.met.S.Store.settled books.conn.store) T left) lasts

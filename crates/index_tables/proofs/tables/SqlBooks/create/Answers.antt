@@ -1,6 +1,7 @@
 use Rattle.std.proofs.Common.{rules, ◌≡◌, ◌∙◌, IfOk, IfErr, subst, sym}
 use Rattle.std.proofs.lemmas.Result.{IfOk-weaker}
 use Rattle.sqlite.specs.Held.{state}
+use Rattle.sqlite.specs.State.{HasCleanDisk}
 use Rattle.index_rules.specs.FirstTables.{first_tables}
 use Rattle.index_rules.specs.Sound.{IsSound}
 use Rattle.index_rules.specs.History.{begins}
@@ -8,8 +9,8 @@ use Rattle.index_rules.specs.StandsFor.{StandsFor}
 use Rattle.index_rules.proofs.SoundOpened.{IsSound-opened}
 use Rattle.index_rules.proofs.StandsOn.{StandsFor-opened}
 use Rattle.index_create.specs.Created.{one_user}
-use Rattle.index_reads.specs.Held.{tables_of}
-use Rattle.index_tables.specs.Kept.{IsHonest}
+use Rattle.index_tables.specs.Kept.{IsHonest, IsWorking}
+use Rattle.index_tables.specs.Laws.{settled_at}
 use Rattle.index_tables.specs.Opened.{LeavesOr}
 use Rattle.index_tables.proofs.tables.SqlBooks.create.Goals as goal
 
@@ -35,3 +36,8 @@ returns-in-Ok-clause-crash_refused g c =
     let same : one_user c.text.result.now c.in-Ok.account ≡ first_tables c.args.user.now c.args.token = search rules in
     subst (λ T. IfErr c.fill_blank.result (λ refused. LeavesOr T (state g.S.Store c.args.conn) (state g.S.Store refused.conn))) same
     (subst (λ held. IfErr c.fill_blank.result (λ refused. LeavesOr (one_user c.text.result.now c.in-Ok.account) (state g.S.Store held) (state g.S.Store refused.conn))) c.known-conn.ensures.same c.fill_blank.ensures.crash_refused)
+
+pub returns-in-Ok-clause-alone : goal.returns-in-Ok-clause-alone
+returns-in-Ok-clause-alone g c =
+    let lasts = subst (λ held. IfOk c.fill_blank.result (λ books. IsWorking (state g.S.Store held) → HasCleanDisk (state g.S.Store books.conn) → IsHonest (state g.S.Store books.conn))) c.known-conn.ensures.same c.fill_blank.ensures.lasts in
+    IfOk-weaker c.fill_blank.result _ _ (λ books last working T left. settled_at (last working left.0) (g.met.S.Store.settled books.conn.store) T left) lasts

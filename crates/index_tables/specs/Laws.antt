@@ -1,0 +1,24 @@
+-- What a crash leaves of an honest index.
+use Rattle.std.specs.Prelude.{◌≡◌, IsTrue}
+use Rattle.std.proofs.Common.{◌∙◌, ap, refl, subst, sym}
+use Rattle.sqlite_trees.specs.Tree.{Trees}
+use Rattle.sqlite.specs.Effect.{Database}
+use Rattle.sqlite.specs.State.{State}
+use Rattle.index_commits.proofs.CommitLemmas.{index_held}
+use Rattle.index_rules.specs.Tables.{Tables}
+use Rattle.index_schema.specs.Records.{tables_in}
+use Rattle.index_tables.specs.Kept.{AreCurrent, IsHonest, Leaves}
+
+-- while it is open, a crash leaves the last commit and nothing else: a law of each store
+abbrev pub IsSettled : State → Type 0
+IsSettled s = (db : Trees) → IsTrue s.is_open → s.may_leave db → db ≡ s.committed.trees
+
+-- an honest index is what an open finds of it
+pub current : (s : State) → IsHonest s → AreCurrent s.now.trees
+current s honest = record { index = index_held s.now _ honest.index refl; version = honest.version }
+
+-- so of an honest index it leaves the tables as they stand
+pub settled_at : {s : State} → IsHonest s → IsSettled s → (T : Tables) → Leaves s T → T ≡ tables_in s.now.trees
+settled_at {s} honest settled T (clean, (db, may, is)) =
+    let at : db ≡ s.now.trees = settled db honest.is_open may ∙ ap (λ (d : Database). d.trees) (sym honest.committed) in
+    is (subst AreCurrent (sym at) (current s honest)) ∙ ap tables_in at

@@ -1,0 +1,35 @@
+-- What is opened over what an index left.
+use Rattle.std.specs.Prelude.{◌⊎◌, Result, Ok, Err}
+use Rattle.sqlite_disk.specs.declared.Disk as disk
+use Rattle.sqlite_wal.specs.Recovery.{Image}
+use Rattle.sqlite_trees.specs.declared.store.Store.{Ghosts}
+use Rattle.sqlite_store.specs.declared.store.FileStore.{FileStore}
+use Rattle.sqlite_store.specs.FileStore as store
+use Rattle.sqlite.specs.Closing.{HoldsAlone}
+use Rattle.sqlite.specs.Files.{file_state}
+use Rattle.sqlite.specs.Held.{Held, state}
+use Rattle.sqlite.specs.Start.{FindsIn}
+use Rattle.sqlite.specs.State.{State, HasCleanDisk, IsLive, Opens}
+use Rattle.index_reads.specs.Held.{tables_of}
+use Rattle.index_rules.specs.Tables.{Tables}
+use Rattle.index_tables.specs.declared.opening.Unopened.{Unopened}
+use Rattle.index_tables.specs.Kept.{Kept, IsHonest}
+use Rattle.index_tables.specs.Adopted.{IsFault}
+
+-- a crash at this moment may leave these two files
+abbrev pub MayLeave : {D : Type 0} {g : disk.Ghosts D} → Held (FileStore D g) → Image → Type 0
+MayLeave held = (store.state held.store).may_leave
+
+-- they are what a crash may leave, or what a close leaves
+abbrev pub IsLeft : {D : Type 0} {g : disk.Ghosts D} → Held (FileStore D g) → Image → Type 0
+IsLeft held image = MayLeave held image ⊎ HoldsAlone image (file_state held).committed.trees
+
+-- the connection was opened over these files: what `open_from` and `open_files` ensure
+pub record IsOver (image : Image) (s : State) : Type 0 where
+  pub found : FindsIn image s
+  pub opened : Opens s × IsLive s
+
+-- on a clean disk, an open index with such tables is there, or none for want of memory or by a fault of the store
+abbrev pub OpensOnly : {S : Type 0} → Ghosts S → (Tables → Type 0) → Result (Kept S) (Unopened S) → Type 0
+OpensOnly g Are (Ok books) = HasCleanDisk (state g books.conn) → IsHonest (state g books.conn) × Are (tables_of g books.conn)
+OpensOnly g Are (Err refused) = HasCleanDisk (state g refused.conn) → IsFault refused.why

@@ -1,0 +1,76 @@
+//! Laws of an index that is opened again. Their contracts are the laws.
+ghost use Rattle.std.specs.Prelude.{◌≡◌, ◌⊎◌, false, IsTrue};
+ghost use Rattle.sqlite_trees.specs.Tree.{Trees};
+ghost use Rattle.sqlite_wal.specs.Recovery.{Image};
+ghost use Rattle.sqlite.specs.Files.{file_state, over_files};
+ghost use Rattle.sqlite.specs.Held.{state, AreDatabases};
+ghost use Rattle.sqlite.specs.State.{HasCleanDisk};
+ghost use Rattle.index_reads.specs.Held.{tables_of};
+ghost use Rattle.index_rules.specs.Tables.{Tables};
+ghost use Rattle.index_tables.specs.Kept.{IsHonest, Leaves};
+ghost use Rattle.index_tables.specs.Reopened.{MayLeave, IsLeft, IsOver, OpensOnly};
+
+use crate::opening::Unopened;
+use crate::tables::SqlBooks;
+use sqlite::{Alter, Connection, FileStore};
+use sqlite_disk::Disk;
+use std::alloc::Global;
+
+/// What a crash or a close of an index leaves is found again by opening. Over it, `adopt` gives the tables of the index,
+/// or where a call was under way, which by its clause on crashes leaves the tables before it or those with it, one of the
+/// two; or there is no memory, or the store fails.
+pub fn left_is_found_again<D: Disk, S: Alter>(
+    alloc: Global,
+    books: SqlBooks<FileStore<D>>,
+    conn: Connection<S>,
+) -> (SqlBooks<FileStore<D>>, Result<SqlBooks<S>, Unopened<S>>)
+    requires outside { conn.in_transaction ≡ false }
+    ensures same { result.0 ≡ books }
+    ensures rest { (left : Image) → IsHonest (file_state books.conn) → IsLeft books.conn left
+        → (HasCleanDisk (state S.Store conn) → IsOver left (state S.Store conn))
+        → OpensOnly S.Store (λ T. T ≡ tables_of over_files books.conn) result.1 }
+    ensures during { (left : Image) (A B : Tables) → HasCleanDisk (file_state books.conn)
+        → ((T : Tables) → Leaves (file_state books.conn) T → (T ≡ A) ⊎ (T ≡ B))
+        → MayLeave books.conn left
+        → (HasCleanDisk (state S.Store conn) → IsOver left (state S.Store conn))
+        → OpensOnly S.Store (λ T. ∥ (T ≡ A) ⊎ (T ≡ B) ∥₁) result.1 }
+{
+    let SqlBooks {
+        conn: before,
+        failures,
+    } = books;
+    let before = left_by(before);
+    let opened = SqlBooks::adopt(alloc, conn);
+    (
+        SqlBooks {
+            conn: before,
+            failures,
+        },
+        opened,
+    )
+}
+
+/// An honest index leaves itself: where a crash comes between two calls, it leaves the tables as they stand.
+pub fn honest_index_leaves_itself<S: Alter>(books: SqlBooks<S>) -> SqlBooks<S>
+    ensures same { result ≡ books }
+    ensures itself { IsHonest (state S.Store books.conn) → (T : Tables) →
+        Leaves (state S.Store books.conn) T → T ≡ tables_of S.Store books.conn }
+{
+    let SqlBooks { conn, failures } = books;
+    let conn = left_by(conn);
+    SqlBooks { conn, failures }
+}
+
+/// The connection as it is: what a crash leaves of it is a database, and of an open one its last commit.
+fn left_by<S: Alter>(conn: Connection<S>) -> Connection<S>
+    ensures same { result ≡ conn }
+    ensures numbered { HasCleanDisk (state S.Store conn)
+        → IsTrue (S.Store.view conn.store).is_numbered }
+    ensures databases { HasCleanDisk (state S.Store conn)
+        → AreDatabases (S.Store.recovers conn.store) }
+    ensures settled { (db : Trees) → IsTrue (state S.Store conn).is_open
+        → (state S.Store conn).may_leave db → db ≡ (state S.Store conn).committed.trees }
+{
+    let _outside = conn.is_autocommit();
+    conn
+}
