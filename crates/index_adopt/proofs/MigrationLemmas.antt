@@ -11,4 +11,4 @@ use Rattle.index_steps.specs.Inside.{Makes}
 pub bans_made : (old new : State) (count : ℕ) → IsReadyFirst old → ExecutesInside 0 bans_text [] old new (Ok count) → Makes without_bans as_told old new
 bans_made old new count ready ran =
     let it = creates_bans old new count ready.first ran.0 in
-    record { ready = record { is_open = ran.1.is_open; inside = ran.1.mode; index = it.index }; tables = it.tables; committed = ran.1.committed_is; version = it.version }
+    record { ready = record { is_open = ran.1.is_open; inside = ran.1.mode; index = it.index }; tables = it.tables; committed = ran.1.committed_is; version = it.version; records = it.records }

@@ -13,7 +13,7 @@ use index_rules::CaseRecord;
 pub(crate) fn set_case<'a>(name: &'a NormalName, case: &'a CaseRecord) -> Steps<'a>
     ensures { all_of result ≡ means (Change.OpenCase name.now case.now) }
 {
-    Steps::first(Step::Put(Put::Case(name.text(), case)))
+    Steps::first(Step::Put(Put::Case(name, case)))
 }
 
 /// The name's case ends.

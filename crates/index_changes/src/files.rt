@@ -51,12 +51,10 @@ fn upload<'a>(
     ensures { all_of result
         ≡ means (Upload name.now project.now file.now known.now body.now) }
 {
-    let name = name.text();
-    let file = file.text();
     Steps::first(Step::Put(Put::Held(name, project)))
         .then(Step::Put(Put::File(file, known)))
         .then(Step::Put(Put::Body(file, body.bytes())))
-        .then(Step::Delete(Deletion::Case(name)))
+        .then(Step::Delete(Deletion::Case(name.text())))
 }
 
 /// The name and the file have these records, and the bytes go.
@@ -68,12 +66,10 @@ fn delete<'a>(
 ) -> Steps<'a>
     ensures { all_of result ≡ means (Delete name.now project.now file.now known.now) }
 {
-    let name = name.text();
-    let file = file.text();
     Steps::first(Step::Put(Put::Held(name, project)))
         .then(Step::Put(Put::File(file, known)))
-        .then(Step::Delete(Deletion::Body(file)))
-        .then(Step::Delete(Deletion::Case(name)))
+        .then(Step::Delete(Deletion::Body(file.text())))
+        .then(Step::Delete(Deletion::Case(name.text())))
 }
 
 /// The file is banned and has this record, and its bytes go. The name has the record `project`, if there is one.
@@ -85,13 +81,12 @@ fn ban<'a>(
 ) -> Steps<'a>
     ensures { all_of result ≡ means (BanFile name.now project.now file.now known.now) }
 {
-    let file = file.text();
     let put_file = Step::Put(Put::File(file, known));
     let steps = match project {
-        Some(project) => Steps::first(Step::Put(Put::Held(name.text(), project))).then(put_file),
+        Some(project) => Steps::first(Step::Put(Put::Held(name, project))).then(put_file),
         None => Steps::first(put_file),
     };
     steps
-        .then(Step::Delete(Deletion::Body(file)))
+        .then(Step::Delete(Deletion::Body(file.text())))
         .then(Step::Put(Put::Ban(file)))
 }

@@ -13,19 +13,19 @@ use index_rules::{Project, UserId};
 pub(crate) fn set_project<'a>(name: &'a NormalName, project: &'a Project) -> Steps<'a>
     ensures { all_of result ≡ means (Change.SetQuota name.now project.now) }
 {
-    Steps::first(Step::Put(Put::Held(name.text(), project)))
+    Steps::first(Step::Put(Put::Held(name, project)))
 }
 
 /// The name is held, with this record and no owner but this one. What there was of an earlier claim goes first.
 pub(crate) fn claim<'a>(name: &'a NormalName, project: &'a Project, owner: &'a UserId) -> Steps<'a>
     ensures { all_of result ≡ means (Change.Claim name.now project.now owner.now) }
 {
-    let name = name.text();
-    Steps::first(Step::Delete(Deletion::Owners(name)))
-        .then(Step::Delete(Deletion::Yanks(name)))
-        .then(Step::Delete(Deletion::Case(name)))
+    let text = name.text();
+    Steps::first(Step::Delete(Deletion::Owners(text)))
+        .then(Step::Delete(Deletion::Yanks(text)))
+        .then(Step::Delete(Deletion::Case(text)))
         .then(Step::Put(Put::Held(name, project)))
-        .then(Step::Put(Put::Owner(name, owner.text())))
+        .then(Step::Put(Put::Owner(name, owner)))
 }
 
 /// The name is free. Its owners, its yanks and its case go with its row.
@@ -39,9 +39,9 @@ pub(crate) fn free<'a>(name: &'a NormalName) -> Steps<'a>
 pub(crate) fn prohibit<'a>(name: &'a NormalName) -> Steps<'a>
     ensures { all_of result ≡ means (Change.Prohibit name.now) }
 {
-    let name = name.text();
-    Steps::first(Step::Delete(Deletion::Bodies(name)))
-        .then(Step::MarkFiles(name))
-        .then(Step::Delete(Deletion::Name(name)))
+    let text = name.text();
+    Steps::first(Step::Delete(Deletion::Bodies(text)))
+        .then(Step::MarkFiles(text))
+        .then(Step::Delete(Deletion::Name(text)))
         .then(Step::Put(Put::Prohibited(name)))
 }

@@ -13,8 +13,8 @@ use index_rules::UserId;
 pub(crate) fn add_owner<'a>(name: &'a NormalName, user: &'a UserId) -> Steps<'a>
     ensures { all_of result ≡ means (Change.AddOwner name.now user.now) }
 {
-    let name = name.text();
-    Steps::first(Step::Put(Put::Owner(name, user.text()))).then(Step::Delete(Deletion::Case(name)))
+    Steps::first(Step::Put(Put::Owner(name, user)))
+        .then(Step::Delete(Deletion::Case(name.text())))
 }
 
 /// The user does not own the name any more.
@@ -31,8 +31,7 @@ pub(crate) fn remove_owner<'a>(name: &'a NormalName, user: &'a UserId) -> Steps<
 pub(crate) fn transfer<'a>(name: &'a NormalName, candidate: &'a UserId) -> Steps<'a>
     ensures { all_of result ≡ means (Change.Transfer name.now candidate.now) }
 {
-    let name = name.text();
-    Steps::first(Step::Delete(Deletion::Owners(name)))
-        .then(Step::Put(Put::Owner(name, candidate.text())))
-        .then(Step::Delete(Deletion::Case(name)))
+    Steps::first(Step::Delete(Deletion::Owners(name.text())))
+        .then(Step::Put(Put::Owner(name, candidate)))
+        .then(Step::Delete(Deletion::Case(name.text())))
 }

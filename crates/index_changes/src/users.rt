@@ -12,5 +12,5 @@ use index_rules::{UserId, UserRecord};
 pub(crate) fn set_user<'a>(user: &'a UserId, account: &'a UserRecord) -> Steps<'a>
     ensures { all_of result ≡ means (Change.AddUser user.now account.now) }
 {
-    Steps::first(Step::Put(Put::User(user.text(), account)))
+    Steps::first(Step::Put(Put::User(user, account)))
 }

@@ -5,8 +5,9 @@ use Rattle.sqlite.specs.State.{State, Survives}
 use Rattle.index_rules.specs.declared.records.NameRecord.TheVariants.{Held, Prohibited}
 use Rattle.index_rules.specs.Effect.{without_record}
 use Rattle.index_rules.specs.Tables.{Tables}
-use Rattle.index_schema.specs.Records.{tables_in}
 use Rattle.index_schema.specs.Schema.{index_schema}
+use Rattle.index_schema.specs.Records.{tables_in}
+use Rattle.index_schema.specs.RecordRows.{AreRecords, AreRecordsOf}
 use Rattle.index_schema.specs.Index.{IsIndex, version_in}
 use Rattle.index_steps.specs.Writes.{puts_user, puts_name, puts_owner, puts_file, puts_body, puts_yank, puts_case, puts_ban, deletes_owners, deletes_owner, deletes_yanks, deletes_yank, deletes_case, deletes_body, deletes_bodies, marks_files}
 use Rattle.index_commits.specs.declared.step.Put.{Put}
@@ -56,6 +57,8 @@ pub record IsMade (change : Tables → Tables) (told : Option ℕ → Option ℕ
   pub index : IsIndex new.now
   pub tables : tables_in new.now.trees ≡ change (tables_in old.now.trees)
   pub version : version_in new.now.trees ≡ told (version_in old.now.trees)
+  -- its rows are records if they were
+  pub records : AreRecords old.now → AreRecords new.now
   pub committed : new.committed ≡ new.now
   pub ended : new.in_transaction ≡ false
 
@@ -67,6 +70,6 @@ IsUndone old new = (new.now ≡ old.committed) × (new.committed ≡ old.committ
 abbrev pub HoldsIndex : Trees → Type 0
 HoldsIndex db = IsIndex (record { schema = index_schema; trees = db })
 
--- a crash leaves what could be left before, or the change as a whole, with its version, in an index
+-- a crash leaves what could be left before, or the change as a whole, with its version, in an index; its rows are records if they were
 abbrev pub LeavesAll : (Tables → Tables) → (Option ℕ → Option ℕ) → State → State → Type 0
-LeavesAll change told old new = Survives old new (λ db. (tables_in db ≡ change (tables_in old.now.trees)) × (version_in db ≡ told (version_in old.now.trees)) × HoldsIndex db)
+LeavesAll change told old new = Survives old new (λ db. (tables_in db ≡ change (tables_in old.now.trees)) × (version_in db ≡ told (version_in old.now.trees)) × HoldsIndex db × (AreRecords old.now → AreRecordsOf index_schema.tables db))

@@ -3,7 +3,8 @@ ghost use Rattle.std.specs.Prelude.{◌≡◌, ◌<◌, length};
 ghost use Rattle.index_steps.specs.Inside.{MakesIfOk, Keeps, LeavesNothing, WasOpenIfOk};
 ghost use Rattle.index_commits.specs.Changed.{put_by, deletion_by, step_by, all_of};
 
-use index_rules::{CaseRecord, FileRecord, Project, UserRecord};
+use index_names::{FileName, NormalName, Release};
+use index_rules::{CaseRecord, FileRecord, Project, UserId, UserRecord};
 use index_steps::{
     delete_bodies, delete_body, delete_case, delete_name, delete_owner, delete_owners, delete_yank,
     delete_yanks, hold_name, mark_files, prohibit_name, put_ban, put_body, put_case, put_file,
@@ -15,23 +16,23 @@ use sqlite::{Alter, Error, Transaction};
 #[derive(Clone, Copy)]
 pub enum Put<'a> {
     /// The user has this record.
-    User(&'a str, &'a UserRecord),
+    User(&'a UserId, &'a UserRecord),
     /// The name is held, with this record.
-    Held(&'a str, &'a Project),
+    Held(&'a NormalName, &'a Project),
     /// The name is prohibited.
-    Prohibited(&'a str),
+    Prohibited(&'a NormalName),
     /// The user owns the name.
-    Owner(&'a str, &'a str),
+    Owner(&'a NormalName, &'a UserId),
     /// The file has this record.
-    File(&'a str, &'a FileRecord),
+    File(&'a FileName, &'a FileRecord),
     /// These bytes are kept of the file.
-    Body(&'a str, &'a [u8]),
+    Body(&'a FileName, &'a [u8]),
     /// The name has this open case.
-    Case(&'a str, &'a CaseRecord),
+    Case(&'a NormalName, &'a CaseRecord),
     /// The file is banned.
-    Ban(&'a str),
+    Ban(&'a FileName),
     /// The release of the name is yanked, for this reason.
-    Yank(&'a str, &'a str, &'a str),
+    Yank(&'a NormalName, &'a Release, &'a str),
 }
 
 /// What goes, where it is there.

@@ -7,7 +7,7 @@ ghost use Rattle.index_commits.specs.Changed.{IsMade, IsUndone, LeavesAll};
 ghost use Rattle.index_create.specs.Created.{as_new, one_user, IsBlank, FillsIfOk};
 
 use crate::tables::make_tables;
-use index_rules::UserRecord;
+use index_rules::{UserId, UserRecord};
 use index_steps::put_user;
 use sqlite::{Alter, Connection, Error, Transaction};
 
@@ -29,7 +29,7 @@ fn put_version<S: Alter>(tx: &mut Transaction<'_, S>) -> Result<(), Error>
 /// Makes the tables, with the version and one user.
 fn make_all<S: Alter>(
     tx: &mut Transaction<'_, S>,
-    user: &str,
+    user: &UserId,
     account: &UserRecord,
 ) -> Result<(), Error>
     ensures same_reference { tx.new.conn.ghost_name ≡ tx.old.conn.ghost_name }
@@ -48,7 +48,7 @@ fn make_all<S: Alter>(
 /// a crash leaves that, or the whole index.
 pub fn fill_new<S: Alter>(
     conn: &mut Connection<S>,
-    user: &str,
+    user: &UserId,
     account: &UserRecord,
 ) -> Result<(), Error>
     requires { conn.old.in_transaction ≡ false }

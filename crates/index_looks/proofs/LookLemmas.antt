@@ -1,5 +1,9 @@
 -- What looks leave: one by what the port says of a query, and several one after another.
-use Rattle.std.proofs.Common.{◌≡◌, ◌∙◌, ℕ, Bool, true, false, List, IsTrue, Some, inl, refl, sym, subst, arith}
+use Rattle.std.proofs.Common.{◌≡◌, ◌≤◌, ◌∙◌, ℕ, Bool, true, false, true≢false, List, IsTrue, IsSome, Some, inl, inr, refl, sym, subst, arith}
+use Rattle.std.proofs.lemmas.Bool.{cases_Bool}
+use Rattle.sqlite_disk.specs.Disk.{MoreFaults}
+use Rattle.sqlite_trees.specs.declared.error.StoreError.{StoreError}
+use Rattle.sqlite_trees.specs.declared.error.StoreError.TheVariants.{OutOfMemory, Io, Corrupt, Full, Broken, Unstorable}
 use Rattle.sqlite_trees.specs.declared.store.Store.{Ghosts}
 use Rattle.sqlite_trees.specs.Tree.{Trees}
 use Rattle.sqlite_value.specs.Order.{Row}
@@ -7,15 +11,21 @@ use Rattle.sqlite.specs.declared.error.Error.{Error}
 use Rattle.sqlite.specs.Effect.{Database}
 use Rattle.sqlite.specs.Held.{Held, state}
 use Rattle.sqlite.specs.Listing.{understood}
-use Rattle.sqlite.specs.State.{State, HasCleanDisk, Survives, CommitsShowing, Shown, FailsToQuery}
+use Rattle.sqlite.specs.State.{State, HasCleanDisk, Survives, CommitsShowing, Shown, FailsToQuery, HasCause, store_error}
 use Rattle.sqlite.proofs.Callers.{IsPlain}
 use Rattle.sqlite.proofs.StateLemmas.{survives_then, survives_weaker}
 use Rattle.index_schema.specs.Schema.{index_schema}
 use Rattle.index_schema.specs.Index.{IsIndex, version_in}
 use Rattle.index_schema.specs.Stays.{Stays}
 use Rattle.index_schema.proofs.StayLemmas.{shown_open, shown_stays, refused_stays}
+use Rattle.index_schema.specs.Sure.{IsSure}
+use Rattle.index_schema.proofs.SureLemmas.{fails_for}
+use Rattle.index_rules.specs.declared.answer.Fault.TheVariants as fault
+use Rattle.index_looks.specs.Faults.{fault_by}
 use Rattle.index_looks.specs.Looks.{IsKept, Looks}
 use Rattle.index_looks.proofs.PlainLemmas.{commits_nowhere}
+use Rattle.index_looks.specs.Reasons.{HasReason}
+use Rattle.index_schema.specs.RecordRows.{AreRecords}
 
 pub clean_before : (old new : State) (P : Trees → Type 0) → Survives old new P → HasCleanDisk new → HasCleanDisk old
 clean_before old new P it clean = omega (arith, it.clean)
@@ -30,6 +40,9 @@ survives_nothing s = record {
   closes = λ clean h. inl h;
   crash = λ clean db h. inl h;
 }
+
+more_faults : (a b c : ℕ) → a ≤ b → MoreFaults b c → MoreFaults a c
+more_faults a b c less more = grind arith
 
 module _ {S : Type 0} (g : Ghosts S) where
   -- ---- one look
@@ -114,3 +127,41 @@ module _ {S : Type 0} (g : Ghosts S) where
     committed = λ clean o. it.now_is clean o ∙ kept.committed (it.was_clean clean) (it.was_open clean o) ∙ sym (it.committed_is clean o);
     version = λ clean o. subst (λ (db : Database). version_in db.trees ≡ Some 2) (sym (it.now_is clean o)) (kept.version (it.was_clean clean) (it.was_open clean o));
   }
+
+  -- ---- why one fails
+
+  reason_of : (old new : State) (cause : StoreError) → HasCause old new ⊥ cause → fault_by (store_error cause) ≡ fault.Store → HasReason old new
+  reason_of old new OutOfMemory it is = absurd (let e = is in cc)
+  reason_of old new Io it is = inl it
+  reason_of old new Corrupt it is = inl it
+  reason_of old new Full it is = inl it
+  reason_of old new Broken it is = inr (inl it)
+  reason_of old new Unstorable it is = absurd it
+
+  -- a sure query of an index that is open fails with the store
+  pub reasoned : (old new : Held S) (sql : List ℕ) (params : Row) (e : Error) → IsKept g old → HasCleanDisk (state g old) → IsSure sql params → FailsToQuery sql params (state g old) (state g new) e
+      → fault_by e ≡ fault.Store → HasReason (state g old) (state g new)
+  reasoned old new sql params e kept clean sure fails is = elim (cases_Bool (state g old).is_open) [
+    | inl opened ↦ elim (fails_for sql params (state g old) (state g new) e (kept.index clean opened).schema sure fails) [
+      | inl it ↦ reason_of (state g old) (state g new) it.0 it.2 (subst (λ x. fault_by x ≡ fault.Store) it.1 is)
+      | inr limit ↦ inr (inr limit)
+    ]
+    | inr shut ↦ inr (inl shut)
+  ]
+
+  -- a reason after looks that succeeded is one from the first of them on
+  pub reason_then : (a b c : Held S) → Looks g a b true → HasCleanDisk (state g b) → HasReason (state g b) (state g c) → HasReason (state g a) (state g c)
+  reason_then a b c it clean reason = elim (cases_Bool (state g a).is_open) [
+    | inr shut ↦ inr (inl shut)
+    | inl opened ↦ later it.survives (it.lasts refl clean opened) reason
+  ]
+    where
+      later : Survives (state g a) (state g b) (λ _. ⊥) → IsTrue (state g b).is_open → HasReason (state g b) (state g c) → HasReason (state g a) (state g c)
+      later s opened (inl more) = inl (more_faults _ _ _ s.counts more)
+      later s opened (inr (inl shut)) = absurd (true≢false (sym opened ∙ shut))
+      later s opened (inr (inr limit)) = inr (inr (subst IsSome s.limit limit))
+
+  -- so it is of what fails after them
+  pub reason_after : (a b c : Held S) (P : Type 0) → Looks g a b true → (HasCleanDisk (state g c) → HasCleanDisk (state g b)) → (HasCleanDisk (state g c) → AreRecords (state g b).now → P → HasReason (state g b) (state g c))
+      → HasCleanDisk (state g c) → AreRecords (state g a).now → P → HasReason (state g a) (state g c)
+  reason_after a b c P first before fails clean records it = reason_then a b c first (before clean) (fails clean (subst AreRecords (sym (first.same refl (before clean))) records) it)

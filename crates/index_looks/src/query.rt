@@ -9,6 +9,8 @@ ghost use Rattle.index_schema.specs.Index.{IsIndex};
 ghost use Rattle.index_schema.specs.Schema.{index_schema};
 ghost use Rattle.index_looks.specs.Faults.{fault_by};
 ghost use Rattle.index_looks.specs.Looks.{IsKept, Looks};
+ghost use Rattle.index_looks.specs.Reasons.{StoreForReason};
+ghost use Rattle.index_schema.specs.Sure.{IsSure};
 
 use index_rules::Fault;
 use sqlite::types::ValueRef;
@@ -42,6 +44,8 @@ pub fn look<S: Alter>(
     ensures index { HasCleanDisk (state S.Store conn.new)
         → OnOk result (IsIndex (state S.Store conn.old).now) }
     ensures looks { Looks S.Store conn.old conn.new (is_ok result) }
+    ensures reason { IsSure text.now (bound params.now) → HasCleanDisk (state S.Store conn.new)
+        → StoreForReason S.Store conn.old conn.new result }
 {
     match conn.query_all(text, params) {
         Ok(rows) => Ok(rows),

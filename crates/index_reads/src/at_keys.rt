@@ -6,6 +6,7 @@ ghost use Rattle.sqlite.specs.Held.{state};
 ghost use Rattle.sqlite.specs.State.{HasCleanDisk};
 ghost use Rattle.index_rules.specs.Facts.{AreOwners, IsBearerAs, at_both, caller_of, has_release_in, is_banned_in, of_both, yank_in};
 ghost use Rattle.index_looks.specs.Looks.{IsKept, Looks};
+ghost use Rattle.index_looks.specs.Reasons.{FailsForReason};
 ghost use Rattle.index_reads.specs.Held.{tables_of};
 
 use crate::files::{find_file, find_yank, has_release, is_banned};
@@ -30,6 +31,7 @@ pub fn caller_at<S: Alter>(
     ensures found { HasCleanDisk (state S.Store conn.new)
         → IfOk result (IsBearerAs caller_of (tables_of S.Store conn.old) token) }
     ensures looks { Looks S.Store conn.old conn.new (is_ok result) }
+    ensures reason { FailsForReason S.Store conn.old conn.new result }
 {
     let Some(token) = token else {
         return Ok(None);
@@ -54,6 +56,7 @@ pub fn bearer_at<S: Alter>(
     ensures found { HasCleanDisk (state S.Store conn.new)
         → IfOk result (IsBearerAs (λ user. user.0) (tables_of S.Store conn.old) token) }
     ensures looks { Looks S.Store conn.old conn.new (is_ok result) }
+    ensures reason { FailsForReason S.Store conn.old conn.new result }
 {
     let Some(token) = token else {
         return Ok(None);
@@ -75,6 +78,7 @@ pub fn user_at<S: Alter>(
     ensures found { HasCleanDisk (state S.Store conn.new) → IfOk result (λ it.
         it ≡ option_and_then (get (tables_of S.Store conn.old).users) user.now) }
     ensures looks { Looks S.Store conn.old conn.new (is_ok result) }
+    ensures reason { FailsForReason S.Store conn.old conn.new result }
 {
     match user {
         Some(user) => find_user(alloc, conn, user),
@@ -93,6 +97,7 @@ pub fn name_at<S: Alter>(
     ensures found { HasCleanDisk (state S.Store conn.new) → IfOk result (λ it.
         it ≡ option_and_then (get (tables_of S.Store conn.old).names) name.now) }
     ensures looks { Looks S.Store conn.old conn.new (is_ok result) }
+    ensures reason { FailsForReason S.Store conn.old conn.new result }
 {
     match name {
         Some(name) => find_name(alloc, conn, name),
@@ -111,6 +116,7 @@ pub fn owners_at<S: Alter>(
     ensures found { HasCleanDisk (state S.Store conn.new)
         → IfOk result (AreOwners (tables_of S.Store conn.old) name.now) }
     ensures looks { Looks S.Store conn.old conn.new (is_ok result) }
+    ensures reason { FailsForReason S.Store conn.old conn.new result }
 {
     match name {
         Some(name) => owners_of(alloc, conn, name),
@@ -129,6 +135,7 @@ pub fn case_at<S: Alter>(
     ensures found { HasCleanDisk (state S.Store conn.new) → IfOk result (λ it.
         it ≡ option_and_then (get (tables_of S.Store conn.old).cases) name.now) }
     ensures looks { Looks S.Store conn.old conn.new (is_ok result) }
+    ensures reason { FailsForReason S.Store conn.old conn.new result }
 {
     match name {
         Some(name) => find_case(alloc, conn, name),
@@ -147,6 +154,7 @@ pub fn file_at<S: Alter>(
     ensures found { HasCleanDisk (state S.Store conn.new) → IfOk result (λ it.
         it ≡ option_and_then (get (tables_of S.Store conn.old).files) file.now) }
     ensures looks { Looks S.Store conn.old conn.new (is_ok result) }
+    ensures reason { FailsForReason S.Store conn.old conn.new result }
 {
     match file {
         Some(file) => find_file(alloc, conn, file),
@@ -161,6 +169,7 @@ pub fn ban_at<S: Alter>(conn: &mut Connection<S>, file: &Option<FileName>) -> Re
     ensures found { HasCleanDisk (state S.Store conn.new) → IfOk result (λ it.
         it ≡ option_map_or (is_banned_in (tables_of S.Store conn.old)) file.now false) }
     ensures looks { Looks S.Store conn.old conn.new (is_ok result) }
+    ensures reason { FailsForReason S.Store conn.old conn.new result }
 {
     match file {
         Some(file) => is_banned(conn, file),
@@ -180,6 +189,7 @@ pub fn yank_at<S: Alter>(
     ensures found { HasCleanDisk (state S.Store conn.new) → IfOk result (λ it.
         it ≡ at_both (yank_in (tables_of S.Store conn.old)) name.now release.now) }
     ensures looks { Looks S.Store conn.old conn.new (is_ok result) }
+    ensures reason { FailsForReason S.Store conn.old conn.new result }
 {
     match (name, release) {
         (Some(name), Some(release)) => find_yank(alloc, conn, name, release),
@@ -198,6 +208,7 @@ pub fn release_at<S: Alter>(
     ensures found { HasCleanDisk (state S.Store conn.new) → IfOk result (λ it.
         it ≡ of_both (has_release_in (tables_of S.Store conn.old)) name.now release.now) }
     ensures looks { Looks S.Store conn.old conn.new (is_ok result) }
+    ensures reason { FailsForReason S.Store conn.old conn.new result }
 {
     match (name, release) {
         (Some(name), Some(release)) => has_release(conn, name, release),

@@ -1,10 +1,13 @@
 //! The bytes that are kept of a file.
-ghost use Rattle.std.specs.Prelude.{◌≡◌, false, is_ok, option_map, slice_get, IfOk};
+ghost use Rattle.std.specs.Prelude.{◌≡◌, false, is_ok, option_map, slice_get, IfOk, IsOk, IsOkUnless};
+ghost use Rattle.std.specs.List.{AllByRecursion};
 ghost use Rattle.std.specs.FinMap.{get};
 ghost use Rattle.sqlite.specs.Held.{state};
 ghost use Rattle.sqlite.specs.State.{HasCleanDisk};
 ghost use Rattle.index_schema.specs.Records.{body_in};
 ghost use Rattle.index_looks.specs.Looks.{IsKept, Looks};
+ghost use Rattle.index_looks.specs.Reasons.{FailsForReason};
+ghost use Rattle.index_schema.specs.RecordRows.{IsBodyRow};
 ghost use Rattle.index_reads.specs.Held.{tables_of};
 ghost use Rattle.index_reads.specs.Sealed.{digest_in, IsBoundTo};
 
@@ -30,6 +33,9 @@ pub fn find_body<S: Alter>(
     ensures bound { HasCleanDisk (state S.Store conn.new)
         → IfOk result (IsBoundTo (digest_in (tables_of S.Store conn.old) file.now)) }
     ensures looks { Looks S.Store conn.old conn.new (is_ok result) }
+    ensures reason { let T = tables_of S.Store conn.old in
+        IsBoundTo (digest_in T file.now) (get T.bodies file.now)
+        → FailsForReason S.Store conn.old conn.new result }
 {
     let digest = find_digest(alloc, conn, file)?;
     let bytes = find_bytes(alloc, conn, file)?;
@@ -47,6 +53,7 @@ fn find_digest<S: Alter>(
     ensures found { HasCleanDisk (state S.Store conn.new) → IfOk result (λ it.
         it ≡ digest_in (tables_of S.Store conn.old) file.now) }
     ensures looks { Looks S.Store conn.old conn.new (is_ok result) }
+    ensures reason { FailsForReason S.Store conn.old conn.new result }
 {
     match find_file(alloc, conn, file)? {
         Some(known) => Ok(Some(known.digest)),
@@ -66,6 +73,7 @@ fn find_bytes<S: Alter>(
         option_map (λ bytes. bytes.items) it
         ≡ get (tables_of S.Store conn.old).bodies file.now) }
     ensures looks { Looks S.Store conn.old conn.new (is_ok result) }
+    ensures reason { FailsForReason S.Store conn.old conn.new result }
 {
     let rows = look(
         conn,
@@ -77,8 +85,9 @@ fn find_bytes<S: Alter>(
 
 /// The bytes in the first row, if there is a row.
 fn first_body(alloc: Global, rows: &[Row]) -> Result<Option<Vec<u8>>, Fault>
-    ensures { IfOk result (λ it. option_map (λ bytes. bytes.items) it
+    ensures value { IfOk result (λ it. option_map (λ bytes. bytes.items) it
         ≡ option_map body_in (slice_get rows.now 0)) }
+    ensures complete { AllByRecursion IsBodyRow rows.now → IsOkUnless result Fault.OutOfMemory }
 {
     match rows.first() {
         Some(row) => Ok(Some(body(alloc, row)?)),
@@ -90,6 +99,7 @@ fn first_body(alloc: Global, rows: &[Row]) -> Result<Option<Vec<u8>>, Fault>
 fn seal(bytes: Option<Vec<u8>>, declared: Option<Digest256>) -> Result<Option<Sealed>, Fault>
     ensures kept { IfOk result (λ it. it ≡ option_map (λ bytes. bytes.items) bytes) }
     ensures bound { IfOk result (IsBoundTo declared) }
+    ensures complete { IsBoundTo declared (option_map (λ bytes. bytes.items) bytes) → IsOk result }
 {
     match (bytes, declared) {
         (None, _) => Ok(None),

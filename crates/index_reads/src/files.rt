@@ -5,6 +5,7 @@ ghost use Rattle.sqlite.specs.Held.{state};
 ghost use Rattle.sqlite.specs.State.{HasCleanDisk};
 ghost use Rattle.index_rules.specs.Facts.{has_release_in, is_banned_in, yank_in};
 ghost use Rattle.index_looks.specs.Looks.{IsKept, Looks};
+ghost use Rattle.index_looks.specs.Reasons.{FailsForReason};
 ghost use Rattle.index_reads.specs.Held.{tables_of};
 
 use crate::shown::{first, has_row};
@@ -26,6 +27,7 @@ pub fn find_file<S: Alter>(
     ensures found { HasCleanDisk (state S.Store conn.new) → IfOk result (λ it.
         it ≡ get (tables_of S.Store conn.old).files file.now) }
     ensures looks { Looks S.Store conn.old conn.new (is_ok result) }
+    ensures reason { FailsForReason S.Store conn.old conn.new result }
 {
     let rows = look(
         conn,
@@ -42,6 +44,7 @@ pub fn is_banned<S: Alter>(conn: &mut Connection<S>, file: &FileName) -> Result<
     ensures found { HasCleanDisk (state S.Store conn.new) → IfOk result (λ it.
         it ≡ is_banned_in (tables_of S.Store conn.old) file.now) }
     ensures looks { Looks S.Store conn.old conn.new (is_ok result) }
+    ensures reason { FailsForReason S.Store conn.old conn.new result }
 {
     let rows = look(
         conn,
@@ -63,6 +66,7 @@ pub fn find_yank<S: Alter>(
     ensures found { HasCleanDisk (state S.Store conn.new) → IfOk result (λ it.
         it ≡ yank_in (tables_of S.Store conn.old) name.now release.now) }
     ensures looks { Looks S.Store conn.old conn.new (is_ok result) }
+    ensures reason { FailsForReason S.Store conn.old conn.new result }
 {
     let rows = look(
         conn,
@@ -83,6 +87,7 @@ pub fn has_release<S: Alter>(
     ensures found { HasCleanDisk (state S.Store conn.new) → IfOk result (λ it.
         it ≡ has_release_in (tables_of S.Store conn.old) name.now release.now) }
     ensures looks { Looks S.Store conn.old conn.new (is_ok result) }
+    ensures reason { FailsForReason S.Store conn.old conn.new result }
 {
     let rows = look(
         conn,

@@ -5,6 +5,7 @@ ghost use Rattle.sqlite.specs.State.{HasCleanDisk};
 ghost use Rattle.index_rules.specs.Tables.{owners_in};
 ghost use Rattle.index_rules.specs.TableRows.{file_rows_in, name_rows_in};
 ghost use Rattle.index_looks.specs.Looks.{IsKept, Looks};
+ghost use Rattle.index_looks.specs.Reasons.{FailsForReason};
 ghost use Rattle.index_reads.specs.Held.{tables_of};
 
 use crate::shown::each;
@@ -25,6 +26,7 @@ pub fn owners_of<S: Alter>(
     ensures found { HasCleanDisk (state S.Store conn.new) → IfOk result (λ owners.
         owners ≡ owners_in (tables_of S.Store conn.old) name.now) }
     ensures looks { Looks S.Store conn.old conn.new (is_ok result) }
+    ensures reason { FailsForReason S.Store conn.old conn.new result }
 {
     let rows = look(
         conn,
@@ -41,6 +43,7 @@ pub fn names<S: Alter>(alloc: Global, conn: &mut Connection<S>) -> Result<Vec<Na
     ensures found { HasCleanDisk (state S.Store conn.new) → IfOk result (λ rows.
         rows.items ≡ name_rows_in (tables_of S.Store conn.old)) }
     ensures looks { Looks S.Store conn.old conn.new (is_ok result) }
+    ensures reason { FailsForReason S.Store conn.old conn.new result }
 {
     let rows = look(conn, "SELECT rowid, * FROM names ORDER BY name", &[])?;
     each(alloc, rows.as_slice())
@@ -57,6 +60,7 @@ pub fn files_of<S: Alter>(
     ensures found { HasCleanDisk (state S.Store conn.new) → IfOk result (λ rows.
         rows.items ≡ file_rows_in (tables_of S.Store conn.old) name.now) }
     ensures looks { Looks S.Store conn.old conn.new (is_ok result) }
+    ensures reason { FailsForReason S.Store conn.old conn.new result }
 {
     let rows = look(
         conn,

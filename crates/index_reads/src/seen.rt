@@ -6,6 +6,7 @@ ghost use Rattle.index_rules.specs.declared.keys.Keys.{Keys as KeysData};
 ghost use Rattle.index_rules.specs.Tables.{Tables};
 ghost use Rattle.index_rules.specs.Facts.{Sees};
 ghost use Rattle.index_looks.specs.Looks.{IsKept, Looks};
+ghost use Rattle.index_looks.specs.Reasons.{FailsForReason};
 ghost use Rattle.index_reads.specs.Held.{tables_of};
 ghost use Rattle.index_reads.specs.Seen.{SeesFiles, SeesName, SeesUsers};
 
@@ -52,6 +53,7 @@ pub fn view<S: Alter>(alloc: Global, conn: &mut Connection<S>, keys: &Keys) -> R
     ensures found { HasCleanDisk (state S.Store conn.new)
         → IfOk result (Sees (tables_of S.Store conn.old) keys.now) }
     ensures looks { Looks S.Store conn.old conn.new (is_ok result) }
+    ensures reason { FailsForReason S.Store conn.old conn.new result }
 {
     let users = see_users(alloc, conn, keys)?;
     let (files, name) = see_project(alloc, conn, keys)?;
@@ -68,6 +70,7 @@ fn see_users<S: Alter>(
     ensures found { HasCleanDisk (state S.Store conn.new)
         → IfOk result (SeesUsers (tables_of S.Store conn.old) keys.now) }
     ensures looks { Looks S.Store conn.old conn.new (is_ok result) }
+    ensures reason { FailsForReason S.Store conn.old conn.new result }
 {
     let user = user_at(alloc, conn, &keys.user)?;
     let caller = caller_at(alloc, conn, keys.caller)?;
@@ -91,6 +94,7 @@ fn see_project<S: Alter>(
     ensures name { HasCleanDisk (state S.Store conn.new)
         → IfOk result (λ seen. SeesName (tables_of S.Store conn.old) keys.now seen.1) }
     ensures looks { Looks S.Store conn.old conn.new (is_ok result) }
+    ensures reason { FailsForReason S.Store conn.old conn.new result }
 {
     let files = see_files(alloc, conn, keys)?;
     let name = see_name(alloc, conn, keys)?;
@@ -107,6 +111,7 @@ fn see_files<S: Alter>(
     ensures found { HasCleanDisk (state S.Store conn.new)
         → IfOk result (SeesFiles (tables_of S.Store conn.old) keys.now) }
     ensures looks { Looks S.Store conn.old conn.new (is_ok result) }
+    ensures reason { FailsForReason S.Store conn.old conn.new result }
 {
     let has_release = release_at(conn, &keys.name, &keys.release)?;
     let is_banned = ban_at(conn, &keys.file)?;
@@ -130,6 +135,7 @@ fn see_name<S: Alter>(
     ensures found { HasCleanDisk (state S.Store conn.new)
         → IfOk result (SeesName (tables_of S.Store conn.old) keys.now) }
     ensures looks { Looks S.Store conn.old conn.new (is_ok result) }
+    ensures reason { FailsForReason S.Store conn.old conn.new result }
 {
     let owners = owners_at(alloc, conn, &keys.name)?;
     let name = name_at(alloc, conn, &keys.name)?;

@@ -5,6 +5,7 @@ ghost use Rattle.sqlite.specs.Held.{state};
 ghost use Rattle.sqlite.specs.State.{HasCleanDisk};
 ghost use Rattle.index_rules.specs.Facts.{IsBearer};
 ghost use Rattle.index_looks.specs.Looks.{IsKept, Looks};
+ghost use Rattle.index_looks.specs.Reasons.{FailsForReason};
 ghost use Rattle.index_reads.specs.Held.{tables_of};
 
 use crate::shown::first;
@@ -25,6 +26,7 @@ pub fn find_user<S: Alter>(
     ensures found { HasCleanDisk (state S.Store conn.new) → IfOk result (λ it.
         it ≡ get (tables_of S.Store conn.old).users user.now) }
     ensures looks { Looks S.Store conn.old conn.new (is_ok result) }
+    ensures reason { FailsForReason S.Store conn.old conn.new result }
 {
     let rows = look(
         conn,
@@ -45,6 +47,7 @@ pub fn find_bearer<S: Alter>(
     ensures found { HasCleanDisk (state S.Store conn.new)
         → IfOk result (IsBearer (tables_of S.Store conn.old) token) }
     ensures looks { Looks S.Store conn.old conn.new (is_ok result) }
+    ensures reason { FailsForReason S.Store conn.old conn.new result }
 {
     let digest = token.to_bytes();
     let rows = look(

@@ -5,7 +5,7 @@ ghost use Rattle.sqlite_value.specs.Order.{column};
 ghost use Rattle.index_names.specs.Project.{IsNormalName};
 ghost use Rattle.index_names.specs.Release.{IsRelease};
 ghost use Rattle.index_rules.specs.Users.{IsUserId};
-ghost use Rattle.index_records.specs.Rows.{IsBlobOf, IsDigestBlob, IsFileText, IsFlag, IsNull, IsNumber, IsNumberIfAny, IsText, IsTextIfAny, IsTextOf};
+ghost use Rattle.index_schema.specs.RecordRows.{IsBlobOf, IsDigestBlob, IsFileText, IsFlag, IsNull, IsNumber, IsNumberIfAny, IsText, IsTextIfAny, IsTextOf};
 
 use index_digest::Digest256;
 use index_names::{FileName, NameFault, NormalName, Release, normal, release_key};

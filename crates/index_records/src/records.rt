@@ -4,7 +4,7 @@ ghost use Rattle.std.specs.Prelude.{◌≡◌, IfOk, IsOk, IsOkUnless, IsTrue};
 ghost use Rattle.index_schema.specs.Records.{user_in, project_in, name_in, file_in, case_in, body_in, reason_in, kind_by, number_in, tally_in};
 ghost use Rattle.sqlite_value.specs.Order.{column};
 ghost use Rattle.index_records.specs.Bare.{bare_project};
-ghost use Rattle.index_records.specs.Rows.{IsBareRow, IsBodyRow, IsCaseRow, IsFileRow, IsKind, IsNameRow, IsProjectRow, IsTallyRow, IsUserRow, IsYankRow};
+ghost use Rattle.index_schema.specs.RecordRows.{IsBareRow, IsBodyRow, IsCaseRow, IsFileRow, IsKind, IsNameRow, IsProjectRow, IsTallyRow, IsUserRow, IsYankRow};
 
 use crate::columns::{
     blob, digest, flag, is_empty_text, is_null, is_zero, name, number, number_if_any, release,

@@ -2,7 +2,7 @@
 //! is none, and `Fault::OutOfMemory` where there is no memory for what it owns.
 ghost use Rattle.std.specs.Prelude.{◌≡◌, IfOk, IsOkUnless};
 ghost use Rattle.index_schema.specs.ShownRows.{account_in, file_row_shown, name_row_in, user_shown};
-ghost use Rattle.index_records.specs.Rows.{IsAccountRow, IsListedRow, IsNamedRow, IsOwnerRow};
+ghost use Rattle.index_schema.specs.RecordRows.{IsAccountRow, IsListedRow, IsNamedRow, IsOwnerRow};
 
 use crate::columns::{digest, file_name, name, number, release, text, text_if_any, user};
 use crate::records::{name_record, user_record};

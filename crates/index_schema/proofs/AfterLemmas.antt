@@ -10,7 +10,7 @@ use Rattle.index_rules.specs.Maps.{Bytes, Map, PairMap, Pairs, TextSet}
 use Rattle.index_rules.specs.Tables.{Tables}
 use Rattle.index_schema.specs.Records.{tables_in}
 use Rattle.index_schema.specs.Index.{IsIndex, Rewrites, Changes, version_in}
-use Rattle.index_schema.proofs.EditLemmas.{KeepsOthers}
+use Rattle.index_schema.proofs.EditLemmas.{KeepsOthers, Alters}
 
 module _ (db next : Trees) where
   users_alone : KeepsOthers 1 db next → tables_in next ≡ record (tables_in db) { users = (tables_in next).users }
@@ -45,29 +45,29 @@ module _ (db next : Trees) where
   version_kept tree apart h = rw (h.0 apart) refl
 
 module _ (old new : Database) (index : IsIndex new) where
-  pub users_change : (f : Tables → Map UserRecord) → (tables_in new.trees).users ≡ f (tables_in old.trees) → KeepsOthers 1 old.trees new.trees → Changes (λ T. record T { users = f T }) old new
-  users_change f is others = record { tables = users_alone old.trees new.trees others ∙ ap (λ it. record (tables_in old.trees) { users = it }) is; index = index; version = version_kept old.trees new.trees 1 (omega arith) others }
+  pub users_change : (f : Tables → Map UserRecord) → (tables_in new.trees).users ≡ f (tables_in old.trees) → Alters 1 old new → Changes (λ T. record T { users = f T }) old new
+  users_change f is others = record { tables = users_alone old.trees new.trees others.0 ∙ ap (λ it. record (tables_in old.trees) { users = it }) is; index = index; version = version_kept old.trees new.trees 1 (omega arith) others.0; records = others.1 }
 
-  pub names_change : (f : Tables → Map NameRecord) → (tables_in new.trees).names ≡ f (tables_in old.trees) → KeepsOthers 4 old.trees new.trees → Changes (λ T. record T { names = f T }) old new
-  names_change f is others = record { tables = names_alone old.trees new.trees others ∙ ap (λ it. record (tables_in old.trees) { names = it }) is; index = index; version = version_kept old.trees new.trees 4 (omega arith) others }
+  pub names_change : (f : Tables → Map NameRecord) → (tables_in new.trees).names ≡ f (tables_in old.trees) → Alters 4 old new → Changes (λ T. record T { names = f T }) old new
+  names_change f is others = record { tables = names_alone old.trees new.trees others.0 ∙ ap (λ it. record (tables_in old.trees) { names = it }) is; index = index; version = version_kept old.trees new.trees 4 (omega arith) others.0; records = others.1 }
 
-  pub owners_change : (f : Tables → Pairs) → (tables_in new.trees).owners ≡ f (tables_in old.trees) → KeepsOthers 6 old.trees new.trees → Changes (λ T. record T { owners = f T }) old new
-  owners_change f is others = record { tables = owners_alone old.trees new.trees others ∙ ap (λ it. record (tables_in old.trees) { owners = it }) is; index = index; version = version_kept old.trees new.trees 6 (omega arith) others }
+  pub owners_change : (f : Tables → Pairs) → (tables_in new.trees).owners ≡ f (tables_in old.trees) → Alters 6 old new → Changes (λ T. record T { owners = f T }) old new
+  owners_change f is others = record { tables = owners_alone old.trees new.trees others.0 ∙ ap (λ it. record (tables_in old.trees) { owners = it }) is; index = index; version = version_kept old.trees new.trees 6 (omega arith) others.0; records = others.1 }
 
-  pub files_change : (f : Tables → Map FileRecord) → (tables_in new.trees).files ≡ f (tables_in old.trees) → KeepsOthers 8 old.trees new.trees → Changes (λ T. record T { files = f T }) old new
-  files_change f is others = record { tables = files_alone old.trees new.trees others ∙ ap (λ it. record (tables_in old.trees) { files = it }) is; index = index; version = version_kept old.trees new.trees 8 (omega arith) others }
+  pub files_change : (f : Tables → Map FileRecord) → (tables_in new.trees).files ≡ f (tables_in old.trees) → Alters 8 old new → Changes (λ T. record T { files = f T }) old new
+  files_change f is others = record { tables = files_alone old.trees new.trees others.0 ∙ ap (λ it. record (tables_in old.trees) { files = it }) is; index = index; version = version_kept old.trees new.trees 8 (omega arith) others.0; records = others.1 }
 
-  pub bodies_change : (f : Tables → Map Bytes) → (tables_in new.trees).bodies ≡ f (tables_in old.trees) → KeepsOthers 11 old.trees new.trees → Changes (λ T. record T { bodies = f T }) old new
-  bodies_change f is others = record { tables = bodies_alone old.trees new.trees others ∙ ap (λ it. record (tables_in old.trees) { bodies = it }) is; index = index; version = version_kept old.trees new.trees 11 (omega arith) others }
+  pub bodies_change : (f : Tables → Map Bytes) → (tables_in new.trees).bodies ≡ f (tables_in old.trees) → Alters 11 old new → Changes (λ T. record T { bodies = f T }) old new
+  bodies_change f is others = record { tables = bodies_alone old.trees new.trees others.0 ∙ ap (λ it. record (tables_in old.trees) { bodies = it }) is; index = index; version = version_kept old.trees new.trees 11 (omega arith) others.0; records = others.1 }
 
-  pub yanks_change : (f : Tables → PairMap Bytes) → (tables_in new.trees).yanks ≡ f (tables_in old.trees) → KeepsOthers 13 old.trees new.trees → Changes (λ T. record T { yanks = f T }) old new
-  yanks_change f is others = record { tables = yanks_alone old.trees new.trees others ∙ ap (λ it. record (tables_in old.trees) { yanks = it }) is; index = index; version = version_kept old.trees new.trees 13 (omega arith) others }
+  pub yanks_change : (f : Tables → PairMap Bytes) → (tables_in new.trees).yanks ≡ f (tables_in old.trees) → Alters 13 old new → Changes (λ T. record T { yanks = f T }) old new
+  yanks_change f is others = record { tables = yanks_alone old.trees new.trees others.0 ∙ ap (λ it. record (tables_in old.trees) { yanks = it }) is; index = index; version = version_kept old.trees new.trees 13 (omega arith) others.0; records = others.1 }
 
-  pub cases_change : (f : Tables → Map CaseRecord) → (tables_in new.trees).cases ≡ f (tables_in old.trees) → KeepsOthers 15 old.trees new.trees → Changes (λ T. record T { cases = f T }) old new
-  cases_change f is others = record { tables = cases_alone old.trees new.trees others ∙ ap (λ it. record (tables_in old.trees) { cases = it }) is; index = index; version = version_kept old.trees new.trees 15 (omega arith) others }
+  pub cases_change : (f : Tables → Map CaseRecord) → (tables_in new.trees).cases ≡ f (tables_in old.trees) → Alters 15 old new → Changes (λ T. record T { cases = f T }) old new
+  cases_change f is others = record { tables = cases_alone old.trees new.trees others.0 ∙ ap (λ it. record (tables_in old.trees) { cases = it }) is; index = index; version = version_kept old.trees new.trees 15 (omega arith) others.0; records = others.1 }
 
-  pub bans_change : (f : Tables → TextSet) → (tables_in new.trees).bans ≡ f (tables_in old.trees) → KeepsOthers 17 old.trees new.trees → Changes (λ T. record T { bans = f T }) old new
-  bans_change f is others = record { tables = bans_alone old.trees new.trees others ∙ ap (λ it. record (tables_in old.trees) { bans = it }) is; index = index; version = version_kept old.trees new.trees 17 (omega arith) others }
+  pub bans_change : (f : Tables → TextSet) → (tables_in new.trees).bans ≡ f (tables_in old.trees) → Alters 17 old new → Changes (λ T. record T { bans = f T }) old new
+  bans_change f is others = record { tables = bans_alone old.trees new.trees others.0 ∙ ap (λ it. record (tables_in old.trees) { bans = it }) is; index = index; version = version_kept old.trees new.trees 17 (omega arith) others.0; records = others.1 }
 
-  pub meta_change : (told : Option ℕ → Option ℕ) → version_in new.trees ≡ told (version_in old.trees) → KeepsOthers 0 old.trees new.trees → Rewrites (λ T. T) told old new
-  meta_change told version others = record { tables = meta_alone old.trees new.trees others; index = index; version = version }
+  pub meta_change : (told : Option ℕ → Option ℕ) → version_in new.trees ≡ told (version_in old.trees) → Alters 0 old new → Rewrites (λ T. T) told old new
+  meta_change told version others = record { tables = meta_alone old.trees new.trees others.0; index = index; version = version; records = others.1 }

@@ -3,7 +3,9 @@ use Rattle.std.proofs.Common.{◌≡◌, ℕ, [], ◌∷◌, find, option_map, O
 use Rattle.std.specs.Fmt.{digits}
 use Rattle.sqlite_value.specs.Order.{column}
 use Rattle.sqlite_trees.specs.Tree.{Trees}
+use Rattle.std.specs.List.{AllByRecursion}
 use Rattle.sqlite_schema.specs.declared.schema.Table.{Table}
+use Rattle.sqlite_schema.specs.declared.schema.Schema.{Schema}
 use Rattle.sqlite_catalog.specs.Change.{created, KeepsRows}
 use Rattle.sqlite.specs.State.{State, Executes}
 use Rattle.sqlite_keyed.proofs.ListLemmas.{all_both, all-append}
@@ -13,6 +15,7 @@ use Rattle.index_schema.specs.Stages.{stage}
 use Rattle.index_schema.specs.FirstVersion.{first_version_schema, IsFirstVersion, without_bans}
 use Rattle.index_schema.specs.Index.{AreRows, Changes, is_version}
 use Rattle.index_schema.specs.Records.{number_in, tables_in}
+use Rattle.index_schema.specs.RecordRows.{IsRecordIn, AreRecordsIn, AreRecordsOf}
 use Rattle.index_schema.proofs.CreateLemmas.{creates, makes_bans}
 
 pub first_eight : stage 8 ≡ first_version_schema
@@ -40,4 +43,9 @@ creates_bans old new count h ran =
       tables = tables_after old.now.trees new.now.trees kept empty;
       index = record { schema = it.0 ∙ all_nine; sound = it.3; numbered = nine };
       version = ap (λ rows. option_map (λ r. number_in (column r 3)) (find is_version rows)) kept.0;
+      records = λ before.
+          let was = subst (λ (s : Schema). AreRecordsOf s.tables old.now.trees) h.schema before in
+          let eight = all_both (λ (t : Table). new.now.trees t.tree ≡ old.now.trees t.tree) (λ (t : Table). AreRecordsIn old.now.trees t.tree) (λ (t : Table). AreRecordsIn new.now.trees t.tree) (λ t same rows. subst (AllByRecursion (IsRecordIn t.tree)) (sym same) rows) first_version_schema.tables kept was in
+          let nine = all-append (λ (t : Table). AreRecordsIn new.now.trees t.tree) first_version_schema.tables (bans_at 17 ∷ []) eight (subst (AllByRecursion (IsRecordIn 17)) (sym empty) tt, tt) in
+          subst (λ (s : Schema). AreRecordsOf s.tables new.now.trees) (sym (it.0 ∙ all_nine)) nine;
     }

@@ -25,7 +25,7 @@ use Rattle.index_schema.specs.Schema.{index_schema}
 use Rattle.index_schema.specs.Records.{text_key, pair_key}
 use Rattle.index_schema.specs.Index.{IsIndex}
 use Rattle.index_schema.proofs.QueryShapes.{plan, from_one, is_param}
-use Rattle.index_schema.proofs.EditLemmas.{KeepsOthers}
+use Rattle.index_schema.proofs.EditLemmas.{Alters}
 use Rattle.index_schema.proofs.KeyLemmas.{IsText, IsPair}
 use Rattle.index_schema.proofs.KeyedLemmas.{gone_is, kept_is}
 use Rattle.index_schema.proofs.TableLemmas.{TextKeyed, PairKeyed, key_test, pair_key_test}
@@ -40,7 +40,7 @@ pub record Deletes (at : ℕ) (table : Table) (text : List ℕ) (tests : List Te
 module _ (at : ℕ) (table : Table) (t : TextKeyed at table) (text : List ℕ) (it : Deletes at table text (is_param 1 0 ∷ [])) where
   -- the record at the key goes
   pub deletes_text : {X : Type 0} (value : Row → X) (key : Bytes) (old new : State) (count : ℕ) → IsIndex old.now → Executes text (Text key ∷ []) old new (Ok count)
-      → (map_from {R = bytes_cmp} text_key value (new.now.trees table.tree) ≡ remove (map_from text_key value (old.now.trees table.tree)) key) × KeepsOthers table.tree old.now.trees new.now.trees × IsIndex new.now
+      → (map_from {R = bytes_cmp} text_key value (new.now.trees table.tree) ≡ remove (map_from text_key value (old.now.trees table.tree)) key) × Alters table.tree old.now new.now × IsIndex new.now
   deletes_text value key old new count h ran =
       let params = Text key ∷ [] in
       let here : Row → Bool = λ r. eq_by_cmp bytes_cmp key (text_key r) in
@@ -51,7 +51,7 @@ module _ (at : ℕ) (table : Table) (t : TextKeyed at table) (text : List ℕ) (
 module _ (at : ℕ) (table : Table) (t : PairKeyed at table) (text : List ℕ) (it : Deletes at table text (is_param 1 0 ∷ is_param 2 1 ∷ [])) where
   -- the same of a key of two texts
   pub deletes_pair : {X : Type 0} (value : Row → X) (key : Bytes × Bytes) (old new : State) (count : ℕ) → IsIndex old.now → Executes text (Text key.0 ∷ Text key.1 ∷ []) old new (Ok count)
-      → (map_from {R = pair_cmp} pair_key value (new.now.trees table.tree) ≡ remove (map_from pair_key value (old.now.trees table.tree)) key) × KeepsOthers table.tree old.now.trees new.now.trees × IsIndex new.now
+      → (map_from {R = pair_cmp} pair_key value (new.now.trees table.tree) ≡ remove (map_from pair_key value (old.now.trees table.tree)) key) × Alters table.tree old.now new.now × IsIndex new.now
   deletes_pair value key old new count h ran =
       let params = Text key.0 ∷ Text key.1 ∷ [] in
       let here : Row → Bool = λ r. eq_by_cmp pair_cmp key (pair_key r) in
@@ -62,7 +62,7 @@ module _ (at : ℕ) (table : Table) (t : PairKeyed at table) (text : List ℕ) (
 module _ (at : ℕ) (table : Table) (t : PairKeyed at table) (text : List ℕ) (it : Deletes at table text (is_param 1 0 ∷ [])) where
   -- all records go whose key begins with the name
   pub deletes_name : {X : Type 0} (value : Row → X) (name : Bytes) (old new : State) (count : ℕ) → IsIndex old.now → Executes text (Text name ∷ []) old new (Ok count)
-      → (map_from {R = pair_cmp} pair_key value (new.now.trees table.tree) ≡ without_name name (map_from pair_key value (old.now.trees table.tree))) × KeepsOthers table.tree old.now.trees new.now.trees × IsIndex new.now
+      → (map_from {R = pair_cmp} pair_key value (new.now.trees table.tree) ≡ without_name name (map_from pair_key value (old.now.trees table.tree))) × Alters table.tree old.now new.now × IsIndex new.now
   deletes_name value name old new count h ran =
       let params = Text name ∷ [] in
       let here : Row → Bool = λ r. same name (text_key r) in

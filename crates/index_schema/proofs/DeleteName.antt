@@ -55,7 +55,9 @@ use Rattle.sqlite.specs.Effect.{Database}
 use Rattle.sqlite.specs.State.{mode_of}
 use Rattle.sqlite.proofs.Callers.{runs_as, statement_of, one_step}
 use Rattle.sqlite_schema.specs.declared.program.Program.{Program}
-use Rattle.sqlite_keyed.proofs.ListLemmas.{map-map, filter_same}
+use Rattle.sqlite_keyed.proofs.ListLemmas.{map-map, filter_same, all-filter}
+use Rattle.sqlite_schema.specs.declared.schema.Schema.{Schema}
+use Rattle.index_schema.specs.RecordRows.{IsRecordIn, AreRecords, AreRecordsIn, AreRecordsOf}
 use Rattle.index_schema.specs.Index.{AreRows}
 use Rattle.index_schema.proofs.EditLemmas.{has_is, has_all, has_filter, filter_passes, one_row, matched_gone, kept_rows}
 use Rattle.sqlite_keyed.proofs.KeyedLemmas.{same_int}
@@ -215,6 +217,39 @@ module _ (name : Bytes) where
         );
       }
 
+  -- of the tables that lose rows, those that stay are records
+  recorded : (old new : Database) → IsIndex old → IsIndex new → Dropped old.trees new.trees → AreRecords old → AreRecords new
+  recorded old new h g d before =
+      let was = subst (λ (s : Schema). AreRecordsOf s.tables old.trees) h.schema before in
+      let gone : Row → Bool = λ row. same name (text_key row) in
+      let left : (tree : ℕ) (p : Row → Bool) → new.trees tree ≡ filter p (old.trees tree) → AreRecordsIn old.trees tree → AreRecordsIn new.trees tree =
+      λ tree p is rows. subst (AllByRecursion (IsRecordIn tree)) (sym is) (all-filter (IsRecordIn tree) p (old.trees tree) rows) in
+      let all : (tree : ℕ) → new.trees tree ≡ old.trees tree → AreRecordsIn old.trees tree → AreRecordsIn new.trees tree =
+      λ tree is rows. subst (AllByRecursion (IsRecordIn tree)) (sym is) rows in
+      let kept : AreRecordsOf index_schema.tables new.trees = (
+        all 0 d.rest.0 was.0,
+        (
+          all 1 d.rest.1 was.1.0,
+          (
+            left 4 (λ row. not (named row)) d.names was.1.1.0,
+            (
+              left 6 (λ row. not (gone row)) d.owners was.1.1.1.0,
+              (
+                all 8 d.rest.2 was.1.1.1.1.0,
+                (
+                  all 11 d.rest.3 was.1.1.1.1.1.0,
+                  (
+                    left 13 (λ row. not (gone row)) d.yanks was.1.1.1.1.1.1.0,
+                    (left 15 (λ row. not (gone row)) d.cases was.1.1.1.1.1.1.1.0, (all 17 d.rest.4 was.1.1.1.1.1.1.1.1.0, tt)),
+                  ),
+                ),
+              ),
+            ),
+          ),
+        ),
+      ) in
+      subst (λ (s : Schema). AreRecordsOf s.tables new.trees) (sym g.schema) kept
+
   gone_case : (row : Row) → not (same name (text_key row)) ≡ not (eq_by_cmp bytes_cmp name (text_key row))
   gone_case row = ap not (sym (is_eq-slice_cmp name (text_key row)))
 
@@ -304,4 +339,5 @@ module _ (name : Bytes) where
         | inl none ↦ dropped_none old.now new.now.trees h none (subst (λ l. Writes index_schema Enforced db (edit_with (names_at 4) l []) (Ok new.now.trees)) none writes)
         | inr one ↦ dropped_one old.now new.now.trees h one.0 one.1 (subst (λ l. Writes index_schema Enforced db (edit_with (names_at 4) l []) (Ok new.now.trees)) one.1 writes)
       ] in
-      record { tables = tables_after old.now new.now dropped; index = indexed old.now new.now h wrote.2 w.sound dropped; version = version_kept old.now new.now dropped }
+      let index = indexed old.now new.now h wrote.2 w.sound dropped in
+      record { tables = tables_after old.now new.now dropped; index = index; version = version_kept old.now new.now dropped; records = recorded old.now new.now h index dropped }

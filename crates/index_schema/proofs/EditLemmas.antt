@@ -11,15 +11,18 @@ use Rattle.sqlite_value.proofs.OrderLemmas.{value_cmp-Int}
 use Rattle.sqlite_trees.specs.Tree.{Trees, rowid, IsAscending, put_row, has_rowid}
 use Rattle.sqlite_trees.specs.View.{is_int}
 use Rattle.sqlite_schema.specs.declared.schema.Table.{Table}
+use Rattle.sqlite_schema.specs.declared.schema.Schema.{Schema}
 use Rattle.sqlite_rules.specs.Lists.{Has}
 use Rattle.sqlite_rules.specs.Edit.{id_in, numbered, put_all, without_all, is_taken, are_fresh, have_rowids}
 use Rattle.sqlite_rules.specs.declared.error.Rowids.TheVariants.{Given}
+use Rattle.sqlite.specs.Effect.{Database}
 use Rattle.sqlite_keyed.specs.Lists.{delete_where, without_key}
 use Rattle.sqlite_keyed.proofs.ListLemmas.{all_weaker, all_both, all-filter, none_from_any, ascending-filter, along_permutation, all_from_test}
 use Rattle.sqlite_keyed.proofs.KeyedLemmas.{same_int}
 use Rattle.index_rows.proofs.Permutations.{all_permutation, ascending_permutation}
 use Rattle.index_schema.specs.Schema.{index_schema}
-use Rattle.index_schema.specs.Index.{rowid_in, IsWhole, AreRows, IsNumbered}
+use Rattle.index_schema.specs.Index.{rowid_in, IsWhole, AreRows, IsNumbered, IsIndex}
+use Rattle.index_schema.specs.RecordRows.{IsRecordIn, AreRecords, AreRecordsIn, AreRecordsOf}
 
 pub as_int : (v : Value) → IsTrue (is_int v) → v ≡ Int (id_in v)
 as_int Null h = absurd (true≢false (sym h))
@@ -224,3 +227,21 @@ numbered_after tree db next others here before = all_both _ _ (λ (t : Table). A
         go : (b : Bool) → eqb t.tree tree ≡ b → AreRows (next t.tree)
         go true e = let found : t.tree ≡ tree = grind arith in subst (λ n. AreRows (next n)) (sym found) here
         go false e = let apart : t.tree ≢ tree = grind arith in subst AreRows (sym (same apart)) was
+
+-- the same, and the rows of all tables are records if they were
+abbrev pub Alters : ℕ → Database → Database → Type 0
+Alters tree old new = KeepsOthers tree old.trees new.trees × (AreRecords old → AreRecords new)
+
+pub altered : (tree : ℕ) (old new : Database) → IsIndex old → IsIndex new → KeepsOthers tree old.trees new.trees → (AreRecordsIn old.trees tree → AreRecordsIn new.trees tree) → Alters tree old new
+altered tree old new h g others here = (
+  others,
+  λ before. subst (λ (s : Schema). AreRecordsOf s.tables new.trees) (sym g.schema)
+      (all_both _ _ (λ (t : Table). AreRecordsIn new.trees t.tree) one index_schema.tables others (subst (λ (s : Schema). AreRecordsOf s.tables old.trees) h.schema before)),
+)
+  where
+    one : (t : Table) → (t.tree ≢ tree → new.trees t.tree ≡ old.trees t.tree) → AreRecordsIn old.trees t.tree → AreRecordsIn new.trees t.tree
+    one t same was = go (eqb t.tree tree) refl
+      where
+        go : (b : Bool) → eqb t.tree tree ≡ b → AreRecordsIn new.trees t.tree
+        go true e = let found : t.tree ≡ tree = grind arith in subst (AreRecordsIn new.trees) (sym found) (here (subst (AreRecordsIn old.trees) found was))
+        go false e = let apart : t.tree ≢ tree = grind arith in subst (AllByRecursion (IsRecordIn t.tree)) (sym (same apart)) was

@@ -5,6 +5,7 @@ pub mod TypedLemmas
 pub mod StatementLemmas
 pub mod StateLemmas
 pub mod StayLemmas
+pub mod SureLemmas
 pub mod EditLemmas
 pub mod KeyLemmas
 pub mod WriteLemmas
@@ -19,6 +20,7 @@ pub mod RemoveLemmas
 pub mod PutLemmas
 pub mod DeleteLemmas
 pub mod LookupLemmas
+pub mod ShownRecords
 pub mod VersionLemmas
 pub mod PutVersion
 pub mod PutUser

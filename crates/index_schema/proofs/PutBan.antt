@@ -21,6 +21,7 @@ use Rattle.index_rules.specs.Maps.{Bytes}
 use Rattle.index_schema.specs.Schema.{index_schema, bans_at}
 use Rattle.index_schema.specs.Records.{nothing_in}
 use Rattle.index_schema.specs.Index.{rowid_in, IsIndex, Changes}
+use Rattle.index_schema.specs.RecordRows.{IsBannedRow}
 use Rattle.index_schema.specs.StatementTexts.{put_ban_text}
 use Rattle.index_schema.proofs.QueryShapes.{on_conflict}
 use Rattle.index_schema.proofs.TableLemmas.{bans_keyed, cast_null, cast_int}
@@ -58,9 +59,9 @@ module _ (file : Bytes) where
   becomes : (made : ℤ) (r : Row) → rowid r ≡ Int (rowid_in r) → column r 1 ≡ Text file → updated (bans_at 17) cells project made r ≡ Int (rowid_in r) ∷ cells
   becomes made r is_id _ = rw (is_id, cast_int (rowid_in r)) refl
 
-  pub puts : (old new : State) (count : ℕ) → IsIndex old.now → Executes put_ban_text cells old new (Ok count)
+  pub puts : ((id : ℤ) → IsBannedRow (Int id ∷ cells)) → (old new : State) (count : ℕ) → IsIndex old.now → Executes put_ban_text cells old new (Ok count)
       → Changes (λ T. record T { bans = insert T.bans file tt }) old.now new.now
-  puts old new count h ran =
+  puts fits old new count h ran =
       let it = puts_text 8 (bans_at 17) bans_keyed put_ban_text file [] terms project 2 nothing_in tt (λ id. refl) (record {
         is_plain = is_plain;
         compiled = compiled;
@@ -70,5 +71,5 @@ module _ (file : Bytes) where
         cast_again = row_cast;
         conflicting = λ id r. refl;
         none = no_works;
-      }) becomes old new count h ran in
+      }) becomes fits old new count h ran in
       bans_change old.now new.now it.2 (λ T. insert T.bans file tt) it.0 it.1

@@ -21,6 +21,7 @@ use Rattle.index_rules.specs.Maps.{Bytes}
 use Rattle.index_schema.specs.Schema.{index_schema, blobs_at}
 use Rattle.index_schema.specs.Records.{body_in}
 use Rattle.index_schema.specs.Index.{rowid_in, IsIndex, Changes}
+use Rattle.index_schema.specs.RecordRows.{IsStoredRow}
 use Rattle.index_schema.specs.StatementTexts.{put_body_text}
 use Rattle.index_schema.proofs.QueryShapes.{on_conflict}
 use Rattle.index_schema.proofs.TableLemmas.{blobs_keyed, cast_null, cast_int}
@@ -58,9 +59,9 @@ module _ (file body : Bytes) where
   becomes : (made : ℤ) (r : Row) → rowid r ≡ Int (rowid_in r) → column r 1 ≡ Text file → updated (blobs_at 11) cells project made r ≡ Int (rowid_in r) ∷ cells
   becomes made r is_id is_key = rw (is_id, is_key, cast_int (rowid_in r)) refl
 
-  pub puts : (old new : State) (count : ℕ) → IsIndex old.now → Executes put_body_text cells old new (Ok count)
+  pub puts : ((id : ℤ) → IsStoredRow (Int id ∷ cells)) → (old new : State) (count : ℕ) → IsIndex old.now → Executes put_body_text cells old new (Ok count)
       → Changes (λ T. record T { bodies = insert T.bodies file body }) old.now new.now
-  puts old new count h ran =
+  puts fits old new count h ran =
       let it = puts_text 5 (blobs_at 11) blobs_keyed put_body_text file (Blob body ∷ []) terms project 3 body_in body (λ id. refl) (record {
         is_plain = is_plain;
         compiled = compiled;
@@ -70,5 +71,5 @@ module _ (file body : Bytes) where
         cast_again = row_cast;
         conflicting = λ id r. refl;
         none = no_works;
-      }) becomes old new count h ran in
+      }) becomes fits old new count h ran in
       bodies_change old.now new.now it.2 (λ T. insert T.bodies file body) it.0 it.1

@@ -22,6 +22,7 @@ use Rattle.index_rules.specs.Maps.{Bytes}
 use Rattle.index_schema.specs.Schema.{index_schema, cases_at}
 use Rattle.index_schema.specs.Records.{case_in}
 use Rattle.index_schema.specs.Index.{rowid_in, IsIndex, Changes}
+use Rattle.index_schema.specs.RecordRows.{IsOpenedRow}
 use Rattle.index_schema.specs.StatementTexts.{put_case_text}
 use Rattle.index_schema.proofs.QueryShapes.{on_conflict}
 use Rattle.index_schema.proofs.TableLemmas.{cases_keyed, cast_null, cast_int, cast_if_any}
@@ -59,9 +60,9 @@ module _ (name : Bytes) (kind : ℤ) (candidate contact work why : Bytes) (opene
   becomes : (made : ℤ) (r : Row) → rowid r ≡ Int (rowid_in r) → column r 1 ≡ Text name → updated (cases_at 15) cells project made r ≡ Int (rowid_in r) ∷ cells
   becomes made r is_id is_key = rw (is_id, is_key, cast_int (rowid_in r), cast_int kind, cast_int opened, cast_int attempts, cast_int sent, cast_int profile, cast_int author, cast_int pages, cast_if_any first) refl
 
-  pub puts : (old new : State) (count : ℕ) → IsIndex old.now → Executes put_case_text cells old new (Ok count)
+  pub puts : ((id : ℤ) → IsOpenedRow (Int id ∷ cells)) → (old new : State) (count : ℕ) → IsIndex old.now → Executes put_case_text cells old new (Ok count)
       → Changes (λ T. record T { cases = insert T.cases name (case_in (Int (pos 0) ∷ cells)) }) old.now new.now
-  puts old new count h ran =
+  puts fits old new count h ran =
       let it = puts_text 7 (cases_at 15) cases_keyed put_case_text name (Int kind ∷ Text candidate ∷ Text contact ∷ Text work ∷ Text why ∷ Int opened ∷ Int attempts ∷ Int sent ∷ Int profile ∷ Int author ∷ Int pages ∷ or_null Int first ∷ []) terms project 14 case_in (case_in (Int (pos 0) ∷ cells)) (λ id. refl) (record {
         is_plain = is_plain;
         compiled = compiled;
@@ -71,5 +72,5 @@ module _ (name : Bytes) (kind : ℤ) (candidate contact work why : Bytes) (opene
         cast_again = row_cast;
         conflicting = λ id r. refl;
         none = no_works;
-      }) becomes old new count h ran in
+      }) becomes fits old new count h ran in
       cases_change old.now new.now it.2 (λ T. insert T.cases name (case_in (Int (pos 0) ∷ cells))) it.0 it.1

@@ -21,6 +21,7 @@ use Rattle.index_rules.specs.Maps.{Bytes}
 use Rattle.index_schema.specs.Schema.{index_schema, files_at}
 use Rattle.index_schema.specs.Records.{file_in}
 use Rattle.index_schema.specs.Index.{rowid_in, IsIndex, Changes}
+use Rattle.index_schema.specs.RecordRows.{IsFiledRow}
 use Rattle.index_schema.specs.StatementTexts.{put_file_text}
 use Rattle.index_schema.proofs.QueryShapes.{on_conflict}
 use Rattle.index_schema.proofs.TableLemmas.{files_keyed, cast_null, cast_int}
@@ -58,9 +59,9 @@ module _ (file name release digest : Bytes) (size : ℤ) (requires : Bytes) (liv
   becomes : (made : ℤ) (r : Row) → rowid r ≡ Int (rowid_in r) → column r 1 ≡ Text file → updated (files_at 8) cells project made r ≡ Int (rowid_in r) ∷ cells
   becomes made r is_id is_key = rw (is_id, is_key, cast_int (rowid_in r), cast_int size, cast_int live) refl
 
-  pub puts : (old new : State) (count : ℕ) → IsIndex old.now → Executes put_file_text cells old new (Ok count)
+  pub puts : ((id : ℤ) → IsFiledRow (Int id ∷ cells)) → (old new : State) (count : ℕ) → IsIndex old.now → Executes put_file_text cells old new (Ok count)
       → Changes (λ T. record T { files = insert T.files file (file_in (Int (pos 0) ∷ cells)) }) old.now new.now
-  puts old new count h ran =
+  puts fits old new count h ran =
       let it = puts_text 4 (files_at 8) files_keyed put_file_text file (Text name ∷ Text release ∷ Blob digest ∷ Int size ∷ Text requires ∷ Int live ∷ []) terms project 8 file_in (file_in (Int (pos 0) ∷ cells)) (λ id. refl) (record {
         is_plain = is_plain;
         compiled = compiled;
@@ -70,5 +71,5 @@ module _ (file name release digest : Bytes) (size : ℤ) (requires : Bytes) (liv
         cast_again = row_cast;
         conflicting = λ id r. refl;
         none = no_works;
-      }) becomes old new count h ran in
+      }) becomes fits old new count h ran in
       files_change old.now new.now it.2 (λ T. insert T.files file (file_in (Int (pos 0) ∷ cells))) it.0 it.1

@@ -1,5 +1,5 @@
 -- INSERT .. ON CONFLICT DO UPDATE by the key of a table: the key has this record.
-use Rattle.std.proofs.Common.{◌≡◌, ℕ, ℤ, Bool, true, false, ◌||◌, ◌/◌, List, [], ◌∷◌, ◌++◌, length, Some, Ok, refl, sym, ap, ◌∙◌, true≢false}
+use Rattle.std.proofs.Common.{◌≡◌, ℕ, ℤ, Bool, true, false, not, ◌||◌, ◌/◌, List, [], ◌∷◌, ◌++◌, length, Some, Ok, refl, sym, ap, ◌∙◌, true≢false}
 use Rattle.std.specs.declared.cmp.Ordering.{Ordering}
 use Rattle.std.specs.declared.cmp.Ordering.TheVariants.{Less, Equal, Greater}
 use Rattle.std.specs.Ordering.{eq_by_cmp, is_eq}
@@ -26,15 +26,17 @@ use Rattle.sqlite.specs.Rows.{shown, stamped}
 use Rattle.sqlite.specs.Listing.{understood}
 use Rattle.sqlite.specs.State.{State, Executes}
 use Rattle.sqlite.proofs.Callers.{IsPlain, command_of}
-use Rattle.sqlite_keyed.proofs.ListLemmas.{all_weaker, all_both}
+use Rattle.sqlite_keyed.proofs.ListLemmas.{all_weaker, all_both, all-filter}
 use Rattle.index_rules.specs.Maps.{Bytes, bytes_cmp, pair_cmp}
 use Rattle.index_rules.proofs.OwnerLists.{pair_total, exact_pair}
 use Rattle.index_rows.specs.RowMaps.{map_from}
+use Rattle.index_rows.proofs.Permutations.{all_permutation}
 use Rattle.index_schema.specs.Schema.{index_schema}
 use Rattle.index_schema.specs.Records.{text_key, pair_key}
 use Rattle.index_schema.specs.Index.{rowid_in, IsWhole, IsIndex}
+use Rattle.index_schema.specs.RecordRows.{IsRecordIn}
 use Rattle.index_schema.proofs.QueryShapes.{on_conflict}
-use Rattle.index_schema.proofs.EditLemmas.{as_int, KeepsOthers}
+use Rattle.index_schema.proofs.EditLemmas.{as_int, Alters, altered}
 use Rattle.index_schema.proofs.KeyLemmas.{IsText, IsPair, agree_texts, agree_pairs, are_rows}
 use Rattle.index_schema.proofs.KeyedLemmas.{once, put_is}
 use Rattle.index_rows.proofs.RowLemmas.{or_false}
@@ -69,9 +71,9 @@ module _ (at : ℕ) (table : Table) (t : TextKeyed at table) (text : List ℕ) (
   -- the record at the key is that of the new row
   pub puts_text : {X : Type 0} (value : Row → X) (v : X) → ((id : ℤ) → value (Int id ∷ cells) ≡ v) → PutsAt at table text cells terms project width (1 ∷ [])
       → ((made : ℤ) (r : Row) → rowid r ≡ Int (rowid_in r) → column r 1 ≡ Text key → updated table cells project made r ≡ Int (rowid_in r) ∷ cells)
-      → (old new : State) (count : ℕ) → IsIndex old.now → Executes text cells old new (Ok count)
-      → (map_from {R = bytes_cmp} text_key value (new.now.trees table.tree) ≡ insert (map_from text_key value (old.now.trees table.tree)) key v) × KeepsOthers table.tree old.now.trees new.now.trees × IsIndex new.now
-  puts_text value v constant it becomes old new count h ran =
+      → ((id : ℤ) → IsRecordIn table.tree (Int id ∷ cells)) → (old new : State) (count : ℕ) → IsIndex old.now → Executes text cells old new (Ok count)
+      → (map_from {R = bytes_cmp} text_key value (new.now.trees table.tree) ≡ insert (map_from text_key value (old.now.trees table.tree)) key v) × Alters table.tree old.now new.now × IsIndex new.now
+  puts_text value v constant it becomes fits old new count h ran =
       let rows = old.now.trees table.tree in
       let here : Row → Bool = λ r. eq_by_cmp bytes_cmp key (text_key r) in
       let meets : (id : ℤ) (r : Row) → IsText 1 r → conflicts (Some (1 ∷ [])) index_schema.indexes table (Int id ∷ cells) r ≡ here r =
@@ -90,7 +92,8 @@ module _ (at : ℕ) (table : Table) (t : TextKeyed at table) (text : List ℕ) (
         none = it.none;
       }) ran in
       let is = put_is nat_list_cmp_total exact_bytes text_key value table.tree t.apart old.now new.now did.1 (Int did.0.0 ∷ cells) did.0.1 in
-      (is ∙ ap (insert (map_from text_key value rows) key) (constant did.0.0), did.0.3, did.1)
+      let alters = altered table.tree old.now new.now h did.1 did.0.3 (λ before. all_permutation (IsRecordIn table.tree) _ _ did.0.1 (fits did.0.0, all-filter (IsRecordIn table.tree) (λ r. not (here r)) rows before)) in
+      (is ∙ ap (insert (map_from text_key value rows) key) (constant did.0.0), alters, did.1)
 
 module _ (at : ℕ) (table : Table) (t : PairKeyed at table) (text : List ℕ) (first second : Bytes) (more : Row) (terms project : List Term) (width : ℕ) where
   abbrev pair_cells : Row
@@ -99,9 +102,9 @@ module _ (at : ℕ) (table : Table) (t : PairKeyed at table) (text : List ℕ) (
   -- the same of a key of two texts
   pub puts_pair : {X : Type 0} (value : Row → X) (v : X) → ((id : ℤ) → value (Int id ∷ pair_cells) ≡ v) → PutsAt at table text pair_cells terms project width (1 ∷ 2 ∷ [])
       → ((made : ℤ) (r : Row) → rowid r ≡ Int (rowid_in r) → column r 1 ≡ Text first → column r 2 ≡ Text second → updated table pair_cells project made r ≡ Int (rowid_in r) ∷ pair_cells)
-      → (old new : State) (count : ℕ) → IsIndex old.now → Executes text pair_cells old new (Ok count)
-      → (map_from {R = pair_cmp} pair_key value (new.now.trees table.tree) ≡ insert (map_from pair_key value (old.now.trees table.tree)) (first, second) v) × KeepsOthers table.tree old.now.trees new.now.trees × IsIndex new.now
-  puts_pair value v constant it becomes old new count h ran =
+      → ((id : ℤ) → IsRecordIn table.tree (Int id ∷ pair_cells)) → (old new : State) (count : ℕ) → IsIndex old.now → Executes text pair_cells old new (Ok count)
+      → (map_from {R = pair_cmp} pair_key value (new.now.trees table.tree) ≡ insert (map_from pair_key value (old.now.trees table.tree)) (first, second) v) × Alters table.tree old.now new.now × IsIndex new.now
+  puts_pair value v constant it becomes fits old new count h ran =
       let rows = old.now.trees table.tree in
       let here : Row → Bool = λ r. eq_by_cmp pair_cmp (first, second) (pair_key r) in
       let meets : (id : ℤ) (r : Row) → IsPair r → conflicts (Some (1 ∷ 2 ∷ [])) index_schema.indexes table (Int id ∷ pair_cells) r ≡ here r =
@@ -121,4 +124,5 @@ module _ (at : ℕ) (table : Table) (t : PairKeyed at table) (text : List ℕ) (
         none = it.none;
       }) ran in
       let is = put_is pair_total exact_pair pair_key value table.tree t.apart old.now new.now did.1 (Int did.0.0 ∷ pair_cells) did.0.1 in
-      (is ∙ ap (insert (map_from pair_key value rows) (first, second)) (constant did.0.0), did.0.3, did.1)
+      let alters = altered table.tree old.now new.now h did.1 did.0.3 (λ before. all_permutation (IsRecordIn table.tree) _ _ did.0.1 (fits did.0.0, all-filter (IsRecordIn table.tree) (λ r. not (here r)) rows before)) in
+      (is ∙ ap (insert (map_from pair_key value rows) (first, second)) (constant did.0.0), alters, did.1)

@@ -22,6 +22,7 @@ use Rattle.index_rules.specs.Maps.{Bytes}
 use Rattle.index_schema.specs.Schema.{index_schema, names_at}
 use Rattle.index_schema.specs.Records.{name_in}
 use Rattle.index_schema.specs.Index.{rowid_in, IsIndex, Changes}
+use Rattle.index_schema.specs.RecordRows.{IsNamedRow}
 use Rattle.index_schema.specs.StatementTexts.{put_name_text}
 use Rattle.index_schema.proofs.QueryShapes.{on_conflict}
 use Rattle.index_schema.proofs.TableLemmas.{names_keyed, cast_null, cast_int, cast_if_any}
@@ -59,9 +60,9 @@ module _ (name : Bytes) (number : ℤ) (shown : Bytes) (quota charged live : ℤ
   becomes : (made : ℤ) (r : Row) → rowid r ≡ Int (rowid_in r) → column r 1 ≡ Text name → updated (names_at 4) cells project made r ≡ Int (rowid_in r) ∷ cells
   becomes made r is_id is_key = rw (is_id, is_key, cast_int (rowid_in r), cast_int number, cast_int quota, cast_int charged, cast_int live, cast_if_any last) refl
 
-  pub puts : (old new : State) (count : ℕ) → IsIndex old.now → Executes put_name_text cells old new (Ok count)
+  pub puts : ((id : ℤ) → IsNamedRow (Int id ∷ cells)) → (old new : State) (count : ℕ) → IsIndex old.now → Executes put_name_text cells old new (Ok count)
       → Changes (λ T. record T { names = insert T.names name (name_in (Int (pos 0) ∷ cells)) }) old.now new.now
-  puts old new count h ran =
+  puts fits old new count h ran =
       let it = puts_text 2 (names_at 4) names_keyed put_name_text name (Int number ∷ Text shown ∷ Int quota ∷ Int charged ∷ Int live ∷ or_null Int last ∷ []) terms project 8 name_in (name_in (Int (pos 0) ∷ cells)) (λ id. refl) (record {
         is_plain = is_plain;
         compiled = compiled;
@@ -71,5 +72,5 @@ module _ (name : Bytes) (number : ℤ) (shown : Bytes) (quota charged live : ℤ
         cast_again = row_cast;
         conflicting = λ id r. refl;
         none = no_works;
-      }) becomes old new count h ran in
+      }) becomes fits old new count h ran in
       names_change old.now new.now it.2 (λ T. insert T.names name (name_in (Int (pos 0) ∷ cells))) it.0 it.1

@@ -21,6 +21,7 @@ use Rattle.index_rules.specs.Maps.{Bytes}
 use Rattle.index_schema.specs.Schema.{index_schema, owners_at}
 use Rattle.index_schema.specs.Records.{nothing_in}
 use Rattle.index_schema.specs.Index.{rowid_in, IsIndex, Changes}
+use Rattle.index_schema.specs.RecordRows.{IsOwnedRow}
 use Rattle.index_schema.specs.StatementTexts.{put_owner_text}
 use Rattle.index_schema.proofs.QueryShapes.{on_conflict}
 use Rattle.index_schema.proofs.TableLemmas.{owners_keyed, cast_null, cast_int}
@@ -58,9 +59,9 @@ module _ (name user : Bytes) where
   becomes : (made : ℤ) (r : Row) → rowid r ≡ Int (rowid_in r) → column r 1 ≡ Text name → column r 2 ≡ Text user → updated (owners_at 6) cells project made r ≡ Int (rowid_in r) ∷ cells
   becomes made r is_id is_first _ = rw (is_id, is_first, cast_int (rowid_in r)) refl
 
-  pub puts : (old new : State) (count : ℕ) → IsIndex old.now → Executes put_owner_text cells old new (Ok count)
+  pub puts : ((id : ℤ) → IsOwnedRow (Int id ∷ cells)) → (old new : State) (count : ℕ) → IsIndex old.now → Executes put_owner_text cells old new (Ok count)
       → Changes (λ T. record T { owners = insert T.owners (name, user) tt }) old.now new.now
-  puts old new count h ran =
+  puts fits old new count h ran =
       let it = puts_pair 3 (owners_at 6) owners_keyed put_owner_text name user [] terms project 3 nothing_in tt (λ id. refl) (record {
         is_plain = is_plain;
         compiled = compiled;
@@ -70,5 +71,5 @@ module _ (name user : Bytes) where
         cast_again = row_cast;
         conflicting = λ id r. refl;
         none = no_works;
-      }) becomes old new count h ran in
+      }) becomes fits old new count h ran in
       owners_change old.now new.now it.2 (λ T. insert T.owners (name, user) tt) it.0 it.1

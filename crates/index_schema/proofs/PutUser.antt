@@ -21,6 +21,7 @@ use Rattle.index_rules.specs.Maps.{Bytes}
 use Rattle.index_schema.specs.Schema.{index_schema, users_at}
 use Rattle.index_schema.specs.Records.{user_in}
 use Rattle.index_schema.specs.Index.{rowid_in, IsIndex, Changes}
+use Rattle.index_schema.specs.RecordRows.{IsAccountRow}
 use Rattle.index_schema.specs.StatementTexts.{put_user_text}
 use Rattle.index_schema.proofs.QueryShapes.{on_conflict}
 use Rattle.index_schema.proofs.TableLemmas.{users_keyed, cast_null, cast_int}
@@ -58,9 +59,9 @@ module _ (user : Bytes) (office : ℤ) (token : Bytes) where
   becomes : (made : ℤ) (r : Row) → rowid r ≡ Int (rowid_in r) → column r 1 ≡ Text user → updated (users_at 1) cells project made r ≡ Int (rowid_in r) ∷ cells
   becomes made r is_id is_key = rw (is_id, is_key, cast_int (rowid_in r), cast_int office) refl
 
-  pub puts : (old new : State) (count : ℕ) → IsIndex old.now → Executes put_user_text cells old new (Ok count)
+  pub puts : ((id : ℤ) → IsAccountRow (Int id ∷ cells)) → (old new : State) (count : ℕ) → IsIndex old.now → Executes put_user_text cells old new (Ok count)
       → Changes (λ T. record T { users = insert T.users user (user_in (Int (pos 0) ∷ cells)) }) old.now new.now
-  puts old new count h ran =
+  puts fits old new count h ran =
       let it = puts_text 1 (users_at 1) users_keyed put_user_text user (Int office ∷ Blob token ∷ []) terms project 4 user_in (user_in (Int (pos 0) ∷ cells)) (λ id. refl) (record {
         is_plain = is_plain;
         compiled = compiled;
@@ -70,5 +71,5 @@ module _ (user : Bytes) (office : ℤ) (token : Bytes) where
         cast_again = row_cast;
         conflicting = λ id r. refl;
         none = no_works;
-      }) becomes old new count h ran in
+      }) becomes fits old new count h ran in
       users_change old.now new.now it.2 (λ T. insert T.users user (user_in (Int (pos 0) ∷ cells))) it.0 it.1

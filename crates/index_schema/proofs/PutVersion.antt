@@ -23,9 +23,11 @@ use Rattle.sqlite.specs.State.{mode_of}
 use Rattle.sqlite.proofs.Callers.{runs_as, statement_of, one_step}
 use Rattle.sqlite_rules.specs.Edit.{edit_of, put_all, with_rowid, are_fresh}
 use Rattle.index_schema.specs.Index.{AreRows}
+use Rattle.index_schema.specs.RecordRows.{IsRecordIn}
+use Rattle.sqlite_keyed.proofs.ListLemmas.{all_of}
 use Rattle.sqlite_rules.specs.declared.error.Rowids.TheVariants.{Chosen}
 use Rattle.index_schema.specs.Schema.{meta_at}
-use Rattle.index_schema.proofs.EditLemmas.{put_all_fresh, numbered_after}
+use Rattle.index_schema.proofs.EditLemmas.{put_all_fresh, numbered_after, altered}
 use Rattle.index_schema.proofs.StatementLemmas.{insert_edit}
 use Rattle.index_schema.proofs.AfterLemmas.{meta_change}
 use Rattle.index_schema.specs.StatementTexts.{put_version_text}
@@ -61,4 +63,5 @@ puts old new count h ran =
     let put = put_all_fresh (row ∷ []) (db 0) (refl, tt) (subst (λ ns. are_fresh (db 0) ns ≡ true) cast it.fresh) (are_rows 0 (meta_at 0) refl old.now h) in
     let next : new.now.trees 0 ≡ put_all (db 0) (row ∷ []) = it.rows ∙ ap (put_all (db 0)) cast in
     let told : version_in new.now.trees ≡ Some 2 = ap (λ rows. option_map (λ r. number_in (column r 3)) (find is_version rows)) next ∙ ap (option_map (λ r. number_in (column r 3))) (sym (same_version (put_all (db 0) (row ∷ [])) (row ∷ db 0) put.1 (IsPermutation-sym _ _ put.0))) in
-    meta_change old.now new.now (record { schema = wrote.0; sound = w.sound; numbered = numbered_after 0 db new.now.trees it.tables (subst AreRows (sym next) put.1) h.numbered }) (λ _. Some 2) told it.tables
+    let index : IsIndex new.now = record { schema = wrote.0; sound = w.sound; numbered = numbered_after 0 db new.now.trees it.tables (subst AreRows (sym next) put.1) h.numbered } in
+    meta_change old.now new.now index (λ _. Some 2) told (altered 0 old.now new.now h index it.tables (λ _. all_of (IsRecordIn 0) (λ r. tt) (new.now.trees 0)))

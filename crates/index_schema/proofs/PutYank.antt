@@ -21,6 +21,7 @@ use Rattle.index_rules.specs.Maps.{Bytes}
 use Rattle.index_schema.specs.Schema.{index_schema, yanks_at}
 use Rattle.index_schema.specs.Records.{reason_in}
 use Rattle.index_schema.specs.Index.{rowid_in, IsIndex, Changes}
+use Rattle.index_schema.specs.RecordRows.{IsYankedRow}
 use Rattle.index_schema.specs.StatementTexts.{put_yank_text}
 use Rattle.index_schema.proofs.QueryShapes.{on_conflict}
 use Rattle.index_schema.proofs.TableLemmas.{yanks_keyed, cast_null, cast_int}
@@ -58,9 +59,9 @@ module _ (name release reason : Bytes) where
   becomes : (made : ℤ) (r : Row) → rowid r ≡ Int (rowid_in r) → column r 1 ≡ Text name → column r 2 ≡ Text release → updated (yanks_at 13) cells project made r ≡ Int (rowid_in r) ∷ cells
   becomes made r is_id is_first is_second = rw (is_id, is_first, is_second, cast_int (rowid_in r)) refl
 
-  pub puts : (old new : State) (count : ℕ) → IsIndex old.now → Executes put_yank_text cells old new (Ok count)
+  pub puts : ((id : ℤ) → IsYankedRow (Int id ∷ cells)) → (old new : State) (count : ℕ) → IsIndex old.now → Executes put_yank_text cells old new (Ok count)
       → Changes (λ T. record T { yanks = insert T.yanks (name, release) reason }) old.now new.now
-  puts old new count h ran =
+  puts fits old new count h ran =
       let it = puts_pair 6 (yanks_at 13) yanks_keyed put_yank_text name release (Text reason ∷ []) terms project 4 reason_in reason (λ id. refl) (record {
         is_plain = is_plain;
         compiled = compiled;
@@ -70,5 +71,5 @@ module _ (name release reason : Bytes) where
         cast_again = row_cast;
         conflicting = λ id r. refl;
         none = no_works;
-      }) becomes old new count h ran in
+      }) becomes fits old new count h ran in
       yanks_change old.now new.now it.2 (λ T. insert T.yanks (name, release) reason) it.0 it.1

@@ -1,5 +1,5 @@
 -- SELECT FROM users by the token: who bears it.
-use Rattle.std.proofs.Common.{◌≡◌, Bool, true, false, List, [], ◌∷◌, codes, filter, slice_get, option_map, inl, refl, sym, subst, ◌∙◌, IsPermutation}
+use Rattle.std.proofs.Common.{◌≡◌, Bool, true, false, List, [], ◌∷◌, codes, map, filter, slice_get, option_map, inl, refl, sym, subst, ◌∙◌, IsPermutation, arith}
 use Rattle.std.specs.List.{list_all}
 use Rattle.std.proofs.lemmas.Cmp.{nat_list_cmp_total}
 use Rattle.std.proofs.lemmas.List.Sorted.{IsPermutation-sym}
@@ -28,8 +28,13 @@ use Rattle.index_schema.proofs.EditLemmas.{has_all, has_filter, has_permutation,
 use Rattle.index_schema.proofs.KeyLemmas.{IsBlob, blobs, blob_test}
 use Rattle.index_schema.proofs.KeyedLemmas.{row_at_key, get_row}
 use Rattle.index_schema.proofs.TableLemmas.{users_keyed, same-turned}
-use Rattle.index_schema.proofs.LookupLemmas.{Selects, first_shown}
+use Rattle.index_schema.proofs.LookupLemmas.{Selects, first_shown, shown_all}
 use Rattle.index_schema.proofs.WriteLemmas.{answered}
+use Rattle.std.specs.List.{AllByRecursion}
+use Rattle.index_schema.specs.RecordRows.{IsAccountRow}
+use Rattle.index_schema.specs.Sure.{IsSure}
+use Rattle.index_schema.proofs.SureLemmas.{readable_one}
+use Rattle.index_schema.proofs.ShownRecords.{account_shown}
 
 abbrev project : List Term
 project = col 1 0 ∷ col 1 1 ∷ col 1 2 ∷ col 1 3 ∷ []
@@ -62,13 +67,28 @@ module _ (token : Bytes) where
       let it = has_all _ (filter bears (db.trees 1)) r (filter_passes bears (db.trees 1)) passed in
       (get_row nat_list_cmp_total exact_bytes text_key user_in 1 users_keyed.apart db h r it.0, it.1)
 
-  pub selects : (old new : State) (rows : List Row) → IsIndex old.now → Shown select_bearer_text (Blob token ∷ []) old new rows
-      → IsBearer (tables_in old.now.trees) token (option_map account_in (slice_get rows 0))
-  selects old new rows h ran =
+  found_with : (old new : State) (rows : List Row) → IsIndex old.now → Shown select_bearer_text (Blob token ∷ []) old new rows
+      → (found : List Row) × IsPermutation (filter bears (old.now.trees 1)) found × (rows ≡ map (λ r. eval_all project ((Blob token ∷ []) ∷ r ∷ [])) found)
+  found_with old new rows h ran =
       let params = Blob token ∷ [] in
       let answer = reads_as select_bearer_text params old new index_schema h.schema _ shown.compiled shown.is_plain shown.unlisted rows ran in
       let tokens = blobs 1 (users_at 1) refl old.now h refl 2 _ refl refl refl refl in
       let tests = all_weaker (IsBlob 3) (λ r. list_all (holds (params ∷ r ∷ [])) (is_param 3 0 ∷ []) ≡ bears r) tested (old.now.trees 1) tokens in
-      let found = answered 1 (users_at 1) refl (λ db. refl) params (is_param 3 0 ∷ []) project bears old.now.trees rows tests (answer.answer Null) in
-      let first = first_shown account_in account_in (λ r. eval_all project (params ∷ r ∷ [])) (λ r. refl) found.0 rows found.2 in
+      answered 1 (users_at 1) refl (λ db. refl) params (is_param 3 0 ∷ []) project bears old.now.trees rows tests (answer.answer Null)
+
+  pub selects : (old new : State) (rows : List Row) → IsIndex old.now → Shown select_bearer_text (Blob token ∷ []) old new rows
+      → IsBearer (tables_in old.now.trees) token (option_map account_in (slice_get rows 0))
+  selects old new rows h ran =
+      let found = found_with old new rows h ran in
+      let first = first_shown account_in account_in (λ r. eval_all project ((Blob token ∷ []) ∷ r ∷ [])) (λ r. refl) found.0 rows found.2 in
       subst (IsBearer (tables_in old.now.trees) token) (sym first) (bearer_is old.now h found.0 found.1)
+
+  -- the rows that it shows are those of records
+  pub records : (old new : State) (rows : List Row) → IsIndex old.now → Shown select_bearer_text (Blob token ∷ []) old new rows → AllByRecursion IsAccountRow (old.now.trees 1) → AllByRecursion IsAccountRow rows
+  records old new rows h ran all =
+      let found = found_with old new rows h ran in
+      shown_all IsAccountRow IsAccountRow (λ r. eval_all project ((Blob token ∷ []) ∷ r ∷ [])) account_shown bears (old.now.trees 1) found.0 rows found.1 found.2 all
+
+pub sure : (token : Bytes) → IsSure select_bearer_text (Blob token ∷ [])
+unfolding understood everything IsSure
+sure token = ((omega arith, refl, refl, refl, readable_one 1 (is_param 3 0 ∷ []) project [] (codes "rowid" ∷ codes "user" ∷ codes "office" ∷ codes "token" ∷ []) (Blob token ∷ []) refl), refl)

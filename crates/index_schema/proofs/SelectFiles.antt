@@ -1,5 +1,5 @@
 -- SELECT FROM files .. LEFT JOIN yanks .. ORDER BY file: the undeleted files of a name with their yanks, in byte order.
-use Rattle.std.proofs.Common.{◌≡◌, ◌≤◌, Bool, true, false, ◌&&◌, cond, ℕ, List, [], ◌∷◌, append-nil, codes, filter, find, flat_map, map, length, slice_get, Option, Some, None, option_map, unwrap_or, refl, sym, ap, ap₂, subst, ◌∙◌, arith, IsPermutation}
+use Rattle.std.proofs.Common.{◌≡◌, ◌≤◌, Bool, true, false, ◌&&◌, cond, ℕ, List, [], ◌∷◌, append-nil, codes, filter, find, flat_map, map, length, slice_get, Option, Some, None, option_map, unwrap_or, refl, sym, ap, ap₂, subst, ◌∙◌, arith, IsPermutation, inl, inr}
 use Rattle.std.specs.List.{AllByRecursion, list_all}
 use Rattle.std.specs.Ordering.{eq_by_cmp}
 use Rattle.std.proofs.lemmas.Cmp.{nat_list_cmp_total}
@@ -38,6 +38,10 @@ use Rattle.index_schema.specs.Records.{tables_in, text_key, pair_key, file_in, r
 use Rattle.index_schema.specs.ShownRows.{file_row_shown}
 use Rattle.index_schema.specs.Index.{IsIndex}
 use Rattle.index_schema.specs.StatementTexts.{select_files_text}
+use Rattle.index_schema.specs.Sure.{IsSure}
+use Rattle.index_schema.specs.RecordRows.{IsFiledRow, IsYankedRow, IsListedRow, IsTextIfAny}
+use Rattle.index_schema.proofs.SelectLemmas.{read_all}
+use Rattle.index_schema.proofs.SureLemmas.{readable_left}
 use Rattle.index_schema.proofs.QueryShapes.{plan, from_with, is_param}
 use Rattle.index_schema.proofs.EditLemmas.{filter_with, filter_passes, has_all}
 use Rattle.index_schema.proofs.KeyLemmas.{IsText, IsPair, IsNumber, texts, wholes, text_test}
@@ -145,6 +149,33 @@ module _ (name : Bytes) (db : Database) (h : IsIndex db) where
       let reason = reason_is r reasons ∙ ap (λ n. yank_in T n (bytes (column r 3))) (sym own) in
       ap (λ y. record (file_row_in T name (text_key r, file_in r)) { yanked = y }) reason
 
+  -- the rows as they are typed
+  all_rows : AllByRecursion IsRow (trees 8)
+  all_rows =
+      let rs = trees 8 in
+      let names = texts 4 (files_at 8) refl db h refl 1 _ refl refl refl refl in
+      let releases = texts 4 (files_at 8) refl db h refl 2 _ refl refl refl refl in
+      let lives = wholes 4 (files_at 8) refl db h refl 6 _ refl refl refl refl in
+      let first = all_both (IsText 1) (IsText 2) (λ r. IsText 1 r × IsText 2 r) (λ r a b. (a, b)) rs (files_keyed.texts db h) names in
+      let second = all_both (IsText 3) (IsNumber 7) (λ r. IsText 3 r × IsNumber 7 r) (λ r a b. (a, b)) rs releases lives in
+      all_both _ _ IsRow (λ r a b. record { file = a.0; name = a.1; release = b.0; live = b.1 }) rs first second
+
+  -- the reason of a yank is a text, or there is none
+  reason_text : (r : Row) → AllByRecursion IsYankedRow (trees 13) → IsTextIfAny (eval_all project (env_of r)) 8
+  reason_text r yanks = go (find (is_yank r) (trees 13)) refl
+    where
+      go : (o : Option Row) → find (is_yank r) (trees 13) ≡ o → IsTextIfAny (eval_all project (params ∷ r ∷ unwrap_or o [] ∷ [])) 8
+      go None e = inl (omega arith, refl)
+      go (Some y) e = inr (has_all IsYankedRow (trees 13) y yanks (find_has (is_yank r) (trees 13) y e).0).reason
+
+  pub lists_records : AllByRecursion IsFiledRow (trees 8) → AllByRecursion IsYankedRow (trees 13) → (rows : List Row) → IsAnswer (from_with 8 more tests project (by_column 1)) (overlay trees []) params rows → AllByRecursion IsListedRow rows
+  lists_records files yanks rows answer =
+      let rs = trees 8 in
+      let looks = all_weaker IsRow (λ r. matches_as Null (overlay trees []) tests more (params ∷ r ∷ []) ≡ cond (list_all (holds (env_of r)) tests) (env_of r ∷ []) []) looks_once rs all_rows in
+      let same = all_weaker IsRow (λ r. list_all (holds (env_of r)) tests ≡ passes r) tested rs all_rows in
+      read_all 8 more tests project (by_column 1) (overlay trees []) params env_of passes looks same IsFiledRow IsListedRow
+      (λ r it. record { file = it.file; release = it.known.release; digest = it.known.digest; size = it.known.size; requires_python = it.known.requires_python; yanked = reason_text r yanks }) rows answer files
+
   pub lists_files : (rows : List Row) → IsAnswer (from_with 8 more tests project (by_column 1)) (overlay trees []) params rows → map file_row_shown rows ≡ file_rows_in T name
   lists_files rows answer =
       let rs = trees 8 in
@@ -165,6 +196,16 @@ module _ (name : Bytes) (db : Database) (h : IsIndex db) where
       sym (ap (map (file_row_in T name)) (filter-map (λ e. is_undeleted_of name e.1) (λ r. (text_key r, file_in r)) rs) ∙ map-map (file_row_in T name) (λ r. (text_key r, file_in r)) (filter passes rs)) in
       let order = subst (λ l. IsPermutation l (map file_row_shown rows)) (listed_as ∙ entered) found.0 in
       sorted_entries nat_list_cmp_total exact_bytes text_key file_in (λ e. is_undeleted_of name e.1) (file_row_in T name) (λ (row : FileRow). row.file) (λ e. refl) rs (map file_row_shown rows) (files_keyed.apart db h) order found.1
+
+pub sure : (name : Bytes) → IsSure select_files_text (Text name ∷ [])
+unfolding understood everything IsSure
+sure name = ((omega arith, refl, refl, refl, readable_left 8 13 on tests project (by_column 1) headings (Text name ∷ []) refl), refl)
+
+pub records : (name : Bytes) (old new : State) (rows : List Row) → IsIndex old.now → Shown select_files_text (Text name ∷ []) old new rows → AllByRecursion IsFiledRow (old.now.trees 8) → AllByRecursion IsYankedRow (old.now.trees 13)
+    → AllByRecursion IsListedRow rows
+records name old new rows h shown files yanks =
+    let answer = reads_as select_files_text (Text name ∷ []) old new index_schema h.schema _ compiled is_plain unlisted rows shown in
+    lists_records name old.now h files yanks rows (answer.answer Null)
 
 pub selects : (name : Bytes) (old new : State) (rows : List Row) → IsIndex old.now → Shown select_files_text (Text name ∷ []) old new rows → map file_row_shown rows ≡ file_rows_in (tables_in old.now.trees) name
 selects name old new rows h shown =

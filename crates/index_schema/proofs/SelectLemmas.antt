@@ -1,14 +1,15 @@
 -- What a query over one table shows, by the rows of the table.
-use Rattle.std.proofs.Common.{◌≡◌, ℕ, Bool, true, false, cond, List, [], ◌∷◌, ◌++◌, map, filter, flat_map, refl, ap, subst, ◌∙◌}
+use Rattle.std.proofs.Common.{◌≡◌, ℕ, Bool, true, false, cond, List, [], ◌∷◌, ◌++◌, map, filter, flat_map, refl, sym, ap, subst, ◌∙◌}
 use Rattle.std.specs.List.{list_all, AllByRecursion}
 use Rattle.std.specs.List.Sorted.{IsPermutation, IsSorted}
 use Rattle.sqlite_value.specs.declared.value.Value.TheVariants.{Null}
 use Rattle.sqlite_value.specs.Order.{Row}
 use Rattle.sqlite_value.specs.declared.keys.Key.{Key}
 use Rattle.sqlite_trees.specs.Tree.{Trees}
-use Rattle.sqlite_sql.specs.Term.{Term, Env, holds}
+use Rattle.sqlite_sql.specs.Term.{Term, Env, holds, eval_all}
 use Rattle.sqlite_sql.specs.Query.{Join, inner, matches_as, IsAnswer, output, output_cmp, Output}
-use Rattle.sqlite_keyed.proofs.ListLemmas.{map-map}
+use Rattle.sqlite_keyed.proofs.ListLemmas.{map-map, all_map, all_weaker, all-filter}
+use Rattle.index_rows.proofs.Permutations.{all_permutation}
 use Rattle.index_schema.proofs.QueryShapes.{from_with}
 
 -- `more` is looked up for each row: it fills slots, and drops and doubles no row
@@ -40,3 +41,11 @@ module _ (t : ℕ) (more : Join) (tests project : List Term) (order : List (Term
       let staged = a.grouped ∙ found in
       let kept : a.kept ≡ map shown_of (filter p (db t)) = a.distinct ∙ ap (map (output (from_with t more tests project order))) staged ∙ map-map _ env_of (filter p (db t)) in
       (a.ordered, subst (λ k. IsPermutation k a.ordered) kept a.same, a.sorted, a.shown)
+
+  -- what is known of each row of the table is known of those that are shown
+  pub read_all : (P Q : Row → Type 0) → ((r : Row) → P r → Q (eval_all project (env_of r))) → (rows : List Row) → IsAnswer (from_with t more tests project order) db params rows → AllByRecursion P (db t) → AllByRecursion Q rows
+  read_all P Q keeps rows a all =
+      let it = read rows a in
+      let shown : Output → Type 0 = λ o. Q o.1 in
+      let each = all_map shown shown_of (filter p (db t)) (all_weaker P (λ r. shown (shown_of r)) keeps (filter p (db t)) (all-filter P p (db t) all)) in
+      subst (AllByRecursion Q) (sym it.3) (all_map Q (λ (o : Output). o.1) it.0 (all_permutation shown (map shown_of (filter p (db t))) it.0 it.1 each))

@@ -1,5 +1,5 @@
 -- SELECT FROM names .. ORDER BY name: the names with their records, in byte order.
-use Rattle.std.proofs.Common.{◌≡◌, ◌==◌, Bool, true, false, not, cond, ℕ, List, [], ◌∷◌, codes, filter, map, Some, refl, sym, ap, subst, ◌∙◌, IsPermutation}
+use Rattle.std.proofs.Common.{◌≡◌, ◌==◌, Bool, true, false, not, cond, ℕ, List, [], ◌∷◌, codes, filter, map, Some, refl, sym, ap, subst, ◌∙◌, IsPermutation, arith}
 use Rattle.std.specs.List.{AllByRecursion, list_all}
 use Rattle.std.specs.FinMap.{entries}
 use Rattle.std.proofs.lemmas.Cmp.{nat_list_cmp_total}
@@ -30,6 +30,11 @@ use Rattle.index_schema.specs.Records.{tables_in, text_key, name_in, name_by, pr
 use Rattle.index_schema.specs.ShownRows.{name_row_in}
 use Rattle.index_schema.specs.Index.{IsIndex}
 use Rattle.index_schema.specs.StatementTexts.{select_names_text, select_held_text}
+use Rattle.index_schema.specs.Sure.{IsSure}
+use Rattle.index_schema.specs.RecordRows.{IsNamedRow}
+use Rattle.index_schema.proofs.ShownRecords.{name_shown}
+use Rattle.index_schema.proofs.SelectLemmas.{read_all}
+use Rattle.index_schema.proofs.SureLemmas.{readable_one}
 use Rattle.index_schema.proofs.QueryShapes.{plan, from_one}
 use Rattle.index_schema.proofs.KeyLemmas.{IsText, IsNumber, wholes}
 use Rattle.index_schema.proofs.NumberLemmas.{is_number, other_test}
@@ -66,6 +71,17 @@ lists text tests it passes old new rows h same shown =
     let found = listed 4 end tests project 1 (overlay old.now.trees []) [] (λ r. [] ∷ r ∷ []) (λ r. passes (text_key r, name_in r)) (all_of _ (λ r. refl) rs) same name_row_in (λ (row : NameRow). row.name) keyed rows (answer.answer Null) in
     let order = subst (λ l. IsPermutation l (map name_row_in rows)) (sym (ap (map name_row) (filter-map passes (λ r. (text_key r, name_in r)) rs) ∙ map-map name_row (λ r. (text_key r, name_in r)) _)) found.0 in
     sorted_entries nat_list_cmp_total exact_bytes text_key name_in passes name_row (λ (row : NameRow). row.name) (λ e. refl) rs (map name_row_in rows) (names_keyed.apart old.now h) order found.1
+
+pub sure : IsSure select_names_text []
+unfolding understood everything IsSure
+sure = ((omega arith, refl, refl, refl, readable_one 4 [] project (by_column 1) headings [] refl), refl)
+
+-- the rows that it shows are those of records
+pub records : (old new : State) (rows : List Row) → IsIndex old.now → Shown select_names_text [] old new rows → AllByRecursion IsNamedRow (old.now.trees 4) → AllByRecursion IsNamedRow rows
+records old new rows h shown all =
+    let rs = old.now.trees 4 in
+    let answer = reads_as select_names_text [] old new index_schema h.schema _ all_shown.compiled all_shown.is_plain all_shown.unlisted rows shown in
+    read_all 4 end [] project (by_column 1) (overlay old.now.trees []) [] (λ r. [] ∷ r ∷ []) (λ r. true) (all_of _ (λ r. refl) rs) (all_of _ (λ r. refl) rs) IsNamedRow IsNamedRow (λ r it. record { name = it.name; found = name_shown r it.found }) rows (answer.answer Null) all
 
 pub selects_names : (old new : State) (rows : List Row) → IsIndex old.now → Shown select_names_text [] old new rows → map name_row_in rows ≡ name_rows_in (tables_in old.now.trees)
 selects_names old new rows h shown =

@@ -1,6 +1,6 @@
 -- SELECT user FROM owners .. ORDER BY user: the owners of a name, in byte order.
-use Rattle.std.proofs.Common.{◌≡◌, Bool, false, List, [], ◌∷◌, codes, filter, map, refl, ap, subst, ◌∙◌, IsPermutation}
-use Rattle.std.specs.List.{list_all}
+use Rattle.std.proofs.Common.{◌≡◌, Bool, false, List, [], ◌∷◌, codes, filter, map, refl, ap, subst, ◌∙◌, IsPermutation, arith}
+use Rattle.std.specs.List.{list_all, AllByRecursion}
 use Rattle.std.specs.FinMap.{keys}
 use Rattle.std.proofs.lemmas.Cmp.{nat_list_cmp_total}
 use Rattle.std.proofs.lemmas.List.Sorted.{IsPermutation-map, IsPermutation-sym, IsPermutation-trans}
@@ -26,6 +26,10 @@ use Rattle.index_schema.specs.Records.{tables_in, text_key, pair_key, nothing_in
 use Rattle.index_schema.specs.ShownRows.{user_shown}
 use Rattle.index_schema.specs.Index.{IsIndex}
 use Rattle.index_schema.specs.StatementTexts.{select_owners_text}
+use Rattle.index_schema.specs.Sure.{IsSure}
+use Rattle.index_schema.specs.RecordRows.{IsOwnedRow, IsOwnerRow}
+use Rattle.index_schema.proofs.SelectLemmas.{read_all}
+use Rattle.index_schema.proofs.SureLemmas.{readable_one}
 use Rattle.index_schema.proofs.QueryShapes.{plan, from_one, is_param}
 use Rattle.index_schema.proofs.KeyLemmas.{IsPair}
 use Rattle.index_schema.proofs.TableLemmas.{key_test, owners_keyed}
@@ -52,6 +56,18 @@ module _ (name : Bytes) where
 
   tested : (r : Row) → IsPair r → list_all (holds (params ∷ r ∷ [])) (is_param 1 0 ∷ []) ≡ owns r
   tested r is = key_test params 0 name r refl is.0 ∙ is_eq-slice_cmp name (text_key r)
+
+  pub sure : IsSure select_owners_text params
+  unfolding understood everything IsSure
+  sure = ((omega arith, refl, refl, refl, readable_one 6 (is_param 1 0 ∷ []) (col 1 2 ∷ []) (by_column 2) (codes "user" ∷ []) params refl), refl)
+
+  -- the rows that it shows are those of users
+  pub records : (old new : State) (rows : List Row) → IsIndex old.now → Shown select_owners_text params old new rows → AllByRecursion IsOwnedRow (old.now.trees 6) → AllByRecursion IsOwnerRow rows
+  records old new rows h shown all =
+      let db = old.now.trees in
+      let it = reads_as select_owners_text params old new index_schema h.schema _ compiled is_plain unlisted rows shown in
+      let tests = all_weaker IsPair (λ r. list_all (holds (params ∷ r ∷ [])) (is_param 1 0 ∷ []) ≡ owns r) tested (db 6) (owners_keyed.pairs old.now h) in
+      read_all 6 end (is_param 1 0 ∷ []) (col 1 2 ∷ []) (by_column 2) (overlay db []) params (λ r. params ∷ r ∷ []) owns (all_of _ (λ r. refl) (db 6)) tests IsOwnedRow IsOwnerRow (λ r it. it.user) rows (it.answer Null) all
 
   pub selects : (old new : State) (rows : List Row) → IsIndex old.now → Shown select_owners_text params old new rows → map user_shown rows ≡ owners_in (tables_in old.now.trees) name
   selects old new rows h shown =

@@ -1,5 +1,5 @@
 -- SELECT FROM files by name and release: whether the release has an undeleted file.
-use Rattle.std.proofs.Common.{◌≡◌, ◌==◌, Bool, true, false, ◌&&◌, ◌||◌, cond, List, [], ◌∷◌, codes, filter, map, slice_get, is_some, refl, sym, ap, ap₂, ◌∙◌}
+use Rattle.std.proofs.Common.{◌≡◌, ◌==◌, Bool, true, false, ◌&&◌, ◌||◌, cond, List, [], ◌∷◌, codes, filter, map, slice_get, is_some, refl, sym, ap, ap₂, ◌∙◌, arith}
 use Rattle.std.specs.List.{list_all, list_any}
 use Rattle.std.specs.FinMap.{entries}
 use Rattle.std.proofs.lemmas.Cmp.{nat_list_cmp_total}
@@ -28,6 +28,8 @@ use Rattle.index_schema.proofs.NumberLemmas.{is_number, number_test}
 use Rattle.index_schema.proofs.TableLemmas.{same-turned, files_keyed}
 use Rattle.index_schema.proofs.LookupLemmas.{Selects}
 use Rattle.index_schema.proofs.WriteLemmas.{answered}
+use Rattle.index_schema.specs.Sure.{IsSure}
+use Rattle.index_schema.proofs.SureLemmas.{readable_one}
 
 abbrev tests : List Term
 tests = is_number Eq 7 1 ∷ is_param 2 0 ∷ is_param 3 1 ∷ []
@@ -91,3 +93,7 @@ module _ (name release : Bytes) where
       ∙ list_any-filter passes rs
       ∙ sym (list_any-map (λ file. is_undeleted_of_release name release file.1) (λ r. (text_key r, file_in r)) rs)
       ∙ list_any-IsPermutation (λ file. is_undeleted_of_release name release file.1) _ (entries (tables_in old.now.trees).files) entered
+
+pub sure : (name release : Bytes) → IsSure select_release_text (Text name ∷ Text release ∷ [])
+unfolding understood everything IsSure
+sure name release = ((omega arith, refl, refl, refl, readable_one 8 tests (col 1 0 ∷ []) [] (codes "rowid" ∷ []) (Text name ∷ Text release ∷ []) refl), refl)

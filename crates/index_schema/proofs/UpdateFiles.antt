@@ -1,5 +1,5 @@
 -- UPDATE files: each file of the name is deleted.
-use Rattle.std.proofs.Common.{◌≡◌, ℕ, pos, Bool, true, false, cond, List, [], ◌∷◌, map, Ok, refl, sym, subst, ◌∙◌}
+use Rattle.std.proofs.Common.{◌≡◌, inl, ℕ, pos, Bool, true, false, cond, List, [], ◌∷◌, map, Ok, refl, sym, subst, ◌∙◌}
 use Rattle.std.specs.List.{list_all}
 use Rattle.std.proofs.lemmas.Map.Lookups.{exact_bytes}
 use Rattle.std.proofs.lemmas.Map.Text.{is_eq-slice_cmp}
@@ -28,6 +28,7 @@ use Rattle.index_schema.specs.Records.{text_key, file_in}
 use Rattle.index_rules.specs.Effect.{as_deleted, as_deleted_of}
 use Rattle.index_schema.specs.Schema.{index_schema, files_at}
 use Rattle.index_schema.specs.Index.{rowid_in, IsWhole, IsIndex, Changes}
+use Rattle.index_schema.specs.RecordRows.{IsFiledRow}
 use Rattle.index_schema.proofs.QueryShapes.{plan, from_one, is_param}
 use Rattle.index_schema.proofs.EditLemmas.{as_int}
 use Rattle.index_schema.proofs.KeyLemmas.{IsText, are_rows, text_test}
@@ -58,6 +59,13 @@ is_plain = (refl, refl)
 abbrev pub deleted_row : Row → Row
 deleted_row r = Int (rowid_in r) ∷ column r 1 ∷ column r 2 ∷ column r 3 ∷ column r 4 ∷ column r 5 ∷ column r 6 ∷ Int (pos 0) ∷ []
 
+-- it is that of a record if the row was
+deleted_record : (r : Row) → IsFiledRow r → IsFiledRow (deleted_row r)
+deleted_record r it = record {
+  file = it.file;
+  known = record { project = it.known.project; release = it.known.release; digest = it.known.digest; size = it.known.size; requires_python = it.known.requires_python; is_undeleted = inl refl };
+}
+
 changes_no_key : (olds : List Row) (x : Row) (xs : List Row) → works index_schema Enforced 0 8 olds (x ∷ xs) ≡ []
 unfolding same_name joined
 changes_no_key olds x xs =
@@ -69,7 +77,7 @@ unfolding same_name joined
 no_works rs [] = refl
 no_works rs (m ∷ found) = changes_no_key (map (row_at rs) (map rowid_in (m ∷ found))) (deleted_row m) (map deleted_row found)
 
-record IsFileRow (r : Row) : Type 0 where
+record IsTypedRow (r : Row) : Type 0 where
   id : IsWhole r
   file : IsText 1 r
   name : IsText 2 r
@@ -84,7 +92,7 @@ module _ (name : Bytes) where
   tested : (r : Row) → IsText 2 r → list_all (holds ((Text name ∷ []) ∷ r ∷ [])) (is_param 2 0 ∷ []) ≡ of_name r
   tested r is = last_term (text_test (Text name ∷ []) 2 0 r name refl is ∙ is_key name (bytes (column r 2)) ∙ is_eq-slice_cmp name (bytes (column r 2)))
 
-  becomes : (r : Row) → IsFileRow r → cast_row (files_at 8) (eval_all project ((Text name ∷ []) ∷ r ∷ [])) ≡ deleted_row r
+  becomes : (r : Row) → IsTypedRow r → cast_row (files_at 8) (eval_all project ((Text name ∷ []) ∷ r ∷ [])) ≡ deleted_row r
   becomes r is = rw (as_int (rowid r) is.id, is.file, is.name, is.release, is.size, is.requires, cast_int (rowid_in r), cast_int (id_in (column r 5)), cast_int (pos 0)) refl
 
   does : (r : Row) → file_in (cond (of_name r) (deleted_row r) r) ≡ as_deleted_of name (file_in r)
@@ -103,10 +111,10 @@ module _ (name : Bytes) where
       let five = all_both (IsText 3) (IsText 6) (λ r. IsText 3 r × IsText 6 r) (λ r a b. (a, b)) rs releases requires in
       let texts_all = all_both _ _ (λ r. (IsText 1 r × IsText 2 r) × (IsText 3 r × IsText 6 r)) (λ r a b. (a, b)) rs three five in
       let numbers = all_both IsWhole _ (λ r. IsWhole r × (column r 5 ≡ Int (id_in (column r 5)))) (λ r a b. (a, b)) rs whole sizes in
-      let all = all_both _ _ IsFileRow (λ r t n. record { id = n.0; file = t.0.0; name = t.0.1; release = t.1.0; size = n.1; requires = t.1.1 }) rs texts_all numbers in
+      let all = all_both _ _ IsTypedRow (λ r t n. record { id = n.0; file = t.0.0; name = t.0.1; release = t.1.0; size = n.1; requires = t.1.1 }) rs texts_all numbers in
       let tests = all_weaker (IsText 2) (λ r. list_all (holds ((Text name ∷ []) ∷ r ∷ [])) (is_param 2 0 ∷ []) ≡ of_name r) tested rs names in
-      let casts = all-filter (λ r. cast_row (files_at 8) (eval_all project ((Text name ∷ []) ∷ r ∷ [])) ≡ deleted_row r) of_name rs (all_weaker IsFileRow (λ r. cast_row (files_at 8) (eval_all project ((Text name ∷ []) ∷ r ∷ [])) ≡ deleted_row r) becomes rs all) in
-      let it = updates_rows 4 (files_at 8) refl (λ db. refl) update_files_text (Text name ∷ []) is_plain old new count h (is_param 2 0 ∷ []) project of_name deleted_row compiled (no_works rs) casts tests ran in
+      let casts = all-filter (λ r. cast_row (files_at 8) (eval_all project ((Text name ∷ []) ∷ r ∷ [])) ≡ deleted_row r) of_name rs (all_weaker IsTypedRow (λ r. cast_row (files_at 8) (eval_all project ((Text name ∷ []) ∷ r ∷ [])) ≡ deleted_row r) becomes rs all) in
+      let it = updates_rows 4 (files_at 8) refl (λ db. refl) update_files_text (Text name ∷ []) is_plain old new count h (is_param 2 0 ∷ []) project of_name deleted_row compiled (no_works rs) casts deleted_record tests ran in
       let order = IsPermutation-trans _ _ _ (IsPermutation-sym _ _ it.0) (split_update of_name deleted_row rs) in
       let is =
       same_rows nat_list_cmp_total exact_bytes text_key file_in (new.now.trees 8) (update_where of_name deleted_row rs) (files_keyed.apart new.now it.1.1) order

@@ -97,7 +97,7 @@ updates old new count h ran =
     let whole = (are_rows 0 (meta_at 0) refl old.now h).1 in
     let passes = all_weaker IsWhole (λ r. list_all (holds ([] ∷ r ∷ [])) tests ≡ here r) tested rs whole in
     let all = all_both IsWhole (IsText 2) (λ r. cast_row (meta_at 0) (eval_all project ([] ∷ r ∷ [])) ≡ becomes r) casts rs whole (kind_texts index_schema refl old.now h.schema h.sound) in
-    let it = updates_rows 0 (meta_at 0) refl (λ db. refl) update_version_text [] is_plain old new count h tests project here becomes compiled (no_works rs) (all-filter _ here rs all) passes ran in
+    let it = updates_rows 0 (meta_at 0) refl (λ db. refl) update_version_text [] is_plain old new count h tests project here becomes compiled (no_works rs) (all-filter _ here rs all) (λ r _. tt) passes ran in
     let order = IsPermutation-trans _ _ _ (IsPermutation-sym _ _ it.0) (split_update here becomes rs) in
     let found = same_version (new.now.trees 0) (update_where here becomes rs) (are_rows 0 (meta_at 0) refl new.now it.1.1) order in
     meta_change old.now new.now it.1.1 (option_map (λ _. 2)) (ap (option_map (λ r. number_in (column r 3))) (sym found) ∙ told rs) it.1.0

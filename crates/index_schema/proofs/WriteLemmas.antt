@@ -33,14 +33,15 @@ use Rattle.sqlite.specs.Listing.{understood}
 use Rattle.sqlite.specs.State.{State, mode_of, Executes}
 use Rattle.sqlite.proofs.Callers.{IsPlain, command_of, runs_as, statement_of, one_step, one_permutation}
 use Rattle.sqlite_keyed.specs.Lists.{delete_where}
-use Rattle.sqlite_keyed.proofs.ListLemmas.{all_of, all_weaker, map-map, map_same, along_permutation}
+use Rattle.sqlite_keyed.proofs.ListLemmas.{all_of, all_weaker, all-filter, all-append, all_map, map-map, map_same, along_permutation}
 use Rattle.sqlite_keyed.proofs.KeyedLemmas.{same_int}
 use Rattle.sqlite_typed.proofs.TestLemmas.{last_term}
 use Rattle.index_rows.proofs.Permutations.{all_permutation}
 use Rattle.index_schema.specs.Schema.{index_schema}
 use Rattle.index_schema.specs.Index.{rowid_in, IsWhole, AreRows, IsIndex}
+use Rattle.index_schema.specs.RecordRows.{IsRecordIn, AreRecordsIn}
 use Rattle.index_schema.proofs.QueryShapes.{from_with, from_one, plan, on_conflict}
-use Rattle.index_schema.proofs.EditLemmas.{matched_gone, kept_rows, put_all_fresh, are_whole, given_stay, KeepsOthers, numbered_after, has_filter, members, one_row, has_all, as_int}
+use Rattle.index_schema.proofs.EditLemmas.{matched_gone, kept_rows, put_all_fresh, are_whole, given_stay, KeepsOthers, numbered_after, Alters, altered, has_filter, members, one_row, has_all, as_int}
 use Rattle.index_schema.proofs.KeyLemmas.{are_rows, rowid_test}
 use Rattle.index_schema.proofs.SelectLemmas.{read, shown_of}
 use Rattle.index_schema.proofs.StatementLemmas.{update_edit, delete_edit, upsert_edit}
@@ -110,7 +111,7 @@ module _ (at : ℕ) (table : Table) (is : slice_get index_schema.tables at ≡ S
 
   -- what a statement leaves beside its own table
   abbrev pub Leaves : State → State → Type 0
-  Leaves old new = KeepsOthers table.tree old.now.trees new.now.trees × IsIndex new.now
+  Leaves old new = Alters table.tree old.now new.now × IsIndex new.now
 
   -- an answer has the rows that pass, in some order
   pub answered_with : (params : Row) (env : Row → Env) (more : Join) (tests project : List Term) (p : Row → Bool) (db : Trees) (rows : List Row) → LooksUp params env more tests db → PassAs env tests p db
@@ -159,7 +160,9 @@ module _ (at : ℕ) (table : Table) (is : slice_get index_schema.tables at ≡ S
         let it = one_step index_schema Enforced db new.now.trees _ (none _) (subst (λ e. Writes index_schema Enforced db e (Ok new.now.trees)) edit wrote.3) in
         let are = are_rows at table is old.now h in
         let next : new.now.trees table.tree ≡ delete_where p (db table.tree) = it.rows ∙ matched_gone (db table.tree) found.0 p are found.1 in
-        (next, (it.tables, record { schema = wrote.2; sound = w.sound; numbered = numbered_after table.tree db new.now.trees it.tables (subst AreRows (sym next) (kept_rows p (db table.tree) are)) h.numbered }))
+        let index : IsIndex new.now = record { schema = wrote.2; sound = w.sound; numbered = numbered_after table.tree db new.now.trees it.tables (subst AreRows (sym next) (kept_rows p (db table.tree) are)) h.numbered } in
+        let records : AreRecordsIn db table.tree → AreRecordsIn new.now.trees table.tree = λ before. subst (AllByRecursion (IsRecordIn table.tree)) (sym next) (all-filter (IsRecordIn table.tree) (λ r. not (p r)) (db table.tree) before) in
+        (next, (altered table.tree old.now new.now h index it.tables records, index))
 
     pub deletes_rows : (tests : List Term) (p : Row → Bool) → command_of (understood index_schema text) ≡ Delete at (plan (from_one table.tree tests (col 1 0 ∷ []) []))
         → ((olds : List Row) → works index_schema Enforced 0 table.tree olds [] ≡ []) → TestsAs params tests p old.now.trees → Executes text params old new (Ok count)
@@ -180,9 +183,9 @@ module _ (at : ℕ) (table : Table) (is : slice_get index_schema.tables at ≡ S
     pub updates_rows : (tests project : List Term) (p : Row → Bool) (f : Row → Row) → command_of (understood index_schema text) ≡ Update at (plan (from_one table.tree tests (col 1 0 ∷ project) []))
         → ((found : List Row) → works index_schema Enforced 0 table.tree (map (row_at (old.now.trees table.tree)) (map rowid_in found)) (map f found) ≡ [])
         → AllByRecursion (λ r. cast_row table (eval_all project (params ∷ r ∷ [])) ≡ f r) (filter p (old.now.trees table.tree))
-        → TestsAs params tests p old.now.trees → Executes text params old new (Ok count)
+        → ((r : Row) → IsRecordIn table.tree r → IsRecordIn table.tree (f r)) → TestsAs params tests p old.now.trees → Executes text params old new (Ok count)
         → IsPermutation (map f (filter p (old.now.trees table.tree)) ++ delete_where p (old.now.trees table.tree)) (new.now.trees table.tree) × Leaves old new
-    updates_rows tests project p f compiled none casts same ran =
+    updates_rows tests project p f compiled none casts keeps same ran =
         let db = old.now.trees in
         let q : Program = plan (from_one table.tree tests (col 1 0 ∷ project) []) in
         let w = runs_as text params old new index_schema h.schema (Update at q) compiled plain count ran in
@@ -193,7 +196,12 @@ module _ (at : ℕ) (table : Table) (is : slice_get index_schema.tables at ≡ S
         let it = one_step index_schema Enforced db new.now.trees _ (none edit.0) (subst (λ e. Writes index_schema Enforced db e (Ok new.now.trees)) edit.2 wrote.3) in
         let put = replaces p edit.0 (map f edit.0) new.now.trees edit.1 it in
         let order = IsPermutation-append_left (delete_where p (db table.tree)) _ _ (IsPermutation-map f _ _ edit.1) in
-        (IsPermutation-trans _ _ _ order put.0, (it.tables, record { schema = wrote.2; sound = w.sound; numbered = numbered_after table.tree db new.now.trees it.tables put.1 h.numbered }))
+        let rows = IsPermutation-trans _ _ _ order put.0 in
+        let index : IsIndex new.now = record { schema = wrote.2; sound = w.sound; numbered = numbered_after table.tree db new.now.trees it.tables put.1 h.numbered } in
+        let P = IsRecordIn table.tree in
+        let records : AreRecordsIn db table.tree → AreRecordsIn new.now.trees table.tree =
+        λ before. all_permutation P _ _ rows (all-append P _ _ (all_map P f _ (all_weaker P (λ r. P (f r)) keeps _ (all-filter P p (db table.tree) before))) (all-filter P (λ r. not (p r)) (db table.tree) before)) in
+        (rows, (altered table.tree old.now new.now h index it.tables records, index))
 
     -- ---- INSERT .. ON CONFLICT (key) DO UPDATE of one row
 

@@ -11,6 +11,7 @@ use Rattle.sqlite.specs.Effect.{Database, IsDatabase}
 use Rattle.index_rules.specs.Tables.{Tables}
 use Rattle.index_schema.specs.Schema.{index_schema}
 use Rattle.index_schema.specs.Records.{number_in, tables_in}
+use Rattle.index_schema.specs.RecordRows.{AreRecords}
 
 -- the number of a row
 abbrev pub rowid_in : Row → ℤ
@@ -47,6 +48,8 @@ pub record Rewrites (change : Tables → Tables) (told : Option ℕ → Option �
   pub tables : tables_in new.trees ≡ change (tables_in old.trees)
   pub index : IsIndex new
   pub version : version_in new.trees ≡ told (version_in old.trees)
+  -- its rows are records if they were
+  pub records : AreRecords old → AreRecords new
 
 -- the version that was told
 abbrev pub as_told : Option ℕ → Option ℕ

@@ -1,9 +1,11 @@
 pub mod TableTexts
 pub mod Schema
 pub mod Records
+pub mod RecordRows
 pub mod ShownRows
 pub mod Index
 pub mod StatementTexts
 pub mod Stages
 pub mod Stays
+pub mod Sure
 pub mod FirstVersion

@@ -11,4 +11,5 @@ makes_then change more told later first mid last before did = record {
   tables = did.tables ∙ ap more before.tables;
   committed = did.committed ∙ before.committed;
   version = did.version ∙ ap later before.version;
+  records = λ rows. did.records (before.records rows);
 }

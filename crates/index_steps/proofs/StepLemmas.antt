@@ -31,4 +31,4 @@ pub makes : (sql : List ℕ) (cells : Row) (change : Tables → Tables) (told : 
     → IsReady old → ExecutesInside 0 sql params old new (Ok count) → params ≡ cells → Makes change told old new
 makes sql cells change told params old new count changes ready ran given =
     let it = changes ready.index (subst (λ ps. Executes sql ps old new (Ok count)) given ran.0) in
-    record { ready = record { is_open = ran.1.is_open; inside = ran.1.mode; index = it.index }; tables = it.tables; committed = ran.1.committed_is; version = it.version }
+    record { ready = record { is_open = ran.1.is_open; inside = ran.1.mode; index = it.index }; tables = it.tables; committed = ran.1.committed_is; version = it.version; records = it.records }

@@ -5,6 +5,7 @@ use Rattle.sqlite.specs.Held.{Held, state}
 use Rattle.sqlite.specs.State.{State, HasCleanDisk, KeepsCommit, Survives}
 use Rattle.index_rules.specs.Tables.{Tables}
 use Rattle.index_schema.specs.Records.{tables_in}
+use Rattle.index_schema.specs.RecordRows.{AreRecords}
 use Rattle.index_schema.specs.Index.{IsIndex, as_told, version_in}
 
 -- a transaction on an index is under way
@@ -19,6 +20,8 @@ pub record Makes (change : Tables → Tables) (told : Option ℕ → Option ℕ)
   pub tables : tables_in new.now.trees ≡ change (tables_in old.now.trees)
   pub committed : new.committed ≡ old.committed
   pub version : version_in new.now.trees ≡ told (version_in old.now.trees)
+  -- its rows are records if they were
+  pub records : AreRecords old.now → AreRecords new.now
 
 -- a step that succeeds does so on a clean disk
 abbrev pub TellsIfOk : {S A E : Type 0} → Ghosts S → (Tables → Tables) → (Option ℕ → Option ℕ) → Held S → Held S → Result A E → Type 0

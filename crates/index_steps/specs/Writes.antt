@@ -1,9 +1,10 @@
 -- What each statement makes of the tables.
-use Rattle.std.specs.Prelude.{ℤ, pos, Bool, if◌then◌else◌, not, Option}
+use Rattle.std.specs.Prelude.{ℤ, pos, [], ◌∷◌, Bool, if◌then◌else◌, not, Option}
 use Rattle.std.specs.FinMap.{insert, remove, retain_keys}
 use Rattle.index_retention.specs.declared.attempts.CaseKind.{CaseKind}
 use Rattle.index_retention.specs.declared.attempts.CaseKind.TheVariants.{Continue, Reuse}
-use Rattle.sqlite_value.specs.declared.value.Value.TheVariants.{Int}
+use Rattle.sqlite_value.specs.declared.value.Value.TheVariants.{Int, Text}
+use Rattle.sqlite_value.specs.Order.{Row}
 use Rattle.sqlite.specs.Values.{or_null}
 use Rattle.index_rules.specs.declared.records.UserRecord.{UserRecord}
 use Rattle.index_rules.specs.declared.records.NameRecord.{NameRecord}
@@ -86,6 +87,11 @@ name_of standing shown quota charge undeleted last =
       undeleted = number_in (Int undeleted);
       last_upload = number_if_any (or_null Int last);
     })
+
+-- a row of names by the numbers in it, the first of which numbers the row
+abbrev pub row_of_name : ℤ → Bytes → ℤ → Bytes → ℤ → ℤ → ℤ → Option ℤ → Row
+row_of_name id name standing shown quota charge undeleted last =
+    Int id ∷ Text name ∷ Int standing ∷ Text shown ∷ Int quota ∷ Int charge ∷ Int undeleted ∷ or_null Int last ∷ []
 
 -- 1 for true and 0 for false
 abbrev pub flag : Bool → ℤ

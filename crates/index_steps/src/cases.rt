@@ -1,9 +1,11 @@
 //! The statement that puts an open case.
-ghost use Rattle.std.specs.Prelude.{◌≡◌, pos, IfOk, option_map};
+ghost use Rattle.std.specs.Prelude.{◌≡◌, pos, IfOk, OnOk, option_map};
+ghost use Rattle.index_retention.specs.Attempts.{IsTally};
 ghost use Rattle.index_steps.specs.Inside.{MakesIfOk, Keeps, LeavesNothing, WasOpenIfOk};
 ghost use Rattle.index_steps.specs.Writes.{puts_case, kind_number};
 
 use crate::number::{whole, whole_if_any};
+use index_names::NormalName;
 use index_retention::CaseKind;
 use index_rules::CaseRecord;
 use sqlite::{Alter, Error, Transaction, params};
@@ -24,7 +26,7 @@ struct CaseNumbers {
 /// The name has this open case.
 pub fn put_case<S: Alter>(
     tx: &mut Transaction<'_, S>,
-    name: &str,
+    name: &NormalName,
     case: &CaseRecord,
 ) -> Result<(), Error>
     ensures same_reference { tx.new.conn.ghost_name ≡ tx.old.conn.ghost_name }
@@ -38,7 +40,7 @@ pub fn put_case<S: Alter>(
     tx.execute(
         "INSERT INTO cases (name, kind, candidate, contact, work, why, opened, attempts, sent, profile, author, pages, first_sent) VALUES (?1, ?2, ?3, ?4, ?5, ?6, ?7, ?8, ?9, ?10, ?11, ?12, ?13) ON CONFLICT (name) DO UPDATE SET kind = excluded.kind, candidate = excluded.candidate, contact = excluded.contact, work = excluded.work, why = excluded.why, opened = excluded.opened, attempts = excluded.attempts, sent = excluded.sent, profile = excluded.profile, author = excluded.author, pages = excluded.pages, first_sent = excluded.first_sent",
         params![
-            name,
+            name.text(),
             numbers.kind,
             case.candidate.text(),
             case.contact.as_str(),
@@ -58,7 +60,7 @@ pub fn put_case<S: Alter>(
 
 /// What a case has beside its texts. `IntegralValueOutOfRange` where one is more than SQL can hold.
 fn numbers_of(case: &CaseRecord) -> Result<CaseNumbers, Error>
-    ensures { IfOk result (λ it. it ≡ record {
+    ensures numbers { IfOk result (λ it. it ≡ record {
       kind = kind_number case.now.kind;
       opened = pos case.now.opened;
       attempts = pos case.now.state.attempts;
@@ -68,6 +70,8 @@ fn numbers_of(case: &CaseRecord) -> Result<CaseNumbers, Error>
       pages = case.now.state.pages;
       first = option_map pos case.now.state.first;
     }) }
+    ensures tally { OnOk result
+        (IsTally case.now.state.attempts case.now.state.sent case.now.state.first) }
 {
     let state = &case.state;
     let opened = whole(case.opened)?;

@@ -1,18 +1,20 @@
 //! Statements that put a row, in place of the one with its key if there is one. Where a number is more than SQL can
 //! hold, that is an error, and nothing is written.
-ghost use Rattle.std.specs.Prelude.{◌≡◌};
+ghost use Rattle.std.specs.Prelude.{◌≡◌, ℤ};
+ghost use Rattle.index_schema.specs.RecordRows.{IsNameRow};
 ghost use Rattle.index_steps.specs.Inside.{MakesIfOk, Keeps, LeavesNothing, WasOpenIfOk};
 ghost use Rattle.index_rules.specs.declared.records.NameRecord.TheVariants.{Held, Prohibited};
-ghost use Rattle.index_steps.specs.Writes.{puts_user, puts_name, name_of, puts_owner, puts_file, puts_body, puts_yank, puts_ban};
+ghost use Rattle.index_steps.specs.Writes.{puts_user, puts_name, name_of, row_of_name, puts_owner, puts_file, puts_body, puts_yank, puts_ban};
 
 use crate::number::{whole, whole_if_any};
-use index_rules::{FileRecord, Project, UserRecord};
+use index_names::{FileName, NormalName, Release};
+use index_rules::{FileRecord, Project, UserId, UserRecord};
 use sqlite::{Alter, Error, Transaction, params};
 
 /// The user has this record.
 pub fn put_user<S: Alter>(
     tx: &mut Transaction<'_, S>,
-    user: &str,
+    user: &UserId,
     account: &UserRecord,
 ) -> Result<(), Error>
     ensures same_reference { tx.new.conn.ghost_name ≡ tx.old.conn.ghost_name }
@@ -25,7 +27,7 @@ pub fn put_user<S: Alter>(
     let token = account.token.to_bytes();
     tx.execute(
         "INSERT INTO users (user, office, token) VALUES (?1, ?2, ?3) ON CONFLICT (user) DO UPDATE SET office = excluded.office, token = excluded.token",
-        params![user, account.office, token.as_slice()],
+        params![user.text(), account.office, token.as_slice()],
     )?;
     Ok(())
 }
@@ -33,7 +35,7 @@ pub fn put_user<S: Alter>(
 /// The name is held, with this record.
 pub fn hold_name<S: Alter>(
     tx: &mut Transaction<'_, S>,
-    name: &str,
+    name: &NormalName,
     project: &Project,
 ) -> Result<(), Error>
     ensures same_reference { tx.new.conn.ghost_name ≡ tx.old.conn.ghost_name }
@@ -61,7 +63,7 @@ pub fn hold_name<S: Alter>(
 }
 
 /// The name is prohibited.
-pub fn prohibit_name<S: Alter>(tx: &mut Transaction<'_, S>, name: &str) -> Result<(), Error>
+pub fn prohibit_name<S: Alter>(tx: &mut Transaction<'_, S>, name: &NormalName) -> Result<(), Error>
     ensures same_reference { tx.new.conn.ghost_name ≡ tx.old.conn.ghost_name }
     ensures made { MakesIfOk S.Store (puts_name name.now Prohibited)
         tx.old.conn.now tx.new.conn.now result }
@@ -76,7 +78,7 @@ pub fn prohibit_name<S: Alter>(tx: &mut Transaction<'_, S>, name: &str) -> Resul
 /// The row of a name.
 fn put_name<S: Alter>(
     tx: &mut Transaction<'_, S>,
-    name: &str,
+    name: &NormalName,
     standing: i64,
     shown: &str,
     quota: i64,
@@ -84,6 +86,8 @@ fn put_name<S: Alter>(
     undeleted: i64,
     last: Option<i64>,
 ) -> Result<(), Error>
+    requires { (id : ℤ) → IsNameRow
+        (row_of_name id name.now standing shown.now quota charge undeleted last) }
     ensures same_reference { tx.new.conn.ghost_name ≡ tx.old.conn.ghost_name }
     ensures made { MakesIfOk S.Store
         (puts_name name.now (name_of standing shown.now quota charge undeleted last))
@@ -94,13 +98,17 @@ fn put_name<S: Alter>(
 {
     tx.execute(
         "INSERT INTO names (name, state, shown, quota, charged, live, last_upload) VALUES (?1, ?2, ?3, ?4, ?5, ?6, ?7) ON CONFLICT (name) DO UPDATE SET state = excluded.state, shown = excluded.shown, quota = excluded.quota, charged = excluded.charged, live = excluded.live, last_upload = excluded.last_upload",
-        params![name, standing, shown, quota, charge, undeleted, last],
+        params![name.text(), standing, shown, quota, charge, undeleted, last],
     )?;
     Ok(())
 }
 
 /// The user owns the name.
-pub fn put_owner<S: Alter>(tx: &mut Transaction<'_, S>, name: &str, user: &str) -> Result<(), Error>
+pub fn put_owner<S: Alter>(
+    tx: &mut Transaction<'_, S>,
+    name: &NormalName,
+    user: &UserId,
+) -> Result<(), Error>
     ensures same_reference { tx.new.conn.ghost_name ≡ tx.old.conn.ghost_name }
     ensures made { MakesIfOk S.Store (puts_owner name.now user.now)
         tx.old.conn.now tx.new.conn.now result }
@@ -110,7 +118,7 @@ pub fn put_owner<S: Alter>(tx: &mut Transaction<'_, S>, name: &str, user: &str) 
 {
     tx.execute(
         "INSERT INTO owners (name, user) VALUES (?1, ?2) ON CONFLICT (name, user) DO UPDATE SET user = excluded.user",
-        params![name, user],
+        params![name.text(), user.text()],
     )?;
     Ok(())
 }
@@ -118,7 +126,7 @@ pub fn put_owner<S: Alter>(tx: &mut Transaction<'_, S>, name: &str, user: &str) 
 /// The file has this record.
 pub fn put_file<S: Alter>(
     tx: &mut Transaction<'_, S>,
-    file: &str,
+    file: &FileName,
     known: &FileRecord,
 ) -> Result<(), Error>
     ensures same_reference { tx.new.conn.ghost_name ≡ tx.old.conn.ghost_name }
@@ -133,7 +141,7 @@ pub fn put_file<S: Alter>(
     tx.execute(
         "INSERT INTO files (file, name, rel, digest, size, requires, live) VALUES (?1, ?2, ?3, ?4, ?5, ?6, ?7) ON CONFLICT (file) DO UPDATE SET name = excluded.name, rel = excluded.rel, digest = excluded.digest, size = excluded.size, requires = excluded.requires, live = excluded.live",
         params![
-            file,
+            file.text(),
             known.project.text(),
             known.release.text(),
             digest.as_slice(),
@@ -146,7 +154,11 @@ pub fn put_file<S: Alter>(
 }
 
 /// These bytes are kept of the file.
-pub fn put_body<S: Alter>(tx: &mut Transaction<'_, S>, file: &str, body: &[u8]) -> Result<(), Error>
+pub fn put_body<S: Alter>(
+    tx: &mut Transaction<'_, S>,
+    file: &FileName,
+    body: &[u8],
+) -> Result<(), Error>
     ensures same_reference { tx.new.conn.ghost_name ≡ tx.old.conn.ghost_name }
     ensures made { MakesIfOk S.Store (puts_body file.now body.now)
         tx.old.conn.now tx.new.conn.now result }
@@ -156,7 +168,7 @@ pub fn put_body<S: Alter>(tx: &mut Transaction<'_, S>, file: &str, body: &[u8]) 
 {
     tx.execute(
         "INSERT INTO blobs (file, body) VALUES (?1, ?2) ON CONFLICT (file) DO UPDATE SET body = excluded.body",
-        params![file, body],
+        params![file.text(), body],
     )?;
     Ok(())
 }
@@ -164,8 +176,8 @@ pub fn put_body<S: Alter>(tx: &mut Transaction<'_, S>, file: &str, body: &[u8]) 
 /// The release is yanked, for this reason.
 pub fn put_yank<S: Alter>(
     tx: &mut Transaction<'_, S>,
-    name: &str,
-    release: &str,
+    name: &NormalName,
+    release: &Release,
     reason: &str,
 ) -> Result<(), Error>
     ensures same_reference { tx.new.conn.ghost_name ≡ tx.old.conn.ghost_name }
@@ -177,13 +189,13 @@ pub fn put_yank<S: Alter>(
 {
     tx.execute(
         "INSERT INTO yanks (name, rel, reason) VALUES (?1, ?2, ?3) ON CONFLICT (name, rel) DO UPDATE SET reason = excluded.reason",
-        params![name, release, reason],
+        params![name.text(), release.text(), reason],
     )?;
     Ok(())
 }
 
 /// The file is banned.
-pub fn put_ban<S: Alter>(tx: &mut Transaction<'_, S>, file: &str) -> Result<(), Error>
+pub fn put_ban<S: Alter>(tx: &mut Transaction<'_, S>, file: &FileName) -> Result<(), Error>
     ensures same_reference { tx.new.conn.ghost_name ≡ tx.old.conn.ghost_name }
     ensures made { MakesIfOk S.Store (puts_ban file.now) tx.old.conn.now tx.new.conn.now result }
     ensures kept { Keeps S.Store tx.old.conn.now tx.new.conn.now }
@@ -192,7 +204,7 @@ pub fn put_ban<S: Alter>(tx: &mut Transaction<'_, S>, file: &str) -> Result<(), 
 {
     tx.execute(
         "INSERT INTO bans (file) VALUES (?1) ON CONFLICT (file) DO UPDATE SET file = excluded.file",
-        params![file],
+        params![file.text()],
     )?;
     Ok(())
 }

@@ -10,6 +10,7 @@ ghost use Rattle.index_rules.specs.StandsFor.{StandsFor};
 ghost use Rattle.index_schema.specs.Stays.{Stays};
 ghost use Rattle.index_schema.specs.Schema.{index_schema, no_schema};
 ghost use Rattle.index_adopt.specs.Names.{has_any_of};
+ghost use Rattle.index_schema.specs.RecordRows.{AreRecords};
 ghost use Rattle.index_create.specs.Created.{one_user, IsBlank};
 ghost use Rattle.index_tables.specs.Kept.{IsHonest, IsWorking, Leaves};
 ghost use Rattle.index_reads.specs.Held.{tables_of};
@@ -20,7 +21,7 @@ use crate::tables::SqlBooks;
 use index_adopt::{has_any_table, is_blank, known};
 use index_create::fill_new;
 use index_digest::Digest256;
-use index_rules::{OpenFault, UserRecord, first_user};
+use index_rules::{OpenFault, UserId, UserRecord, first_user};
 use sqlite::{Alter, Connection};
 use std::alloc::Global;
 
@@ -49,6 +50,8 @@ impl<S: Alter> SqlBooks<S> {
             → IsWorking (state S.Store conn)) }
         ensures lasts { IfOk result (λ books. IsWorking (state S.Store conn)
             → HasCleanDisk (state S.Store books.conn) → IsHonest (state S.Store books.conn)) }
+        ensures records { IfOk result (λ books. IsWorking (state S.Store books.conn)
+            → AreRecords (state S.Store books.conn).now) }
         ensures failures { IfOk result (λ books. books.failures ≡ 0) }
         ensures bad_first_user { IsRefusedAs OpenFault.BadFirstUser result
             ↔ IsBadFirstUser user.now token }
@@ -68,7 +71,7 @@ impl<S: Alter> SqlBooks<S> {
     {
         let conn = known(conn);
         match first_user(alloc, user, token) {
-            Ok((user, account)) => fill_blank(conn, user.text(), &account),
+            Ok((user, account)) => fill_blank(conn, &user, &account),
             Err(why) => Err(Unopened { why, conn }),
         }
     }
@@ -77,7 +80,7 @@ impl<S: Alter> SqlBooks<S> {
 /// A new index with this user, where the database has nothing in it.
 fn fill_blank<S: Alter>(
     conn: Connection<S>,
-    user: &str,
+    user: &UserId,
     account: &UserRecord,
 ) -> Result<SqlBooks<S>, Unopened<S>>
     requires outside { conn.in_transaction ≡ false }
@@ -90,6 +93,8 @@ fn fill_blank<S: Alter>(
         → IsWorking (state S.Store conn)) }
     ensures lasts { IfOk result (λ books. IsWorking (state S.Store conn)
         → HasCleanDisk (state S.Store books.conn) → IsHonest (state S.Store books.conn)) }
+    ensures records { IfOk result (λ books. IsWorking (state S.Store books.conn)
+        → AreRecords (state S.Store books.conn).now) }
     ensures failures { IfOk result (λ books. books.failures ≡ 0) }
     ensures first_user { IfErr result (λ refused. refused.why ≢ OpenFault.BadFirstUser) }
     ensures taken { IsRefusedAs OpenFault.NotEmpty result

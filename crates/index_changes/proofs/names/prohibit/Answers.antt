@@ -2,4 +2,4 @@ use Rattle.index_changes.proofs.NameLemmas.{prohibits}
 use Rattle.index_changes.proofs.names.prohibit.Goals as goal
 
 pub returns : goal.returns
-returns c = rw (c.then-3.ensures, c.then-2.ensures, c.then.ensures, c.first.ensures, c.text-name.ensures.text) (prohibits _)
+returns c = rw (c.then-3.ensures, c.then-2.ensures, c.then.ensures, c.first.ensures, c.text-text.ensures.text) (prohibits _)

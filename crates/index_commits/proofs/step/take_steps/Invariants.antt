@@ -4,6 +4,7 @@ use Rattle.sqlite.specs.State.{HasCleanDisk, KeepsCommit, Survives}
 use Rattle.index_steps.specs.Inside.{IsReady}
 use Rattle.index_schema.specs.Index.{version_in}
 use Rattle.index_schema.specs.Records.{tables_in}
+use Rattle.index_schema.specs.RecordRows.{AreRecords}
 use Rattle.index_commits.specs.Changed.{all_of}
 use Rattle.index_commits.proofs.step.take_steps.Given as goal
 
@@ -13,7 +14,7 @@ invariant-loop-step g l =
     let now = state g.S.Store l.tx.conn.now in
     record {
       same : l.tx.conn.ghost_name ≡ l.fn.tx.conn.ghost_name;
-      made : HasCleanDisk now → IsReady first → IsReady now × (all_of (drop l.step-index l.steps) (tables_in now.now.trees) ≡ all_of l.steps (tables_in first.now.trees)) × (now.committed ≡ first.committed) × (version_in now.now.trees ≡ version_in first.now.trees);
+      made : HasCleanDisk now → IsReady first → IsReady now × (all_of (drop l.step-index l.steps) (tables_in now.now.trees) ≡ all_of l.steps (tables_in first.now.trees)) × (now.committed ≡ first.committed) × (version_in now.now.trees ≡ version_in first.now.trees) × (AreRecords first.now → AreRecords now.now);
       kept : HasCleanDisk now → KeepsCommit first now;
       opened : 0 < l.step-index → HasCleanDisk now → IsTrue first.is_open;
       survives : Survives first now (λ _. ⊥);

@@ -1,10 +1,10 @@
-use Rattle.std.proofs.Common.{[], ◌∷◌, rules, is_some, slice_get, sym, ap, ◌∙◌}
+use Rattle.std.proofs.Common.{[], ◌∷◌, rules, is_some, slice_get, sym, ap, ◌∙◌, subst}
 use Rattle.sqlite_value.specs.declared.value.Value.TheVariants.{Text}
 use Rattle.sqlite.specs.Held.{state}
 use Rattle.index_schema.specs.Records.{nothing_in}
 use Rattle.index_schema.specs.StatementTexts.{select_ban_text}
 use Rattle.index_schema.proofs.SelectBan as statement
-use Rattle.index_reads.proofs.FindLemmas.{shown_with, is_some-map}
+use Rattle.index_reads.proofs.FindLemmas.{shown_with, is_some-map, at_exit, sure_with}
 use Rattle.index_reads.proofs.files.is_banned.Goals as goal
 
 pub look-requires-clause-plain : goal.look-requires-clause-plain
@@ -16,3 +16,7 @@ returns-clause-found g c clean =
     c.has_row.ensures ∙ ap (λ l. is_some (slice_get l 0)) c.as_slice.ensures.value
     ∙ sym (is_some-map nothing_in (slice_get c.in_ok-rows.rows.items 0))
     ∙ ap is_some (statement.selects c.args.file.now _ _ c.in_ok-rows.rows.items (c.in_ok-rows.ensures.index clean) shown)
+
+pub returns-in_err-rows-clause-reason : goal.returns-in_err-rows-clause-reason
+returns-in_err-rows-clause-reason g c clean records =
+    at_exit c.from_residual.result _ _ c.from_residual.ensures.1 (sure_with select_ban_text (Text c.args.file.now ∷ []) _ _ c.in_err-rows.ensures.reason (search rules) (statement.sure c.args.file.now) clean)

@@ -6,7 +6,7 @@ use Rattle.index_steps.proofs.put.put_name.Goals as goal
 
 pub returns-clause-made : goal.returns-clause-made
 returns-clause-made g c clean ready =
-    makes put_name_text (statement.cells c.args.name.now c.args.standing c.args.shown.now c.args.quota c.args.charge c.args.undeleted c.args.last) _ _ _ _ _ c.in_ok-execute.field-0 (statement.puts c.args.name.now c.args.standing c.args.shown.now c.args.quota c.args.charge c.args.undeleted c.args.last _ _ _) ready (c.in_ok-execute.ensures.runs clean ready.inside) (search rules)
+    makes put_name_text (statement.cells c.args.name.now c.args.standing c.args.shown.now c.args.quota c.args.charge c.args.undeleted c.args.last) _ _ _ _ _ c.in_ok-execute.field-0 (statement.puts c.args.name.now c.args.standing c.args.shown.now c.args.quota c.args.charge c.args.undeleted c.args.last (λ id. record { name = c.text.ensures.normal; found = c.requires id }) _ _ _) ready (c.in_ok-execute.ensures.runs clean ready.inside) (search rules)
 
 pub returns-in_err-execute-clause-kept : goal.returns-in_err-execute-clause-kept
 returns-in_err-execute-clause-kept g c clean =

@@ -7,4 +7,4 @@ use Rattle.index_steps.proofs.put.put_owner.Goals as goal
 
 pub returns-clause-made : goal.returns-clause-made
 returns-clause-made g c clean ready =
-    makes put_owner_text (Text c.args.name.now ∷ Text c.args.user.now ∷ []) _ _ _ _ _ c.in_ok-execute.field-0 (puts c.args.name.now c.args.user.now _ _ _) ready (c.in_ok-execute.ensures.runs clean ready.inside) (search rules)
+    makes put_owner_text (Text c.args.name.now ∷ Text c.args.user.now ∷ []) _ _ _ _ _ c.in_ok-execute.field-0 (puts c.args.name.now c.args.user.now (λ id. record { name = c.text.ensures.normal; user = c.text-2.ensures.user }) _ _ _) ready (c.in_ok-execute.ensures.runs clean ready.inside) (search rules)

@@ -16,26 +16,26 @@ use Rattle.index_tables.proofs.tables.SqlBooks.create.Goals as goal
 
 pub returns-in-Ok-clause-sound : goal.returns-in-Ok-clause-sound
 returns-in-Ok-clause-sound g c =
-    let same : one_user c.text.result.now c.in-Ok.account ≡ first_tables c.args.user.now c.args.token = search rules in
+    let same : one_user c.in-Ok.user c.in-Ok.account ≡ first_tables c.args.user.now c.args.token = search rules in
     IfOk-weaker c.fill_blank.result _ _ (λ books is honest. subst IsSound (sym (is honest ∙ same)) (IsSound-opened c.args.user.now c.args.token)) c.fill_blank.ensures.tables
 
 pub returns-in-Ok-clause-history : goal.returns-in-Ok-clause-history
 returns-in-Ok-clause-history g c =
-    let same : one_user c.text.result.now c.in-Ok.account ≡ first_tables c.args.user.now c.args.token = search rules in
+    let same : one_user c.in-Ok.user c.in-Ok.account ≡ first_tables c.args.user.now c.args.token = search rules in
     IfOk-weaker c.fill_blank.result _ _
     (λ books is honest. subst (λ T. StandsFor T (begins c.args.user.now c.args.token)) (sym (is honest ∙ same)) (StandsFor-opened c.args.user.now c.args.token)) c.fill_blank.ensures.tables
 
 pub returns-in-Ok-clause-crash : goal.returns-in-Ok-clause-crash
 returns-in-Ok-clause-crash g c =
-    let same : one_user c.text.result.now c.in-Ok.account ≡ first_tables c.args.user.now c.args.token = search rules in
+    let same : one_user c.in-Ok.user c.in-Ok.account ≡ first_tables c.args.user.now c.args.token = search rules in
     subst (λ T. IfOk c.fill_blank.result (λ books. LeavesOr T (state g.S.Store c.args.conn) (state g.S.Store books.conn))) same
-    (subst (λ held. IfOk c.fill_blank.result (λ books. LeavesOr (one_user c.text.result.now c.in-Ok.account) (state g.S.Store held) (state g.S.Store books.conn))) c.known-conn.ensures.same c.fill_blank.ensures.crash)
+    (subst (λ held. IfOk c.fill_blank.result (λ books. LeavesOr (one_user c.in-Ok.user c.in-Ok.account) (state g.S.Store held) (state g.S.Store books.conn))) c.known-conn.ensures.same c.fill_blank.ensures.crash)
 
 pub returns-in-Ok-clause-crash_refused : goal.returns-in-Ok-clause-crash_refused
 returns-in-Ok-clause-crash_refused g c =
-    let same : one_user c.text.result.now c.in-Ok.account ≡ first_tables c.args.user.now c.args.token = search rules in
+    let same : one_user c.in-Ok.user c.in-Ok.account ≡ first_tables c.args.user.now c.args.token = search rules in
     subst (λ T. IfErr c.fill_blank.result (λ refused. LeavesOr T (state g.S.Store c.args.conn) (state g.S.Store refused.conn))) same
-    (subst (λ held. IfErr c.fill_blank.result (λ refused. LeavesOr (one_user c.text.result.now c.in-Ok.account) (state g.S.Store held) (state g.S.Store refused.conn))) c.known-conn.ensures.same c.fill_blank.ensures.crash_refused)
+    (subst (λ held. IfErr c.fill_blank.result (λ refused. LeavesOr (one_user c.in-Ok.user c.in-Ok.account) (state g.S.Store held) (state g.S.Store refused.conn))) c.known-conn.ensures.same c.fill_blank.ensures.crash_refused)
 
 pub returns-in-Ok-clause-alone : goal.returns-in-Ok-clause-alone
 returns-in-Ok-clause-alone g c =

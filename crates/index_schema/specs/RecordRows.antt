@@ -1,8 +1,12 @@
--- The rows that stand for a record: what each column may hold.
-use Rattle.std.specs.Prelude.{◌≡◌, ◌<◌, ◌⊎◌, ⊤, ℕ, pos, length, [], IsSome, IsUtf8}
+-- The rows that stand for a record: what each column may hold, and databases with no other rows.
+use Rattle.std.specs.Prelude.{◌≡◌, ◌<◌, ◌⊎◌, ⊤, ℕ, ◌==◌, pos, length, List, [], IsSome, IsUtf8, MatchBool}
+use Rattle.std.specs.List.{AllByRecursion}
 use Rattle.sqlite_value.specs.declared.value.Value.{Value}
 use Rattle.sqlite_value.specs.declared.value.Value.TheVariants.{Null, Int, Text, Blob}
 use Rattle.sqlite_value.specs.Order.{Row, column}
+use Rattle.sqlite_trees.specs.Tree.{Trees}
+use Rattle.sqlite_schema.specs.declared.schema.Table.{Table}
+use Rattle.sqlite.specs.Effect.{Database}
 use Rattle.index_digest.specs.Digest.{digest_length}
 use Rattle.index_names.specs.FileName.{read_file_name}
 use Rattle.index_names.specs.Project.{IsNormalName}
@@ -153,3 +157,59 @@ pub record IsListedRow (r : Row) : Type 0 where
 -- the one column of a row of owners
 abbrev pub IsOwnerRow : Row → Type 0
 IsOwnerRow r = IsTextOf IsUserId (column r 0)
+
+-- ---- tables
+
+-- a row of owners: a name and a user
+pub record IsOwnedRow (r : Row) : Type 0 where
+  pub name : IsTextOf IsNormalName (column r 1)
+  pub user : IsTextOf IsUserId (column r 2)
+
+-- a row of files, with its file
+pub record IsFiledRow (r : Row) : Type 0 where
+  pub file : IsFileText (column r 1)
+  pub known : IsFileRow r
+
+-- a row of blobs, with its file
+pub record IsStoredRow (r : Row) : Type 0 where
+  pub file : IsFileText (column r 1)
+  pub body : IsBodyRow r
+
+-- a row of yanks, with its name and its release
+pub record IsYankedRow (r : Row) : Type 0 where
+  pub name : IsTextOf IsNormalName (column r 1)
+  pub release : IsTextOf IsRelease (column r 2)
+  pub reason : IsYankRow r
+
+-- a row of cases, with its name
+pub record IsOpenedRow (r : Row) : Type 0 where
+  pub name : IsTextOf IsNormalName (column r 1)
+  pub case : IsCaseRow r
+
+-- a row of bans: a file
+abbrev pub IsBannedRow : Row → Type 0
+IsBannedRow r = IsFileText (column r 1)
+
+-- the row of a table with this tree is that of a record with its key; of meta, whose rows are none, nothing is asked
+abbrev pub IsRecordIn : ℕ → Row → Type 0
+IsRecordIn tree r =
+    MatchBool (tree == 1) (IsAccountRow r)
+    (MatchBool (tree == 4) (IsNamedRow r)
+    (MatchBool (tree == 6) (IsOwnedRow r)
+    (MatchBool (tree == 8) (IsFiledRow r)
+    (MatchBool (tree == 11) (IsStoredRow r)
+    (MatchBool (tree == 13) (IsYankedRow r)
+    (MatchBool (tree == 15) (IsOpenedRow r)
+    (MatchBool (tree == 17) (IsBannedRow r) ⊤)))))))
+
+-- all rows of the table are such rows
+abbrev pub AreRecordsIn : Trees → ℕ → Type 0
+AreRecordsIn db tree = AllByRecursion (IsRecordIn tree) (db tree)
+
+-- so are those of each of these tables
+abbrev pub AreRecordsOf : List Table → Trees → Type 0
+AreRecordsOf tables db = AllByRecursion (λ (t : Table). AreRecordsIn db t.tree) tables
+
+-- so are those of each table that the database has
+abbrev pub AreRecords : Database → Type 0
+AreRecords db = AreRecordsOf db.schema.tables db.trees

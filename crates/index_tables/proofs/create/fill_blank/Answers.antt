@@ -1,0 +1,14 @@
+use Rattle.std.proofs.Common.{rules}
+use Rattle.sqlite.specs.Held.{state}
+use Rattle.index_commits.specs.Changed.{IsMade}
+use Rattle.index_create.specs.Created.{IsBlank, as_new, one_user}
+use Rattle.index_tables.proofs.RecordLemmas.{blank_records}
+use Rattle.index_tables.proofs.create.fill_blank.Goals as goal
+
+pub returns-in-Ok-clause-records : goal.returns-in-Ok-clause-records
+returns-in-Ok-clause-records g c honest =
+    let old = state g.S.Store c.args.conn in
+    let new = state g.S.Store c.fill_new.new.conn in
+    let blank : IsBlank old.now = search rules in
+    let made : IsMade (λ _. one_user c.args.user.now c.args.account.now) as_new old new = search rules in
+    made.records (blank_records old.now blank.schema)
