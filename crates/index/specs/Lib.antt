@@ -1,1 +1,3 @@
 pub mod Printed
+pub mod Runs
+pub mod Works

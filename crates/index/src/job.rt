@@ -5,23 +5,30 @@ ghost use Rattle.index_digest.specs.Digest.{sha256};
 ghost use Rattle.index_plain.specs.Plain.{tables_of};
 ghost use Rattle.index_rules.specs.FirstTables.{first_tables};
 
-use crate::database;
+use crate::database::{self, Work};
 use crate::end::End;
 use index_cli::{apply_lines, serve_connections};
 use index_desk::Desk;
 use index_digest::Digest256;
-use index_io::{Input, Output};
+use index_io::{Input, Output, Sink, Source};
 use index_message::Site;
 use index_plain::PlainBooks;
 use index_rules::{Books, OpenFault};
+use sqlite::Start;
 use std::io::{self, BufReader, ErrorKind};
 use std::net::{SocketAddr, TcpListener};
 use std::process::ExitCode;
 
 /// Makes a new index, and says so.
-pub fn init(rt: &HostRuntime, db: &str, user: &str, token: &str) -> Result<ExitCode, End> {
-    let books = database::create(rt, db, user, token)?;
-    database::close(books, Ok(()))?;
+pub fn init<S: Start>(
+    rt: &HostRuntime,
+    db: &str,
+    start: S,
+    user: &str,
+    token: &str,
+) -> Result<ExitCode, End> {
+    let files = database::create(rt, db, start, user, token)?;
+    drop(files);
     match println!(rt; "created") {
         Ok(()) => Ok(ExitCode::SUCCESS),
         Err(_) => Err(End::WriteFault),
@@ -29,62 +36,101 @@ pub fn init(rt: &HostRuntime, db: &str, user: &str, token: &str) -> Result<ExitC
 }
 
 /// Answers the lines of standard input, on the tables of a database or on tables in memory.
-pub fn apply(rt: &HostRuntime, db: Option<&str>) -> Result<ExitCode, End> {
+pub fn apply<S: Start>(rt: &HostRuntime, db: Option<&str>, start: S) -> Result<ExitCode, End> {
+    let Ok(reader) = BufReader::new(rt.alloc(), rt.stdin()) else {
+        return Err(End::OutOfMemory);
+    };
+    let mut lines = Lines {
+        source: Input::new(reader),
+        sink: Output::new(io::writer(rt)),
+    };
     match db {
-        Some(db) => {
-            let mut desk = Desk::new(database::adopt(rt, db)?);
-            let end = answer_lines(rt, &mut desk);
-            database::close(desk.into_books(), end)
-        }
-        None => {
-            let mut desk = Desk::new(office_books(rt)?);
-            answer_lines(rt, &mut desk)
+        Some(db) => work_on(rt, db, start, &mut lines)?,
+        None => lines.run(rt, &mut Desk::new(office_books(rt)?))?,
+    };
+    Ok(ExitCode::SUCCESS)
+}
+
+/// Does work on the index in a file, and gives the number that it found.
+fn work_on<S: Start, W: Work>(
+    rt: &HostRuntime,
+    db: &str,
+    start: S,
+    work: &mut W,
+) -> Result<u64, End> {
+    let (files, end) = database::work_on(rt, db, start, work)?;
+    drop(files);
+    end
+}
+
+/// The lines of a source are answered to a sink.
+#[derive(Drop)]
+struct Lines<R, K> {
+    source: R,
+    sink: K,
+}
+
+impl<R: Source, K: Sink> Work for Lines<R, K> {
+    ghost use Rattle.index.specs.Works.{AnswersLines};
+
+    ghost does = { λ old new. AnswersLines
+        (R.remaining old.source) (R.remaining new.source)
+        (K.contents old.sink) (K.contents new.sink) };
+
+    fn run<B: Books>(&mut self, rt: &HostRuntime, desk: &mut Desk<B>) -> Result<u64, End> {
+        match apply_lines(rt.alloc(), &mut self.source, &mut self.sink, desk) {
+            Ok(count) => Ok(count),
+            Err(early) => Err(End::Lines(early)),
         }
     }
 }
 
-/// Answers the lines of standard input by a desk.
-fn answer_lines<B: Books>(rt: &HostRuntime, desk: &mut Desk<B>) -> Result<ExitCode, End> {
-    let Ok(reader) = BufReader::new(rt.alloc(), rt.stdin()) else {
-        return Err(End::OutOfMemory);
-    };
-    let mut source = Input::new(reader);
-    let mut sink = Output::new(io::writer(rt));
-    apply_lines(rt.alloc(), &mut source, &mut sink, desk)?;
-    Ok(ExitCode::SUCCESS)
-}
-
 /// Answers so many connections on the tables of a database, which is opened before the first of them can come.
-pub fn serve(
+pub fn serve<S: Start>(
     rt: &HostRuntime,
     db: &str,
+    start: S,
     listen: &str,
     requests: u32,
     at: Option<u64>,
 ) -> Result<ExitCode, End> {
     let site = Site::new(rt.alloc())?;
-    let mut desk = Desk::new(database::adopt(rt, db)?);
-    let end = serve_desk(rt, listen, requests, at, &site, &mut desk);
-    database::close(desk.into_books(), end)
+    let mut serving = Serving {
+        site: &site,
+        listen,
+        requests,
+        at,
+    };
+    work_on(rt, db, start, &mut serving)?;
+    Ok(ExitCode::SUCCESS)
 }
 
-/// Listens at an address, tells it, and answers so many connections by a desk.
-fn serve_desk<B: Books>(
-    rt: &HostRuntime,
-    listen: &str,
+/// So many connections are answered at an address, which is told.
+#[derive(Clone, Copy)]
+struct Serving<'a> {
+    site: &'a Site,
+    listen: &'a str,
     requests: u32,
     at: Option<u64>,
-    site: &Site,
-    desk: &mut Desk<B>,
-) -> Result<ExitCode, End> {
-    let Ok(listener) = listen_at(rt, listen) else {
-        return Err(End::Listen);
-    };
-    if tell_address(rt, &listener).is_err() {
-        return Err(End::WriteFault);
+}
+
+impl Work for Serving<'_> {
+    ghost use Rattle.index.specs.Works.{AnswersConnections};
+
+    ghost does = { λ old _. AnswersConnections old.at old.requests };
+
+    fn run<B: Books>(&mut self, rt: &HostRuntime, desk: &mut Desk<B>) -> Result<u64, End> {
+        let Ok(listener) = listen_at(rt, self.listen) else {
+            return Err(End::Listen);
+        };
+        if tell_address(rt, &listener).is_err() {
+            return Err(End::WriteFault);
+        }
+        match serve_connections(rt, &listener, self.requests, self.at, self.site, desk) {
+            Ok(()) => Ok(0),
+            Err(early) => Err(End::Connections(early)),
+        }
     }
-    serve_connections(rt, &listener, requests, at, site, desk)?;
-    Ok(ExitCode::SUCCESS)
 }
 
 /// Listens at an address and a port. Port 0 is any that is free.
@@ -102,22 +148,52 @@ fn tell_address(rt: &HostRuntime, listener: &TcpListener) -> io::Result<()> {
 }
 
 /// Writes the report on the tables of a database.
-pub fn report(rt: &HostRuntime, db: &str) -> Result<ExitCode, End> {
-    let mut desk = Desk::new(database::adopt(rt, db)?);
-    let mut sink = Output::new(io::writer(rt));
-    let end = desk.report(rt.alloc(), &mut sink).map_err(End::from);
-    database::close(desk.into_books(), end)?;
+pub fn report<S: Start>(rt: &HostRuntime, db: &str, start: S) -> Result<ExitCode, End> {
+    let mut reporting = Reporting {
+        sink: Output::new(io::writer(rt)),
+    };
+    work_on(rt, db, start, &mut reporting)?;
     Ok(ExitCode::SUCCESS)
 }
 
+/// The report is written to a sink.
+#[derive(Drop)]
+struct Reporting<K> {
+    sink: K,
+}
+
+impl<K: Sink> Work for Reporting<K> {
+    ghost use Rattle.index.specs.Works.{WritesReport};
+
+    ghost does = { λ old new T T' _.
+        WritesReport (K.contents old.sink) (K.contents new.sink) T T' };
+
+    fn run<B: Books>(&mut self, rt: &HostRuntime, desk: &mut Desk<B>) -> Result<u64, End> {
+        desk.report(rt.alloc(), &mut self.sink)?;
+        Ok(0)
+    }
+}
+
 /// Prints how many names have a wrong charge in the tables of a database, and fails where there is one.
-pub fn check(rt: &HostRuntime, db: &str) -> Result<ExitCode, End> {
-    let mut desk = Desk::new(database::adopt(rt, db)?);
-    let end = desk.check(rt.alloc()).map_err(End::from);
-    let count = database::close(desk.into_books(), end)?;
+pub fn check<S: Start>(rt: &HostRuntime, db: &str, start: S) -> Result<ExitCode, End> {
+    let count = work_on(rt, db, start, &mut Checking)?;
     match println!(rt; "{count}") {
         Ok(()) => Ok(status_of(count)),
         Err(_) => Err(End::WriteFault),
+    }
+}
+
+/// The wrong charges are counted.
+#[derive(Clone, Copy)]
+struct Checking;
+
+impl Work for Checking {
+    ghost use Rattle.index.specs.Works.{CountsWrong};
+
+    ghost does = { λ _ _. CountsWrong };
+
+    fn run<B: Books>(&mut self, rt: &HostRuntime, desk: &mut Desk<B>) -> Result<u64, End> {
+        Ok(desk.check(rt.alloc())?)
     }
 }
 

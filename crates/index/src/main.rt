@@ -10,13 +10,14 @@ ghost use Rattle.std.specs.Process.{exit_status};
 
 use crate::end::End;
 use index_words::{Job, WordsEnd, read_words};
+use sqlite::{Start, Wary};
 use std::io::ErrorKind;
 use std::process::ExitCode;
 use std::{env, io};
 
 fn main(rt: HostRuntime) -> ExitCode {
     match words(&rt) {
-        Ok(words) => run(&rt, words.as_slice()),
+        Ok(words) => run(&rt, words.as_slice(), Wary),
         Err(error) if error.kind() == ErrorKind::OutOfMemory => failed(&rt, End::OutOfMemory),
         Err(_) => refused(&rt),
     }
@@ -27,10 +28,10 @@ fn words(rt: &HostRuntime) -> io::Result<Vec<String>> {
     Ok(env::args(rt)?.collect(rt.alloc())?)
 }
 
-/// Does what the words ask for.
-fn run(rt: &HostRuntime, words: &[String]) -> ExitCode {
+/// Does what the words ask for. A database that they name held what `S` says.
+fn run<S: Start>(rt: &HostRuntime, words: &[String], start: S) -> ExitCode {
     match read_words(rt.alloc(), words) {
-        Ok(asked) => ended(rt, perform(rt, asked)),
+        Ok(asked) => ended(rt, perform(rt, asked, start)),
         Err(WordsEnd::Clap(error)) => match error.print(rt) {
             Err(_) if !error.use_stderr() => failed(rt, End::WriteFault),
             _ => ExitCode::from(error.exit_code() as u8),
@@ -40,18 +41,18 @@ fn run(rt: &HostRuntime, words: &[String]) -> ExitCode {
 }
 
 /// Does a job, and answers the status that it ends with.
-fn perform(rt: &HostRuntime, asked: Job<'_>) -> Result<ExitCode, End> {
+fn perform<S: Start>(rt: &HostRuntime, asked: Job<'_>, start: S) -> Result<ExitCode, End> {
     match asked {
-        Job::Init { db, user, token } => job::init(rt, db, user, token),
-        Job::Apply { db } => job::apply(rt, db),
+        Job::Init { db, user, token } => job::init(rt, db, start, user, token),
+        Job::Apply { db } => job::apply(rt, db, start),
         Job::Serve {
             db,
             listen,
             requests,
             at,
-        } => job::serve(rt, db, listen, requests, at),
-        Job::Report { db } => job::report(rt, db),
-        Job::Check { db } => job::check(rt, db),
+        } => job::serve(rt, db, start, listen, requests, at),
+        Job::Report { db } => job::report(rt, db, start),
+        Job::Check { db } => job::check(rt, db, start),
     }
 }
 

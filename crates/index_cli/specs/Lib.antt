@@ -4,4 +4,5 @@ pub mod Telling
 pub mod TellsHistory
 pub mod Replies
 pub mod Ends
+pub mod Serving
 pub mod Printed

@@ -1,14 +1,20 @@
 //! Connections from a listener, one after the other.
-ghost use Rattle.std.specs.Prelude.{◌≡◌, IfErr};
+ghost use Rattle.std.specs.Prelude.{◌≡◌, ℕ, IfErr, IfOk, IfSome};
 ghost use Rattle.index_rules.specs.Facts.{HasOneBearer};
+ghost use Rattle.index_rules.specs.History.{History};
+ghost use Rattle.index_rules.specs.Legal.{IsLegal};
 ghost use Rattle.index_rules.specs.Sound.{IsSound};
+ghost use Rattle.index_rules.specs.StandsFor.{StandsFor};
+ghost use Rattle.index_desk.specs.Rules.{by_tables};
+ghost use Rattle.index_cli.specs.Serving.{AnswersOne, IsCount, OneHistory, Serves, ServesHistory};
 
 use crate::end::ServeEnd;
 use index_desk::Desk;
 use index_http::{IoEnd, answer_one};
-use index_io::{Input, Output};
+use index_io::{Input, Output, Sink, Source};
 use index_message::Site;
 use index_rules::Books;
+use std::alloc::Global;
 use std::fmt::Display;
 use std::io::{BufWriter, Write};
 use std::net::{TcpListener, TcpStream};
@@ -29,6 +35,17 @@ pub fn serve_connections<B: Books>(
     site: &Site,
     desk: &mut Desk<B>,
 ) -> Result<(), ServeEnd>
+    // By the tables: what was told of how many connections, and the tables after them.
+    ensures tables { B.IsHonest desk.new → HasOneBearer (B.tables desk.old) →
+        (count : ℕ) × IsCount requests result count
+        × Serves by_tables at count (B.tables desk.old) (B.tables desk.new) }
+
+    // By a legal history for which the tables stood: the same, and they stand for the history with what was accepted.
+    ensures history { B.IsHonest desk.new →
+        (h : History) → IsLegal h → StandsFor (B.tables desk.old) h →
+        (count : ℕ) × IsCount requests result count
+        × ServesHistory h at count (B.tables desk.new) }
+
     // However it ends: one user at most bears a digest, and accounts that add up keep adding up.
     ensures one_bearer { B.IsHonest desk.new →
         HasOneBearer (B.tables desk.old) → HasOneBearer (B.tables desk.new) }
@@ -36,19 +53,27 @@ pub fn serve_connections<B: Books>(
         IsSound (B.tables desk.old) → IsSound (B.tables desk.new) }
     ensures honest { B.IsHonest desk.new → B.IsHonest desk.old }
 {
-    for _ in 0..requests {
+    for _count in 0..requests {
         let Ok((stream, _)) = listener.accept() else {
             return Err(ServeEnd::ReadFault);
         };
-        let moment = match at {
-            Some(at) => at,
-            None => now(rt)?,
-        };
+        let moment = moment_of(rt, at)?;
         if let Err(end) = answer_stream(rt, site, &stream, desk, moment) {
             tell(rt, end);
         }
     }
     Ok(())
+}
+
+/// The moment that is given, or else that of the clock.
+fn moment_of(rt: &HostRuntime, at: Option<u64>) -> Result<u64, ServeEnd>
+    ensures given { IfOk result (λ moment. IfSome at (λ given. moment ≡ given)) }
+    ensures clock { IfErr result (λ end. end ≡ ServeEnd.Clock) }
+{
+    match at {
+        Some(at) => Ok(at),
+        None => now(rt),
+    }
 }
 
 /// The moment of the clock, in whole Unix seconds.
@@ -72,6 +97,11 @@ fn answer_stream<B: Books>(
     desk: &mut Desk<B>,
     at: u64,
 ) -> Result<(), IoEnd>
+    ensures tables { B.IsHonest desk.new → HasOneBearer (B.tables desk.old) →
+        AnswersOne by_tables at (B.tables desk.old) (B.tables desk.new) }
+    ensures history { B.IsHonest desk.new →
+        (h : History) → IsLegal h → StandsFor (B.tables desk.old) h →
+        OneHistory h at (B.tables desk.new) }
     ensures one_bearer { B.IsHonest desk.new →
         HasOneBearer (B.tables desk.old) → HasOneBearer (B.tables desk.new) }
     ensures sound { B.IsHonest desk.new →
@@ -83,11 +113,34 @@ fn answer_stream<B: Books>(
     };
     let mut source = Input::new(stream);
     let mut sink = Output::new(writer);
-    answer_one(rt.alloc(), site, &mut source, &mut sink, desk, at)?;
+    answer_message(rt.alloc(), site, &mut source, &mut sink, desk, at)?;
     match sink.writer.flush() {
         Ok(()) => Ok(()),
         Err(_) => Err(IoEnd::WriteFault(0)),
     }
+}
+
+/// Answers the message of a source to a sink.
+fn answer_message<S: Source, K: Sink, B: Books>(
+    alloc: Global,
+    site: &Site,
+    source: &mut S,
+    sink: &mut K,
+    desk: &mut Desk<B>,
+    at: u64,
+) -> Result<(), IoEnd>
+    ensures tables { B.IsHonest desk.new → HasOneBearer (B.tables desk.old) →
+        AnswersOne by_tables at (B.tables desk.old) (B.tables desk.new) }
+    ensures history { B.IsHonest desk.new →
+        (h : History) → IsLegal h → StandsFor (B.tables desk.old) h →
+        OneHistory h at (B.tables desk.new) }
+    ensures one_bearer { B.IsHonest desk.new →
+        HasOneBearer (B.tables desk.old) → HasOneBearer (B.tables desk.new) }
+    ensures sound { B.IsHonest desk.new →
+        IsSound (B.tables desk.old) → IsSound (B.tables desk.new) }
+    ensures honest { B.IsHonest desk.new → B.IsHonest desk.old }
+{
+    answer_one(alloc, site, source, sink, desk, at)
 }
 
 /// Names the end of a connection on standard error, where that takes it.

@@ -25,6 +25,11 @@ pub record IsCurrent (db : Database) (T : Tables) : Type 0 where
   pub version : version_in db.trees ≡ Some 2
   pub tables : T ≡ tables_in db.trees
 
+-- the connection holds an index of today with these tables, all of it committed
+pub record IsCommitted (s : State) (T : Tables) : Type 0 where
+  pub current : IsCurrent s.now T
+  pub committed : s.now ≡ s.committed
+
 -- it is of version 1 and tells that, and these are its tables with no bans
 pub record IsFirst (db : Database) (T : Tables) : Type 0 where
   pub first : IsFirstVersion db

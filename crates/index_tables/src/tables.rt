@@ -1,7 +1,9 @@
 //! What holds the tables: a connection, outside a transaction.
 ghost use Rattle.std.specs.Prelude.{◌≡◌, false};
-ghost use Rattle.index_io.specs.Counts.{next_count};
 ghost use Rattle.sqlite.specs.Held.{state};
+ghost use Rattle.index_io.specs.Counts.{next_count};
+ghost use Rattle.index_reads.specs.Held.{tables_of};
+ghost use Rattle.index_tables.specs.Adopted.{IsCommitted};
 ghost use Rattle.index_tables.specs.Kept.{IsHonest, IsWorking};
 
 use sqlite::{Alter, Connection};
@@ -37,6 +39,8 @@ impl<S: Alter> SqlBooks<S> {
         ensures same { result ≡ self.conn }
         ensures ended { result.in_transaction ≡ false }
         ensures honest { IsWorking (state S.Store result) → IsHonest (state S.Store result) }
+        ensures committed { IsHonest (state S.Store result)
+            → IsCommitted (state S.Store result) (tables_of S.Store self.conn) }
     {
         let SqlBooks { conn, failures: _ } = self;
         conn

@@ -1,12 +1,23 @@
 use Rattle.std.proofs.Common.{ℕ}
 use Rattle.index_rules.specs.Facts.{HasOneBearer}
+use Rattle.index_rules.specs.History.{History}
+use Rattle.index_rules.specs.Legal.{IsLegal}
 use Rattle.index_rules.specs.Sound.{IsSound}
+use Rattle.index_rules.specs.StandsFor.{StandsFor}
+use Rattle.index_desk.specs.Rules.{by_tables}
+use Rattle.index_cli.specs.Serving.{Serves, ServesHistory}
 use Rattle.index_cli.proofs.serve.serve_connections.Given as goal
 
--- what was true of the tables is
-abbrev pub invariant-loop : goal.invariant-loop
-invariant-loop g l = record {
-  one_bearer : g.B.Books.IsHonest l.desk → HasOneBearer (g.B.Books.tables l.fn.desk) → HasOneBearer (g.B.Books.tables l.desk);
-  sound : g.B.Books.IsHonest l.desk → IsSound (g.B.Books.tables l.fn.desk) → IsSound (g.B.Books.tables l.desk);
-  honest : g.B.Books.IsHonest l.desk → g.B.Books.IsHonest l.fn.desk;
-}
+-- what was true of the tables is, and they are those after the connections so far
+abbrev pub invariant-loop-count : goal.invariant-loop-count
+invariant-loop-count g l =
+    let before = g.B.Books.tables l.fn.desk in
+    let now = g.B.Books.tables l.desk in
+    let honest = g.B.Books.IsHonest l.desk in
+    record {
+      tables : honest → HasOneBearer before → Serves by_tables l.fn.at l._count before now;
+      history : honest → (h : History) → IsLegal h → StandsFor before h → ServesHistory h l.fn.at l._count now;
+      one_bearer : honest → HasOneBearer before → HasOneBearer now;
+      sound : honest → IsSound before → IsSound now;
+      honest : honest → g.B.Books.IsHonest l.fn.desk;
+    }
