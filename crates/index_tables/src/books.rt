@@ -1,5 +1,9 @@
 //! The tables as `Books`: each call is done by the connection, and then counted.
-ghost use Rattle.std.specs.Prelude.{◌≡◌, Err, IfErr, is_ok};
+ghost use Rattle.std.specs.Prelude.{◌≡◌, Err, IfErr, IfOk, OnOk, is_ok};
+ghost use Rattle.index_io.specs.Counts.{next_count};
+ghost use Rattle.index_rules.specs.Facts.{Sees};
+ghost use Rattle.index_rules.specs.Tables.{Tables};
+ghost use Rattle.index_looks.specs.Reasons.{FailsForReason};
 ghost use Rattle.index_looks.specs.Faults.{fault_by};
 ghost use Rattle.index_rules.specs.Walks.{has_fault};
 
@@ -31,7 +35,22 @@ impl<S: Alter> Books for SqlBooks<S> {
 
     ghost failures = { λ books. books.failures };
 
-    fn view(&mut self, alloc: Global, keys: &Keys) -> Result<View, Fault> {
+    fn view(&mut self, alloc: Global, keys: &Keys) -> Result<View, Fault>
+        ensures found { IsHonest (state S.Store self.new.conn)
+            → IfOk result (Sees (tables_of S.Store self.old.conn) keys.now) }
+        ensures unchanged { IsHonest (state S.Store self.new.conn)
+            → tables_of S.Store self.new.conn ≡ tables_of S.Store self.old.conn }
+        ensures honest { IsHonest (state S.Store self.new.conn)
+            → IsHonest (state S.Store self.old.conn) }
+        ensures clean { HasCleanDisk (state S.Store self.new.conn)
+            → HasCleanDisk (state S.Store self.old.conn) }
+        ensures lasts { OnOk result (IsHonest (state S.Store self.old.conn)
+            → HasCleanDisk (state S.Store self.new.conn) → IsHonest (state S.Store self.new.conn)) }
+        ensures crash { IsHonest (state S.Store self.old.conn) → (T : Tables)
+            → Leaves (state S.Store self.new.conn) T → Leaves (state S.Store self.old.conn) T }
+        ensures failures { self.new.failures ≡ next_count self.old.failures (is_ok result) }
+        ensures reason { FailsForReason S.Store self.old.conn self.new.conn result }
+    {
         let seen = index_reads::view(alloc, &mut self.conn, keys);
         self.failures = counted(self.failures, seen.is_ok());
         seen
