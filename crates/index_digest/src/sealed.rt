@@ -68,8 +68,9 @@ impl Clone for Sealed {
     ghost is_clone = { λ sealed copy. copy ≡ sealed };
 
     fn clone(&self) -> Result<Sealed, AllocError> {
+        let alloc = *self.bytes.allocator();
         Ok(Sealed {
-            bytes: self.bytes.clone()?,
+            bytes: Vec::from_slice(alloc, self.bytes.as_slice())?,
             digest: self.digest,
         })
     }
