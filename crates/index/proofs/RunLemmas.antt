@@ -17,7 +17,7 @@ use Rattle.index_rules.specs.Tables.{Tables}
 use Rattle.index_schema.specs.Index.{version_in}
 use Rattle.index_schema.specs.Records.{tables_in}
 use Rattle.index_tables.specs.Adopted.{IsCommitted, IsCurrent, IsFound}
-use Rattle.index_tables.specs.Kept.{IsHonest}
+use Rattle.index_tables.specs.Kept.{IsWorking}
 use Rattle.index.specs.Runs.{Holds, Keeps, Leaves, Ran, Worked}
 
 -- an index of today is found as it is, and never as one of version 1
@@ -35,9 +35,9 @@ keeps_of image db T current held = record {
 }
 
 module _ {D : Type 0} {g : Ghosts D} where
-  -- a connection whose files were copied on a clean disk was honest
-  pub honest_of : (last : Held (FileStore D g)) (files : Files D) → IsCopied last files → IsHonest (file_state last)
-  honest_of last files copied = record { clean = copied.was_clean; is_open = copied.was_open }
+  -- a connection whose files were copied on a clean disk was working
+  pub working_of : (last : Held (FileStore D g)) (files : Files D) → IsCopied last files → IsWorking (file_state last)
+  working_of last files copied = record { clean = copied.was_clean; is_open = copied.was_open }
 
   pub leaves_of : (last : Held (FileStore D g)) (files : Files D) (T : Tables) → IsCopied last files → IsCommitted (file_state last) T → Leaves g files T
   leaves_of last files T copied committed =

@@ -13,14 +13,15 @@ ghost use Rattle.index_rules.specs.Facts.{HasOneBearer};
 ghost use Rattle.index_rules.specs.FirstTables.{first_tables};
 ghost use Rattle.index_rules.specs.Tables.{Tables};
 ghost use Rattle.index_tables.specs.Adopted.{IsCommitted};
-ghost use Rattle.index_tables.specs.Kept.{IsHonest};
+ghost use Rattle.index_tables.specs.Kept.{IsWorking};
 ghost use Rattle.index.specs.declared.end.End.{End as EndData};
 ghost use Rattle.index.specs.Runs.{Leaves, Ran, Worked};
 
 use crate::end::End;
-use index_desk::Desk;
+use index_desk::{Desk, Keeper};
 use index_digest::Digest256;
-use index_rules::{Books, OpenFault};
+use index_recent::Recent;
+use index_rules::OpenFault;
 use index_tables::{SqlBooks, Unopened};
 use sqlite::{Alter, Connection, FileFrom, FileStore, Files, Start};
 use sqlite_disk::Disk;
@@ -30,8 +31,11 @@ pub trait Work {
     /// What it does: itself before and after, the tables before and after, and its end.
     ghost does: { Self → Self → Tables → Tables → Result ℕ EndData → Type 0 };
 
+    /// How many bytes of files and pages the books may keep at hand for it.
+    fn keep_recent(&self) -> usize;
+
     /// Does the work, and gives the number that it found.
-    fn run<B: Books>(&mut self, rt: &HostRuntime, desk: &mut Desk<B>) -> Result<u64, End>
+    fn run<B: Keeper>(&mut self, rt: &HostRuntime, desk: &mut Desk<B>) -> Result<u64, End>
         ensures done { B.IsHonest desk.new → HasOneBearer (B.tables desk.old) →
             does self.old self.new (B.tables desk.old) (B.tables desk.new) result }
         ensures honest { B.IsHonest desk.new → B.IsHonest desk.old };
@@ -144,7 +148,7 @@ fn create_in<S: Alter + Drop>(
     token: Digest256,
 ) -> Result<Connection<S>, End>
     requires outside { conn.in_transaction ≡ false }
-    ensures created { IfOk result (λ conn. IsHonest (state S.Store conn)
+    ensures created { IfOk result (λ conn. IsWorking (state S.Store conn)
         → IsCommitted (state S.Store conn) (first_tables user.now token)) }
 {
     let made = SqlBooks::create(rt.alloc(), conn, user.as_bytes(), token);
@@ -158,15 +162,16 @@ fn work_in<S: Alter + Drop, W: Work>(
     work: &mut W,
 ) -> Result<(Connection<S>, Result<u64, End>), End>
     requires outside { conn.in_transaction ≡ false }
-    ensures worked { IfOk result (λ done. IsHonest (state S.Store done.0)
+    ensures worked { IfOk result (λ done. IsWorking (state S.Store done.0)
         → Worked (λ T T'. W.does work.old work.new T T' done.1)
         (state S.Store conn).now (state S.Store done.0)) }
-    ensures honest { IfOk result (λ done. IsHonest (state S.Store done.0)
-        → IsHonest (state S.Store conn)) }
+    ensures working { IfOk result (λ done. IsWorking (state S.Store done.0)
+        → IsWorking (state S.Store conn)) }
 {
-    let mut desk = Desk::new(opened(SqlBooks::adopt(rt.alloc(), conn))?);
+    let books = opened(SqlBooks::adopt(rt.alloc(), conn))?;
+    let mut desk = Desk::new(Recent::new(rt.alloc(), books, work.keep_recent()));
     let end = work.run(rt, &mut desk);
-    Ok((desk.into_books().into_connection(), end))
+    Ok((desk.into_books().into_books().into_connection(), end))
 }
 
 /// The books that were opened. Where none were, the database is left as it is.

@@ -2,22 +2,26 @@
 ghost use Rattle.std.specs.Prelude.{◌≡◌, ◌↔◌, IfOk, codes};
 ghost use Rattle.std.specs.Process.{exit_status};
 ghost use Rattle.index_digest.specs.Digest.{sha256};
-ghost use Rattle.index_plain.specs.Plain.{tables_of};
 ghost use Rattle.index_rules.specs.FirstTables.{first_tables};
+ghost use Rattle.index_rules.specs.Tables.{Tables};
 
 use crate::database::{self, Work};
 use crate::end::End;
 use index_cli::{apply_lines, serve_connections};
-use index_desk::Desk;
+use index_desk::{Desk, Keeper};
 use index_digest::Digest256;
 use index_io::{Input, Output, Sink, Source};
 use index_message::Site;
 use index_plain::PlainBooks;
-use index_rules::{Books, OpenFault};
+use index_recent::Recent;
+use index_rules::OpenFault;
 use sqlite::Start;
 use std::io::{self, BufReader, ErrorKind};
 use std::net::{SocketAddr, TcpListener};
 use std::process::ExitCode;
+
+/// How many bytes of files and pages are kept at hand, where the command line does not tell.
+const KEPT_BYTES: u64 = 67_108_864;
 
 /// Makes a new index, and says so.
 pub fn init<S: Start>(
@@ -46,7 +50,7 @@ pub fn apply<S: Start>(rt: &HostRuntime, db: Option<&str>, start: S) -> Result<E
     };
     match db {
         Some(db) => work_on(rt, db, start, &mut lines)?,
-        None => lines.run(rt, &mut Desk::new(office_books(rt)?))?,
+        None => work_in_memory(rt, &mut lines)??,
     };
     Ok(ExitCode::SUCCESS)
 }
@@ -63,6 +67,19 @@ fn work_on<S: Start, W: Work>(
     end
 }
 
+/// Does work on tables in memory whose one user is `office`, of the office, with the token `office`.
+fn work_in_memory<W: Work>(
+    rt: &HostRuntime,
+    work: &mut W,
+) -> Result<Result<u64, End>, OpenFault>
+    ensures worked { let first = first_tables (codes "office") (sha256 (codes "office")) in
+        IfOk result (λ end. (T : Tables) × W.does work.old work.new first T end) }
+{
+    let books = PlainBooks::new(rt.alloc(), b"office", Digest256::of(b"office"))?;
+    let mut desk = Desk::new(Recent::new(rt.alloc(), books, work.keep_recent()));
+    Ok(work.run(rt, &mut desk))
+}
+
 /// The lines of a source are answered to a sink.
 #[derive(Drop)]
 struct Lines<R, K> {
@@ -77,7 +94,11 @@ impl<R: Source, K: Sink> Work for Lines<R, K> {
         (R.remaining old.source) (R.remaining new.source)
         (K.contents old.sink) (K.contents new.sink) };
 
-    fn run<B: Books>(&mut self, rt: &HostRuntime, desk: &mut Desk<B>) -> Result<u64, End> {
+    fn keep_recent(&self) -> usize {
+        0
+    }
+
+    fn run<B: Keeper>(&mut self, rt: &HostRuntime, desk: &mut Desk<B>) -> Result<u64, End> {
         match apply_lines(rt.alloc(), &mut self.source, &mut self.sink, desk) {
             Ok(count) => Ok(count),
             Err(early) => Err(End::Lines(early)),
@@ -85,7 +106,8 @@ impl<R: Source, K: Sink> Work for Lines<R, K> {
     }
 }
 
-/// Answers so many connections on the tables of a database, which is opened before the first of them can come.
+/// Answers so many connections on the tables of a database, which is opened before the first of them can come. Up to so
+/// many bytes of files and pages are kept at hand.
 pub fn serve<S: Start>(
     rt: &HostRuntime,
     db: &str,
@@ -93,6 +115,7 @@ pub fn serve<S: Start>(
     listen: &str,
     requests: u32,
     at: Option<u64>,
+    keep_recent: Option<u64>,
 ) -> Result<ExitCode, End> {
     let site = Site::new(rt.alloc())?;
     let mut serving = Serving {
@@ -100,6 +123,7 @@ pub fn serve<S: Start>(
         listen,
         requests,
         at,
+        keep_recent: keep_recent.unwrap_or(KEPT_BYTES) as usize,
     };
     work_on(rt, db, start, &mut serving)?;
     Ok(ExitCode::SUCCESS)
@@ -112,6 +136,7 @@ struct Serving<'a> {
     listen: &'a str,
     requests: u32,
     at: Option<u64>,
+    keep_recent: usize,
 }
 
 impl Work for Serving<'_> {
@@ -119,7 +144,11 @@ impl Work for Serving<'_> {
 
     ghost does = { λ old _. AnswersConnections old.at old.requests };
 
-    fn run<B: Books>(&mut self, rt: &HostRuntime, desk: &mut Desk<B>) -> Result<u64, End> {
+    fn keep_recent(&self) -> usize {
+        self.keep_recent
+    }
+
+    fn run<B: Keeper>(&mut self, rt: &HostRuntime, desk: &mut Desk<B>) -> Result<u64, End> {
         let Ok(listener) = listen_at(rt, self.listen) else {
             return Err(End::Listen);
         };
@@ -168,7 +197,11 @@ impl<K: Sink> Work for Reporting<K> {
     ghost does = { λ old new T T' _.
         WritesReport (K.contents old.sink) (K.contents new.sink) T T' };
 
-    fn run<B: Books>(&mut self, rt: &HostRuntime, desk: &mut Desk<B>) -> Result<u64, End> {
+    fn keep_recent(&self) -> usize {
+        0
+    }
+
+    fn run<B: Keeper>(&mut self, rt: &HostRuntime, desk: &mut Desk<B>) -> Result<u64, End> {
         desk.report(rt.alloc(), &mut self.sink)?;
         Ok(0)
     }
@@ -192,7 +225,11 @@ impl Work for Checking {
 
     ghost does = { λ _ _. CountsWrong };
 
-    fn run<B: Books>(&mut self, rt: &HostRuntime, desk: &mut Desk<B>) -> Result<u64, End> {
+    fn keep_recent(&self) -> usize {
+        0
+    }
+
+    fn run<B: Keeper>(&mut self, rt: &HostRuntime, desk: &mut Desk<B>) -> Result<u64, End> {
         Ok(desk.check(rt.alloc())?)
     }
 }
@@ -206,12 +243,4 @@ fn status_of(count: u64) -> ExitCode
     } else {
         ExitCode::FAILURE
     }
-}
-
-/// Tables whose one user is `office`, of the office, with the token `office`.
-fn office_books(rt: &HostRuntime) -> Result<PlainBooks, OpenFault>
-    ensures tables { let token = sha256 (codes "office") in
-        IfOk result (λ books. tables_of books ≡ first_tables (codes "office") token) }
-{
-    PlainBooks::new(rt.alloc(), b"office", Digest256::of(b"office"))
 }

@@ -50,7 +50,8 @@ fn perform<S: Start>(rt: &HostRuntime, asked: Job<'_>, start: S) -> Result<ExitC
             listen,
             requests,
             at,
-        } => job::serve(rt, db, start, listen, requests, at),
+            keep_recent,
+        } => job::serve(rt, db, start, listen, requests, at, keep_recent),
         Job::Report { db } => job::report(rt, db, start),
         Job::Check { db } => job::check(rt, db, start),
     }

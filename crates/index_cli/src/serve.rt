@@ -9,11 +9,10 @@ ghost use Rattle.index_desk.specs.Rules.{by_tables};
 ghost use Rattle.index_cli.specs.Serving.{AnswersOne, IsCount, OneHistory, Serves, ServesHistory};
 
 use crate::end::ServeEnd;
-use index_desk::Desk;
+use index_desk::{Desk, Keeper};
 use index_http::{IoEnd, answer_one};
 use index_io::{Input, Output, Sink, Source};
 use index_message::Site;
-use index_rules::Books;
 use std::alloc::Global;
 use std::fmt::Display;
 use std::io::{BufWriter, Write};
@@ -27,7 +26,7 @@ const GATHERED_BYTES: usize = 65_536;
 /// that of the clock. Why one of them ended early is named on standard error, and the next is served.
 ///
 /// `ReadFault` where a connection can't be accepted, and `Clock` where the clock can't be read or stands before 1970.
-pub fn serve_connections<B: Books>(
+pub fn serve_connections<B: Keeper>(
     rt: &HostRuntime,
     listener: &TcpListener,
     requests: u32,
@@ -90,7 +89,7 @@ fn now(rt: &HostRuntime) -> Result<u64, ServeEnd>
 }
 
 /// Answers the message of a connection. The reply is gathered, so that a page does not go out row by row.
-fn answer_stream<B: Books>(
+fn answer_stream<B: Keeper>(
     rt: &HostRuntime,
     site: &Site,
     stream: &TcpStream,
@@ -121,7 +120,7 @@ fn answer_stream<B: Books>(
 }
 
 /// Answers the message of a source to a sink.
-fn answer_message<S: Source, K: Sink, B: Books>(
+fn answer_message<S: Source, K: Sink, B: Keeper>(
     alloc: Global,
     site: &Site,
     source: &mut S,

@@ -3,6 +3,7 @@ pub mod Standings
 pub mod Looks
 pub mod Crashes
 pub mod Projects
+pub mod Pages
 pub mod PastRows
 pub mod Rules
 pub mod Checks

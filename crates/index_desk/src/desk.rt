@@ -28,6 +28,7 @@ use std::alloc::Global;
 use std::marker::Model;
 
 mod check;
+mod kept;
 mod report;
 mod rows;
 

@@ -2,7 +2,9 @@
 #![tactic(auto)]
 
 mod desk;
+mod keeper;
 mod standing;
 
 pub use desk::{Desk, ReportFault};
+pub use keeper::{Keeper, Page};
 pub use standing::{HeldName, Standing};

@@ -6,7 +6,7 @@ use Rattle.std.specs.Io.KnownBytes.{Appends}
 use Rattle.std.proofs.KnownBytes.{Appends-trans}
 use Rattle.std.proofs.Math.Seq.{take-append-add}
 use Rattle.std.proofs.lemmas.List.{take-append-le}
-use Rattle.index_io.specs.Counts.{HasFailed, last_count}
+use Rattle.index_io.specs.Counts.{FailsAtMostOnce, HasFailed, last_count}
 use Rattle.index_rules.specs.Maps.{Bytes}
 use Rattle.index_rules.specs.Tables.{Tables}
 use Rattle.index_rules.specs.TableRows.{file_rows_in}
@@ -82,3 +82,22 @@ sends_behind head page count before mid after (Err ReadFault) is within short fr
 sends_behind head page count before mid after (Err OutOfMemory) is within short front sends = absurd sends
 sends_behind head page count before mid after (Err (WriteFault n)) is within short front sends = first_behind head page count n before mid after is within short front sends
 sends_behind head page count before mid after (Err (Cut n)) is within short front sends = first_behind head page count n before mid after is within short front sends
+
+-- ---- a text that was gathered
+
+-- what failed in the second of two calls failed since before the first
+pub failed_since : (old mid new : ℕ) → FailsAtMostOnce old mid → FailsAtMostOnce mid new → HasFailed mid new → HasFailed old new
+failed_since old mid new (inl same) later failed = rw same at failed
+failed_since old mid new (inr more) later (inr last) = inr last
+failed_since old mid new (inr more) (inl same) (inl failed) = inl (omega (arith, same, failed))
+failed_since old mid new (inr more) (inr later) (inl failed) = inl (omega (arith, more, later, failed))
+
+pub measured_since : (page : Option Bytes) (old mid new : ℕ) → FailsAtMostOnce old mid → FailsAtMostOnce mid new
+    → MeasuresProject page mid new (Err fault.Store) → MeasuresProject page old new (Err fault.Store)
+measured_since None old mid new first later failed = failed_since old mid new first later failed
+measured_since (Some page) old mid new first later (inl failed) = inl (failed_since old mid new first later failed)
+measured_since (Some page) old mid new first later (inr long) = inr long
+
+-- a page that was gathered is shown
+pub shows_gathered : (served : Served) (page : Option Bytes) (bytes : Bytes) → page ≡ Some bytes → ShowsWhole served page (page_reply served bytes)
+shows_gathered served page bytes is = subst (λ o. ShowsWhole served o (page_reply served bytes)) (sym is) (inl refl)

@@ -1,24 +1,13 @@
 -- A page that is shown: its head first, which tells its length, and then its text.
-use Rattle.std.specs.Prelude.{◌≡◌, ℕ, ◌+◌, Option, Some, None, min, option_map, Result, Ok, Err}
+use Rattle.std.specs.Prelude.{◌≡◌, ℕ, ◌+◌, Option, Some, None, min, Result, Ok, Err}
 use Rattle.index_io.specs.Counts.{last_count}
 use Rattle.index_rules.specs.Maps.{Bytes}
-use Rattle.index_rules.specs.Tables.{Tables}
-use Rattle.index_rules.specs.TableRows.{held_rows_in}
 use Rattle.index_rules.specs.declared.answer.Refusal.TheVariants.{NoProject}
-use Rattle.index_desk.specs.Projects.{project_rows_in}
-use Rattle.index_pages.specs.Pages.{project_page_of, root_page_of}
 use Rattle.index_pages.specs.declared.served.Served.{Served}
 use Rattle.index_http.specs.Exchanges.{ShowsPage, refusal_reply}
 use Rattle.index_http.specs.Replies.{Reply}
 use Rattle.index_http.specs.declared.end.IoEnd.{IoEnd}
 use Rattle.index_http.specs.declared.end.IoEnd.TheVariants.{ReadFault, OutOfMemory, WriteFault, Cut}
-use Rattle.index_http.specs.declared.pages.Page.{Page}
-use Rattle.index_http.specs.declared.pages.Page.TheVariants.{Root, Project}
-
--- the bytes of a page, where there is one: of a name that is not held there is none
-abbrev pub page_in : Tables → Served → Page → Option Bytes
-page_in T served Root = Some (root_page_of served (held_rows_in T))
-page_in T served (Project name) = option_map (project_page_of served name.now) (project_rows_in T name.now)
 
 -- the page, or that there is none
 abbrev pub ShowsWhole : Served → Option Bytes → Reply → Type 0

@@ -2,6 +2,7 @@
 #![tactic(auto)]
 
 mod act;
+mod buffer;
 mod end;
 mod one;
 mod page;

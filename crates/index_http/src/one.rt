@@ -19,10 +19,10 @@ use crate::end::IoEnd;
 use crate::reply::message_reply;
 use crate::send::send_reply;
 use crate::show::show;
-use index_desk::Desk;
+use index_desk::{Desk, Keeper};
 use index_io::{Sink, Source};
 use index_message::{Message, Request, Site, read_message};
-use index_rules::{Books, Bytes};
+use index_rules::Bytes;
 use std::alloc::Global;
 
 /// Reads one message, at a moment in Unix seconds, applies it or looks up what it asks for, and writes the reply.
@@ -31,7 +31,7 @@ use std::alloc::Global;
 /// After `WriteFault` the first so many bytes of the reply went out, and what the message changed stands. After `Cut`
 /// the first so many bytes of a page's reply went out, and no table was changed. Once a request was applied no memory is
 /// taken for its reply.
-pub fn answer_one<S: Source, K: Sink, B: Books>(
+pub fn answer_one<S: Source, K: Sink, B: Keeper>(
     alloc: Global,
     site: &Site,
     source: &mut S,
@@ -84,7 +84,7 @@ pub fn answer_one<S: Source, K: Sink, B: Books>(
 }
 
 /// Answers a message.
-fn answer<K: Sink, B: Books>(
+fn answer<K: Sink, B: Keeper>(
     alloc: Global,
     sink: &mut K,
     desk: &mut Desk<B>,

@@ -1,22 +1,24 @@
 //! Pages, whose head tells their length before their text is sent.
-ghost use Rattle.std.specs.Prelude.{◌≡◌, ◌≢◌, ◌≤◌, Err, Some, length, true, false, is_err};
-ghost use Rattle.index_io.specs.Counts.{HasFailed};
+ghost use Rattle.std.specs.Prelude.{◌≡◌, ◌≢◌, ◌≤◌, Err, IfSome, IsErr, None, Some, length, true, false, is_err};
+ghost use Rattle.index_io.specs.Counts.{FailsAtMostOnce, HasFailed};
 ghost use Rattle.index_rules.specs.Maps.{Bytes as BytesData};
+ghost use Rattle.index_desk.specs.Pages.{page_in};
 ghost use Rattle.index_desk.specs.Rules.{by_tables};
 ghost use Rattle.index_pages.specs.Ends.{most_bytes};
 ghost use Rattle.index_http.specs.Exchanges.{ShowsProject, ShowsRoot};
 ghost use Rattle.index_http.specs.PagePasses.{KeepsTables, MeasuresProject};
-ghost use Rattle.index_http.specs.PageShows.{ShowsWhole, behind as behind_lem, page_in, sent_behind};
+ghost use Rattle.index_http.specs.PageShows.{ShowsWhole, behind as behind_lem, sent_behind};
 ghost use Rattle.index_http.specs.Replies.{page_reply, reply_text};
 ghost use Rattle.index_http.specs.Sends.{SendsText, is_cut, is_write_fault};
 ghost use Rattle.index_http.specs.Shows.{EndsShown, LeavesTables};
 
+use crate::buffer::Buffer;
 use crate::end::IoEnd;
 use crate::page::{project_length, project_text, root_length, root_text};
-use crate::reply::{Fields, message_reply, refusal_reply, store_reply};
+use crate::reply::{Fields, message_reply, page_reply, refusal_reply, store_reply};
 use crate::send::{send_head, send_reply};
 use http::StatusCode;
-use index_desk::Desk;
+use index_desk::{Desk, Keeper, Page};
 use index_io::Sink;
 use index_message::MessageFault;
 use index_names::NormalName;
@@ -24,15 +26,8 @@ use index_pages::Served;
 use index_rules::{Books, Fault, Refusal};
 use std::alloc::Global;
 
-/// Which page.
-#[derive(Clone, Copy)]
-enum Page<'a> {
-    Root,
-    Project(&'a NormalName),
-}
-
 /// Shows the root page.
-pub fn show_root<K: Sink, B: Books>(
+pub fn show_root<K: Sink, B: Keeper>(
     alloc: Global,
     sink: &mut K,
     desk: &mut Desk<B>,
@@ -57,7 +52,7 @@ pub fn show_root<K: Sink, B: Books>(
 }
 
 /// Shows a project's page.
-pub fn show_project<K: Sink, B: Books>(
+pub fn show_project<K: Sink, B: Keeper>(
     alloc: Global,
     sink: &mut K,
     desk: &mut Desk<B>,
@@ -110,7 +105,7 @@ fn show_no_page<K: Sink, B: Books>(
 }
 
 /// Shows a page in a type, where there is one.
-fn show_page<K: Sink, B: Books>(
+fn show_page<K: Sink, B: Keeper>(
     alloc: Global,
     sink: &mut K,
     desk: &mut Desk<B>,
@@ -129,11 +124,38 @@ fn show_page<K: Sink, B: Books>(
     ensures writes { is_write_fault result ≡ false → K.failures sink.new ≡ K.failures sink.old }
     ensures no_read_fault { result ≢ Err IoEnd.ReadFault }
 {
+    if let Some(text) = desk.kept_page(page, served) {
+        return send_reply(sink, to_head, page_reply(served, text));
+    }
+    if let Some(text) = gathered_text(alloc, desk, page, served) {
+        let sent = send_reply(sink, to_head, page_reply(served, text.as_slice()));
+        desk.keep_page(page, served, text);
+        return sent;
+    }
     match length_of(alloc, desk, page, served) {
         Ok(Some(size)) => send_page(alloc, sink, desk, to_head, page, served, size),
         Ok(None) => send_reply(sink, to_head, refusal_reply(Refusal::NoProject)),
         Err(Fault::OutOfMemory) => Err(IoEnd::OutOfMemory),
         Err(Fault::Store) => send_reply(sink, to_head, store_reply()),
+    }
+}
+
+/// The text of a page, where it is short and no look failed. It changes no table.
+fn gathered_text<B: Books>(
+    alloc: Global,
+    desk: &mut Desk<B>,
+    page: Page<'_>,
+    served: Served,
+) -> Option<Vec<u8>>
+    ensures text { B.IsHonest desk.new → IfSome result (λ text.
+        page_in (B.tables desk.new) served page.entry ≡ Some text.items) }
+    ensures leaves { LeavesTables B.IsHonest B.IsClean B.tables desk.old desk.new }
+    ensures once { FailsAtMostOnce (B.failures desk.old) (B.failures desk.new) }
+{
+    let mut buffer = Buffer::new(alloc);
+    match send_text(alloc, &mut buffer, desk, page, served) {
+        Ok(()) => Some(buffer.bytes),
+        Err(_) => None,
     }
 }
 
@@ -198,6 +220,8 @@ fn send_text<K: Sink, B: Books>(
     ensures sent { B.IsHonest desk.old → B.IsClean desk.new → (bytes : BytesData) →
         page_in (B.tables desk.old) served page.entry ≡ Some bytes →
         SendsText bytes (K.contents sink.old) (K.contents sink.new) result }
+    ensures none { B.IsHonest desk.old → B.IsClean desk.new →
+        page_in (B.tables desk.old) served page.entry ≡ None → IsErr result }
     ensures keeps { KeepsTables B.IsHonest B.IsClean B.tables B.failures B.may_leave
         desk.old desk.new (is_cut result) }
     ensures write_fault { is_write_fault result ≡ true →

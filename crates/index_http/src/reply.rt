@@ -1,12 +1,11 @@
 //! Replies. None of them takes memory.
 ghost use Rattle.std.specs.Prelude.{◌≡◌, [], false};
-ghost use Rattle.index_http.specs.Exchanges.{ShowsWay, body_reply, refusal_reply, store_reply};
-ghost use Rattle.index_http.specs.Replies.{answer_fields, answer_reply, fields_of_fault, file_reply, json_reply, message_reply, reply_of, to_project, to_root};
+ghost use Rattle.index_http.specs.Exchanges.{ShowsWay, refusal_reply, store_reply};
+ghost use Rattle.index_http.specs.Replies.{answer_fields, answer_reply, fields_of_fault, file_reply, json_reply, message_reply, page_reply, reply_of, to_project, to_root};
 
 use crate::status::{status_of_answer, status_of_fault};
 use crate::texts::message_text;
 use http::StatusCode;
-use index_digest::Sealed;
 use index_json::answer_text;
 use index_message::{Allowed, MessageFault};
 use index_names::NormalName;
@@ -80,13 +79,24 @@ pub fn store_reply() -> Reply<'static>
 }
 
 /// The reply with the bytes of a file.
-fn file_reply(bytes: &[u8]) -> Reply<'_>
+pub fn file_reply(bytes: &[u8]) -> Reply<'_>
     ensures { reply_of result ≡ file_reply bytes.now }
 {
     Reply {
         status: StatusCode::OK,
         fields: Fields::File,
         body: bytes,
+    }
+}
+
+/// The reply with the text of a page.
+pub fn page_reply(served: Served, text: &[u8]) -> Reply<'_>
+    ensures { reply_of result ≡ page_reply served text.now }
+{
+    Reply {
+        status: StatusCode::OK,
+        fields: Fields::Page(served),
+        body: text,
     }
 }
 
@@ -98,16 +108,6 @@ pub fn json_reply(text: &[u8]) -> Reply<'_>
         status: StatusCode::OK,
         fields: Fields::Json,
         body: text,
-    }
-}
-
-/// The reply with the bytes of a file, where there are any.
-pub fn body_reply(body: &Option<Sealed>) -> Reply<'_>
-    ensures { reply_of result ≡ body_reply body.now }
-{
-    match body {
-        Some(body) => file_reply(body.bytes()),
-        None => refusal_reply(Refusal::NoFile),
     }
 }
 

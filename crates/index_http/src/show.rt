@@ -12,10 +12,10 @@ ghost use Rattle.index_http.specs.Shows.{EndsShown, LeavesTables};
 use crate::end::IoEnd;
 use crate::pages::{show_project, show_root};
 use crate::reply::{
-    body_reply, json_reply, message_reply, refusal_reply, store_reply, to_project, to_root, way_to,
+    file_reply, json_reply, message_reply, refusal_reply, store_reply, to_project, to_root, way_to,
 };
 use crate::send::send_reply;
-use index_desk::Desk;
+use index_desk::{Desk, Keeper};
 use index_io::Sink;
 use index_json::standing_text;
 use index_message::{Allowed, MessageFault, Request, Resource};
@@ -25,7 +25,7 @@ use index_rules::{Books, Bytes, Fault, Refusal};
 use std::alloc::{AllocError, Global};
 
 /// Shows what a request asks for.
-pub fn show<K: Sink, B: Books>(
+pub fn show<K: Sink, B: Keeper>(
     alloc: Global,
     sink: &mut K,
     desk: &mut Desk<B>,
@@ -97,7 +97,7 @@ fn file_of(alloc: Global, given: &Bytes) -> Result<Option<FileName>, AllocError>
 }
 
 /// Shows a project's page, or the way there where its name is given in another spelling.
-fn show_at<K: Sink, B: Books>(
+fn show_at<K: Sink, B: Keeper>(
     alloc: Global,
     sink: &mut K,
     desk: &mut Desk<B>,
@@ -124,7 +124,7 @@ fn show_at<K: Sink, B: Books>(
 }
 
 /// Shows the page of a project whose name is given in its normal form, and else the way there.
-fn show_spelling<K: Sink, B: Books>(
+fn show_spelling<K: Sink, B: Keeper>(
     alloc: Global,
     sink: &mut K,
     desk: &mut Desk<B>,
@@ -155,7 +155,7 @@ fn show_spelling<K: Sink, B: Books>(
 }
 
 /// Shows the bytes of a file.
-fn show_file<K: Sink, B: Books>(
+fn show_file<K: Sink, B: Keeper>(
     alloc: Global,
     sink: &mut K,
     desk: &mut Desk<B>,
@@ -176,8 +176,16 @@ fn show_file<K: Sink, B: Books>(
     let Some(file) = file_of(alloc, given)? else {
         return send_reply(sink, to_head, refusal_reply(Refusal::NoFile));
     };
+    if let Some(body) = desk.kept_body(&file) {
+        return send_reply(sink, to_head, file_reply(body.bytes()));
+    }
     match desk.body(alloc, &file) {
-        Ok(body) => send_reply(sink, to_head, body_reply(&body)),
+        Ok(Some(body)) => {
+            let sent = send_reply(sink, to_head, file_reply(body.bytes()));
+            desk.keep_body(file, body);
+            sent
+        }
+        Ok(None) => send_reply(sink, to_head, refusal_reply(Refusal::NoFile)),
         Err(Fault::OutOfMemory) => Err(IoEnd::OutOfMemory),
         Err(Fault::Store) => send_reply(sink, to_head, store_reply()),
     }

@@ -1,13 +1,13 @@
 //! Exchanges: a message and the whole reply to it, as they come in and go out. Each is asked of a desk over vectors and of
 //! one over a database.
 use fakes::PieceReader;
-use index_desk::Desk;
+use index_desk::{Desk, Keeper};
 use index_digest::Digest256;
 use index_http::{IoEnd, answer_one};
 use index_io::{Input, Output};
 use index_message::Site;
 use index_plain::PlainBooks;
-use index_rules::Books;
+use index_recent::Recent;
 use index_tables::{SqlBooks, Unopened};
 use sqlite::{Connection, MemStore};
 use std::alloc::AllocGlobal;
@@ -187,17 +187,18 @@ fn new_site(rt: &(impl Abort + AllocGlobal)) -> Site {
     Site::new(rt.alloc()).expect(rt, "routes")
 }
 
-/// A desk over vectors, whose one user is `office`, of the office, with the token `office`.
-fn desk_in_memory(rt: &(impl Abort + AllocGlobal)) -> Desk<PlainBooks> {
+/// A desk over vectors, whose one user is `office`, of the office, with the token `office`. It keeps no answers.
+fn desk_in_memory(rt: &(impl Abort + AllocGlobal)) -> Desk<Recent<PlainBooks>> {
     let token = Digest256::of(b"office");
-    Desk::new(PlainBooks::new(rt.alloc(), b"office", token).expect(rt, "books"))
+    let books = PlainBooks::new(rt.alloc(), b"office", token).expect(rt, "books");
+    Desk::new(Recent::new(rt.alloc(), books, 0))
 }
 
-/// A desk over a new database, with the same user.
-fn desk_in_database(rt: &(impl Abort + AllocGlobal)) -> Desk<SqlBooks<MemStore>> {
+/// A desk over a new database, with the same user. It keeps a few answers.
+fn desk_in_database(rt: &(impl Abort + AllocGlobal)) -> Desk<Recent<SqlBooks<MemStore>>> {
     let conn = Connection::open_in_memory(rt.alloc()).expect(rt, "a database");
     match SqlBooks::create(rt.alloc(), conn, b"office", Digest256::of(b"office")) {
-        Ok(books) => Desk::new(books),
+        Ok(books) => Desk::new(Recent::new(rt.alloc(), books, 1_000)),
         Err(Unopened { why, conn }) => {
             drop(conn);
             panic!(rt; "{why:?}")
@@ -206,17 +207,17 @@ fn desk_in_database(rt: &(impl Abort + AllocGlobal)) -> Desk<SqlBooks<MemStore>>
 }
 
 /// Lets go of a desk over a database.
-fn let_go(desk: Desk<SqlBooks<MemStore>>) {
-    drop(desk.into_books().into_connection());
+fn let_go(desk: Desk<Recent<SqlBooks<MemStore>>>) {
+    drop(desk.into_books().into_books().into_connection());
 }
 
 /// ann claims `frob`.
-fn claim_frob<B: Books>(rt: &(impl Abort + AllocGlobal), site: &Site, desk: &mut Desk<B>) {
+fn claim_frob<B: Keeper>(rt: &(impl Abort + AllocGlobal), site: &Site, desk: &mut Desk<B>) {
     assert_parts(rt, site, desk, &[USERS, FROB], usize::MAX);
 }
 
 /// Asks these exchanges in order, of which a read gives at most so many bytes.
-fn assert_parts<B: Books>(
+fn assert_parts<B: Keeper>(
     rt: &(impl Abort + AllocGlobal),
     site: &Site,
     desk: &mut Desk<B>,
@@ -231,7 +232,7 @@ fn assert_parts<B: Books>(
 }
 
 /// This is the reply to a message, of which a read gives at most so many bytes.
-fn assert_reply<B: Books>(
+fn assert_reply<B: Keeper>(
     rt: &(impl Abort + AllocGlobal),
     site: &Site,
     desk: &mut Desk<B>,
@@ -253,7 +254,7 @@ fn assert_text(rt: &(impl Abort + AllocGlobal), told: Vec<u8>, reply: &str, mess
 }
 
 /// How a desk ends that answers what a reader gives, to a writer.
-fn tell<R: Read + Drop, W: Write, B: Books>(
+fn tell<R: Read + Drop, W: Write, B: Keeper>(
     rt: &impl AllocGlobal,
     site: &Site,
     desk: &mut Desk<B>,

@@ -46,8 +46,8 @@ impl<S: Alter> Books for SqlBooks<S> {
             → HasCleanDisk (state S.Store self.old.conn) }
         ensures lasts { OnOk result (IsHonest (state S.Store self.old.conn)
             → HasCleanDisk (state S.Store self.new.conn) → IsHonest (state S.Store self.new.conn)) }
-        ensures crash { IsHonest (state S.Store self.old.conn) → (T : Tables)
-            → Leaves (state S.Store self.new.conn) T → Leaves (state S.Store self.old.conn) T }
+        ensures crash { (T : Tables) → Leaves (state S.Store self.new.conn) T
+            → Leaves (state S.Store self.old.conn) T }
         ensures failures { self.new.failures ≡ next_count self.old.failures (is_ok result) }
         ensures reason { FailsForReason S.Store self.old.conn self.new.conn result }
     {

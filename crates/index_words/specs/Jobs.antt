@@ -20,9 +20,9 @@ abbrev pub HasNumber : Text → List Row → ℕ → Type 0
 HasNumber id rows n = IsSomeAnd (first_of id rows) (IsNumber n)
 
 -- the option has this number of 64 bits, or is not given
-abbrev pub HasMoment : Text → List Row → Option ℕ → Type 0
-HasMoment id rows None = first_of id rows ≡ None
-HasMoment id rows (Some n) = HasNumber id rows n × (n < 2 ^ 64)
+abbrev pub HasNumberOrNone : Text → List Row → Option ℕ → Type 0
+HasNumberOrNone id rows None = first_of id rows ≡ None
+HasNumberOrNone id rows (Some n) = HasNumber id rows n × (n < 2 ^ 64)
 
 -- the job is the subcommand that was entered, with the values of its options
 abbrev pub IsJob : Option (Text × List Row) → Job → Type 0
@@ -32,10 +32,11 @@ IsJob (Some (name, rows)) (job.Init db user token) = (name ≡ codes "init")
     × HasText (codes "token-sha256") rows token.now
 IsJob (Some (name, rows)) (job.Apply db) = (name ≡ codes "apply")
     × (first_of (codes "db") rows ≡ option_map (λ db. db.now) db)
-IsJob (Some (name, rows)) (job.Serve db listen requests at) = (name ≡ codes "serve")
+IsJob (Some (name, rows)) (job.Serve db listen requests at keep_recent) = (name ≡ codes "serve")
     × HasText (codes "db") rows db.now
     × HasText (codes "listen") rows listen.now × HasNumber (codes "requests") rows requests
-    × (1 ≤ requests) × (requests ≤ 1000000) × HasMoment (codes "at") rows at
+    × (1 ≤ requests) × (requests ≤ 1000000) × HasNumberOrNone (codes "at") rows at
+    × HasNumberOrNone (codes "keep-recent") rows keep_recent
 IsJob (Some (name, rows)) (job.Report db) = (name ≡ codes "report")
     × HasText (codes "db") rows db.now
 IsJob (Some (name, rows)) (job.Check db) = (name ≡ codes "check")

@@ -34,9 +34,10 @@ apply_app = with_rule (new_app (codes "apply")) (option (codes "db"))
 -- the subcommand `serve` with its options
 abbrev pub serve_app : App
 serve_app =
-    with_rule (with_rule (with_rule (database_app (codes "serve")) (required (codes "listen")))
+    with_rule (with_rule (with_rule (with_rule (database_app (codes "serve")) (required (codes "listen")))
     (number_in 1 1000000 (required (codes "requests"))))
-    (number_in 0 18446744073709551615 (option (codes "at")))
+    (number_in 0 18446744073709551615 (option (codes "at"))))
+    (number_in 0 18446744073709551615 (option (codes "keep-recent")))
 
 -- the program's name alone, which wants a subcommand after it
 abbrev pub program_app : App

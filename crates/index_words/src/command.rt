@@ -81,6 +81,15 @@ fn at<'a>(alloc: Global) -> Arg<'a>
     whole_number(optional(alloc, "at", help), 0, u64::MAX)
 }
 
+fn keep_recent<'a>(alloc: Global) -> Arg<'a>
+    ensures rule { rule_of result
+        ≡ number_in 0 18446744073709551615 (option (codes "keep-recent")) }
+    ensures local { result.global ≡ false }
+{
+    let help = "How many bytes of files and pages are kept at hand, 0 for none, or 67,108,864";
+    whole_number(optional(alloc, "keep-recent", help), 0, u64::MAX)
+}
+
 fn serve<'a>(alloc: Global) -> Result<Command<'a>, AllocError>
     ensures { IfOk result (λ command. IsApp command serve_app) }
 {
@@ -88,7 +97,8 @@ fn serve<'a>(alloc: Global) -> Result<Command<'a>, AllocError>
     on_database(alloc, "serve", "Answers HTTP requests, one a connection")?
         .arg(needed(alloc, "listen", help))?
         .arg(requests(alloc))?
-        .arg(at(alloc))
+        .arg(at(alloc))?
+        .arg(keep_recent(alloc))
 }
 
 /// The command with one more subcommand, where there was room to make that.

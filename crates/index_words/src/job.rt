@@ -4,7 +4,7 @@ ghost use Rattle.std.specs.Prelude.{codes, map, option_map, string_bytes, IfErr,
 ghost use Rattle.clap.specs.Words.{first_of, found_of, kind_of, rows_of, subcommand_of};
 ghost use Rattle.clap.specs.Words.{subcommand_rows_of, takes};
 ghost use Rattle.index_words.specs.Program.{index_app};
-ghost use Rattle.index_words.specs.Jobs.{HasMoment, IsJob, IsNumber};
+ghost use Rattle.index_words.specs.Jobs.{HasNumberOrNone, IsJob, IsNumber};
 
 use crate::command;
 use clap::error::ErrorKind;
@@ -38,6 +38,8 @@ pub enum Job<'a> {
         requests: u32,
         /// The moment of every request in Unix seconds, or the clock's.
         at: Option<u64>,
+        /// How many bytes of answers are kept at hand, or as many as the program likes.
+        keep_recent: Option<u64>,
     },
     /// To print the report.
     Report {
@@ -173,12 +175,14 @@ fn serve_of<'a>(given: &ArgMatches<'a>) -> Option<Job<'a>>
     let db = text(given, "db")?;
     let listen = text(given, "listen")?;
     let requests = count(text(given, "requests")?)?;
-    let at = moment(given, "at")?;
+    let at = number_or_none(given, "at")?;
+    let keep_recent = number_or_none(given, "keep-recent")?;
     Some(Job::Serve {
         db,
         listen,
         requests,
         at,
+        keep_recent,
     })
 }
 
@@ -190,10 +194,10 @@ fn text<'a>(given: &ArgMatches<'a>, id: &str) -> Option<&'a str>
     given.get_str(id)
 }
 
-/// The moment of an option, or that it is not given.
-fn moment(given: &ArgMatches<'_>, id: &str) -> Option<Option<u64>>
-    ensures moment { IfSome result (HasMoment id.now (rows_of (found_of given.now))) }
-    ensures found { (at : Option ℕ) → HasMoment id.now (rows_of (found_of given.now)) at
+/// The number of an option, or that it is not given.
+fn number_or_none(given: &ArgMatches<'_>, id: &str) -> Option<Option<u64>>
+    ensures number { IfSome result (HasNumberOrNone id.now (rows_of (found_of given.now))) }
+    ensures found { (n : Option ℕ) → HasNumberOrNone id.now (rows_of (found_of given.now)) n
         → IsSome result }
 {
     match text(given, id) {

@@ -57,15 +57,17 @@ fn reads_the_words(rt: HostRuntime) {
 fn reads_serve(rt: HostRuntime) {
     let listen = "127.0.0.1:8080";
     let rows = [
-        ("--requests 1000000", 1_000_000, None),
-        ("--requests 7 --at 0", 7, Some(0)),
+        ("--requests 1000000", 1_000_000, None, None),
+        ("--requests 7 --at 0", 7, Some(0), None),
+        ("--requests 7 --keep-recent 0", 7, None, Some(0)),
         (
             "--at 18446744073709551615 --requests=1",
             1,
             Some(18_446_744_073_709_551_615),
+            None,
         ),
     ];
-    for (options, requests, at) in rows {
+    for (options, requests, at, keep_recent) in rows {
         let line = format!(in rt.alloc(); "index serve --db a --listen {listen} {options}");
         let line = line.expect(&rt, "a line");
         let job = Job::Serve {
@@ -73,6 +75,7 @@ fn reads_serve(rt: HostRuntime) {
             listen,
             requests,
             at,
+            keep_recent,
         };
         assert_asks(&rt, line.as_str(), job);
     }
@@ -129,6 +132,7 @@ fn refuses_other_serves(rt: HostRuntime) {
         "index serve --db a --listen 127.0.0.1:0 --requests 1 --at -1",
         "index serve --db a --listen 127.0.0.1:0 --requests 1 --at 18446744073709551616",
         "index serve --db a --listen 127.0.0.1:0 --requests 1 --requests 2",
+        "index serve --db a --listen 127.0.0.1:0 --requests 1 --keep-recent -1",
     ];
     for line in refused {
         assert_ends(&rt, line, 2);

@@ -1,7 +1,9 @@
 //! Connections on loopback, each of which gets the reply to its message.
 use super::desk_with_users;
 use index_cli::serve_connections;
+use index_desk::Desk;
 use index_message::Site;
+use index_recent::Recent;
 use std::alloc::AllocGlobal;
 use std::io::{Read, Write};
 use std::net::{Ipv4Addr, Net, SocketAddr, TcpListener, TcpStream};
@@ -48,7 +50,8 @@ fn assert_replied(rt: &(impl Abort + AllocGlobal), mut client: TcpStream, reply:
 #[test]
 fn connections_are_answered_in_turn(rt: HostRuntime) {
     let site = Site::new(rt.alloc()).expect(&rt, "routes");
-    let mut desk = desk_with_users(&rt);
+    let books = desk_with_users(&rt).into_books();
+    let mut desk = Desk::new(Recent::new(rt.alloc(), books, 0));
     let loopback = SocketAddr::from((Ipv4Addr::LOCALHOST, 0));
     let listener = TcpListener::bind(&rt, loopback).expect(&rt, "a port");
     let address = listener.local_addr().expect(&rt, "its address");

@@ -4,15 +4,14 @@ use super::{
     ACCEPTED, ALREADY, BYTES, CHARGED, CREATED, DELETE, FILE, PUT, assert_parts, claim_frob,
     desk_in_database, desk_in_memory, let_go, new_site, tell,
 };
-use index_desk::Desk;
+use index_desk::{Desk, Keeper};
 use index_http::IoEnd;
 use index_message::Site;
-use index_rules::Books;
 use std::alloc::AllocGlobal;
 use std::process::Abort;
 
 /// A writer takes this front of the reply to a message and then none, or fails.
-fn assert_cut<B: Books>(
+fn assert_cut<B: Keeper>(
     rt: &(impl Abort + AllocGlobal),
     site: &Site,
     desk: &mut Desk<B>,
@@ -39,7 +38,7 @@ fn assert_cut<B: Books>(
 const STOOD: &[[&str; 2]] = &[[PUT, ALREADY], CHARGED, [DELETE, ACCEPTED]];
 
 /// The reply to an upload is cut behind this front, by a writer that fails and by one that takes no byte.
-fn cut_upload<B: Books>(
+fn cut_upload<B: Keeper>(
     rt: &(impl Abort + AllocGlobal),
     site: &Site,
     desk: &mut Desk<B>,
@@ -51,7 +50,7 @@ fn cut_upload<B: Books>(
     }
 }
 
-fn cut_uploads<B: Books>(rt: &(impl Abort + AllocGlobal), site: &Site, desk: &mut Desk<B>) {
+fn cut_uploads<B: Keeper>(rt: &(impl Abort + AllocGlobal), site: &Site, desk: &mut Desk<B>) {
     claim_frob(rt, site, desk);
     cut_upload(rt, site, desk, "HTTP/1.1 2");
     cut_upload(rt, site, desk, "");
@@ -75,7 +74,7 @@ const WHEEL_STANDS: &[[&str; 2]] = &[
     ],
 ];
 
-fn cut_wheel<B: Books>(rt: &(impl Abort + AllocGlobal), site: &Site, desk: &mut Desk<B>) {
+fn cut_wheel<B: Keeper>(rt: &(impl Abort + AllocGlobal), site: &Site, desk: &mut Desk<B>) {
     claim_frob(rt, site, desk);
     assert_cut(rt, site, desk, WHEEL, "HTTP/1.1 2", true);
     assert_parts(rt, site, desk, &[WHEEL_STANDS], usize::MAX);
@@ -87,7 +86,7 @@ fn a_write_that_fails_leaves_the_wheel(rt: HostRuntime) {
 }
 
 /// After so many writes of the reply to an upload the next one fails.
-fn assert_write_fails<B: Books>(
+fn assert_write_fails<B: Keeper>(
     rt: &(impl Abort + AllocGlobal),
     site: &Site,
     desk: &mut Desk<B>,
@@ -106,7 +105,7 @@ fn assert_write_fails<B: Books>(
 }
 
 /// The reply goes out in ten writes.
-fn fail_writes<B: Books>(rt: &(impl Abort + AllocGlobal), site: &Site, desk: &mut Desk<B>) {
+fn fail_writes<B: Keeper>(rt: &(impl Abort + AllocGlobal), site: &Site, desk: &mut Desk<B>) {
     claim_frob(rt, site, desk);
     for writes in 0..10 {
         assert_write_fails(rt, site, desk, writes);
@@ -125,7 +124,7 @@ const FRONT_OF_NAMES: &str =
 
 const NAMES: &str = look!("GET /simple/" "Accept: application/vnd.pypi.simple.v1+json");
 
-fn cut_page<B: Books>(rt: &(impl Abort + AllocGlobal), site: &Site, desk: &mut Desk<B>) {
+fn cut_page<B: Keeper>(rt: &(impl Abort + AllocGlobal), site: &Site, desk: &mut Desk<B>) {
     claim_frob(rt, site, desk);
     assert_parts(rt, site, desk, &[FILE], usize::MAX);
     for front in [FRONT_OF_NAMES, "HTTP/1.1 2"] {
@@ -141,7 +140,7 @@ fn a_page_is_cut(rt: HostRuntime) {
 }
 
 /// A read fails behind this front of a message. Nothing is written.
-fn assert_read_fails<B: Books>(
+fn assert_read_fails<B: Keeper>(
     rt: &(impl Abort + AllocGlobal),
     site: &Site,
     desk: &mut Desk<B>,
@@ -154,7 +153,7 @@ fn assert_read_fails<B: Books>(
 }
 
 /// The upload whose message was cut was not applied.
-fn fail_reads<B: Books>(rt: &(impl Abort + AllocGlobal), site: &Site, desk: &mut Desk<B>) {
+fn fail_reads<B: Keeper>(rt: &(impl Abort + AllocGlobal), site: &Site, desk: &mut Desk<B>) {
     claim_frob(rt, site, desk);
     let message = PUT.as_bytes();
     for count in 0..message.len() {

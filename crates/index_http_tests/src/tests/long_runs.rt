@@ -3,24 +3,29 @@ use super::{
     ACCEPTED, ALREADY, BYTES, CHARGED, CREATED, DELETE, FROB, GET, NO_FILE, PUT, USERS,
     assert_parts, desk_in_database, desk_in_memory, let_go, new_site,
 };
-use index_desk::Desk;
+use index_desk::{Desk, Keeper};
 use index_message::Site;
-use index_rules::Books;
 use std::alloc::AllocGlobal;
 use std::process::Abort;
 
-/// A file comes, is looked at in each way, and goes.
+/// A file comes, is looked at in each way, and goes. The second look at a page or a file is answered from what was kept
+/// of the first, where the books keep it.
 const ROUND: &[[&str; 2]] = &[
     [PUT, CREATED],
     [PUT, ALREADY],
     CHARGED,
     [NAMES, NAMES_IN_JSON],
+    [NAMES, NAMES_IN_JSON],
     [PROJECT, PROJECT_WITH_FILE],
+    [PROJECT, PROJECT_WITH_FILE],
+    [GET, BYTES],
     [GET, BYTES],
     [DELETE, ACCEPTED],
     [DELETE, ALREADY],
     [PROJECT, PROJECT_WITHOUT_FILES],
+    [PROJECT, PROJECT_WITHOUT_FILES],
     [GET, NO_FILE],
+    [NAMES, NAMES_IN_JSON],
 ];
 
 const NAMES: &str = look!("GET /simple/" "Accept: application/vnd.pypi.simple.v1+json");
@@ -49,7 +54,7 @@ const PROJECT_WITHOUT_FILES: &str = reply!(
 );
 
 /// A hundred times, each answered by the rules, however many came before.
-fn look_and_change<B: Books>(rt: &(impl Abort + AllocGlobal), site: &Site, desk: &mut Desk<B>) {
+fn look_and_change<B: Keeper>(rt: &(impl Abort + AllocGlobal), site: &Site, desk: &mut Desk<B>) {
     assert_parts(rt, site, desk, &[USERS, FROB], usize::MAX);
     for _ in 0..100 {
         assert_parts(rt, site, desk, &[ROUND], usize::MAX);

@@ -1,0 +1,24 @@
+-- The pages of the tables.
+use Rattle.std.specs.Prelude.{Option, Some, None, option_map}
+use Rattle.index_rules.specs.Maps.{Bytes}
+use Rattle.index_rules.specs.TableRows.{held_rows_in}
+use Rattle.index_rules.specs.Tables.{Tables}
+use Rattle.index_pages.specs.Pages.{project_page_of, root_page_of}
+use Rattle.index_pages.specs.declared.served.Served.{Served}
+use Rattle.index_desk.specs.Projects.{project_rows_in}
+use Rattle.index_desk.specs.declared.keeper.Page.{Page}
+use Rattle.index_desk.specs.declared.keeper.Page.TheVariants.{Root, Project}
+
+-- the project that a page is of: the root page is of none
+abbrev pub project_of : Page → Option Bytes
+project_of Root = None
+project_of (Project name) = Some name.now
+
+-- the bytes of a page, where there is one: of a name that is not held there is none
+abbrev pub text_in : Tables → Served → Option Bytes → Option Bytes
+text_in T served None = Some (root_page_of served (held_rows_in T))
+text_in T served (Some name) = option_map (project_page_of served name) (project_rows_in T name)
+
+-- the same by the page
+abbrev pub page_in : Tables → Served → Page → Option Bytes
+page_in T served page = text_in T served (project_of page)

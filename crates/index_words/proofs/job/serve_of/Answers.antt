@@ -1,0 +1,22 @@
+use Rattle.std.proofs.Common.{◌≡◌, ◌∙◌, ℕ, true, false, ap, refl, Option, Some, codes, List}
+use Rattle.std.specs.Prelude.{bytes_eq}
+use Rattle.clap.specs.Words.{Row, Text, found_of, rows_of}
+use Rattle.index_words.specs.declared.job.Job.{Job}
+use Rattle.index_words.specs.declared.job.Job.TheVariants as job
+use Rattle.index_words.specs.Jobs.{HasNumberOrNone, IsJob}
+use Rattle.index_words.proofs.job.serve_of.Goals as goal
+
+-- a subcommand of another name
+other : (P : Type 0) (name : Text) → codes "serve" ≡ name → bytes_eq name (codes "serve") ≡ false → P
+other P name same differs = let never : true ≡ false = ap (λ text. bytes_eq text (codes "serve")) same ∙ differs in cc
+
+-- where the option is misread there is no such job
+misread : (rows : List Row) (P : Type 0) → ((n : Option ℕ) → HasNumberOrNone (codes "keep-recent") rows n → false ≡ true) → (asked : Job) → IsJob (Some (codes "serve", rows)) asked → P
+misread rows P none (job.Init db user token) is = other P _ is.0 refl
+misread rows P none (job.Apply db) is = other P _ is.0 refl
+misread rows P none (job.Serve db listen requests at keep_recent) is = let never = none keep_recent is.7 in cc
+misread rows P none (job.Report db) is = other P _ is.0 refl
+misread rows P none (job.Check db) is = other P _ is.0 refl
+
+pub returns-in_err-keep_recent-clause-found : goal.returns-in_err-keep_recent-clause-found
+returns-in_err-keep_recent-clause-found c = λ asked is. misread (rows_of (found_of c.args.given.now)) _ (λ n kept. c.in_err-keep_recent.ensures.found n kept) asked is
