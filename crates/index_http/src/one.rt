@@ -10,6 +10,7 @@ ghost use Rattle.index_rules.specs.StandsFor.{StandsFor};
 ghost use Rattle.index_desk.specs.Rules.{by_tables};
 ghost use Rattle.index_message.specs.Heads.{longest_head};
 ghost use Rattle.index_message.specs.Lengths.{longest_upload};
+ghost use Rattle.index_message.specs.Messages.{EndsUnfinished};
 ghost use Rattle.index_http.specs.Ends.{Ends, EndsAfter};
 ghost use Rattle.index_http.specs.Exchanges.{RepliesTo, RepliesToInput};
 ghost use Rattle.index_http.specs.Sends.{is_cut, is_write_fault};
@@ -62,6 +63,10 @@ pub fn answer_one<S: Source, K: Sink, B: Keeper>(
     ensures write_fault { is_write_fault result ≡ true →
         HasFailed (K.failures sink.old) (K.failures sink.new) }
     ensures writes { is_write_fault result ≡ false → K.failures sink.new ≡ K.failures sink.old }
+
+    // A read fails only where what came so far is no message yet: so no read is made behind a message.
+    ensures prompt { result ≡ Err IoEnd.ReadFault
+        → EndsUnfinished (S.remaining source.old) (S.remaining source.new) }
 
     // A page that was cut short changed no table.
     ensures cut { B.IsHonest desk.new → is_cut result ≡ true →
