@@ -13,7 +13,7 @@ ghost use Rattle.index_message.specs.Lengths.{longest_upload};
 ghost use Rattle.index_message.specs.Messages.{EndsUnfinished};
 ghost use Rattle.index_http.specs.Ends.{Ends, EndsAfter};
 ghost use Rattle.index_http.specs.Exchanges.{RepliesTo, RepliesToInput};
-ghost use Rattle.index_http.specs.Sends.{is_cut, is_write_fault};
+ghost use Rattle.index_http.specs.Sends.{SendsOnly, is_cut, is_write_fault};
 
 use crate::act::act;
 use crate::end::IoEnd;
@@ -102,10 +102,7 @@ fn answer<K: Sink, B: Keeper>(
         let T' = B.tables desk.new in
         Ends (λ text. RepliesTo by_tables cause at T message text T') (T' ≡ T)
         (K.contents sink.old) (K.contents sink.new) result }
-    ensures write_fault { is_write_fault result ≡ true →
-        HasFailed (K.failures sink.old) (K.failures sink.new) }
-    ensures writes { is_write_fault result ≡ false → K.failures sink.new ≡ K.failures sink.old }
-    ensures no_read_fault { result ≢ Err IoEnd.ReadFault }
+    ensures sends { SendsOnly (K.failures sink.old) (K.failures sink.new) result }
     ensures cut { B.IsHonest desk.new → is_cut result ≡ true →
         B.tables desk.new ≡ B.tables desk.old }
     ensures one_bearer { B.IsHonest desk.new →
