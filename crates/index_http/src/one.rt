@@ -10,7 +10,10 @@ ghost use Rattle.index_rules.specs.StandsFor.{StandsFor};
 ghost use Rattle.index_desk.specs.Rules.{by_tables};
 ghost use Rattle.index_message.specs.Heads.{longest_head};
 ghost use Rattle.index_message.specs.Lengths.{longest_upload};
-ghost use Rattle.index_message.specs.Messages.{EndsUnfinished};
+ghost use Rattle.index_message.specs.Messages.{EndsUnfinished, IsMessage};
+ghost use Rattle.index_message.specs.declared.message.Message.{Message as MessageData};
+ghost use Rattle.index_io.specs.Bytes.{IsInput};
+ghost use Rattle.index_http.specs.Shows.{asks_page};
 ghost use Rattle.index_http.specs.Ends.{Ends, EndsAfter};
 ghost use Rattle.index_http.specs.Exchanges.{RepliesTo, RepliesToInput};
 ghost use Rattle.index_http.specs.Sends.{SendsOnly, is_cut, is_write_fault};
@@ -71,6 +74,9 @@ pub fn answer_one<S: Source, K: Sink, B: Keeper>(
     // A page that was cut short changed no table.
     ensures cut { B.IsHonest desk.new → is_cut result ≡ true →
         B.tables desk.new ≡ B.tables desk.old }
+    ensures cut_page { is_cut result ≡ true → (message : MessageData) × (input : List ℕ)
+        × IsInput (S.remaining source.old) input × IsMessage input message
+        × (asks_page message ≡ true) }
 
     // No more is read than may be.
     ensures limit { (taken : List ℕ) × (length taken ≤ longest_head + longest_upload)
@@ -105,6 +111,7 @@ fn answer<K: Sink, B: Keeper>(
     ensures sends { SendsOnly (K.failures sink.old) (K.failures sink.new) result }
     ensures cut { B.IsHonest desk.new → is_cut result ≡ true →
         B.tables desk.new ≡ B.tables desk.old }
+    ensures cut_page { is_cut result ≡ true → asks_page message ≡ true }
     ensures one_bearer { B.IsHonest desk.new →
         HasOneBearer (B.tables desk.old) → HasOneBearer (B.tables desk.new) }
     ensures sound { B.IsHonest desk.new →

@@ -41,6 +41,7 @@ pub fn show_root<K: Sink, B: Keeper>(
         (B.tables desk.new ≡ T) (K.contents sink.old) (K.contents sink.new) result }
     ensures leaves { LeavesTables B.IsHonest B.IsClean B.tables desk.old desk.new }
     ensures sends { SendsOnly (K.failures sink.old) (K.failures sink.new) result }
+    ensures cut { is_cut result ≡ true → to_head ≡ false }
 {
     match chosen {
         Some(served) => show_page(alloc, sink, desk, to_head, Page::Root, served),
@@ -64,6 +65,7 @@ pub fn show_project<K: Sink, B: Keeper>(
         (B.tables desk.new ≡ T) (K.contents sink.old) (K.contents sink.new) result }
     ensures leaves { LeavesTables B.IsHonest B.IsClean B.tables desk.old desk.new }
     ensures sends { SendsOnly (K.failures sink.old) (K.failures sink.new) result }
+    ensures cut { is_cut result ≡ true → to_head ≡ false }
 {
     match chosen {
         Some(served) => show_page(alloc, sink, desk, to_head, Page::Project(name), served),
@@ -86,6 +88,7 @@ fn show_no_page<K: Sink, B: Books>(
         (B.tables desk.new ≡ T) (K.contents sink.old) (K.contents sink.new) result }
     ensures leaves { LeavesTables B.IsHonest B.IsClean B.tables desk.old desk.new }
     ensures sends { SendsOnly (K.failures sink.old) (K.failures sink.new) result }
+    ensures whole { is_cut result ≡ false }
 {
     match desk.is_held(alloc, name) {
         Ok(true) => send_reply(sink, to_head, message_reply(MessageFault::NotAcceptable)),
@@ -111,6 +114,7 @@ fn show_page<K: Sink, B: Keeper>(
         (B.tables desk.new ≡ T) (K.contents sink.old) (K.contents sink.new) result }
     ensures leaves { LeavesTables B.IsHonest B.IsClean B.tables desk.old desk.new }
     ensures sends { SendsOnly (K.failures sink.old) (K.failures sink.new) result }
+    ensures cut { is_cut result ≡ true → to_head ≡ false }
 {
     if let Some(text) = desk.kept_page(page, served) {
         return send_reply(sink, to_head, page_reply(served, text));
@@ -183,6 +187,7 @@ fn send_page<K: Sink, B: Books>(
         (K.contents sink.old) (K.contents sink.new) result }
     ensures leaves { LeavesTables B.IsHonest B.IsClean B.tables desk.old desk.new }
     ensures sends { SendsOnly (K.failures sink.old) (K.failures sink.new) result }
+    ensures cut { is_cut result ≡ true → to_head ≡ false }
 {
     let head = match send_head(sink, StatusCode::OK, Fields::Page(served), size) {
         Ok(head) => head,
@@ -221,6 +226,7 @@ fn send_text<K: Sink, B: Books>(
 fn behind(head: u64, end: Result<(), IoEnd>) -> Result<(), IoEnd>
     ensures end { result ≡ sent_behind head end }
     ensures kind { is_write_fault result ≡ is_write_fault end }
+    ensures cut { is_cut result ≡ is_cut end }
 {
     match end {
         Ok(()) => Ok(()),

@@ -6,8 +6,8 @@ ghost use Rattle.index_names.specs.Project.{read_name};
 ghost use Rattle.index_desk.specs.Rules.{by_tables};
 ghost use Rattle.index_message.specs.Resources.{is_head};
 ghost use Rattle.index_http.specs.Exchanges.{IsAccepted, Shows, ShowsAt, ShowsFile, ShowsName, ShowsSpelling};
-ghost use Rattle.index_http.specs.Sends.{SendsOnly};
-ghost use Rattle.index_http.specs.Shows.{EndsShown, LeavesTables};
+ghost use Rattle.index_http.specs.Sends.{SendsOnly, is_cut};
+ghost use Rattle.index_http.specs.Shows.{EndsShown, LeavesTables, shows_page};
 
 use crate::end::IoEnd;
 use crate::pages::{show_project, show_root};
@@ -39,6 +39,7 @@ pub fn show<K: Sink, B: Keeper>(
         (B.tables desk.new ≡ T) (K.contents sink.old) (K.contents sink.new) result }
     ensures leaves { LeavesTables B.IsHonest B.IsClean B.tables desk.old desk.new }
     ensures sends { SendsOnly (K.failures sink.old) (K.failures sink.new) result }
+    ensures cut { is_cut result ≡ true → shows_page request.now ≡ true }
 {
     let to_head = request.method().is_head();
     match request.resource() {
@@ -110,6 +111,7 @@ fn show_at<K: Sink, B: Keeper>(
         (B.tables desk.new ≡ T) (K.contents sink.old) (K.contents sink.new) result }
     ensures leaves { LeavesTables B.IsHonest B.IsClean B.tables desk.old desk.new }
     ensures sends { SendsOnly (K.failures sink.old) (K.failures sink.new) result }
+    ensures cut { is_cut result ≡ true → to_head ≡ false }
 {
     let Some(name) = name_of(alloc, given)? else {
         return send_reply(sink, to_head, refusal_reply(Refusal::NoProject));
@@ -136,6 +138,7 @@ fn show_spelling<K: Sink, B: Keeper>(
         (B.tables desk.new ≡ T) (K.contents sink.old) (K.contents sink.new) result }
     ensures leaves { LeavesTables B.IsHonest B.IsClean B.tables desk.old desk.new }
     ensures sends { SendsOnly (K.failures sink.old) (K.failures sink.new) result }
+    ensures cut { is_cut result ≡ true → to_head ≡ false }
 {
     if name.text().as_bytes() == given.as_slice() {
         let chosen = chosen(alloc, request)?;
@@ -160,6 +163,7 @@ fn show_file<K: Sink, B: Keeper>(
         cause (B.tables desk.new ≡ T) (K.contents sink.old) (K.contents sink.new) result }
     ensures leaves { LeavesTables B.IsHonest B.IsClean B.tables desk.old desk.new }
     ensures sends { SendsOnly (K.failures sink.old) (K.failures sink.new) result }
+    ensures whole { is_cut result ≡ false }
 {
     let Some(file) = file_of(alloc, given)? else {
         return send_reply(sink, to_head, refusal_reply(Refusal::NoFile));
@@ -194,6 +198,7 @@ fn show_name<K: Sink, B: Books>(
         (B.tables desk.new ≡ T) (K.contents sink.old) (K.contents sink.new) result }
     ensures leaves { LeavesTables B.IsHonest B.IsClean B.tables desk.old desk.new }
     ensures sends { SendsOnly (K.failures sink.old) (K.failures sink.new) result }
+    ensures whole { is_cut result ≡ false }
 {
     let Some(name) = name_of(alloc, given)? else {
         return send_reply(sink, to_head, refusal_reply(Refusal::BadName));
@@ -216,6 +221,7 @@ fn show_standing<K: Sink, B: Books>(
         (B.tables desk.new ≡ T) (K.contents sink.old) (K.contents sink.new) result }
     ensures leaves { LeavesTables B.IsHonest B.IsClean B.tables desk.old desk.new }
     ensures sends { SendsOnly (K.failures sink.old) (K.failures sink.new) result }
+    ensures whole { is_cut result ≡ false }
 {
     match desk.standing(alloc, name) {
         Ok(standing) => {
