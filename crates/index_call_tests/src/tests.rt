@@ -1,6 +1,7 @@
-//! Names, users and texts from constants.
+//! Names, users and texts from constants, and new tables. What is asked of them is so over any books.
 use index_digest::Digest256;
 use index_names::{FileName, NormalName, Release, normal, release_key};
+use index_plain::PlainBooks;
 use index_rules::UserId;
 use index_text::Text;
 use std::alloc::AllocGlobal;
@@ -43,4 +44,10 @@ fn text(rt: &(impl Abort + AllocGlobal), text: &str) -> Text {
 
 fn token(text: &str) -> Digest256 {
     Digest256::of(text.as_bytes())
+}
+
+/// Tables in memory whose one user is `office`, with the token `office`.
+fn new_books(rt: &(impl Abort + AllocGlobal)) -> PlainBooks {
+    let opened = PlainBooks::new(rt.alloc(), b"office", token("office"));
+    opened.expect(rt, "books")
 }

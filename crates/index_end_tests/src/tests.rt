@@ -1,4 +1,4 @@
-//! Desks, and lines asked of them.
+//! Desks over any books, and lines asked of them.
 use index_cli::{LineEnd, apply_lines};
 use index_desk::Desk;
 use index_digest::Digest256;
@@ -6,7 +6,7 @@ use index_io::{Input, Output};
 use index_plain::PlainBooks;
 use index_rules::Books;
 use std::alloc::AllocGlobal;
-use std::io::Read;
+use std::io::{Read, Write};
 use std::process::Abort;
 
 mod answers;
@@ -56,11 +56,23 @@ fn new_books(rt: &(impl Abort + AllocGlobal)) -> PlainBooks {
     PlainBooks::new(rt.alloc(), b"office", token).expect(rt, "books")
 }
 
-/// A desk with the users ann and bob.
-fn desk_with_users(rt: &(impl Abort + AllocGlobal)) -> Desk<PlainBooks> {
-    let mut desk = Desk::new(new_books(rt));
+/// A desk over new books, with the users ann and bob.
+fn desk_with_users<B: Books>(rt: &(impl Abort + AllocGlobal), books: B) -> Desk<B> {
+    let mut desk = Desk::new(books);
     assert_answers(rt, &mut desk, USERS, TWICE_ACCEPTED);
     desk
+}
+
+/// How a run ends over what a reader gives, with its answers to a writer.
+fn run<R: Read + Drop, W: Write, B: Books>(
+    rt: &impl AllocGlobal,
+    desk: &mut Desk<B>,
+    reader: R,
+    writer: &mut W,
+) -> Result<u64, LineEnd> {
+    let mut input = Input::new(reader);
+    let mut output = Output::new(writer);
+    apply_lines(rt.alloc(), &mut input, &mut output, desk)
 }
 
 /// A run over what a reader gives ends so, and writes these answers.
@@ -71,11 +83,16 @@ fn assert_run<R: Read + Drop, B: Books>(
     ended: Result<u64, LineEnd>,
     answers: &str,
 ) {
-    let mut input = Input::new(reader);
-    let mut output = Output::new(Vec::new(rt.alloc()));
-    let found = apply_lines(rt.alloc(), &mut input, &mut output, desk);
-    assert_eq!(rt; output.writer.as_slice(), answers.as_bytes());
-    assert_eq!(rt; found, ended);
+    let mut told = Vec::new(rt.alloc());
+    let found = run(rt, desk, reader, &mut told);
+    assert_text(rt, told, answers);
+    assert!(rt; found == ended, "{answers}");
+}
+
+/// What is told are these answers.
+fn assert_text(rt: &impl Abort, told: Vec<u8>, answers: &str) {
+    let told = String::from_utf8(told).expect(rt, answers);
+    assert_eq!(rt; told.as_str(), answers);
 }
 
 /// Asks these lines, which are answered so, each by one line.

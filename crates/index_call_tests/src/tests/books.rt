@@ -2,7 +2,7 @@
 //!
 //! A script has a line for each change that is written and each look. A look is followed by ` = ` and what it finds,
 //! where `-` stands for nothing.
-use super::token;
+use super::{new_books, token};
 use index_plain::PlainBooks;
 use index_rules::{Books, OpenFault};
 use std::alloc::{AllocGlobal, Global};
@@ -17,31 +17,34 @@ mod scripts;
 use changes::change_of;
 use looks::found_by;
 
-/// Writes and looks, line by line, at new books whose one user is `office`, with the token `office`.
+/// Writes and looks, line by line, at new books.
 fn assert_script(rt: &(impl Abort + AllocGlobal), scripts: &[&str]) {
-    let opened = PlainBooks::new(rt.alloc(), b"office", token("office"));
-    let mut books = opened.expect(rt, "books");
+    let mut books = new_books(rt);
+    follow_all(rt, &mut books, scripts);
+}
+
+fn follow_all<B: Books>(rt: &(impl Abort + AllocGlobal), books: &mut B, scripts: &[&str]) {
     for script in scripts {
         for line in script.lines() {
-            follow(rt, &mut books, line);
+            follow(rt, books, line);
         }
     }
 }
 
 /// Writes a line's change, or looks and finds what the line says.
-fn follow(rt: &(impl Abort + AllocGlobal), books: &mut PlainBooks, line: &str) {
+fn follow<B: Books>(rt: &(impl Abort + AllocGlobal), books: &mut B, line: &str) {
     match line.split_once(" = ") {
         Some((look, want)) => assert_found(rt, books, look, want),
         None => write(rt, books, line),
     }
 }
 
-fn write(rt: &(impl Abort + AllocGlobal), books: &mut PlainBooks, line: &str) {
+fn write<B: Books>(rt: &(impl Abort + AllocGlobal), books: &mut B, line: &str) {
     let change = change_of(rt, line);
     books.write(rt.alloc(), change).expect(rt, line);
 }
 
-fn assert_found(rt: &(impl Abort + AllocGlobal), books: &mut PlainBooks, look: &str, want: &str) {
+fn assert_found<B: Books>(rt: &(impl Abort + AllocGlobal), books: &mut B, look: &str, want: &str) {
     let found = found_by(rt, books, look);
     assert_eq!(rt; found.as_str(), want, "{look}");
 }

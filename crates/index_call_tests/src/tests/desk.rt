@@ -1,16 +1,15 @@
-//! The calls of a desk over the tables in memory.
+//! The calls of a desk.
 use super::requests::{add_user, call_by, claim, upload};
-use super::{OF_ABC, file_name, name, token};
+use super::{OF_ABC, file_name, name, new_books};
 use index_desk::{Desk, Standing};
-use index_plain::PlainBooks;
 use index_rules::{Answer, Books, Call, Keys, NameRecord, Refusal, Request};
 use std::alloc::AllocGlobal;
 use std::process::Abort;
 
 /// The answer to a request by the bearer of a token.
-pub(super) fn assert_answer(
+pub(super) fn assert_answer<B: Books>(
     rt: &(impl Abort + AllocGlobal),
-    desk: &mut Desk<PlainBooks>,
+    desk: &mut Desk<B>,
     token: &str,
     request: Request,
     want: Answer,
@@ -19,10 +18,9 @@ pub(super) fn assert_answer(
     assert!(rt; answer == want, "{answer:?}");
 }
 
-/// A desk with the user ann, whose token is `abc` and who has claimed `frob`.
-pub(super) fn desk_with_frob(rt: &(impl Abort + AllocGlobal)) -> Desk<PlainBooks> {
-    let books = PlainBooks::new(rt.alloc(), b"office", token("office"));
-    let mut desk = Desk::new(books.expect(rt, "books"));
+/// A desk over new books with the user ann, whose token is `abc` and who has claimed `frob`.
+pub(super) fn desk_with_frob<B: Books>(rt: &(impl Abort + AllocGlobal), books: B) -> Desk<B> {
+    let mut desk = Desk::new(books);
     let request = add_user(rt, "ann", false, OF_ABC);
     assert_answer(rt, &mut desk, "office", request, Answer::Accepted);
     let request = claim(rt, "frob");
@@ -32,9 +30,9 @@ pub(super) fn desk_with_frob(rt: &(impl Abort + AllocGlobal)) -> Desk<PlainBooks
 
 /// ann's upload of so many zeros is answered so. The digest is that of 16,777,216 of them, as GNU's sha256sum prints
 /// it.
-fn assert_zeros(
+fn assert_zeros<B: Books>(
     rt: &(impl Abort + AllocGlobal),
-    desk: &mut Desk<PlainBooks>,
+    desk: &mut Desk<B>,
     size: usize,
     want: Answer,
 ) {
@@ -44,16 +42,24 @@ fn assert_zeros(
     assert_answer(rt, desk, "abc", request, want);
 }
 
+fn upload_zeros<B: Books + Drop>(rt: &(impl Abort + AllocGlobal), books: B) {
+    let mut desk = desk_with_frob(rt, books);
+    let too_large = Answer::Refused(Refusal::TooLarge);
+    assert_zeros(rt, &mut desk, 16_777_217, too_large);
+    assert_zeros(rt, &mut desk, 16_777_216, Answer::Accepted);
+}
+
 #[test]
 fn a_body_has_at_most_sixteen_mebibytes(rt: HostRuntime) {
-    let mut desk = desk_with_frob(&rt);
-    let too_large = Answer::Refused(Refusal::TooLarge);
-    assert_zeros(&rt, &mut desk, 16_777_217, too_large);
-    assert_zeros(&rt, &mut desk, 16_777_216, Answer::Accepted);
+    upload_zeros(&rt, new_books(&rt));
 }
 
 /// The bytes that are kept of `frob-1.0.tar.gz`, where there are any, are `abc`, or not.
-fn assert_body(rt: &(impl Abort + AllocGlobal), desk: &mut Desk<PlainBooks>, is_abc: Option<bool>) {
+fn assert_body<B: Books>(
+    rt: &(impl Abort + AllocGlobal),
+    desk: &mut Desk<B>,
+    is_abc: Option<bool>,
+) {
     let file = file_name(rt, "frob-1.0.tar.gz");
     let body = desk.body(rt.alloc(), &file).expect(rt, "a body");
     let found = body.as_ref().map(|body| body.bytes() == b"abc".as_slice());
@@ -67,9 +73,9 @@ fn upload_of_abc(rt: &(impl Abort + AllocGlobal)) -> Call {
 }
 
 /// A run over these calls is answered so.
-fn assert_run(
+fn assert_run<B: Books>(
     rt: &(impl Abort + AllocGlobal),
-    desk: &mut Desk<PlainBooks>,
+    desk: &mut Desk<B>,
     calls: Vec<Call>,
     want: &[Answer],
 ) {
@@ -77,21 +83,31 @@ fn assert_run(
     assert!(rt; answers.as_slice() == want);
 }
 
+/// So many of these uploads.
+fn uploads_of_abc(rt: &(impl Abort + AllocGlobal), count: usize) -> Vec<Call> {
+    let mut calls = Vec::new(rt.alloc());
+    for _ in 0..count {
+        calls.push(upload_of_abc(rt)).expect(rt, "calls");
+    }
+    calls
+}
+
+fn run_uploads<B: Books + Drop>(rt: &(impl Abort + AllocGlobal), books: B) {
+    let mut desk = desk_with_frob(rt, books);
+    assert_run(rt, &mut desk, uploads_of_abc(rt, 0), &[]);
+    assert_body(rt, &mut desk, None);
+    let calls = uploads_of_abc(rt, 2);
+    assert_run(rt, &mut desk, calls, &[Answer::Accepted, Answer::Already]);
+    assert_body(rt, &mut desk, Some(true));
+}
+
 #[test]
 fn a_run_keeps_the_bytes(rt: HostRuntime) {
-    let mut desk = desk_with_frob(&rt);
-    assert_run(&rt, &mut desk, Vec::new(rt.alloc()), &[]);
-    assert_body(&rt, &mut desk, None);
-    let mut calls = Vec::new(rt.alloc());
-    for _ in 0..2 {
-        calls.push(upload_of_abc(&rt)).expect(&rt, "calls");
-    }
-    assert_run(&rt, &mut desk, calls, &[Answer::Accepted, Answer::Already]);
-    assert_body(&rt, &mut desk, Some(true));
+    run_uploads(&rt, new_books(&rt));
 }
 
 /// Whether a name stands as held.
-fn stands_held(rt: &(impl Abort + AllocGlobal), desk: &mut Desk<PlainBooks>, text: &str) -> bool {
+fn stands_held<B: Books>(rt: &(impl Abort + AllocGlobal), desk: &mut Desk<B>, text: &str) -> bool {
     let name = name(rt, text);
     let standing = desk.standing(rt.alloc(), &name).expect(rt, text);
     let is_held = matches!(&standing, Standing::Held(_));
@@ -99,23 +115,31 @@ fn stands_held(rt: &(impl Abort + AllocGlobal), desk: &mut Desk<PlainBooks>, tex
     is_held
 }
 
+fn assert_standings<B: Books + Drop>(rt: &(impl Abort + AllocGlobal), books: B) {
+    let mut desk = desk_with_frob(rt, books);
+    assert!(rt; stands_held(rt, &mut desk, "frob"));
+    assert!(rt; !stands_held(rt, &mut desk, "nest"));
+}
+
 #[test]
 fn a_desk_tells_standings(rt: HostRuntime) {
-    let mut desk = desk_with_frob(&rt);
-    assert!(rt; stands_held(&rt, &mut desk, "frob"));
-    assert!(rt; !stands_held(&rt, &mut desk, "nest"));
+    assert_standings(&rt, new_books(&rt));
 }
 
 /// Whether the books have a name as held.
-fn has_held(rt: &(impl Abort + AllocGlobal), books: &mut PlainBooks, text: &str) -> bool {
+fn has_held<B: Books>(rt: &(impl Abort + AllocGlobal), books: &mut B, text: &str) -> bool {
     let name = name(rt, text);
     let keys = Keys::of_name(&name).expect(rt, text);
     let view = books.view(rt.alloc(), &keys).expect(rt, text);
     matches!(&view.name, Some(NameRecord::Held(_)))
 }
 
+fn assert_books_back<B: Books + Drop>(rt: &(impl Abort + AllocGlobal), books: B) {
+    let mut books = desk_with_frob(rt, books).into_books();
+    assert!(rt; has_held(rt, &mut books, "frob"));
+}
+
 #[test]
 fn a_desk_gives_its_books_back(rt: HostRuntime) {
-    let mut books = desk_with_frob(&rt).into_books();
-    assert!(rt; has_held(&rt, &mut books, "frob"));
+    assert_books_back(&rt, new_books(&rt));
 }

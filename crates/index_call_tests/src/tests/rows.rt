@@ -1,18 +1,17 @@
-//! The rows that a desk over the tables in memory gives: whole lists, walks, the check and the report.
+//! The rows that a desk gives: whole lists, walks, the check and the report.
 use super::desk::{assert_answer, desk_with_frob};
 use super::output::Short;
 use super::requests::{claim, prohibit, upload, yank};
-use super::{OF_ABC, name};
+use super::{OF_ABC, name, new_books};
 use index_desk::{Desk, ReportFault};
 use index_io::Output;
-use index_plain::PlainBooks;
-use index_rules::{Answer, FileRow, FileTaker, NameRow, NameTaker, WalkEnd};
+use index_rules::{Answer, Books, FileRow, FileTaker, NameRow, NameTaker, WalkEnd};
 use std::alloc::AllocGlobal;
 use std::process::Abort;
 
 /// Of ann's names `frob` has a file of three bytes, whose release is yanked, and `nest` has none. `spam` is prohibited.
-fn desk_with_file(rt: &(impl Abort + AllocGlobal)) -> Desk<PlainBooks> {
-    let mut desk = desk_with_frob(rt);
+fn desk_with_file<B: Books>(rt: &(impl Abort + AllocGlobal), books: B) -> Desk<B> {
+    let mut desk = desk_with_frob(rt, books);
     let body = Vec::from_slice(rt.alloc(), b"abc").expect(rt, "a body");
     let request = upload(rt, "frob-1.0.tar.gz", OF_ABC, body);
     assert_answer(rt, &mut desk, "abc", request, Answer::Accepted);
@@ -82,13 +81,14 @@ impl FileTaker for Shown {
 }
 
 /// A walk over the held names shows these, where there is room for so many, and ends so.
-fn assert_root(
+fn assert_root<B: Books + Drop>(
     rt: &(impl Abort + AllocGlobal),
+    books: B,
     room: usize,
     names: &str,
     want: Result<(), WalkEnd>,
 ) {
-    let mut desk = desk_with_file(rt);
+    let mut desk = desk_with_file(rt, books);
     let mut shown = Shown::new(rt, room);
     let ended = desk.walk_root(rt.alloc(), &mut shown);
     assert!(rt; ended == want && shown.names.as_str() == names);
@@ -96,21 +96,22 @@ fn assert_root(
 
 #[test]
 fn a_walk_shows_the_held_names(rt: HostRuntime) {
-    assert_root(&rt, 9, "frob nest ", Ok(()));
-    assert_root(&rt, 2, "frob nest ", Ok(()));
-    assert_root(&rt, 1, "frob ", Err(WalkEnd::Stopped));
-    assert_root(&rt, 0, "", Err(WalkEnd::Stopped));
+    assert_root(&rt, new_books(&rt), 9, "frob nest ", Ok(()));
+    assert_root(&rt, new_books(&rt), 2, "frob nest ", Ok(()));
+    assert_root(&rt, new_books(&rt), 1, "frob ", Err(WalkEnd::Stopped));
+    assert_root(&rt, new_books(&rt), 0, "", Err(WalkEnd::Stopped));
 }
 
 /// A walk over the files of a name shows these, where there is room for so many, and ends so.
-fn assert_project(
+fn assert_project<B: Books + Drop>(
     rt: &(impl Abort + AllocGlobal),
+    books: B,
     text: &str,
     room: usize,
     files: &str,
     want: Result<bool, WalkEnd>,
 ) {
-    let mut desk = desk_with_file(rt);
+    let mut desk = desk_with_file(rt, books);
     let mut shown = Shown::new(rt, room);
     let name = name(rt, text);
     let ended = desk.walk_project(rt.alloc(), &name, &mut shown);
@@ -119,22 +120,31 @@ fn assert_project(
 
 #[test]
 fn a_walk_shows_the_files_of_a_held_name(rt: HostRuntime) {
-    assert_project(&rt, "frob", 9, "frob-1.0.tar.gz ", Ok(true));
-    assert_project(&rt, "frob", 0, "", Err(WalkEnd::Stopped));
-    assert_project(&rt, "nest", 0, "", Ok(true));
-    assert_project(&rt, "spam", 9, "", Ok(false));
-    assert_project(&rt, "eggs", 9, "", Ok(false));
+    assert_project(&rt, new_books(&rt), "frob", 9, "frob-1.0.tar.gz ", Ok(true));
+    assert_project(&rt, new_books(&rt), "frob", 0, "", Err(WalkEnd::Stopped));
+    assert_project(&rt, new_books(&rt), "nest", 0, "", Ok(true));
+    assert_project(&rt, new_books(&rt), "spam", 9, "", Ok(false));
+    assert_project(&rt, new_books(&rt), "eggs", 9, "", Ok(false));
+}
+
+/// The held names that are listed.
+fn held_names<B: Books + Drop>(rt: &(impl Abort + AllocGlobal), books: B) -> Vec<NameRow> {
+    let mut desk = desk_with_file(rt, books);
+    desk.root_rows(rt.alloc()).expect(rt, "rows")
+}
+
+fn assert_names(rt: &(impl Abort + AllocGlobal), rows: &[NameRow], names: &str) {
+    let mut shown = Shown::new(rt, 9);
+    for row in rows {
+        assert!(rt; NameTaker::take(&mut shown, row));
+    }
+    assert!(rt; shown.names.as_str() == names);
 }
 
 #[test]
 fn the_held_names_are_listed(rt: HostRuntime) {
-    let mut desk = desk_with_file(&rt);
-    let rows = desk.root_rows(rt.alloc()).expect(&rt, "rows");
-    let mut shown = Shown::new(&rt, 9);
-    for row in &rows {
-        assert!(rt; NameTaker::take(&mut shown, row));
-    }
-    assert!(rt; shown.names.as_str() == "frob nest ");
+    let rows = held_names(&rt, new_books(&rt));
+    assert_names(&rt, rows.as_slice(), "frob nest ");
 }
 
 /// Whether this is the row of the one file.
@@ -148,8 +158,8 @@ fn is_row(row: &FileRow) -> bool {
 }
 
 /// How many files are listed of a name, each with the row of the one file; none where the name is not held.
-fn listed(rt: &(impl Abort + AllocGlobal), text: &str) -> Option<usize> {
-    let mut desk = desk_with_file(rt);
+fn listed<B: Books + Drop>(rt: &(impl Abort + AllocGlobal), books: B, text: &str) -> Option<usize> {
+    let mut desk = desk_with_file(rt, books);
     let name = name(rt, text);
     let rows = desk.project_rows(rt.alloc(), &name).expect(rt, text);
     let count = rows.as_ref().map(|rows| {
@@ -162,15 +172,20 @@ fn listed(rt: &(impl Abort + AllocGlobal), text: &str) -> Option<usize> {
 
 #[test]
 fn the_files_of_a_held_name_are_listed(rt: HostRuntime) {
-    assert!(rt; listed(&rt, "frob") == Some(1));
-    assert!(rt; listed(&rt, "nest") == Some(0));
-    assert!(rt; listed(&rt, "spam").is_none() && listed(&rt, "eggs").is_none());
+    assert!(rt; listed(&rt, new_books(&rt), "frob") == Some(1));
+    assert!(rt; listed(&rt, new_books(&rt), "nest") == Some(0));
+    assert!(rt; listed(&rt, new_books(&rt), "spam").is_none());
+    assert!(rt; listed(&rt, new_books(&rt), "eggs").is_none());
+}
+
+fn assert_check<B: Books + Drop>(rt: &(impl Abort + AllocGlobal), books: B) {
+    let mut desk = desk_with_file(rt, books);
+    assert!(rt; desk.check(rt.alloc()) == Ok(0));
 }
 
 #[test]
 fn no_charge_is_wrong(rt: HostRuntime) {
-    let mut desk = desk_with_file(&rt);
-    assert!(rt; desk.check(rt.alloc()) == Ok(0));
+    assert_check(&rt, new_books(&rt));
 }
 
 const REPORT: &str = "\
@@ -180,8 +195,13 @@ spam                     prohibited        0              0              0
 ";
 
 /// A report to a writer that takes so many bytes ends so, and these bytes went out.
-fn assert_report(rt: &(impl Abort + AllocGlobal), room: usize, want: Result<(), ReportFault>) {
-    let mut desk = desk_with_file(rt);
+fn assert_report<B: Books + Drop>(
+    rt: &(impl Abort + AllocGlobal),
+    books: B,
+    room: usize,
+    want: Result<(), ReportFault>,
+) {
+    let mut desk = desk_with_file(rt, books);
     let mut output = Output::new(Short {
         taken: Vec::new(rt.alloc()),
         room,
@@ -196,8 +216,8 @@ fn assert_report(rt: &(impl Abort + AllocGlobal), room: usize, want: Result<(), 
 
 #[test]
 fn a_report_has_a_line_for_each_name(rt: HostRuntime) {
-    assert_report(&rt, 1000, Ok(()));
-    assert_report(&rt, 225, Ok(()));
-    assert_report(&rt, 224, Err(ReportFault::WriteFault(224)));
-    assert_report(&rt, 0, Err(ReportFault::WriteFault(0)));
+    assert_report(&rt, new_books(&rt), 1000, Ok(()));
+    assert_report(&rt, new_books(&rt), 225, Ok(()));
+    assert_report(&rt, new_books(&rt), 224, Err(ReportFault::WriteFault(224)));
+    assert_report(&rt, new_books(&rt), 0, Err(ReportFault::WriteFault(0)));
 }

@@ -1,7 +1,7 @@
 //! Connections on loopback, each of which gets the reply to its message.
-use super::desk_with_users;
+use super::{desk_with_users, new_books};
 use index_cli::serve_connections;
-use index_desk::Desk;
+use index_desk::Keeper;
 use index_message::Site;
 use index_recent::Recent;
 use std::alloc::AllocGlobal;
@@ -47,18 +47,29 @@ fn assert_replied(rt: &(impl Abort + AllocGlobal), mut client: TcpStream, reply:
     assert_eq!(rt; told.as_str(), reply);
 }
 
+/// What two clients of a desk with users are told, in turn. The runtime of the test is lent twice: for its own work, and
+/// for that of the server.
+fn assert_served<B: Keeper + Drop>(
+    rt: &(impl Abort + AllocGlobal + Net<Stream = TcpStream>),
+    host: &HostRuntime,
+    listener: &TcpListener,
+    books: B,
+) {
+    let site = Site::new(rt.alloc()).expect(rt, "routes");
+    let mut desk = desk_with_users(rt, books);
+    let address = listener.local_addr().expect(rt, "its address");
+    let ann = client(rt, address, CLAIM);
+    let other = client(rt, address, LOOK);
+    let ended = serve_connections(host, listener, 2, Some(2), &site, &mut desk);
+    assert!(rt; ended == Ok(()));
+    assert_replied(rt, ann, ACCEPTED);
+    assert_replied(rt, other, FREE);
+}
+
 #[test]
 fn connections_are_answered_in_turn(rt: HostRuntime) {
-    let site = Site::new(rt.alloc()).expect(&rt, "routes");
-    let books = desk_with_users(&rt).into_books();
-    let mut desk = Desk::new(Recent::new(rt.alloc(), books, 0));
     let loopback = SocketAddr::from((Ipv4Addr::LOCALHOST, 0));
     let listener = TcpListener::bind(&rt, loopback).expect(&rt, "a port");
-    let address = listener.local_addr().expect(&rt, "its address");
-    let ann = client(&rt, address, CLAIM);
-    let other = client(&rt, address, LOOK);
-    let ended = serve_connections(&rt, &listener, 2, Some(2), &site, &mut desk);
-    assert!(rt; ended == Ok(()));
-    assert_replied(&rt, ann, ACCEPTED);
-    assert_replied(&rt, other, FREE);
+    let books = Recent::new(rt.alloc(), new_books(&rt), 0);
+    assert_served(&rt, &rt, &listener, books);
 }

@@ -2,18 +2,27 @@
 use super::fakes::{FailingReader, FullWriter};
 use super::{
     ACCEPTED, ALREADY, BAD_BODY, BOTH_CLAIMS, CLAIM, NEST_IS_FREE, OTHER_CLAIM, STANDING_OF_NEST,
-    TWICE_ACCEPTED, assert_answers, assert_run, desk_with_users,
+    TWICE_ACCEPTED, assert_answers, assert_run, desk_with_users, new_books, run,
 };
-use index_cli::{LineEnd, apply_lines};
+use index_cli::LineEnd;
 use index_desk::Desk;
-use index_io::{Input, Output};
-use index_plain::PlainBooks;
+use index_rules::Books;
 use std::alloc::AllocGlobal;
 use std::process::Abort;
 
-/// Asks these lines of a desk with users, which are so many and answered so.
+/// Asks these lines of a new desk with users, which are so many and answered so.
 fn assert_count(rt: &(impl Abort + AllocGlobal), input: &[u8], lines: u64, output: &str) {
-    let mut desk = desk_with_users(rt);
+    assert_count_over(rt, new_books(rt), input, lines, output);
+}
+
+fn assert_count_over<B: Books + Drop>(
+    rt: &(impl Abort + AllocGlobal),
+    books: B,
+    input: &[u8],
+    lines: u64,
+    output: &str,
+) {
+    let mut desk = desk_with_users(rt, books);
     assert_run(rt, &mut desk, input, Ok(lines), output);
 }
 
@@ -57,36 +66,48 @@ fn skips_a_line_that_is_too_long(rt: HostRuntime) {
 }
 
 /// ann has claimed `frob`, and nobody `nest`.
-fn assert_first_claim_alone(rt: &(impl Abort + AllocGlobal), desk: &mut Desk<PlainBooks>) {
+fn assert_first_claim_alone<B: Books>(rt: &(impl Abort + AllocGlobal), desk: &mut Desk<B>) {
     assert_answers(rt, desk, CLAIM, ALREADY);
     assert_answers(rt, desk, STANDING_OF_NEST, NEST_IS_FREE);
 }
 
-/// The line before the failure was applied, and the one that it cut was not.
-#[test]
-fn ends_where_a_read_fails(rt: HostRuntime) {
-    let mut desk = desk_with_users(&rt);
+/// The line before the failure is applied, and the one that it cuts is not.
+fn fail_read<B: Books + Drop>(rt: &(impl Abort + AllocGlobal), books: B) {
+    let mut desk = desk_with_users(rt, books);
     let reader = FailingReader {
         rest: BOTH_CLAIMS.as_bytes(),
     };
-    let ended = Err(LineEnd::ReadFault);
-    assert_run(&rt, &mut desk, reader, ended, ACCEPTED);
-    assert_first_claim_alone(&rt, &mut desk);
+    assert_run(rt, &mut desk, reader, Err(LineEnd::ReadFault), ACCEPTED);
+    assert_first_claim_alone(rt, &mut desk);
 }
 
-/// A writer takes these bytes of the first answer. The line whose answer was cut was applied, and the one after it was
-/// not.
-fn assert_cut(rt: &(impl Abort + AllocGlobal), taken: &str, fails: bool) {
-    let mut desk = desk_with_users(rt);
-    let mut input = Input::new(BOTH_CLAIMS.as_bytes());
-    let mut output = Output::new(FullWriter {
+#[test]
+fn ends_where_a_read_fails(rt: HostRuntime) {
+    fail_read(&rt, new_books(&rt));
+}
+
+/// A writer takes these bytes of the first answer.
+fn cut<B: Books>(rt: &(impl Abort + AllocGlobal), desk: &mut Desk<B>, taken: &str, fails: bool) {
+    let mut writer = FullWriter {
         taken: Vec::new(rt.alloc()),
         room: taken.len(),
         fails,
-    });
-    let ended = apply_lines(rt.alloc(), &mut input, &mut output, &mut desk);
-    assert!(rt; ended == Err(LineEnd::WriteFault));
-    assert!(rt; output.writer.taken.as_slice() == taken.as_bytes());
+    };
+    let ended = run(rt, desk, BOTH_CLAIMS.as_bytes(), &mut writer);
+    let is_taken = writer.taken.as_slice() == taken.as_bytes();
+    drop(writer);
+    assert!(rt; is_taken && ended == Err(LineEnd::WriteFault), "{taken}");
+}
+
+/// The line whose answer was cut is applied, and the one after it is not.
+fn assert_cut<B: Books + Drop>(
+    rt: &(impl Abort + AllocGlobal),
+    books: B,
+    taken: &str,
+    fails: bool,
+) {
+    let mut desk = desk_with_users(rt, books);
+    cut(rt, &mut desk, taken, fails);
     assert_first_claim_alone(rt, &mut desk);
 }
 
@@ -94,14 +115,14 @@ fn assert_cut(rt: &(impl Abort + AllocGlobal), taken: &str, fails: bool) {
 #[test]
 fn ends_where_a_write_takes_no_byte(rt: HostRuntime) {
     for taken in ["{\"ans", "", "{\"answer\":\"accepted\"}"] {
-        assert_cut(&rt, taken, false);
+        assert_cut(&rt, new_books(&rt), taken, false);
     }
 }
 
 #[test]
 fn ends_where_a_write_fails(rt: HostRuntime) {
     for taken in ["{\"ans", "", "{\"answer\":\"accepted\"}"] {
-        assert_cut(&rt, taken, true);
+        assert_cut(&rt, new_books(&rt), taken, true);
     }
 }
 

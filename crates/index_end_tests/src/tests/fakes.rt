@@ -1,7 +1,6 @@
 //! Readers, writers and books that fail.
 use index_digest::Sealed;
 use index_names::{FileName, NormalName};
-use index_plain::PlainBooks;
 use index_rules::{
     Books, Change, Fault, FileRow, FileTaker, Keys, NameRow, NameTaker, Owners, View, WalkEnd,
 };
@@ -75,21 +74,13 @@ impl Read for InterruptedReader<'_> {
 }
 
 /// Takes at most three bytes at a time. Each write is interrupted once, and then tried again.
-pub(super) struct InterruptedWriter {
-    pub(super) taken: Vec<u8>,
+#[derive(Drop)]
+pub(super) struct InterruptedWriter<'a> {
+    pub(super) taken: &'a mut Vec<u8>,
     pub(super) was_interrupted: bool,
 }
 
-impl Drop for InterruptedWriter {
-    fn drop(self) {
-        let InterruptedWriter {
-            taken: _taken,
-            was_interrupted: _was_interrupted,
-        } = self;
-    }
-}
-
-impl Write for InterruptedWriter {
+impl Write for InterruptedWriter<'_> {
     fn write(&mut self, buf: &[u8]) -> io::Result<usize> {
         self.was_interrupted = !self.was_interrupted;
         if self.was_interrupted {
@@ -118,14 +109,14 @@ pub(super) enum BooksCall {
     WalkFiles,
 }
 
-/// Books of which one call fails, or none. No contract knows what they hold.
-pub(super) struct FailingBooks {
-    pub(super) books: PlainBooks,
-    pub(super) failing: Option<BooksCall>,
+/// Books of which one call fails. No contract knows what they hold.
+pub(super) struct FailingBooks<B: Books + Drop> {
+    pub(super) books: B,
+    pub(super) failing: BooksCall,
     pub(super) fault: Fault,
 }
 
-impl Drop for FailingBooks {
+impl<B: Books + Drop> Drop for FailingBooks<B> {
     fn drop(self) {
         let FailingBooks {
             books: _books,
@@ -135,7 +126,19 @@ impl Drop for FailingBooks {
     }
 }
 
-impl Books for FailingBooks {
+impl<B: Books + Drop> FailingBooks<B> {
+    /// The books, of which no call fails.
+    pub(super) fn into_books(self) -> B {
+        let FailingBooks {
+            books,
+            failing: _failing,
+            fault: _fault,
+        } = self;
+        books
+    }
+}
+
+impl<B: Books + Drop> Books for FailingBooks<B> {
     ghost use Rattle.std.specs.FinMap.{empty};
     ghost use Rattle.index_io.specs.Counts.{last_count};
 
@@ -159,14 +162,14 @@ impl Books for FailingBooks {
     ghost failures = { λ _. last_count };
 
     fn view(&mut self, alloc: Global, keys: &Keys) -> Result<View, Fault> {
-        if self.failing == Some(BooksCall::View) {
+        if self.failing == BooksCall::View {
             return Err(self.fault);
         }
         self.books.view(alloc, keys)
     }
 
     fn write(&mut self, alloc: Global, change: Change) -> Result<(), Fault> {
-        if self.failing == Some(BooksCall::Write) {
+        if self.failing == BooksCall::Write {
             drop(change);
             return Err(self.fault);
         }
@@ -174,35 +177,35 @@ impl Books for FailingBooks {
     }
 
     fn owners_of(&mut self, alloc: Global, name: &NormalName) -> Result<Owners, Fault> {
-        if self.failing == Some(BooksCall::OwnersOf) {
+        if self.failing == BooksCall::OwnersOf {
             return Err(self.fault);
         }
         self.books.owners_of(alloc, name)
     }
 
     fn bytes_of(&mut self, alloc: Global, file: &FileName) -> Result<Option<Sealed>, Fault> {
-        if self.failing == Some(BooksCall::BytesOf) {
+        if self.failing == BooksCall::BytesOf {
             return Err(self.fault);
         }
         self.books.bytes_of(alloc, file)
     }
 
     fn names(&mut self, alloc: Global) -> Result<Vec<NameRow>, Fault> {
-        if self.failing == Some(BooksCall::Names) {
+        if self.failing == BooksCall::Names {
             return Err(self.fault);
         }
         self.books.names(alloc)
     }
 
     fn files_of(&mut self, alloc: Global, name: &NormalName) -> Result<Vec<FileRow>, Fault> {
-        if self.failing == Some(BooksCall::FilesOf) {
+        if self.failing == BooksCall::FilesOf {
             return Err(self.fault);
         }
         self.books.files_of(alloc, name)
     }
 
     fn walk_held<K: NameTaker>(&mut self, alloc: Global, taker: &mut K) -> Result<(), WalkEnd> {
-        if self.failing == Some(BooksCall::WalkHeld) {
+        if self.failing == BooksCall::WalkHeld {
             return Err(WalkEnd::from(self.fault));
         }
         self.books.walk_held(alloc, taker)
@@ -214,7 +217,7 @@ impl Books for FailingBooks {
         name: &NormalName,
         taker: &mut K,
     ) -> Result<(), WalkEnd> {
-        if self.failing == Some(BooksCall::WalkFiles) {
+        if self.failing == BooksCall::WalkFiles {
             return Err(WalkEnd::from(self.fault));
         }
         self.books.walk_files(alloc, name, taker)

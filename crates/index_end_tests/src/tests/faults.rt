@@ -1,33 +1,32 @@
 //! Each fault of the books is told as itself, and nothing changed.
-use super::fakes::{BooksCall, FailingBooks, FullWriter, TakesAll};
+use super::fakes::{BooksCall, FailingBooks, TakesAll};
 use super::{
-    ACCEPTED, ALREADY, CLAIM, NEST_IS_FREE, STANDING_OF_NEST, TWICE_ACCEPTED, USERS,
-    assert_answers, new_books,
+    ACCEPTED, ALREADY, CLAIM, NEST_IS_FREE, STANDING_OF_NEST, assert_answers, desk_with_users,
+    new_books,
 };
 use index_desk::{Desk, ReportFault};
 use index_digest::Digest256;
 use index_io::Output;
 use index_names::{FileName, normal};
-use index_rules::{Answer, Bytes, Call, Fault, Request, WalkEnd};
+use index_rules::{Answer, Books, Bytes, Call, Fault, Request, WalkEnd};
 use std::alloc::AllocGlobal;
 use std::process::Abort;
 
-/// A desk with the users ann and bob, where ann has claimed `frob`, over books of which this call fails from now on.
-fn failing_desk(
+/// A desk over new books with the users ann and bob, where ann has claimed `frob`. This call of its books fails from now
+/// on.
+fn failing_desk<B: Books + Drop>(
     rt: &(impl Abort + AllocGlobal),
+    books: B,
     call: BooksCall,
     fault: Fault,
-) -> Desk<FailingBooks> {
-    let mut desk = Desk::new(FailingBooks {
-        books: new_books(rt),
-        failing: None,
-        fault,
-    });
-    assert_answers(rt, &mut desk, USERS, TWICE_ACCEPTED);
+) -> Desk<FailingBooks<B>> {
+    let mut desk = desk_with_users(rt, books);
     assert_answers(rt, &mut desk, CLAIM, ACCEPTED);
-    let mut books = desk.into_books();
-    books.failing = Some(call);
-    Desk::new(books)
+    Desk::new(FailingBooks {
+        books: desk.into_books(),
+        failing: call,
+        fault,
+    })
 }
 
 /// The answer by a fault, and its line feed.
@@ -53,30 +52,29 @@ const FROB_IS_HELD: &str =
 const NEST_IS_HELD: &str =
     "{\"case\":null,\"charge\":0,\"name\":\"nest\",\"owners\":[\"bob\"],\"quota\":1073741824,\"shown\":\"nest\",\"state\":\"held\"}\n";
 
-/// Once no call of the books fails any more, `frob` stands as it did, and `nest` so.
-fn assert_after(rt: &(impl Abort + AllocGlobal), desk: Desk<FailingBooks>, nest: &str) {
-    let mut books = desk.into_books();
-    books.failing = None;
+/// Where no call of these books fails, `frob` stands as it did, and `nest` so.
+fn assert_after<B: Books + Drop>(rt: &(impl Abort + AllocGlobal), books: B, nest: &str) {
     let mut desk = Desk::new(books);
     assert_answers(rt, &mut desk, STANDING_OF_FROB, FROB_IS_HELD);
     assert_answers(rt, &mut desk, STANDING_OF_NEST, nest);
 }
 
 /// Where this call of the books fails, the lines that are asked are answered so, and `nest` then stands so.
-fn assert_told(
+fn assert_told<B: Books + Drop>(
     rt: &(impl Abort + AllocGlobal),
+    books: B,
     call: BooksCall,
     fault: Fault,
     answers: [&str; 4],
     nest: &str,
 ) {
-    let mut desk = failing_desk(rt, call, fault);
+    let mut desk = failing_desk(rt, books, call, fault);
     let mut told = String::new(rt.alloc());
     for answer in answers {
         told.push_str(answer).expect(rt, answer);
     }
     assert_answers(rt, &mut desk, ASKED, told.as_str());
-    assert_after(rt, desk, nest);
+    assert_after(rt, desk.into_books().into_books(), nest);
 }
 
 /// A fault is the answer to its line, and the next one is read.
@@ -84,7 +82,14 @@ fn assert_told(
 fn a_look_that_fails_is_a_fault(rt: HostRuntime) {
     for fault in [Fault::Store, Fault::OutOfMemory] {
         let answers = [fault_line(fault); 4];
-        assert_told(&rt, BooksCall::View, fault, answers, NEST_IS_FREE);
+        assert_told(
+            &rt,
+            new_books(&rt),
+            BooksCall::View,
+            fault,
+            answers,
+            NEST_IS_FREE,
+        );
     }
 }
 
@@ -93,7 +98,14 @@ fn a_look_that_fails_is_a_fault(rt: HostRuntime) {
 fn a_write_that_fails_is_a_fault(rt: HostRuntime) {
     for fault in [Fault::Store, Fault::OutOfMemory] {
         let answers = [fault_line(fault), ALREADY, FROB_IS_HELD, NEST_IS_FREE];
-        assert_told(&rt, BooksCall::Write, fault, answers, NEST_IS_FREE);
+        assert_told(
+            &rt,
+            new_books(&rt),
+            BooksCall::Write,
+            fault,
+            answers,
+            NEST_IS_FREE,
+        );
     }
 }
 
@@ -103,7 +115,14 @@ fn owners_that_fail_are_a_fault(rt: HostRuntime) {
     for fault in [Fault::Store, Fault::OutOfMemory] {
         let line = fault_line(fault);
         let answers = [ACCEPTED, ALREADY, line, line];
-        assert_told(&rt, BooksCall::OwnersOf, fault, answers, NEST_IS_HELD);
+        assert_told(
+            &rt,
+            new_books(&rt),
+            BooksCall::OwnersOf,
+            fault,
+            answers,
+            NEST_IS_HELD,
+        );
     }
 }
 
@@ -118,25 +137,30 @@ fn claim(rt: &(impl Abort + AllocGlobal)) -> Call {
 }
 
 /// A claim is answered by the fault of this call of the books.
-fn assert_answer(rt: &(impl Abort + AllocGlobal), call: BooksCall, fault: Fault) {
-    let mut desk = failing_desk(rt, call, fault);
+fn assert_answer<B: Books + Drop>(
+    rt: &(impl Abort + AllocGlobal),
+    books: B,
+    call: BooksCall,
+    fault: Fault,
+) {
+    let mut desk = failing_desk(rt, books, call, fault);
     let answer = desk.apply(rt.alloc(), claim(rt));
     assert!(rt; answer == Answer::Fault(fault), "{fault}");
-    assert_after(rt, desk, NEST_IS_FREE);
+    assert_after(rt, desk.into_books().into_books(), NEST_IS_FREE);
 }
 
 #[test]
 fn a_claim_is_answered_by_the_fault(rt: HostRuntime) {
     for fault in [Fault::Store, Fault::OutOfMemory] {
-        assert_answer(&rt, BooksCall::View, fault);
-        assert_answer(&rt, BooksCall::Write, fault);
+        assert_answer(&rt, new_books(&rt), BooksCall::View, fault);
+        assert_answer(&rt, new_books(&rt), BooksCall::Write, fault);
     }
 }
 
 /// The fault in place of the standing of `frob`.
-fn fault_of_standing(
+fn fault_of_standing<B: Books>(
     rt: &(impl Abort + AllocGlobal),
-    desk: &mut Desk<FailingBooks>,
+    desk: &mut Desk<B>,
 ) -> Option<Fault> {
     let name = normal(rt.alloc(), b"frob").expect(rt, "frob");
     let standing = desk.standing(rt.alloc(), &name);
@@ -146,7 +170,7 @@ fn fault_of_standing(
 }
 
 /// The fault in place of the bytes of a file.
-fn fault_of_body(rt: &(impl Abort + AllocGlobal), desk: &mut Desk<FailingBooks>) -> Option<Fault> {
+fn fault_of_body<B: Books>(rt: &(impl Abort + AllocGlobal), desk: &mut Desk<B>) -> Option<Fault> {
     let file = FileName::read(rt.alloc(), b"frob-1.0.tar.gz").expect(rt, "a file name");
     let body = desk.body(rt.alloc(), &file);
     let fault = body.as_ref().err().copied();
@@ -155,14 +179,15 @@ fn fault_of_body(rt: &(impl Abort + AllocGlobal), desk: &mut Desk<FailingBooks>)
 }
 
 /// Where this call of the books fails, these are the faults in place of a standing and of bytes.
-fn assert_faults(
+fn assert_faults<B: Books + Drop>(
     rt: &(impl Abort + AllocGlobal),
+    books: B,
     call: BooksCall,
     fault: Fault,
     standing: Option<Fault>,
     body: Option<Fault>,
 ) {
-    let mut desk = failing_desk(rt, call, fault);
+    let mut desk = failing_desk(rt, books, call, fault);
     let of_standing = fault_of_standing(rt, &mut desk);
     let of_body = fault_of_body(rt, &mut desk);
     assert!(rt; of_standing == standing && of_body == body, "{fault}");
@@ -171,51 +196,110 @@ fn assert_faults(
 #[test]
 fn a_question_is_answered_by_the_fault(rt: HostRuntime) {
     for fault in [Fault::Store, Fault::OutOfMemory] {
-        assert_faults(&rt, BooksCall::View, fault, Some(fault), None);
-        assert_faults(&rt, BooksCall::Write, fault, None, None);
-        assert_faults(&rt, BooksCall::OwnersOf, fault, Some(fault), None);
-        assert_faults(&rt, BooksCall::BytesOf, fault, None, Some(fault));
+        assert_faults(
+            &rt,
+            new_books(&rt),
+            BooksCall::View,
+            fault,
+            Some(fault),
+            None,
+        );
+        assert_faults(&rt, new_books(&rt), BooksCall::Write, fault, None, None);
+        assert_faults(
+            &rt,
+            new_books(&rt),
+            BooksCall::OwnersOf,
+            fault,
+            Some(fault),
+            None,
+        );
+        assert_faults(
+            &rt,
+            new_books(&rt),
+            BooksCall::BytesOf,
+            fault,
+            None,
+            Some(fault),
+        );
     }
 }
 
-/// Where this call of the books fails, these are the faults in place of the rows of the held names and of `frob`.
-fn assert_rows(
+/// The fault in place of the rows of the held names.
+fn fault_of_root<B: Books>(rt: &(impl Abort + AllocGlobal), desk: &mut Desk<B>) -> Option<Fault> {
+    let rows = desk.root_rows(rt.alloc());
+    let fault = rows.as_ref().err().copied();
+    drop(rows);
+    fault
+}
+
+/// The fault in place of the rows of `frob`.
+fn fault_of_project<B: Books>(
     rt: &(impl Abort + AllocGlobal),
+    desk: &mut Desk<B>,
+) -> Option<Fault> {
+    let name = normal(rt.alloc(), b"frob").expect(rt, "frob");
+    let rows = desk.project_rows(rt.alloc(), &name);
+    let fault = rows.as_ref().err().copied();
+    drop(rows);
+    fault
+}
+
+/// Where this call of the books fails, these are the faults in place of the rows of the held names and of `frob`.
+fn assert_rows<B: Books + Drop>(
+    rt: &(impl Abort + AllocGlobal),
+    books: B,
     call: BooksCall,
     fault: Fault,
     root: Option<Fault>,
     project: Option<Fault>,
 ) {
-    let mut desk = failing_desk(rt, call, fault);
-    let rows = desk.root_rows(rt.alloc());
-    let of_root = rows.as_ref().err().copied();
-    drop(rows);
-    let name = normal(rt.alloc(), b"frob").expect(rt, "frob");
-    let rows = desk.project_rows(rt.alloc(), &name);
-    let of_project = rows.as_ref().err().copied();
-    drop(rows);
+    let mut desk = failing_desk(rt, books, call, fault);
+    let of_root = fault_of_root(rt, &mut desk);
+    let of_project = fault_of_project(rt, &mut desk);
     assert!(rt; of_root == root && of_project == project, "{fault}");
 }
 
 #[test]
 fn rows_are_answered_by_the_fault(rt: HostRuntime) {
     for fault in [Fault::Store, Fault::OutOfMemory] {
-        assert_rows(&rt, BooksCall::Names, fault, Some(fault), None);
-        assert_rows(&rt, BooksCall::FilesOf, fault, None, Some(fault));
-        assert_rows(&rt, BooksCall::View, fault, None, Some(fault));
-        assert_rows(&rt, BooksCall::WalkHeld, fault, None, None);
+        assert_rows(
+            &rt,
+            new_books(&rt),
+            BooksCall::Names,
+            fault,
+            Some(fault),
+            None,
+        );
+        assert_rows(
+            &rt,
+            new_books(&rt),
+            BooksCall::FilesOf,
+            fault,
+            None,
+            Some(fault),
+        );
+        assert_rows(
+            &rt,
+            new_books(&rt),
+            BooksCall::View,
+            fault,
+            None,
+            Some(fault),
+        );
+        assert_rows(&rt, new_books(&rt), BooksCall::WalkHeld, fault, None, None);
     }
 }
 
 /// Where this call of the books fails, the walks over the held names and over the files of `frob` end so.
-fn assert_walks(
+fn assert_walks<B: Books + Drop>(
     rt: &(impl Abort + AllocGlobal),
+    books: B,
     call: BooksCall,
     fault: Fault,
     root: Result<(), WalkEnd>,
     project: Result<bool, WalkEnd>,
 ) {
-    let mut desk = failing_desk(rt, call, fault);
+    let mut desk = failing_desk(rt, books, call, fault);
     let of_root = desk.walk_root(rt.alloc(), &mut TakesAll);
     let name = normal(rt.alloc(), b"frob").expect(rt, "frob");
     let of_project = desk.walk_project(rt.alloc(), &name, &mut TakesAll);
@@ -226,37 +310,80 @@ fn assert_walks(
 fn walks_end_by_the_fault(rt: HostRuntime) {
     for fault in [Fault::Store, Fault::OutOfMemory] {
         let end = WalkEnd::from(fault);
-        assert_walks(&rt, BooksCall::WalkHeld, fault, Err(end), Ok(true));
-        assert_walks(&rt, BooksCall::WalkFiles, fault, Ok(()), Err(end));
-        assert_walks(&rt, BooksCall::View, fault, Ok(()), Err(end));
+        assert_walks(
+            &rt,
+            new_books(&rt),
+            BooksCall::WalkHeld,
+            fault,
+            Err(end),
+            Ok(true),
+        );
+        assert_walks(
+            &rt,
+            new_books(&rt),
+            BooksCall::WalkFiles,
+            fault,
+            Ok(()),
+            Err(end),
+        );
+        assert_walks(
+            &rt,
+            new_books(&rt),
+            BooksCall::View,
+            fault,
+            Ok(()),
+            Err(end),
+        );
     }
 }
 
-/// Where this call of the books fails, the check and the report end so. A report that ends so wrote nothing.
-fn assert_sums(
+/// How a report ends. One that ends by a fault wrote nothing, and one that does not wrote something.
+fn end_of_report<B: Books>(
     rt: &(impl Abort + AllocGlobal),
+    desk: &mut Desk<B>,
+) -> Result<(), ReportFault> {
+    let mut told = Vec::new(rt.alloc());
+    let ended = desk.report(rt.alloc(), &mut Output::new(&mut told));
+    let is_empty = told.is_empty();
+    drop(told);
+    assert!(rt; is_empty == ended.is_err());
+    ended
+}
+
+/// Where this call of the books fails, the check and the report end so.
+fn assert_sums<B: Books + Drop>(
+    rt: &(impl Abort + AllocGlobal),
+    books: B,
     call: BooksCall,
     fault: Fault,
     check: Result<u64, Fault>,
     report: Result<(), ReportFault>,
 ) {
-    let mut desk = failing_desk(rt, call, fault);
+    let mut desk = failing_desk(rt, books, call, fault);
     let of_check = desk.check(rt.alloc());
-    let mut output = Output::new(FullWriter {
-        taken: Vec::new(rt.alloc()),
-        room: 1000,
-        fails: true,
-    });
-    let of_report = desk.report(rt.alloc(), &mut output);
-    let is_empty = output.writer.taken.is_empty();
-    assert!(rt; of_check == check && of_report == report && is_empty == report.is_err());
+    let of_report = end_of_report(rt, &mut desk);
+    assert!(rt; of_check == check && of_report == report);
 }
 
 #[test]
 fn a_check_and_a_report_end_by_the_fault(rt: HostRuntime) {
     for fault in [Fault::Store, Fault::OutOfMemory] {
         let end = Err(ReportFault::from(fault));
-        assert_sums(&rt, BooksCall::Names, fault, Err(fault), end);
-        assert_sums(&rt, BooksCall::FilesOf, fault, Err(fault), Ok(()));
+        assert_sums(
+            &rt,
+            new_books(&rt),
+            BooksCall::Names,
+            fault,
+            Err(fault),
+            end,
+        );
+        assert_sums(
+            &rt,
+            new_books(&rt),
+            BooksCall::FilesOf,
+            fault,
+            Err(fault),
+            Ok(()),
+        );
     }
 }

@@ -1,28 +1,39 @@
 //! Reads and writes that are interrupted are tried again.
 use super::fakes::{InterruptedReader, InterruptedWriter};
-use super::{BOTH_CLAIMS, TWICE_ACCEPTED, assert_run, desk_with_users};
-use index_cli::apply_lines;
-use index_io::{Input, Output};
+use super::{
+    BOTH_CLAIMS, TWICE_ACCEPTED, assert_run, assert_text, desk_with_users, new_books, run,
+};
+use index_rules::Books;
+use std::alloc::AllocGlobal;
+use std::process::Abort;
 
-#[test]
-fn interrupted_reads_are_tried_again(rt: HostRuntime) {
-    let mut desk = desk_with_users(&rt);
+fn interrupt_reads<B: Books + Drop>(rt: &(impl Abort + AllocGlobal), books: B) {
+    let mut desk = desk_with_users(rt, books);
     let reader = InterruptedReader {
         rest: BOTH_CLAIMS.as_bytes(),
         was_interrupted: false,
     };
-    assert_run(&rt, &mut desk, reader, Ok(2), TWICE_ACCEPTED);
+    assert_run(rt, &mut desk, reader, Ok(2), TWICE_ACCEPTED);
+}
+
+#[test]
+fn interrupted_reads_are_tried_again(rt: HostRuntime) {
+    interrupt_reads(&rt, new_books(&rt));
+}
+
+fn interrupt_writes<B: Books + Drop>(rt: &(impl Abort + AllocGlobal), books: B) {
+    let mut desk = desk_with_users(rt, books);
+    let mut told = Vec::new(rt.alloc());
+    let mut writer = InterruptedWriter {
+        taken: &mut told,
+        was_interrupted: false,
+    };
+    let ended = run(rt, &mut desk, BOTH_CLAIMS.as_bytes(), &mut writer);
+    assert_text(rt, told, TWICE_ACCEPTED);
+    assert!(rt; ended == Ok(2));
 }
 
 #[test]
 fn interrupted_writes_are_tried_again(rt: HostRuntime) {
-    let mut desk = desk_with_users(&rt);
-    let mut input = Input::new(BOTH_CLAIMS.as_bytes());
-    let mut output = Output::new(InterruptedWriter {
-        taken: Vec::new(rt.alloc()),
-        was_interrupted: false,
-    });
-    let ended = apply_lines(rt.alloc(), &mut input, &mut output, &mut desk);
-    assert!(rt; ended == Ok(2));
-    assert!(rt; output.writer.taken.as_slice() == TWICE_ACCEPTED.as_bytes());
+    interrupt_writes(&rt, new_books(&rt));
 }

@@ -1,15 +1,14 @@
 //! What the looks of scripts find, told as texts.
 use crate::tests::{file_name, name, release, token};
 use index_digest::Digest256;
-use index_plain::PlainBooks;
 use index_rules::{Books, FileRecord, Keys, NameRecord, View};
 use std::alloc::{AllocError, AllocGlobal, Global};
 use std::process::Abort;
 
 /// What a look finds: a word, and what it is about.
-pub(super) fn found_by(
+pub(super) fn found_by<B: Books>(
     rt: &(impl Abort + AllocGlobal),
-    books: &mut PlainBooks,
+    books: &mut B,
     look: &str,
 ) -> String {
     let (word, about) = look.split_once(' ').expect(rt, look);
@@ -20,9 +19,9 @@ pub(super) fn found_by(
     }
 }
 
-fn found_in_view(
+fn found_in_view<B: Books>(
     rt: &(impl Abort + AllocGlobal),
-    books: &mut PlainBooks,
+    books: &mut B,
     word: &str,
     about: &str,
 ) -> String {
@@ -151,7 +150,7 @@ fn told_case(alloc: Global, view: &View) -> Result<String, AllocError> {
 }
 
 /// The owners of a name, with spaces between them.
-fn owners(rt: &(impl Abort + AllocGlobal), books: &mut PlainBooks, text: &str) -> String {
+fn owners<B: Books>(rt: &(impl Abort + AllocGlobal), books: &mut B, text: &str) -> String {
     let name = name(rt, text);
     let owners = books.owners_of(rt.alloc(), &name).expect(rt, text);
     let mut found = String::new(rt.alloc());
@@ -172,7 +171,7 @@ fn add_word(words: &mut String, word: &str) -> Result<(), AllocError> {
 }
 
 /// The bytes of a file.
-fn body(rt: &(impl Abort + AllocGlobal), books: &mut PlainBooks, text: &str) -> String {
+fn body<B: Books>(rt: &(impl Abort + AllocGlobal), books: &mut B, text: &str) -> String {
     let file = file_name(rt, text);
     let body = books.bytes_of(rt.alloc(), &file).expect(rt, text);
     let found = match &body {

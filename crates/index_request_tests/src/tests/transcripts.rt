@@ -1,13 +1,10 @@
 //! Transcripts: constant texts that have each request as a line of JSON, and below it `= ` and its answer, as they come
 //! in and go out. A line that begins with `#` says why. An empty line says nothing.
+use super::{Story, assert_story};
 use index_cli::apply_lines;
-use index_desk::Desk;
-use index_digest::Digest256;
+use index_desk::{Desk, Keeper};
 use index_io::{Input, Output};
-use index_plain::PlainBooks;
 use index_rules::Books;
-use index_tables::{SqlBooks, Unopened};
-use sqlite::{Connection, MemStore};
 use std::alloc::AllocGlobal;
 use std::fmt;
 use std::process::Abort;
@@ -52,42 +49,29 @@ const CASE: &str = r#"
 = {"answer":"accepted"}
 "#;
 
-/// Asks the requests of these texts in one run of each kind of books, whose one user is `office`, of the office, with
-/// the token `office`. Each is answered as the texts have it.
+/// Lines, and the answers to them.
+#[derive(Clone, Copy)]
+struct Transcript<'a> {
+    requests: &'a str,
+    answers: &'a str,
+}
+
+impl Story for Transcript<'_> {
+    fn run<R: Abort + AllocGlobal, B: Keeper>(&self, rt: &R, desk: &mut Desk<B>) {
+        assert_answers(rt, desk, self.requests, self.answers);
+    }
+}
+
+/// Asks the requests of these texts in one run of a new desk over each kind of books. Each is answered as the texts have
+/// it.
 fn assert_transcript(rt: &(impl Abort + AllocGlobal), texts: &[&str]) {
     let mut requests = String::new(rt.alloc());
     let mut answers = String::new(rt.alloc());
     for text in texts {
         split(text, &mut requests, &mut answers).expect(rt, "a transcript");
     }
-    assert_in_memory(rt, requests.as_str(), answers.as_str());
-    assert_in_database(rt, requests.as_str(), answers.as_str());
-}
-
-/// A desk over vectors answers so.
-fn assert_in_memory(rt: &(impl Abort + AllocGlobal), requests: &str, answers: &str) {
-    let opened = PlainBooks::new(rt.alloc(), b"office", Digest256::of(b"office"));
-    let mut desk = Desk::new(opened.expect(rt, "books"));
-    assert_answers(rt, &mut desk, requests, answers);
-}
-
-/// A desk over a database answers so.
-fn assert_in_database(rt: &(impl Abort + AllocGlobal), requests: &str, answers: &str) {
-    let mut desk = Desk::new(new_tables(rt));
-    assert_answers(rt, &mut desk, requests, answers);
-    drop(desk.into_books().into_connection());
-}
-
-/// An index in a new database.
-fn new_tables(rt: &(impl Abort + AllocGlobal)) -> SqlBooks<MemStore> {
-    let conn = Connection::open_in_memory(rt.alloc()).expect(rt, "a database");
-    match SqlBooks::create(rt.alloc(), conn, b"office", Digest256::of(b"office")) {
-        Ok(books) => books,
-        Err(Unopened { why, conn }) => {
-            drop(conn);
-            panic!(rt; "{why:?}")
-        }
-    }
+    let (requests, answers) = (requests.as_str(), answers.as_str());
+    assert_story(rt, &Transcript { requests, answers });
 }
 
 /// The desk answers each request by the line that the answers have for it.

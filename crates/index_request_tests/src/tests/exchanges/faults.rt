@@ -2,8 +2,9 @@
 use super::fakes::{FailingReader, FailingWriter, FullWriter};
 use super::{
     ACCEPTED, ALREADY, BYTES, CHARGED, CREATED, DELETE, FILE, PUT, assert_parts, claim_frob,
-    desk_in_database, desk_in_memory, let_go, new_site, tell,
+    new_site, tell,
 };
+use crate::tests::{Story, assert_story};
 use index_desk::{Desk, Keeper};
 use index_http::IoEnd;
 use index_message::Site;
@@ -50,15 +51,24 @@ fn cut_upload<B: Keeper>(
     }
 }
 
-fn cut_uploads<B: Keeper>(rt: &(impl Abort + AllocGlobal), site: &Site, desk: &mut Desk<B>) {
-    claim_frob(rt, site, desk);
-    cut_upload(rt, site, desk, "HTTP/1.1 2");
-    cut_upload(rt, site, desk, "");
+/// The reply to an upload is cut in its first line and before it.
+#[derive(Clone, Copy)]
+struct CutUploads<'a> {
+    site: &'a Site,
+}
+
+impl Story for CutUploads<'_> {
+    fn run<R: Abort + AllocGlobal, B: Keeper>(&self, rt: &R, desk: &mut Desk<B>) {
+        claim_frob(rt, self.site, desk);
+        cut_upload(rt, self.site, desk, "HTTP/1.1 2");
+        cut_upload(rt, self.site, desk, "");
+    }
 }
 
 #[test]
 fn a_write_that_fails_leaves_the_upload(rt: HostRuntime) {
-    at_both_desks!(rt, cut_uploads);
+    let site = &new_site(&rt);
+    assert_story(&rt, &CutUploads { site });
 }
 
 /// A wheel whose name has a plus sign, which is escaped in the path.
@@ -74,15 +84,24 @@ const WHEEL_STANDS: &[[&str; 2]] = &[
     ],
 ];
 
-fn cut_wheel<B: Keeper>(rt: &(impl Abort + AllocGlobal), site: &Site, desk: &mut Desk<B>) {
-    claim_frob(rt, site, desk);
-    assert_cut(rt, site, desk, WHEEL, "HTTP/1.1 2", true);
-    assert_parts(rt, site, desk, &[WHEEL_STANDS], usize::MAX);
+/// The reply to the upload of the wheel is cut in its first line.
+#[derive(Clone, Copy)]
+struct CutWheel<'a> {
+    site: &'a Site,
+}
+
+impl Story for CutWheel<'_> {
+    fn run<R: Abort + AllocGlobal, B: Keeper>(&self, rt: &R, desk: &mut Desk<B>) {
+        claim_frob(rt, self.site, desk);
+        assert_cut(rt, self.site, desk, WHEEL, "HTTP/1.1 2", true);
+        assert_parts(rt, self.site, desk, &[WHEEL_STANDS], usize::MAX);
+    }
 }
 
 #[test]
 fn a_write_that_fails_leaves_the_wheel(rt: HostRuntime) {
-    at_both_desks!(rt, cut_wheel);
+    let site = &new_site(&rt);
+    assert_story(&rt, &CutWheel { site });
 }
 
 /// After so many writes of the reply to an upload the next one fails.
@@ -105,17 +124,25 @@ fn assert_write_fails<B: Keeper>(
 }
 
 /// The reply goes out in ten writes.
-fn fail_writes<B: Keeper>(rt: &(impl Abort + AllocGlobal), site: &Site, desk: &mut Desk<B>) {
-    claim_frob(rt, site, desk);
-    for writes in 0..10 {
-        assert_write_fails(rt, site, desk, writes);
-        assert_parts(rt, site, desk, &[STOOD], usize::MAX);
+#[derive(Clone, Copy)]
+struct FailWrites<'a> {
+    site: &'a Site,
+}
+
+impl Story for FailWrites<'_> {
+    fn run<R: Abort + AllocGlobal, B: Keeper>(&self, rt: &R, desk: &mut Desk<B>) {
+        claim_frob(rt, self.site, desk);
+        for writes in 0..10 {
+            assert_write_fails(rt, self.site, desk, writes);
+            assert_parts(rt, self.site, desk, &[STOOD], usize::MAX);
+        }
     }
 }
 
 #[test]
 fn each_write_fails_in_turn(rt: HostRuntime) {
-    at_both_desks!(rt, fail_writes);
+    let site = &new_site(&rt);
+    assert_story(&rt, &FailWrites { site });
 }
 
 /// The first 120 bytes of the 168 of a page and its head.
@@ -124,19 +151,28 @@ const FRONT_OF_NAMES: &str =
 
 const NAMES: &str = look!("GET /simple/" "Accept: application/vnd.pypi.simple.v1+json");
 
-fn cut_page<B: Keeper>(rt: &(impl Abort + AllocGlobal), site: &Site, desk: &mut Desk<B>) {
-    claim_frob(rt, site, desk);
-    assert_parts(rt, site, desk, &[FILE], usize::MAX);
-    for front in [FRONT_OF_NAMES, "HTTP/1.1 2"] {
-        assert_cut(rt, site, desk, NAMES, front, true);
-        assert_cut(rt, site, desk, NAMES, front, false);
+/// The reply to a look is cut in its page and in its first line, by either writer.
+#[derive(Clone, Copy)]
+struct CutPage<'a> {
+    site: &'a Site,
+}
+
+impl Story for CutPage<'_> {
+    fn run<R: Abort + AllocGlobal, B: Keeper>(&self, rt: &R, desk: &mut Desk<B>) {
+        claim_frob(rt, self.site, desk);
+        assert_parts(rt, self.site, desk, &[FILE], usize::MAX);
+        for front in [FRONT_OF_NAMES, "HTTP/1.1 2"] {
+            assert_cut(rt, self.site, desk, NAMES, front, true);
+            assert_cut(rt, self.site, desk, NAMES, front, false);
+        }
     }
 }
 
 #[test]
 fn a_page_is_cut(rt: HostRuntime) {
     assert_eq!(rt; FRONT_OF_NAMES.len(), 120);
-    at_both_desks!(rt, cut_page);
+    let site = &new_site(&rt);
+    assert_story(&rt, &CutPage { site });
 }
 
 /// A read fails behind this front of a message. Nothing is written.
@@ -153,16 +189,24 @@ fn assert_read_fails<B: Keeper>(
 }
 
 /// The upload whose message was cut was not applied.
-fn fail_reads<B: Keeper>(rt: &(impl Abort + AllocGlobal), site: &Site, desk: &mut Desk<B>) {
-    claim_frob(rt, site, desk);
-    let message = PUT.as_bytes();
-    for count in 0..message.len() {
-        assert_read_fails(rt, site, desk, &message[..count]);
+#[derive(Clone, Copy)]
+struct FailReads<'a> {
+    site: &'a Site,
+}
+
+impl Story for FailReads<'_> {
+    fn run<R: Abort + AllocGlobal, B: Keeper>(&self, rt: &R, desk: &mut Desk<B>) {
+        claim_frob(rt, self.site, desk);
+        let message = PUT.as_bytes();
+        for count in 0..message.len() {
+            assert_read_fails(rt, self.site, desk, &message[..count]);
+        }
+        assert_parts(rt, self.site, desk, &[FILE], 1);
     }
-    assert_parts(rt, site, desk, &[FILE], 1);
 }
 
 #[test]
 fn each_read_fails_in_turn(rt: HostRuntime) {
-    at_both_desks!(rt, fail_reads);
+    let site = &new_site(&rt);
+    assert_story(&rt, &FailReads { site });
 }

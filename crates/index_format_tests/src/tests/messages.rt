@@ -11,8 +11,8 @@ use std::process::Abort;
 mod fields;
 mod heads;
 mod lengths;
-mod messages;
 mod pieces;
+mod plain;
 mod reads;
 mod targets;
 

@@ -1,8 +1,9 @@
 //! Many messages in a row.
 use super::{
     ACCEPTED, ALREADY, BYTES, CHARGED, CREATED, DELETE, FROB, GET, NO_FILE, PUT, USERS,
-    assert_parts, desk_in_database, desk_in_memory, let_go, new_site,
+    assert_parts, new_site,
 };
+use crate::tests::{Story, assert_story};
 use index_desk::{Desk, Keeper};
 use index_message::Site;
 use std::alloc::AllocGlobal;
@@ -54,14 +55,22 @@ const PROJECT_WITHOUT_FILES: &str = reply!(
 );
 
 /// A hundred times, each answered by the rules, however many came before.
-fn look_and_change<B: Keeper>(rt: &(impl Abort + AllocGlobal), site: &Site, desk: &mut Desk<B>) {
-    assert_parts(rt, site, desk, &[USERS, FROB], usize::MAX);
-    for _ in 0..100 {
-        assert_parts(rt, site, desk, &[ROUND], usize::MAX);
+#[derive(Clone, Copy)]
+struct LookAndChange<'a> {
+    site: &'a Site,
+}
+
+impl Story for LookAndChange<'_> {
+    fn run<R: Abort + AllocGlobal, B: Keeper>(&self, rt: &R, desk: &mut Desk<B>) {
+        assert_parts(rt, self.site, desk, &[USERS, FROB], usize::MAX);
+        for _ in 0..100 {
+            assert_parts(rt, self.site, desk, &[ROUND], usize::MAX);
+        }
     }
 }
 
 #[test]
 fn no_message_gives_up_without_a_cause(rt: HostRuntime) {
-    at_both_desks!(rt, look_and_change);
+    let site = &new_site(&rt);
+    assert_story(&rt, &LookAndChange { site });
 }

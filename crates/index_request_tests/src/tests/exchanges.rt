@@ -1,15 +1,10 @@
-//! Exchanges: a message and the whole reply to it, as they come in and go out. Each is asked of a desk over vectors and of
-//! one over a database.
+//! Exchanges: a message and the whole reply to it, as they come in and go out.
+use super::{Story, assert_story};
 use fakes::PieceReader;
 use index_desk::{Desk, Keeper};
-use index_digest::Digest256;
 use index_http::{IoEnd, answer_one};
 use index_io::{Input, Output};
 use index_message::Site;
-use index_plain::PlainBooks;
-use index_recent::Recent;
-use index_tables::{SqlBooks, Unopened};
-use sqlite::{Connection, MemStore};
 use std::alloc::AllocGlobal;
 use std::io::{Read, Write};
 use std::process::Abort;
@@ -70,18 +65,6 @@ macro_rules! reply {
 macro_rules! json_reply {
     ($status:literal, $length:literal, $body:literal) => {
         reply!($status, ["Content-Type: application/json"], $length, $body)
-    };
-}
-
-/// Tries this at a new desk over vectors, and at one over a database.
-macro_rules! at_both_desks {
-    ($rt:ident, $story:ident) => {
-        let site = new_site(&$rt);
-        let mut desk = desk_in_memory(&$rt);
-        $story(&$rt, &site, &mut desk);
-        let mut desk = desk_in_database(&$rt);
-        $story(&$rt, &site, &mut desk);
-        let_go(desk);
     };
 }
 
@@ -169,46 +152,33 @@ const NO_PROJECT: &str = json_reply!(
     r#"{"answer":"refused","code":17,"name":"NoProject"}"#
 );
 
-/// Asks these exchanges in order of a new desk over each kind of books: each message as it is, and at another desk each
-/// one byte at a time.
-fn assert_exchanges(rt: &(impl Abort + AllocGlobal), parts: &[&[[&str; 2]]]) {
-    let site = new_site(rt);
-    for most in [usize::MAX, 1] {
-        let mut desk = desk_in_memory(rt);
-        assert_parts(rt, &site, &mut desk, parts, most);
-        let mut desk = desk_in_database(rt);
-        assert_parts(rt, &site, &mut desk, parts, most);
-        let_go(desk);
-    }
-}
-
 /// The routes.
 fn new_site(rt: &(impl Abort + AllocGlobal)) -> Site {
     Site::new(rt.alloc()).expect(rt, "routes")
 }
 
-/// A desk over vectors, whose one user is `office`, of the office, with the token `office`. It keeps no answers.
-fn desk_in_memory(rt: &(impl Abort + AllocGlobal)) -> Desk<Recent<PlainBooks>> {
-    let token = Digest256::of(b"office");
-    let books = PlainBooks::new(rt.alloc(), b"office", token).expect(rt, "books");
-    Desk::new(Recent::new(rt.alloc(), books, 0))
+/// Exchanges, of whose messages a read gives at most so many bytes.
+#[derive(Clone, Copy)]
+struct Exchanges<'a> {
+    site: &'a Site,
+    parts: &'a [&'a [[&'a str; 2]]],
+    most: usize,
 }
 
-/// A desk over a new database, with the same user. It keeps a few answers.
-fn desk_in_database(rt: &(impl Abort + AllocGlobal)) -> Desk<Recent<SqlBooks<MemStore>>> {
-    let conn = Connection::open_in_memory(rt.alloc()).expect(rt, "a database");
-    match SqlBooks::create(rt.alloc(), conn, b"office", Digest256::of(b"office")) {
-        Ok(books) => Desk::new(Recent::new(rt.alloc(), books, 1_000)),
-        Err(Unopened { why, conn }) => {
-            drop(conn);
-            panic!(rt; "{why:?}")
-        }
+impl Story for Exchanges<'_> {
+    fn run<R: Abort + AllocGlobal, B: Keeper>(&self, rt: &R, desk: &mut Desk<B>) {
+        assert_parts(rt, self.site, desk, self.parts, self.most);
     }
 }
 
-/// Lets go of a desk over a database.
-fn let_go(desk: Desk<Recent<SqlBooks<MemStore>>>) {
-    drop(desk.into_books().into_books().into_connection());
+/// Asks these exchanges in order of a new desk over each kind of books: each message as it is, and at another desk each
+/// one byte at a time.
+fn assert_exchanges(rt: &(impl Abort + AllocGlobal), parts: &[&[[&str; 2]]]) {
+    let site = &new_site(rt);
+    for most in [usize::MAX, 1] {
+        let parts = &*parts;
+        assert_story(rt, &Exchanges { site, parts, most });
+    }
 }
 
 /// ann claims `frob`.

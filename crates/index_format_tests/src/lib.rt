@@ -1,0 +1,5 @@
+//! What is read and written, by examples from outside: values, messages and pages; and retention cases.
+#![tactic(auto)]
+
+#[cfg(test)]
+mod tests;

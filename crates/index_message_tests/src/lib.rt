@@ -1,5 +1,0 @@
-//! Messages as they are read, by examples from outside.
-#![tactic(auto)]
-
-#[cfg(test)]
-mod tests;
