@@ -44,7 +44,7 @@ module _ {D : Type 0} {g : Ghosts D} where
       let db = (file_state last).now in
       let same : (file_state last).committed ≡ db = sym committed.committed in
       let held = λ (image : Image) (alone : HoldsAlone image (file_state last).committed.trees).
-          keeps_of image db T committed.current (subst (λ (d : Database). HoldsAlone image d.trees) same alone) in
+      keeps_of image db T committed.current (subst (λ (d : Database). HoldsAlone image d.trees) same alone) in
       record { seen = held _ copied.seen; crash = λ image may. held image (copied.left image may) }
 
   holds_of : (start : Image) (first : Held (FileStore D g)) (T : Tables) → IsOpened first → FindsIn start (file_state first) → IsFound (file_state first).now T → Holds start T

@@ -68,10 +68,7 @@ fn work_on<S: Start, W: Work>(
 }
 
 /// Does work on tables in memory whose one user is `office`, of the office, with the token `office`.
-fn work_in_memory<W: Work>(
-    rt: &HostRuntime,
-    work: &mut W,
-) -> Result<Result<u64, End>, OpenFault>
+fn work_in_memory<W: Work>(rt: &HostRuntime, work: &mut W) -> Result<Result<u64, End>, OpenFault>
     ensures worked { let first = first_tables (codes "office") (sha256 (codes "office")) in
         IfOk result (λ end. (T : Tables) × W.does work.old work.new first T end) }
 {

@@ -13,8 +13,7 @@ use index_rules::UserId;
 pub(crate) fn add_owner<'a>(name: &'a NormalName, user: &'a UserId) -> Steps<'a>
     ensures { all_of result ≡ means (Change.AddOwner name.now user.now) }
 {
-    Steps::first(Step::Put(Put::Owner(name, user)))
-        .then(Step::Delete(Deletion::Case(name.text())))
+    Steps::first(Step::Put(Put::Owner(name, user))).then(Step::Delete(Deletion::Case(name.text())))
 }
 
 /// The user does not own the name any more.

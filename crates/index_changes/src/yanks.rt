@@ -13,8 +13,9 @@ use index_text::Text;
 pub(crate) fn yank<'a>(name: &'a NormalName, release: &'a Release, reason: &'a Text) -> Steps<'a>
     ensures { all_of result ≡ means (Change.Yank name.now release.now reason.now) }
 {
-    Steps::first(Step::Put(Put::Yank(name, release, reason.as_str())))
-        .then(Step::Delete(Deletion::Case(name.text())))
+    Steps::first(Step::Put(Put::Yank(name, release, reason.as_str()))).then(Step::Delete(
+        Deletion::Case(name.text()),
+    ))
 }
 
 /// The release is not yanked any more.

@@ -1,3 +1,4 @@
+pub mod Bodies
 pub mod Lists
 pub mod Standings
 pub mod Looks

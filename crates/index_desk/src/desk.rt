@@ -14,6 +14,7 @@ ghost use Rattle.index_rules.specs.History.{History};
 ghost use Rattle.index_rules.specs.StandsFor.{StandsFor, body_after};
 ghost use Rattle.index_rules.specs.Legal.{CarriesOn, CarriesOnAll, IsLegal};
 ghost use Rattle.index_desk.specs.Crashes.{IsWithCall, Lasts, LastsAll, Leaves, LeavesAll, LeavesAllOf};
+ghost use Rattle.index_desk.specs.Bodies.{AreBytesOf};
 ghost use Rattle.index_desk.specs.Looks.{Looks};
 ghost use Rattle.index_desk.specs.Standings.{IsStandingAfter, held_with, standing_in};
 
@@ -221,6 +222,10 @@ impl<B: Books> Desk<B> {
         ensures history { B.IsHonest self.new →
             IfOk result (λ body. (h : History) → StandsFor (B.tables self.old) h →
             body ≡ body_after h file.now) }
+
+        // In sound tables they have the size and the digest that the file is bound to.
+        ensures bound { B.IsHonest self.new → IsSound (B.tables self.old) →
+            IfOk result (AreBytesOf (B.tables self.old) file.now) }
         ensures look { Looks B.IsHonest B.IsClean B.tables B.failures B.may_leave
             self.old self.new result }
     {

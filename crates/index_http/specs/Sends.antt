@@ -1,6 +1,7 @@
 -- What is sent of a reply.
-use Rattle.std.specs.Prelude.{ℕ, ◌≤◌, Bool, true, false, length, take, Option, Result, Ok, Err}
+use Rattle.std.specs.Prelude.{◌≡◌, ◌≢◌, ℕ, ◌≤◌, Bool, true, false, length, take, Option, Result, Ok, Err}
 use Rattle.std.specs.Io.KnownBytes.{Appends}
+use Rattle.index_io.specs.Counts.{HasFailed}
 use Rattle.index_rules.specs.Maps.{Bytes}
 use Rattle.index_message.specs.declared.head.ReadEnd.{ReadEnd}
 use Rattle.index_message.specs.declared.head.ReadEnd.TheVariants as read_end
@@ -34,6 +35,12 @@ is_write_fault (Err ReadFault) = false
 is_write_fault (Err OutOfMemory) = false
 is_write_fault (Err (WriteFault count)) = true
 is_write_fault (Err (Cut count)) = false
+
+-- a write failed, or took no byte, just where the result says so; and no read failed
+pub record SendsOnly (failures_before failures_after : ℕ) (result : Result (Unit {0}) IoEnd) : Type 0 where
+  pub write_fault : is_write_fault result ≡ true → HasFailed failures_before failures_after
+  pub writes : is_write_fault result ≡ false → failures_after ≡ failures_before
+  pub no_read_fault : result ≢ Err ReadFault
 
 -- the end of a connection by that of a read
 abbrev pub io_end_of_read : ReadEnd → IoEnd

@@ -1,5 +1,11 @@
 -- How a look at a resource ends.
-use Rattle.std.specs.Prelude.{◌≡◌, ◌⊎◌, Bool, Option, Result}
+use Rattle.std.specs.Prelude.{◌≡◌, ◌⊎◌, ◌&&◌, Bool, true, false, not, Option, Result}
+use Rattle.index_message.specs.Requests.{Request}
+use Rattle.index_message.specs.Resources.{is_head}
+use Rattle.index_message.specs.declared.message.Message.{Message}
+use Rattle.index_message.specs.declared.message.Message.TheVariants.{Faulty, Whole}
+use Rattle.index_message.specs.declared.resource.Resource.{Resource}
+use Rattle.index_message.specs.declared.resource.Resource.TheVariants.{Simple, Root, Project, ProjectPage, File, Name, Requests}
 use Rattle.index_rules.specs.Maps.{Bytes}
 use Rattle.index_rules.specs.Tables.{Tables}
 use Rattle.index_http.specs.Ends.{Ends}
@@ -21,3 +27,22 @@ pub record LeavesTables {S : Type 0} (is_honest is_clean : S → Type 0) (tables
   pub unchanged : is_honest new → tables new ≡ tables old
   pub honest : is_honest new → is_honest old
   pub clean : is_clean new → is_clean old
+
+-- a page
+abbrev pub is_page : Resource → Bool
+is_page Root = true
+is_page (ProjectPage name) = true
+is_page Simple = false
+is_page (Project name) = false
+is_page (File file) = false
+is_page (Name name) = false
+is_page Requests = false
+
+-- a look whose reply has a page in it: to `HEAD` none has
+abbrev pub shows_page : Request → Bool
+shows_page request = is_page request.resource && not (is_head request.method)
+
+-- a message whose reply has a page in it, where it is no request that changes something
+abbrev pub asks_page : Message → Bool
+asks_page (Faulty fault to_head) = false
+asks_page (Whole request body) = shows_page request

@@ -8,7 +8,7 @@ ghost use Rattle.index_http.specs.Ends.{Ends};
 ghost use Rattle.index_http.specs.Exchanges.{Acts, asked_by as asked_by_lem, asked_of_file as asked_of_file_lem, call_of as call_of_lem};
 ghost use Rattle.index_json.specs.Requests.{request_of};
 ghost use Rattle.index_message.specs.Resources.{is_head, is_put};
-ghost use Rattle.index_http.specs.Sends.{is_cut, is_write_fault};
+ghost use Rattle.index_http.specs.Sends.{SendsOnly, is_cut};
 ghost use Rattle.index_http.specs.Replies.{Reply, reply_text};
 
 use crate::end::IoEnd;
@@ -40,10 +40,7 @@ pub fn act<K: Sink, B: Books>(
         Ends (λ text. (reply : Reply) × (text ≡ reply_text (is_head method) reply)
         × Acts by_tables cause (is_put method) T call reply T') (T' ≡ T)
         (K.contents sink.old) (K.contents sink.new) result }
-    ensures write_fault { is_write_fault result ≡ true →
-        HasFailed (K.failures sink.old) (K.failures sink.new) }
-    ensures writes { is_write_fault result ≡ false → K.failures sink.new ≡ K.failures sink.old }
-    ensures no_read_fault { result ≢ Err IoEnd.ReadFault }
+    ensures sends { SendsOnly (K.failures sink.old) (K.failures sink.new) result }
     ensures kind { is_cut result ≡ false }
     ensures one_bearer { B.IsHonest desk.new →
         HasOneBearer (B.tables desk.old) → HasOneBearer (B.tables desk.new) }

@@ -10,9 +10,13 @@ ghost use Rattle.index_rules.specs.StandsFor.{StandsFor};
 ghost use Rattle.index_desk.specs.Rules.{by_tables};
 ghost use Rattle.index_message.specs.Heads.{longest_head};
 ghost use Rattle.index_message.specs.Lengths.{longest_upload};
+ghost use Rattle.index_message.specs.Messages.{EndsUnfinished, IsMessage};
+ghost use Rattle.index_message.specs.declared.message.Message.{Message as MessageData};
+ghost use Rattle.index_io.specs.Bytes.{IsInput};
+ghost use Rattle.index_http.specs.Shows.{asks_page};
 ghost use Rattle.index_http.specs.Ends.{Ends, EndsAfter};
 ghost use Rattle.index_http.specs.Exchanges.{RepliesTo, RepliesToInput};
-ghost use Rattle.index_http.specs.Sends.{is_cut, is_write_fault};
+ghost use Rattle.index_http.specs.Sends.{SendsOnly, is_cut, is_write_fault};
 
 use crate::act::act;
 use crate::end::IoEnd;
@@ -63,9 +67,16 @@ pub fn answer_one<S: Source, K: Sink, B: Keeper>(
         HasFailed (K.failures sink.old) (K.failures sink.new) }
     ensures writes { is_write_fault result ≡ false → K.failures sink.new ≡ K.failures sink.old }
 
+    // A read fails only where what came so far is no message yet: so no read is made behind a message.
+    ensures prompt { result ≡ Err IoEnd.ReadFault
+        → EndsUnfinished (S.remaining source.old) (S.remaining source.new) }
+
     // A page that was cut short changed no table.
     ensures cut { B.IsHonest desk.new → is_cut result ≡ true →
         B.tables desk.new ≡ B.tables desk.old }
+    ensures cut_page { is_cut result ≡ true → (message : MessageData) × (input : List ℕ)
+        × IsInput (S.remaining source.old) input × IsMessage input message
+        × (asks_page message ≡ true) }
 
     // No more is read than may be.
     ensures limit { (taken : List ℕ) × (length taken ≤ longest_head + longest_upload)
@@ -97,12 +108,10 @@ fn answer<K: Sink, B: Keeper>(
         let T' = B.tables desk.new in
         Ends (λ text. RepliesTo by_tables cause at T message text T') (T' ≡ T)
         (K.contents sink.old) (K.contents sink.new) result }
-    ensures write_fault { is_write_fault result ≡ true →
-        HasFailed (K.failures sink.old) (K.failures sink.new) }
-    ensures writes { is_write_fault result ≡ false → K.failures sink.new ≡ K.failures sink.old }
-    ensures no_read_fault { result ≢ Err IoEnd.ReadFault }
+    ensures sends { SendsOnly (K.failures sink.old) (K.failures sink.new) result }
     ensures cut { B.IsHonest desk.new → is_cut result ≡ true →
         B.tables desk.new ≡ B.tables desk.old }
+    ensures cut_page { is_cut result ≡ true → asks_page message ≡ true }
     ensures one_bearer { B.IsHonest desk.new →
         HasOneBearer (B.tables desk.old) → HasOneBearer (B.tables desk.new) }
     ensures sound { B.IsHonest desk.new →

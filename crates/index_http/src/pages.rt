@@ -9,7 +9,7 @@ ghost use Rattle.index_http.specs.Exchanges.{ShowsProject, ShowsRoot};
 ghost use Rattle.index_http.specs.PagePasses.{KeepsTables, MeasuresProject};
 ghost use Rattle.index_http.specs.PageShows.{ShowsWhole, behind as behind_lem, sent_behind};
 ghost use Rattle.index_http.specs.Replies.{page_reply, reply_text};
-ghost use Rattle.index_http.specs.Sends.{SendsText, is_cut, is_write_fault};
+ghost use Rattle.index_http.specs.Sends.{SendsOnly, SendsText, is_cut, is_write_fault};
 ghost use Rattle.index_http.specs.Shows.{EndsShown, LeavesTables};
 
 use crate::buffer::Buffer;
@@ -40,10 +40,8 @@ pub fn show_root<K: Sink, B: Keeper>(
         EndsShown to_head (ShowsRoot by_tables T chosen) cause
         (B.tables desk.new ≡ T) (K.contents sink.old) (K.contents sink.new) result }
     ensures leaves { LeavesTables B.IsHonest B.IsClean B.tables desk.old desk.new }
-    ensures write_fault { is_write_fault result ≡ true →
-        HasFailed (K.failures sink.old) (K.failures sink.new) }
-    ensures writes { is_write_fault result ≡ false → K.failures sink.new ≡ K.failures sink.old }
-    ensures no_read_fault { result ≢ Err IoEnd.ReadFault }
+    ensures sends { SendsOnly (K.failures sink.old) (K.failures sink.new) result }
+    ensures cut { is_cut result ≡ true → to_head ≡ false }
 {
     match chosen {
         Some(served) => show_page(alloc, sink, desk, to_head, Page::Root, served),
@@ -66,10 +64,8 @@ pub fn show_project<K: Sink, B: Keeper>(
         EndsShown to_head (ShowsProject by_tables T name.now chosen) cause
         (B.tables desk.new ≡ T) (K.contents sink.old) (K.contents sink.new) result }
     ensures leaves { LeavesTables B.IsHonest B.IsClean B.tables desk.old desk.new }
-    ensures write_fault { is_write_fault result ≡ true →
-        HasFailed (K.failures sink.old) (K.failures sink.new) }
-    ensures writes { is_write_fault result ≡ false → K.failures sink.new ≡ K.failures sink.old }
-    ensures no_read_fault { result ≢ Err IoEnd.ReadFault }
+    ensures sends { SendsOnly (K.failures sink.old) (K.failures sink.new) result }
+    ensures cut { is_cut result ≡ true → to_head ≡ false }
 {
     match chosen {
         Some(served) => show_page(alloc, sink, desk, to_head, Page::Project(name), served),
@@ -91,10 +87,8 @@ fn show_no_page<K: Sink, B: Books>(
         EndsShown to_head (ShowsProject by_tables T name.now None) cause
         (B.tables desk.new ≡ T) (K.contents sink.old) (K.contents sink.new) result }
     ensures leaves { LeavesTables B.IsHonest B.IsClean B.tables desk.old desk.new }
-    ensures write_fault { is_write_fault result ≡ true →
-        HasFailed (K.failures sink.old) (K.failures sink.new) }
-    ensures writes { is_write_fault result ≡ false → K.failures sink.new ≡ K.failures sink.old }
-    ensures no_read_fault { result ≢ Err IoEnd.ReadFault }
+    ensures sends { SendsOnly (K.failures sink.old) (K.failures sink.new) result }
+    ensures whole { is_cut result ≡ false }
 {
     match desk.is_held(alloc, name) {
         Ok(true) => send_reply(sink, to_head, message_reply(MessageFault::NotAcceptable)),
@@ -119,10 +113,8 @@ fn show_page<K: Sink, B: Keeper>(
         EndsShown to_head (ShowsWhole served (page_in T served page.entry)) cause
         (B.tables desk.new ≡ T) (K.contents sink.old) (K.contents sink.new) result }
     ensures leaves { LeavesTables B.IsHonest B.IsClean B.tables desk.old desk.new }
-    ensures write_fault { is_write_fault result ≡ true →
-        HasFailed (K.failures sink.old) (K.failures sink.new) }
-    ensures writes { is_write_fault result ≡ false → K.failures sink.new ≡ K.failures sink.old }
-    ensures no_read_fault { result ≢ Err IoEnd.ReadFault }
+    ensures sends { SendsOnly (K.failures sink.old) (K.failures sink.new) result }
+    ensures cut { is_cut result ≡ true → to_head ≡ false }
 {
     if let Some(text) = desk.kept_page(page, served) {
         return send_reply(sink, to_head, page_reply(served, text));
@@ -194,10 +186,8 @@ fn send_page<K: Sink, B: Books>(
         SendsText (reply_text to_head (page_reply served bytes))
         (K.contents sink.old) (K.contents sink.new) result }
     ensures leaves { LeavesTables B.IsHonest B.IsClean B.tables desk.old desk.new }
-    ensures write_fault { is_write_fault result ≡ true →
-        HasFailed (K.failures sink.old) (K.failures sink.new) }
-    ensures writes { is_write_fault result ≡ false → K.failures sink.new ≡ K.failures sink.old }
-    ensures no_read_fault { result ≢ Err IoEnd.ReadFault }
+    ensures sends { SendsOnly (K.failures sink.old) (K.failures sink.new) result }
+    ensures cut { is_cut result ≡ true → to_head ≡ false }
 {
     let head = match send_head(sink, StatusCode::OK, Fields::Page(served), size) {
         Ok(head) => head,
@@ -224,10 +214,7 @@ fn send_text<K: Sink, B: Books>(
         page_in (B.tables desk.old) served page.entry ≡ None → IsErr result }
     ensures keeps { KeepsTables B.IsHonest B.IsClean B.tables B.failures B.may_leave
         desk.old desk.new (is_cut result) }
-    ensures write_fault { is_write_fault result ≡ true →
-        HasFailed (K.failures sink.old) (K.failures sink.new) }
-    ensures writes { is_write_fault result ≡ false → K.failures sink.new ≡ K.failures sink.old }
-    ensures no_read_fault { result ≢ Err IoEnd.ReadFault }
+    ensures sends { SendsOnly (K.failures sink.old) (K.failures sink.new) result }
 {
     match page {
         Page::Root => root_text(alloc, desk, sink, served),
@@ -239,6 +226,7 @@ fn send_text<K: Sink, B: Books>(
 fn behind(head: u64, end: Result<(), IoEnd>) -> Result<(), IoEnd>
     ensures end { result ≡ sent_behind head end }
     ensures kind { is_write_fault result ≡ is_write_fault end }
+    ensures cut { is_cut result ≡ is_cut end }
 {
     match end {
         Ok(()) => Ok(()),

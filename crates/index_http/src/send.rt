@@ -5,7 +5,7 @@ ghost use Rattle.http.specs.StatusCode.{code_digits};
 ghost use Rattle.index_io.specs.Bytes.{joined};
 ghost use Rattle.index_io.specs.Counts.{HasFailed};
 ghost use Rattle.index_http.specs.Replies.{fields_text, head_text, phrase_of, reply_head, reply_of, reply_text};
-ghost use Rattle.index_http.specs.Sends.{SendsText, is_cut, is_write_fault};
+ghost use Rattle.index_http.specs.Sends.{SendsOnly, SendsText, is_cut};
 
 use crate::end::IoEnd;
 use crate::reply::{Fields, Reply};
@@ -40,9 +40,7 @@ pub fn send_reply<K: Sink>(sink: &mut K, is_head: bool, reply: Reply<'_>) -> Res
     ensures sent { SendsText (reply_text is_head (reply_of reply.entry))
         (K.contents sink.old) (K.contents sink.new) result }
     ensures kind { is_cut result ≡ false }
-    ensures write_fault { is_write_fault result ≡ true →
-        HasFailed (K.failures sink.old) (K.failures sink.new) }
-    ensures writes { is_write_fault result ≡ false → K.failures sink.new ≡ K.failures sink.old }
+    ensures sends { SendsOnly (K.failures sink.old) (K.failures sink.new) result }
 {
     let size = reply.body.len() as u64;
     let behind = if is_head { b"".as_slice() } else { reply.body };

@@ -6,8 +6,8 @@ ghost use Rattle.index_names.specs.Project.{read_name};
 ghost use Rattle.index_desk.specs.Rules.{by_tables};
 ghost use Rattle.index_message.specs.Resources.{is_head};
 ghost use Rattle.index_http.specs.Exchanges.{IsAccepted, Shows, ShowsAt, ShowsFile, ShowsName, ShowsSpelling};
-ghost use Rattle.index_http.specs.Sends.{is_write_fault};
-ghost use Rattle.index_http.specs.Shows.{EndsShown, LeavesTables};
+ghost use Rattle.index_http.specs.Sends.{SendsOnly, is_cut};
+ghost use Rattle.index_http.specs.Shows.{EndsShown, LeavesTables, shows_page};
 
 use crate::end::IoEnd;
 use crate::pages::{show_project, show_root};
@@ -38,10 +38,8 @@ pub fn show<K: Sink, B: Keeper>(
         EndsShown (is_head request.now.method) (Shows by_tables T fields request.now.resource) cause
         (B.tables desk.new ≡ T) (K.contents sink.old) (K.contents sink.new) result }
     ensures leaves { LeavesTables B.IsHonest B.IsClean B.tables desk.old desk.new }
-    ensures write_fault { is_write_fault result ≡ true →
-        HasFailed (K.failures sink.old) (K.failures sink.new) }
-    ensures writes { is_write_fault result ≡ false → K.failures sink.new ≡ K.failures sink.old }
-    ensures no_read_fault { result ≢ Err IoEnd.ReadFault }
+    ensures sends { SendsOnly (K.failures sink.old) (K.failures sink.new) result }
+    ensures cut { is_cut result ≡ true → shows_page request.now ≡ true }
 {
     let to_head = request.method().is_head();
     match request.resource() {
@@ -112,10 +110,8 @@ fn show_at<K: Sink, B: Keeper>(
         EndsShown to_head (ShowsAt by_tables T fields given.now (read_name given.now)) cause
         (B.tables desk.new ≡ T) (K.contents sink.old) (K.contents sink.new) result }
     ensures leaves { LeavesTables B.IsHonest B.IsClean B.tables desk.old desk.new }
-    ensures write_fault { is_write_fault result ≡ true →
-        HasFailed (K.failures sink.old) (K.failures sink.new) }
-    ensures writes { is_write_fault result ≡ false → K.failures sink.new ≡ K.failures sink.old }
-    ensures no_read_fault { result ≢ Err IoEnd.ReadFault }
+    ensures sends { SendsOnly (K.failures sink.old) (K.failures sink.new) result }
+    ensures cut { is_cut result ≡ true → to_head ≡ false }
 {
     let Some(name) = name_of(alloc, given)? else {
         return send_reply(sink, to_head, refusal_reply(Refusal::NoProject));
@@ -141,10 +137,8 @@ fn show_spelling<K: Sink, B: Keeper>(
         EndsShown to_head (ShowsSpelling by_tables T fields name.now same) cause
         (B.tables desk.new ≡ T) (K.contents sink.old) (K.contents sink.new) result }
     ensures leaves { LeavesTables B.IsHonest B.IsClean B.tables desk.old desk.new }
-    ensures write_fault { is_write_fault result ≡ true →
-        HasFailed (K.failures sink.old) (K.failures sink.new) }
-    ensures writes { is_write_fault result ≡ false → K.failures sink.new ≡ K.failures sink.old }
-    ensures no_read_fault { result ≢ Err IoEnd.ReadFault }
+    ensures sends { SendsOnly (K.failures sink.old) (K.failures sink.new) result }
+    ensures cut { is_cut result ≡ true → to_head ≡ false }
 {
     if name.text().as_bytes() == given.as_slice() {
         let chosen = chosen(alloc, request)?;
@@ -168,10 +162,8 @@ fn show_file<K: Sink, B: Keeper>(
         EndsShown to_head (ShowsFile by_tables T given.now (is_some (read_file_name given.now)))
         cause (B.tables desk.new ≡ T) (K.contents sink.old) (K.contents sink.new) result }
     ensures leaves { LeavesTables B.IsHonest B.IsClean B.tables desk.old desk.new }
-    ensures write_fault { is_write_fault result ≡ true →
-        HasFailed (K.failures sink.old) (K.failures sink.new) }
-    ensures writes { is_write_fault result ≡ false → K.failures sink.new ≡ K.failures sink.old }
-    ensures no_read_fault { result ≢ Err IoEnd.ReadFault }
+    ensures sends { SendsOnly (K.failures sink.old) (K.failures sink.new) result }
+    ensures whole { is_cut result ≡ false }
 {
     let Some(file) = file_of(alloc, given)? else {
         return send_reply(sink, to_head, refusal_reply(Refusal::NoFile));
@@ -205,10 +197,8 @@ fn show_name<K: Sink, B: Books>(
         EndsShown to_head (ShowsName by_tables T (read_name given.now)) cause
         (B.tables desk.new ≡ T) (K.contents sink.old) (K.contents sink.new) result }
     ensures leaves { LeavesTables B.IsHonest B.IsClean B.tables desk.old desk.new }
-    ensures write_fault { is_write_fault result ≡ true →
-        HasFailed (K.failures sink.old) (K.failures sink.new) }
-    ensures writes { is_write_fault result ≡ false → K.failures sink.new ≡ K.failures sink.old }
-    ensures no_read_fault { result ≢ Err IoEnd.ReadFault }
+    ensures sends { SendsOnly (K.failures sink.old) (K.failures sink.new) result }
+    ensures whole { is_cut result ≡ false }
 {
     let Some(name) = name_of(alloc, given)? else {
         return send_reply(sink, to_head, refusal_reply(Refusal::BadName));
@@ -230,10 +220,8 @@ fn show_standing<K: Sink, B: Books>(
         EndsShown to_head (ShowsName by_tables T (Some name.now)) cause
         (B.tables desk.new ≡ T) (K.contents sink.old) (K.contents sink.new) result }
     ensures leaves { LeavesTables B.IsHonest B.IsClean B.tables desk.old desk.new }
-    ensures write_fault { is_write_fault result ≡ true →
-        HasFailed (K.failures sink.old) (K.failures sink.new) }
-    ensures writes { is_write_fault result ≡ false → K.failures sink.new ≡ K.failures sink.old }
-    ensures no_read_fault { result ≢ Err IoEnd.ReadFault }
+    ensures sends { SendsOnly (K.failures sink.old) (K.failures sink.new) result }
+    ensures whole { is_cut result ≡ false }
 {
     match desk.standing(alloc, name) {
         Ok(standing) => {

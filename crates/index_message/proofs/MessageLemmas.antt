@@ -12,7 +12,7 @@ use Rattle.httparse.specs.declared.spans.RequestSpans.{RequestSpans}
 use Rattle.httparse.proofs.GrammarLemmas.{ReadsRequest-append, request_unique}
 use Rattle.index_io.specs.Bytes.{IsInput}
 use Rattle.index_message.specs.Heads.{HasHead, IsHeadAt}
-use Rattle.index_message.specs.Messages.{FollowsHead, IsMessage, asked_by, asked_of, is_head, message_by, message_of, whole_of}
+use Rattle.index_message.specs.Messages.{AwaitsBody, EndsUnfinished, FollowsHead, IsMessage, asked_by, asked_of, is_head, message_by, message_of, whole_of}
 use Rattle.index_message.specs.Fields.{fields_of}
 use Rattle.index_message.specs.declared.fault.MessageFault.TheVariants.{ShortBody}
 use Rattle.index_message.specs.declared.message.Message.TheVariants.{Faulty}
@@ -38,6 +38,16 @@ behind : (held more rest : List ℕ) (fields : List HeaderSpan) (spans : Request
     → HasHead ((held ++ more) ++ rest) found.head ((drop spans.len held ++ more) ++ rest)
 behind held more rest fields spans found short =
     rw (append_assoc held more rest, append_assoc (drop spans.len held) more rest) (head_is held (more ++ rest) fields spans found short)
+
+-- a head that awaits its body, as it was read, is no message yet
+pub unfinished : (old mid new : Option (List ℕ)) (held more : List ℕ) (fields : List HeaderSpan) (spans : RequestSpans) (found : IsHeadAt held fields spans)
+    → length held ≤ 16384 → Consumes old mid held → Consumes mid new more → AwaitsBody found.head (drop spans.len held ++ more)
+    → EndsUnfinished old new
+unfinished old mid new held more fields spans found short first second awaits = (
+  held ++ more,
+  Consumes-trans old mid new held more first second,
+  inr (found.head, drop spans.len held ++ more, head_is held more fields spans found short, awaits),
+)
 
 -- what the spans of a head ask for is what the head does
 pub asked_is : (held : List ℕ) (fields : List HeaderSpan) (spans : RequestSpans) (found : IsHeadAt held fields spans)

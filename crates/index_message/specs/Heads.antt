@@ -1,6 +1,6 @@
 -- The head of a request, at the front of what a connection gives (RFC 9112, section 2.1).
-use Rattle.std.specs.Prelude.{ℕ, ◌≤◌, List, ◌++◌, length}
-use Rattle.httparse.specs.Grammar.{RequestHead, ReadsRequest, print_request, HasNoRequest}
+use Rattle.std.specs.Prelude.{ℕ, ◌≤◌, ◌<◌, List, ◌++◌, length}
+use Rattle.httparse.specs.Grammar.{RequestHead, ReadsRequest, print_request, HasNoRequest, MayBecomeRequest}
 use Rattle.httparse.specs.Spans.{IsRequestAt, IsRequestWithin}
 use Rattle.httparse.specs.declared.spans.HeaderSpan.{HeaderSpan}
 use Rattle.httparse.specs.declared.spans.RequestSpans.{RequestSpans}
@@ -25,6 +25,12 @@ pub record HasHead (input : List ℕ) (head : RequestHead) (rest : List ℕ) : T
 abbrev pub HasNoHead : List ℕ → Type 0
 HasNoHead input = (head : RequestHead) (rest : List ℕ) → ¬ (HasHead input head rest)
 
+-- these bytes are no head yet, and may become one; of a target the text is looked at when it has ended
+pub record AwaitsHead (taken : List ℕ) : Type 0 where
+  pub none : HasNoRequest taken
+  pub may : MayBecomeRequest taken
+  pub short : length taken < longest_head
+
 -- ---- as it is found
 
 -- the spans are those of a head within the limit of its fields, at the front of the bytes
@@ -38,4 +44,4 @@ pub record IsHeadAt (bytes : List ℕ) (fields : List HeaderSpan) (spans : Reque
 abbrev pub Tries : Tried → List ℕ → List HeaderSpan → Type 0
 Tries (Whole spans) bytes fields = IsHeadAt bytes fields spans
 Tries Never bytes fields = (more : List ℕ) → HasNoHead (bytes ++ more)
-Tries Unfinished bytes fields = HasNoRequest bytes
+Tries Unfinished bytes fields = HasNoRequest bytes × MayBecomeRequest bytes

@@ -3,10 +3,9 @@ use Rattle.std.specs.Prelude.{◌≡◌, ◌⊎◌, ℕ, ◌<◌, ◌≤◌, Boo
 use Rattle.std.specs.Io.KnownBytes.{Consumes, IsAtEnd}
 use Rattle.httparse.specs.Grammar.{RequestHead}
 use Rattle.index_rules.specs.Maps.{Bytes}
-use Rattle.index_message.specs.Heads.{HasHead, HasNoHead}
+use Rattle.index_message.specs.Heads.{AwaitsHead, HasHead, HasNoHead}
 use Rattle.index_message.specs.Fields.{Field, fields_of}
 use Rattle.index_message.specs.Lengths.{body_length}
-use Rattle.index_message.specs.Requests.{Request}
 use Rattle.index_message.specs.Resources.{allowed_of, allows, method_of, resource_of}
 use Rattle.index_message.specs.declared.fault.MessageFault.{MessageFault}
 use Rattle.index_message.specs.declared.fault.MessageFault.TheVariants.{BadHead, BadMethod, NoRoute, ShortBody}
@@ -75,6 +74,18 @@ abbrev pub IsMessage : Bytes → Message → Type 0
 IsMessage input message =
     (HasNoHead input × (message ≡ Faulty BadHead false))
     ⊎ ((head : RequestHead) × (rest : Bytes) × HasHead input head rest × (message ≡ message_of head rest))
+
+-- a head asks for a body of which these bytes are a part
+abbrev pub AwaitsBody : RequestHead → Bytes → Type 0
+AwaitsBody head front = (asked : Asked) × (asked_of head ≡ Ok asked) × (length front < asked.length)
+
+-- these bytes are no message yet: their head may come, or it has come and awaits its body
+abbrev pub IsUnfinished : Bytes → Type 0
+IsUnfinished taken = AwaitsHead taken ⊎ ((head : RequestHead) × (front : Bytes) × HasHead taken head front × AwaitsBody head front)
+
+-- what was taken is no message yet
+abbrev pub EndsUnfinished : Option Bytes → Option Bytes → Type 0
+EndsUnfinished old new = (taken : Bytes) × Consumes old new taken × IsUnfinished taken
 
 -- ---- as it is read
 

@@ -1,8 +1,8 @@
 //! The head of a request, read in whatever pieces it comes.
 ghost use Rattle.std.specs.Prelude.{◌≡◌, ◌≢◌, ◌≤◌, ◌<◌, ◌+◌, [], ◌++◌, List, ℕ, true, false, length, vec_len, None, Ok, Err, IfOk, IfSome, OnOk, unwrap_or};
-ghost use Rattle.std.specs.Io.KnownBytes.{Consumes, IsAtEnd};
+ghost use Rattle.std.specs.Io.KnownBytes.{Consumes, IsAtEnd, Keeps};
 ghost use Rattle.index_io.specs.Counts.{HasFailed};
-ghost use Rattle.index_message.specs.Heads.{HasNoHead, IsHeadAt, Tries, longest_head, most_fields};
+ghost use Rattle.index_message.specs.Heads.{AwaitsHead, HasNoHead, IsHeadAt, Tries, longest_head, most_fields};
 
 use httparse::Status;
 use httparse::spans::{HeaderSpan, RequestSpans, parse_request};
@@ -50,6 +50,8 @@ pub fn read_head<S: Source>(
     ensures head { IfOk result (λ found. IfSome found (IsHeadAt held.new.items fields.new)) }
     ensures none { result ≡ Ok None
         → HasNoHead (held.new.items ++ unwrap_or (S.remaining source.new) []) }
+    ensures prompt { result ≡ Err ReadEnd.ReadFault → AwaitsHead held.new.items
+        × Consumes (S.remaining source.old) (S.remaining source.new) held.new.items }
     ensures read_fault { result ≡ Err ReadEnd.ReadFault
         → HasFailed (S.failures source.old) (S.failures source.new) }
     ensures reads { result ≢ Err ReadEnd.ReadFault → S.failures source.new ≡ S.failures source.old }
@@ -92,6 +94,9 @@ pub fn read_up_to<S: Source>(
     ensures full { result ≡ Ok true → wanted ≤ vec_len held.new }
     ensures ended { result ≡ Ok false
         → (vec_len held.new < wanted) × IsAtEnd (S.remaining source.new) }
+    ensures prompt { result ≡ Err ReadEnd.ReadFault
+        → (more : List ℕ) × (vec_len held.old + length more < wanted)
+        × Consumes (S.remaining source.old) (S.remaining source.new) more }
     ensures read_fault { result ≡ Err ReadEnd.ReadFault
         → HasFailed (S.failures source.old) (S.failures source.new) }
     ensures reads { result ≢ Err ReadEnd.ReadFault → S.failures source.new ≡ S.failures source.old }
@@ -114,6 +119,8 @@ fn read_more<S: Source>(source: &mut S, held: &mut Vec<u8>, most: usize) -> Resu
     ensures consumed { OnOk result ((more : List ℕ) × (held.new.items ≡ held.old.items ++ more)
         × Consumes (S.remaining source.old) (S.remaining source.new) more) }
     ensures end { result ≡ Ok 0 → IsAtEnd (S.remaining source.new) }
+    ensures kept { result ≡ Err ReadEnd.ReadFault → (held.new.items ≡ held.old.items)
+        × Keeps (S.remaining source.old) (S.remaining source.new) }
     ensures read_fault { result ≡ Err ReadEnd.ReadFault
         → HasFailed (S.failures source.old) (S.failures source.new) }
     ensures reads { result ≢ Err ReadEnd.ReadFault → S.failures source.new ≡ S.failures source.old }

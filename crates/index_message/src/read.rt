@@ -1,12 +1,12 @@
 //! One message, read from any source.
-ghost use Rattle.std.specs.Prelude.{◌≡◌, ◌≢◌, ◌≤◌, ◌+◌, List, ℕ, length, map, drop, Err, IfErr, IfOk, All};
+ghost use Rattle.std.specs.Prelude.{◌≡◌, ◌≢◌, ◌≤◌, ◌<◌, ◌+◌, ◌++◌, List, ℕ, length, map, drop, Err, IfErr, IfOk, All};
 ghost use Rattle.std.specs.Io.KnownBytes.{Consumes};
 ghost use Rattle.httparse.specs.Spans.{IsHeaderWithin, IsRequestWithin, IsWithin, header_bytes, span_bytes};
 ghost use Rattle.index_io.specs.Bytes.{IsInput};
 ghost use Rattle.index_io.specs.Counts.{HasFailed};
 ghost use Rattle.index_message.specs.Heads.{IsHeadAt, longest_head};
 ghost use Rattle.index_message.specs.Lengths.{longest_upload};
-ghost use Rattle.index_message.specs.Messages.{FollowsHead, IsMessage, TakesBody, asked_by, is_head, whole_of};
+ghost use Rattle.index_message.specs.Messages.{AwaitsBody, EndsUnfinished, FollowsHead, IsMessage, TakesBody, asked_by, is_head, whole_of};
 ghost use Rattle.index_message.specs.declared.message.Message.TheVariants.{Faulty};
 
 use crate::fault::MessageFault;
@@ -30,6 +30,8 @@ pub fn read_message<S: Source>(
 ) -> Result<Message, ReadEnd>
     ensures message { IfOk result (λ message. (input : List ℕ)
         × IsInput (S.remaining source.old) input × IsMessage input message) }
+    ensures prompt { result ≡ Err ReadEnd.ReadFault
+        → EndsUnfinished (S.remaining source.old) (S.remaining source.new) }
     ensures read_fault { result ≡ Err ReadEnd.ReadFault
         → HasFailed (S.failures source.old) (S.failures source.new) }
     ensures reads { result ≢ Err ReadEnd.ReadFault → S.failures source.new ≡ S.failures source.old }
@@ -60,6 +62,10 @@ fn read_rest<S: Source>(
     ensures message { IfOk result (λ message. (found : IsHeadAt bytes.items fields.now spans)
         → FollowsHead found.head (drop spans.len bytes.items)
         (S.remaining source.old) (S.remaining source.new) message) }
+    ensures prompt { result ≡ Err ReadEnd.ReadFault
+        → (found : IsHeadAt bytes.items fields.now spans)
+        → (more : List ℕ) × AwaitsBody found.head (drop spans.len bytes.items ++ more)
+        × Consumes (S.remaining source.old) (S.remaining source.new) more }
     ensures read_fault { result ≡ Err ReadEnd.ReadFault
         → HasFailed (S.failures source.old) (S.failures source.new) }
     ensures reads { result ≢ Err ReadEnd.ReadFault → S.failures source.new ≡ S.failures source.old }
@@ -137,6 +143,9 @@ fn read_body<S: Source>(
     ensures body { IfOk result (λ body. (more : List ℕ)
         × Consumes (S.remaining source.old) (S.remaining source.new) more
         × TakesBody size front.now more (S.remaining source.new) body) }
+    ensures prompt { result ≡ Err ReadEnd.ReadFault
+        → (more : List ℕ) × (length front.now + length more < size)
+        × Consumes (S.remaining source.old) (S.remaining source.new) more }
     ensures read_fault { result ≡ Err ReadEnd.ReadFault
         → HasFailed (S.failures source.old) (S.failures source.new) }
     ensures reads { result ≢ Err ReadEnd.ReadFault → S.failures source.new ≡ S.failures source.old }

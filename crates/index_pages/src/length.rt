@@ -77,6 +77,7 @@ impl<'p, P: Page> PageLength<'p, P> {
             MeasuresPage (length_state rest self.entry.length self.entry.end) result }
         ensures stopped { let rest = P.rest self.entry.page self.entry.name.now in
             StopsLength (length_state rest self.entry.length self.entry.end) result }
+        ensures ended { (end : _) → self.entry.end ≡ Some end → result ≡ Err end }
     {
         self.close()
     }

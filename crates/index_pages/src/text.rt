@@ -150,6 +150,8 @@ impl<'a, 'p, K: Sink, P: Page> PageText<'a, 'p, K, P, Vec<u8>> {
             let after = sink_state (K.contents self.exit.0.now) (K.failures self.exit.0.now) in
             let rest = P.rest self.entry.page self.entry.name.now in
             StopsPage (text_state rest sink self.entry.written self.entry.end) after result }
+        ensures ended { (end : _) → self.entry.end ≡ Some end
+            → (result ≡ Err end) × (self.exit.0.now ≡ self.entry.sink.now) }
     {
         self.close()
     }

@@ -1,11 +1,18 @@
--- A look that succeeds leaves an honest index honest.
-use Rattle.std.proofs.Common.{OnOk, Result, Ok, Err, is_ok, refl}
+-- What a look at the connection leaves of the books.
+use Rattle.std.proofs.Common.{◌≡◌, ◌⊎◌, inl, inr, Bool, OnOk, Result, Ok, Err, ap, is_ok, refl, subst, sym}
 use Rattle.sqlite_trees.specs.declared.store.Store.{Ghosts}
+use Rattle.sqlite.specs.Effect.{Database}
 use Rattle.sqlite.specs.Held.{Held, state}
 use Rattle.sqlite.specs.State.{HasCleanDisk}
+use Rattle.index_io.specs.Counts.{next_count}
 use Rattle.index_looks.specs.Looks.{IsKept, Looks}
 use Rattle.index_looks.proofs.LookLemmas.{looks_kept}
-use Rattle.index_tables.specs.Kept.{IsHonest}
+use Rattle.index_rules.specs.declared.answer.Fault.{Fault}
+use Rattle.index_rules.specs.Tables.{Tables}
+use Rattle.index_schema.specs.RecordRows.{AreRecords}
+use Rattle.index_schema.specs.Records.{tables_in}
+use Rattle.index_tables.specs.Kept.{IsHonest, Kept, Leaves}
+use Rattle.index_tables.specs.LooksUp.{LooksUp}
 
 pub looks_last : {A E S : Type 0} (g : Ghosts S) (old new : Held S) (r : Result A E) → IsKept g old → Looks g old new (is_ok r) → OnOk r (IsHonest (state g old) → HasCleanDisk (state g new) → IsHonest (state g new))
 looks_last g old new (Ok a) kept looks = λ honest clean.
@@ -13,3 +20,28 @@ looks_last g old new (Ok a) kept looks = λ honest clean.
     let o = looks.lasts refl clean honest.is_open in
     record { clean = clean; is_open = o; index = after.index clean o; committed = after.committed clean o; version = after.version clean o }
 looks_last g old new (Err e) kept looks = tt
+
+looks_back : {S : Type 0} (g : Ghosts S) (old new : Held S) (did : Bool) → IsKept g old → Looks g old new did → IsHonest (state g new) → IsHonest (state g old)
+looks_back g old new did kept looks honest =
+    let clean = looks.was_clean honest.clean in
+    let o = looks.was_open honest.clean honest.is_open in
+    record { clean = clean; is_open = o; index = kept.index clean o; committed = kept.committed clean o; version = kept.version clean o }
+
+looks_leave : {S : Type 0} (g : Ghosts S) (old new : Held S) (did : Bool) → Looks g old new did → (T : Tables) → Leaves (state g new) T → Leaves (state g old) T
+looks_leave g old new did looks T (clean, (db, may, is)) = (looks.was_clean clean, (db, before (looks.survives.crash clean db may), is))
+  where
+    before : (state g old).may_leave db ⊎ ⊥ → (state g old).may_leave db
+    before (inl may) = may
+    before (inr no) = absurd no
+
+-- so a look at the connection, counted, is a look at the books
+pub looks_up : {A S : Type 0} (g : Ghosts S) (old new : Kept S) (r : Result A Fault) → IsKept g old.conn → Looks g old.conn new.conn (is_ok r) → new.failures ≡ next_count old.failures (is_ok r) → LooksUp g old new r
+looks_up g old new r kept looks counted = record {
+  unchanged = λ honest. ap (λ (d : Database). tables_in d.trees) (looks.now_is honest.clean honest.is_open);
+  honest = looks_back g old.conn new.conn _ kept looks;
+  clean = looks.was_clean;
+  lasts = looks_last g old.conn new.conn r kept looks;
+  crash = looks_leave g old.conn new.conn _ looks;
+  records = λ honest records. subst AreRecords (sym (looks.now_is honest.clean honest.is_open)) records;
+  failures = counted;
+}

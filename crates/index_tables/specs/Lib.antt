@@ -1,5 +1,6 @@
 pub mod Kept
 pub mod Laws
+pub mod LooksUp
 pub mod Opened
 pub mod Adopted
 pub mod Reopened

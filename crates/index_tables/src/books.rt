@@ -1,11 +1,17 @@
 //! The tables as `Books`: each call is done by the connection, and then counted.
-ghost use Rattle.std.specs.Prelude.{◌≡◌, Err, IfErr, IfOk, OnOk, is_ok};
+ghost use Rattle.std.specs.Prelude.{◌≡◌, ◌⊎◌, Err, IfErr, IfOk, OnErr, OnOk, is_ok};
+ghost use Rattle.std.specs.FinMap.{get};
 ghost use Rattle.index_io.specs.Counts.{next_count};
-ghost use Rattle.index_rules.specs.Facts.{Sees};
-ghost use Rattle.index_rules.specs.Tables.{Tables};
-ghost use Rattle.index_looks.specs.Reasons.{FailsForReason};
 ghost use Rattle.index_looks.specs.Faults.{fault_by};
+ghost use Rattle.index_looks.specs.Reasons.{FailsForReason};
+ghost use Rattle.index_reads.specs.Sealed.{IsBoundTo, digest_in};
+ghost use Rattle.index_rules.specs.Effect.{means};
+ghost use Rattle.index_rules.specs.Facts.{Sees};
+ghost use Rattle.index_rules.specs.TableRows.{file_rows_in, name_rows_in};
+ghost use Rattle.index_rules.specs.Tables.{Tables, owners_in};
 ghost use Rattle.index_rules.specs.Walks.{has_fault};
+ghost use Rattle.index_schema.specs.RecordRows.{AreRecords};
+ghost use Rattle.index_tables.specs.LooksUp.{LooksUp};
 
 use crate::tables::{SqlBooks, counted};
 use index_changes::make_change;
@@ -38,17 +44,7 @@ impl<S: Alter> Books for SqlBooks<S> {
     fn view(&mut self, alloc: Global, keys: &Keys) -> Result<View, Fault>
         ensures found { IsHonest (state S.Store self.new.conn)
             → IfOk result (Sees (tables_of S.Store self.old.conn) keys.now) }
-        ensures unchanged { IsHonest (state S.Store self.new.conn)
-            → tables_of S.Store self.new.conn ≡ tables_of S.Store self.old.conn }
-        ensures honest { IsHonest (state S.Store self.new.conn)
-            → IsHonest (state S.Store self.old.conn) }
-        ensures clean { HasCleanDisk (state S.Store self.new.conn)
-            → HasCleanDisk (state S.Store self.old.conn) }
-        ensures lasts { OnOk result (IsHonest (state S.Store self.old.conn)
-            → HasCleanDisk (state S.Store self.new.conn) → IsHonest (state S.Store self.new.conn)) }
-        ensures crash { (T : Tables) → Leaves (state S.Store self.new.conn) T
-            → Leaves (state S.Store self.old.conn) T }
-        ensures failures { self.new.failures ≡ next_count self.old.failures (is_ok result) }
+        ensures looks { LooksUp S.Store self.old self.new result }
         ensures reason { FailsForReason S.Store self.old.conn self.new.conn result }
     {
         let seen = index_reads::view(alloc, &mut self.conn, keys);
@@ -56,32 +52,80 @@ impl<S: Alter> Books for SqlBooks<S> {
         seen
     }
 
-    fn write(&mut self, _alloc: Global, change: Change) -> Result<(), Fault> {
+    fn write(&mut self, _alloc: Global, change: Change) -> Result<(), Fault>
+        ensures written { IsHonest (state S.Store self.new.conn) → OnOk result
+            (tables_of S.Store self.new.conn ≡ means change (tables_of S.Store self.old.conn)) }
+        ensures unchanged { IsHonest (state S.Store self.new.conn) → OnErr result
+            (tables_of S.Store self.new.conn ≡ tables_of S.Store self.old.conn) }
+        ensures honest { IsHonest (state S.Store self.new.conn)
+            → IsHonest (state S.Store self.old.conn) }
+        ensures clean { HasCleanDisk (state S.Store self.new.conn)
+            → HasCleanDisk (state S.Store self.old.conn) }
+        ensures lasts { OnOk result (HasCleanDisk (state S.Store self.new.conn)
+            → IsHonest (state S.Store self.new.conn)) }
+        ensures crash { (T : Tables) → Leaves (state S.Store self.new.conn) T
+            → Leaves (state S.Store self.old.conn) T ⊎ (IsHonest (state S.Store self.old.conn)
+            × (T ≡ means change (tables_of S.Store self.old.conn))) }
+        ensures alone { IsHonest (state S.Store self.old.conn) → OnOk result ((T : Tables)
+            → Leaves (state S.Store self.new.conn) T
+            → T ≡ means change (tables_of S.Store self.old.conn)) }
+        ensures failures { self.new.failures ≡ next_count self.old.failures (is_ok result) }
+        // What is written can be read: its rows are records, where they were.
+        ensures records { IsHonest (state S.Store self.new.conn)
+            → AreRecords (state S.Store self.old.conn).now
+            → AreRecords (state S.Store self.new.conn).now }
+    {
         let made = make_change(&mut self.conn, &change);
         drop(change);
         self.failures = counted(self.failures, made.is_ok());
         told(made)
     }
 
-    fn owners_of(&mut self, alloc: Global, name: &NormalName) -> Result<Owners, Fault> {
+    fn owners_of(&mut self, alloc: Global, name: &NormalName) -> Result<Owners, Fault>
+        ensures found { IsHonest (state S.Store self.new.conn)
+            → IfOk result (λ owners. owners ≡ owners_in (tables_of S.Store self.old.conn) name.now) }
+        ensures looks { LooksUp S.Store self.old self.new result }
+        ensures reason { FailsForReason S.Store self.old.conn self.new.conn result }
+    {
         let owners = index_reads::owners_of(alloc, &mut self.conn, name);
         self.failures = counted(self.failures, owners.is_ok());
         owners
     }
 
-    fn bytes_of(&mut self, alloc: Global, file: &FileName) -> Result<Option<Sealed>, Fault> {
+    fn bytes_of(&mut self, alloc: Global, file: &FileName) -> Result<Option<Sealed>, Fault>
+        ensures found { IsHonest (state S.Store self.new.conn)
+            → IfOk result (λ body. body ≡ get (tables_of S.Store self.old.conn).bodies file.now) }
+        ensures looks { LooksUp S.Store self.old self.new result }
+        // They have the digest that the file is bound to, whatever else wrote the database.
+        ensures bound { IsHonest (state S.Store self.new.conn)
+            → IfOk result (IsBoundTo (digest_in (tables_of S.Store self.old.conn) file.now)) }
+        ensures reason { let T = tables_of S.Store self.old.conn in
+            IsBoundTo (digest_in T file.now) (get T.bodies file.now)
+            → FailsForReason S.Store self.old.conn self.new.conn result }
+    {
         let body = index_reads::find_body(alloc, &mut self.conn, file);
         self.failures = counted(self.failures, body.is_ok());
         body
     }
 
-    fn names(&mut self, alloc: Global) -> Result<Vec<NameRow>, Fault> {
+    fn names(&mut self, alloc: Global) -> Result<Vec<NameRow>, Fault>
+        ensures found { IsHonest (state S.Store self.new.conn)
+            → IfOk result (λ rows. rows.items ≡ name_rows_in (tables_of S.Store self.old.conn)) }
+        ensures looks { LooksUp S.Store self.old self.new result }
+        ensures reason { FailsForReason S.Store self.old.conn self.new.conn result }
+    {
         let rows = index_reads::names(alloc, &mut self.conn);
         self.failures = counted(self.failures, rows.is_ok());
         rows
     }
 
-    fn files_of(&mut self, alloc: Global, name: &NormalName) -> Result<Vec<FileRow>, Fault> {
+    fn files_of(&mut self, alloc: Global, name: &NormalName) -> Result<Vec<FileRow>, Fault>
+        ensures found { IsHonest (state S.Store self.new.conn)
+            → IfOk result (λ rows.
+            rows.items ≡ file_rows_in (tables_of S.Store self.old.conn) name.now) }
+        ensures looks { LooksUp S.Store self.old self.new result }
+        ensures reason { FailsForReason S.Store self.old.conn self.new.conn result }
+    {
         let rows = index_reads::files_of(alloc, &mut self.conn, name);
         self.failures = counted(self.failures, rows.is_ok());
         rows

@@ -1,7 +1,7 @@
 //! What the words of a command line ask for.
-ghost use Rattle.std.specs.Prelude.{◌≡◌, ◌≤◌, ◌<◌, ◌^◌, ℕ, Option, Some, true};
-ghost use Rattle.std.specs.Prelude.{codes, map, option_map, string_bytes, IfErr, IfOk, IfSome, IsSome};
-ghost use Rattle.clap.specs.Words.{first_of, found_of, kind_of, rows_of, subcommand_of};
+ghost use Rattle.std.specs.Prelude.{◌≡◌, ◌≤◌, ◌<◌, ◌^◌, ℕ, [], Option, Some, true};
+ghost use Rattle.std.specs.Prelude.{codes, map, option_map, string_bytes, IfErr, IfOk, IfSome, IsOk, IsSome};
+ghost use Rattle.clap.specs.Words.{fault_of, first_of, found_of, kind_of, rows_of, subcommand_of};
 ghost use Rattle.clap.specs.Words.{subcommand_rows_of, takes};
 ghost use Rattle.index_words.specs.Program.{index_app};
 ghost use Rattle.index_words.specs.Jobs.{HasNumberOrNone, IsJob, IsNumber};
@@ -95,6 +95,9 @@ pub fn read_words<'a>(alloc: Global, words: &'a [String]) -> Result<Job<'a>, Wor
     ensures read { let said = map string_bytes words.now in
         takes index_app said ≡ true → (job : Job) → IsJob (subcommand_of index_app said) job
         → IfErr result (λ end. end ≡ WordsEnd.OutOfMemory) }
+
+    // A job is read only where clap finds no fault in the words.
+    ensures taken { IsOk result → fault_of index_app (map string_bytes words.now) ≡ [] }
 {
     let mut command = command::index(alloc)?;
     let matches = command.try_get_matches_from_mut(words)?;

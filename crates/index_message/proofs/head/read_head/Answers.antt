@@ -1,11 +1,12 @@
-use Rattle.std.proofs.Common.{arith, ap, length, ◌∙◌, ◌≡◌, ℕ, ◌≤◌, vec_len, ◌++◌, refl, length-append}
+use Rattle.std.proofs.Common.{arith, ap, length, ◌∙◌, ◌≡◌, vec_len, ◌++◌, refl, length-append}
 use Rattle.std.proofs.KnownBytes.{Consumes-nil, Consumes-trans}
-use Rattle.index_message.proofs.HeadLemmas.{none_in_nothing, none_by_limit}
+use Rattle.index_message.proofs.HeadLemmas.{may_nothing, none_in_nothing, none_by_limit}
 use Rattle.index_message.proofs.head.read_head.Goals as goal
 
 pub loop-source-init : goal.loop-source-init
 loop-source-init g c = record {
   none = rw c.requires.empty none_in_nothing;
+  may = rw c.requires.empty may_nothing;
   consumed = rw c.requires.empty (Consumes-nil _);
   short = let e : vec_len c.args.held.now ≡ 0 = c.args.held.now.ok.0 ∙ ap length c.requires.empty in omega arith;
   steady = refl;

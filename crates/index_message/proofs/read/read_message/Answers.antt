@@ -3,7 +3,7 @@ use Rattle.std.specs.Prelude.{unwrap_or}
 use Rattle.std.proofs.KnownBytes.{Consumes-trans}
 use Rattle.std.proofs.lemmas.Result.{IfOk-weaker}
 use Rattle.index_message.specs.Heads.{IsHeadAt}
-use Rattle.index_message.proofs.MessageLemmas.{input_is, message_read}
+use Rattle.index_message.proofs.MessageLemmas.{input_is, message_read, unfinished}
 use Rattle.index_message.proofs.read.read_message.Goals as goal
 
 pub returns-in_default-clause-message : goal.returns-in_default-clause-message
@@ -27,3 +27,10 @@ returns-clause-limit g c =
       rw length-append (omega (arith, rest.1, c.in_ok-spans.ensures.short, c.read_head.new.held.ok.0)),
       Consumes-trans _ _ _ _ _ c.in_ok-spans.ensures.consumed rest.2,
     )
+
+pub returns-clause-prompt : goal.returns-clause-prompt
+returns-clause-prompt g c is =
+    let found : IsHeadAt c.read_head.new.held.items c.read_head.new.fields c.in-Some.spans = rw c.in-Some.is at c.in_ok-spans.ensures.head in
+    let short : length c.read_head.new.held.items ≤ 16384 = omega (arith, c.in_ok-spans.ensures.short, c.read_head.new.held.ok.0) in
+    let rest = c.read_rest.ensures.prompt is found in
+    unfinished _ _ _ _ _ _ _ found short c.in_ok-spans.ensures.consumed rest.2 rest.1

@@ -1,4 +1,4 @@
-use Rattle.std.proofs.Common.{◌≡◌, ◌≤◌, ◌∙◌, sym, ap, Ok, rules, arith}
+use Rattle.std.proofs.Common.{Err, ◌≡◌, ◌≤◌, ◌<◌, ◌++◌, ◌∙◌, length, drop, sym, ap, Ok, rules, arith, length-append}
 use Rattle.std.proofs.lemmas.List.{take_rest}
 use Rattle.std.proofs.lemmas.Result.{IfOk-weaker}
 use Rattle.index_message.specs.Heads.{IsHeadAt}
@@ -6,6 +6,7 @@ use Rattle.index_message.specs.Messages.{asked_of, is_head}
 use Rattle.index_message.proofs.MessageLemmas.{asked_is, follows_short, follows_whole}
 use Rattle.index_message.specs.declared.fault.MessageFault.TheVariants.{ShortBody}
 use Rattle.index_message.specs.declared.message.Message.TheVariants.{Faulty}
+use Rattle.index_message.specs.declared.head.ReadEnd.TheVariants.{ReadFault}
 use Rattle.index_message.proofs.read.read_rest.Goals as goal
 
 pub returns-in-Some-clause-message : goal.returns-in-Some-clause-message
@@ -35,3 +36,12 @@ returns-in-None-clause-limit g c =
     let read = c.read_body.ensures.limit in
     let bound : c.in-Ok.asked.length ≤ 16777216 = rw c.in-Ok.is at c.in_ok-asked.ensures.bound in
     (read.0, omega (arith, read.1, bound), read.2)
+
+pub returns-in_err-body-clause-prompt : goal.returns-in_err-body-clause-prompt
+returns-in_err-body-clause-prompt g c = λ is found.
+    let asked : asked_of found.head ≡ Ok c.in-Ok.asked =
+    sym (asked_is _ _ _ found) ∙ sym (rw c.as_slice-head.ensures.value at c.in_ok-asked.ensures.asked) ∙ c.in-Ok.is in
+    let failed : c.in_err-body.field-0.0 ≡ ReadFault = search rules in
+    let read = rw (c.as_slice-head.ensures.value, take_rest) at (c.in_err-body.ensures.prompt (ap Err failed)) in
+    let part : length (drop c.args.spans.len c.args.bytes.items ++ read.0) < c.in-Ok.asked.length = rw length-append (omega (arith, read.1)) in
+    (read.0, (c.in-Ok.asked, asked, part), read.2)

@@ -1,12 +1,10 @@
-use Rattle.std.proofs.Common.{OnOk, subst}
-use Rattle.sqlite.specs.Held.{state}
-use Rattle.sqlite.specs.State.{HasCleanDisk}
-use Rattle.index_tables.specs.Kept.{IsHonest}
-use Rattle.index_tables.proofs.KeptLemmas.{looks_last}
+use Rattle.std.proofs.Common.{subst}
+use Rattle.index_tables.specs.LooksUp.{LooksUp}
+use Rattle.index_tables.proofs.KeptLemmas.{looks_up}
 use Rattle.index_tables.proofs.books.SqlBooksBooks.bytes_of.Goals as goal
 
-pub returns-clause-lasts : goal.returns-clause-lasts
-returns-clause-lasts g c =
-    let new = c.find_body-body.new.conn in
-    subst (λ x. OnOk c.find_body-body.result (IsHonest (state g.S.Store x.conn) → HasCleanDisk (state g.S.Store new) → IsHonest (state g.S.Store new))) c.self.view_is
-    (looks_last g.S.Store c.self.inside.conn new c.find_body-body.result c.self.invariant.1 c.find_body-body.ensures.looks)
+pub returns-clause-looks : goal.returns-clause-looks
+returns-clause-looks g c =
+    let new = record { conn = c.find_body-body.new.conn; failures = c.counted.result } in
+    subst (λ old. LooksUp g.S.Store old new c.find_body-body.result) c.self.view_is
+    (looks_up g.S.Store (record { conn = c.self.inside.conn; failures = c.self.inside.failures }) new c.find_body-body.result c.self.invariant.1 c.find_body-body.ensures.looks c.counted.ensures)

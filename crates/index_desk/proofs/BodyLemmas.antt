@@ -1,0 +1,16 @@
+-- In sound tables the bytes of a file are those that it is bound to.
+use Rattle.std.proofs.Common.{◌≡◌, refl, Option, Some, None, is_some}
+use Rattle.std.specs.FinMap.{get}
+use Rattle.index_rules.specs.declared.records.FileRecord.{FileRecord}
+use Rattle.index_rules.specs.Maps.{Bytes}
+use Rattle.index_rules.specs.Sound.{IsSound}
+use Rattle.index_rules.specs.Tables.{Tables}
+use Rattle.index_desk.specs.Bodies.{AreBytesOf}
+
+pub bytes-bound : (T : Tables) → IsSound T → (file : Bytes) → AreBytesOf T file (get T.bodies file)
+bytes-bound T sound file = by (get T.bodies file) (get T.files file) refl refl
+  where
+    by : (body : Option Bytes) → (known : Option FileRecord) → get T.bodies file ≡ body → get T.files file ≡ known → AreBytesOf T file body
+    by None known is told = tt
+    by (Some body) (Some known) is told = (known, told, sound.bytes file body known is told)
+    by (Some body) None is told = absurd (let has = sound.bodies file in let no = rw (is, told) at has in cc)
