@@ -32,7 +32,7 @@ looks_leave g old new did looks T (clean, (db, may, is)) = (looks.was_clean clea
   where
     before : (state g old).may_leave db ⊎ ⊥ → (state g old).may_leave db
     before (inl may) = may
-    before (inr no) = absurd no
+    before (inr none) = absurd none
 
 -- so a look at the connection, counted, is a look at the books
 pub looks_up : {A S : Type 0} (g : Ghosts S) (old new : Kept S) (r : Result A Fault) → IsKept g old.conn → Looks g old.conn new.conn (is_ok r) → new.failures ≡ next_count old.failures (is_ok r) → LooksUp g old new r
