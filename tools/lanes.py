@@ -1,0 +1,182 @@
+"""What tools/build and tools/try-edits share: the kit's own code, and tasks that go side by side."""
+import argparse
+import copy
+import importlib.machinery
+import importlib.util
+import os
+import queue
+import signal
+import subprocess
+import sys
+import tempfile
+import threading
+import time
+
+sys.dont_write_bytecode = True
+ROOT = os.path.dirname(os.path.dirname(os.path.realpath(__file__)))
+# tasks side by side plan on no more memory than this, in bytes, and on no more than this part of what is free
+MOST_MEMORY, MOST_OF_FREE = 18_000_000_000, 0.85
+# a crate has at most so many jobs, and each job after the first takes this part of the memory of the first
+MOST_JOBS, OF_A_JOB = 4, 0.8
+# a crate's proof takes about as long as that of its own lines of Rust, and of so many for each crate below it
+LINES_OF_A_CRATE_BELOW = 70
+
+
+def kit():
+    """The code of the kit's command, which knows crates.txt and the words of a check."""
+    try:
+        said = subprocess.run(["rt", "doc"], stdout=subprocess.PIPE, text=True, check=True).stdout.strip()
+    except (OSError, subprocess.CalledProcessError) as error:
+        sys.exit(f"the Rattle kit's command rt does not run: {error}")
+    loader = importlib.machinery.SourceFileLoader("rt", f"{os.path.dirname(said)}/bin/rt")
+    made = importlib.util.module_from_spec(importlib.util.spec_from_loader("rt", loader))
+    loader.exec_module(made)
+    made.rtlib.Crate.stamp = summed_once(made.rtlib.Crate.stamp)
+    return made
+
+
+def summed_once(stamp):
+    """The kit's sum of a crate's sources and of all below it, which takes each crate once, and not for each way
+    down."""
+    found = threading.local()
+
+    def summed(crate):
+        if hasattr(found, "sums"):
+            if crate.name not in found.sums:
+                found.sums[crate.name] = stamp(crate)
+            return found.sums[crate.name]
+        found.sums = {}
+        try:
+            return stamp(crate)
+        finally:
+            del found.sums
+    return summed
+
+
+def weight(crate):
+    """How long a crate's proof takes beside those of others."""
+    return crate.count(rb"\n") + LINES_OF_A_CRATE_BELOW * len(crate.below())
+
+
+def prove(library, jobs):
+    """Proves a library, and returns the status, what the prover said, and the seconds."""
+    begun, library = time.monotonic(), copy.copy(library)
+    with tempfile.TemporaryFile("w+", errors="replace") as library.out:
+        status = library.build_rlib(["--jobs", str(jobs)], anew=False)
+        library.out.seek(0)
+        return status, library.out.read(), time.monotonic() - begun
+
+
+def is_fresh(rt, crate, known):
+    """Returns whether the crate's library is there, made of its sources and of the libraries below as they are.
+    Those of `rt ci` hold statements, and have no stamp: then nothing that the library is made of may be younger
+    than it is."""
+    if crate.name not in known:
+        known[crate.name] = crate.is_built() or (
+            all(is_fresh(rt, it, known) and not has_stamp(it) for it in crate.deps)
+            and not has_stamp(crate) and os.path.isfile(f"{crate.rlib}/format")
+            and youngest(rt, crate) < os.path.getmtime(f"{crate.rlib}/format"))
+    return known[crate.name]
+
+
+def has_stamp(crate):
+    return os.path.isfile(f"{crate.folder}/out/rlib/stamp")
+
+
+def youngest(rt, crate):
+    """Returns when the crate's list, files and folders, and the libraries below it, were last changed."""
+    files = [*rt.rtlib.files_of(crate.folder)]
+    folders = {f"{crate.folder}/{part}" for part in rt.rtlib.PARTS} | {os.path.dirname(it) for it in files}
+    others = [f"{ROOT}/crates.txt", *[f"{it.rlib}/format" for it in crate.deps]]
+    return max(os.path.getmtime(it) for it in [*files, *folders, *others] if os.path.exists(it))
+
+
+def lanes_of(asked):
+    """Adds --lanes N to a tool's arguments."""
+    def number(word):
+        if not word.isdigit() or word == "0":
+            raise argparse.ArgumentTypeError("a number above 0 is wanted")
+        return int(word)
+    how = "how many processors to use; as many as there are, if left out"
+    asked.add_argument("--lanes", type=number, metavar="N", help=how)
+
+
+def room(rt):
+    """The memory that tasks may plan on, in bytes."""
+    return min(MOST_OF_FREE * rt.free(), MOST_MEMORY)
+
+
+def end_at_signals(ending):
+    """Has SIGINT, SIGTERM and SIGHUP end the process at once, with what this call says on standard error. What the
+    kit's code started ends with it: a process of the kit's waits for the end of this one, and then kills all the
+    others."""
+    def end(number, _):
+        sys.stdout.flush()
+        os.write(2, f"{ending()}\n".encode())
+        os._exit(128 + number)
+    for it in (signal.SIGINT, signal.SIGTERM, signal.SIGHUP):
+        signal.signal(it, end)
+
+
+class Task:
+    """A call, which gets how many jobs it may use, with the names of the tasks that it waits for, its weight
+    beside other tasks, the memory that it takes with one job, in bytes, and the most jobs that it may use."""
+
+    def __init__(self, name, waits, weight, memory, call, most_jobs=MOST_JOBS):
+        self.name, self.waits, self.weight, self.memory = name, waits, weight, memory
+        self.call, self.most_jobs, self.jobs = call, most_jobs, 0
+
+    def memory_with(self, jobs):
+        return self.memory * (1 + OF_A_JOB * (jobs - 1))
+
+    def run(self, ended):
+        """Hands over what the call gives, or how it ended otherwise."""
+        try:
+            gave = self.call(self.jobs)
+        except BaseException as error:
+            gave = error
+        ended.put((self, gave))
+
+
+def start_some(left, done, running, lanes, memory, ended):
+    """Starts those tasks, the first of them first, that wait for nothing, while there are lanes and memory for
+    them."""
+    ready = [it for it in left if done.issuperset(it.waits)]
+    for at, it in enumerate(ready):
+        idle = lanes - sum(other.jobs for other in running)
+        free = memory - sum(other.memory_with(other.jobs) for other in running)
+        if idle < 1:
+            return
+        if running and it.memory > free:
+            continue
+        # it gets the lanes that no other task waits for, where there is memory for them
+        jobs = min(it.most_jobs, idle // (len(ready) - at))
+        while jobs > 1 and it.memory_with(jobs) > free:
+            jobs -= 1
+        it.jobs = max(jobs, 1)
+        left.remove(it)
+        running.append(it)
+        threading.Thread(target=it.run, args=(ended,), daemon=True).start()
+
+
+def side_by_side(tasks, lanes, memory):
+    """Runs tasks, of which each stands after those that it waits for, and first those with the most weight behind
+    them. Yields each as it ends with what its call gave, and after each second without an end None with those
+    under way. What a call raises is raised here."""
+    behind, ended = {}, queue.SimpleQueue()
+    for it in reversed(tasks):
+        above = [behind[other.name] for other in tasks if it.name in other.waits]
+        behind[it.name] = it.weight + max(above, default=0)
+    left, running, done = sorted(tasks, key=lambda it: -behind[it.name]), [], set()
+    while left or running:
+        start_some(left, done, running, lanes, memory, ended)
+        try:
+            task, gave = ended.get(timeout=1)
+        except queue.Empty:
+            yield None, [*running]
+            continue
+        if isinstance(gave, BaseException):
+            raise gave
+        running.remove(task)
+        done.add(task.name)
+        yield task, gave
