@@ -22,7 +22,7 @@ pub returns-in_ok-name-in-Project-clause-shown : goal.returns-in_ok-name-in-Proj
 returns-in_ok-name-in-Project-clause-shown g c = λ honest.
     let to_head : c.is_head-to_head.result ≡ is_head c.args.request.now.method = c.is_head-to_head.ensures ∙ ap is_head c.method.ensures in
     let is : c.args.request.now.resource ≡ resource.Project c.in-Project.given = sym c.resource.ensures ∙ c.in-Project.is in
-    rw (sym to_head, is) (shown_ends _ _ _ _ _ _ _ _ _ refl (rw (← c.in_ok-name-in-Project.ensures) c.way_to.ensures) c.send_reply-in-Project.ensures.sent)
+    rw (sym to_head, is) (shown_ends _ _ _ _ _ _ _ _ _ refl (rw (← c.in_ok-name-in-Project.ensures.name) c.way_to.ensures) c.send_reply-in-Project.ensures.sent)
 
 pub returns-in-Requests-clause-shown : goal.returns-in-Requests-clause-shown
 returns-in-Requests-clause-shown g c = λ honest.
