@@ -4,3 +4,4 @@ pub mod PassLemmas
 pub mod EndLemmas
 pub mod Histories
 pub mod PageLemmas
+pub mod AnswerLemmas

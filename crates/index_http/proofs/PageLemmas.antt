@@ -1,12 +1,11 @@
 -- Pages: what is known of their length, and that head and text are the reply.
-use Rattle.std.proofs.Common.{◌≡◌, ◌∙◌, ℕ, ◌+◌, ◌<◌, ◌≤◌, Bool, true, false, inl, inr, refl, sym, subst, ap, List, ◌++◌, length, take, Option, Some, None, Result, Ok, Err, arith, length-append}
+use Rattle.std.proofs.Common.{◌≡◌, ◌⊎◌, ℕ, ◌+◌, ◌≤◌, true, false, inl, inr, refl, sym, subst, ◌++◌, length, take, Option, Some, None, Result, Ok, Err, arith, length-append}
 use Rattle.std.specs.Prelude.{min}
 use Rattle.std.specs.FinMap.{get}
 use Rattle.std.specs.Io.KnownBytes.{Appends}
 use Rattle.std.proofs.KnownBytes.{Appends-trans}
 use Rattle.std.proofs.Math.Seq.{take-append-add}
-use Rattle.std.proofs.lemmas.List.{take-append-le}
-use Rattle.index_io.specs.Counts.{FailsAtMostOnce, HasFailed, last_count}
+use Rattle.index_io.specs.Counts.{HasFailed, last_count}
 use Rattle.index_rules.specs.Maps.{Bytes}
 use Rattle.index_rules.specs.Tables.{Tables}
 use Rattle.index_rules.specs.TableRows.{file_rows_in}
@@ -14,18 +13,14 @@ use Rattle.index_rules.specs.Verdict.{is_held}
 use Rattle.index_rules.specs.declared.answer.Fault.TheVariants as fault
 use Rattle.index_desk.specs.Projects.{project_rows_in}
 use Rattle.index_pages.specs.Ends.{most_bytes}
-use Rattle.index_pages.specs.declared.end.PageEnd.{PageEnd}
-use Rattle.index_pages.specs.declared.end.PageEnd.TheVariants as page_end
 use Rattle.index_pages.specs.declared.served.Served.{Served}
 use Rattle.index_http.specs.Exchanges.{store_reply}
-use Rattle.index_http.specs.PagePasses.{MeasuresProject, sent_by}
+use Rattle.index_http.specs.PagePasses.{MeasuresProject}
 use Rattle.index_http.specs.PageShows.{ShowsWhole, sent_behind}
-use Rattle.index_http.specs.Replies.{Reply, page_reply, reply_text}
+use Rattle.index_http.specs.Replies.{page_reply}
 use Rattle.index_http.specs.Sends.{SendsFirst, SendsText}
-use Rattle.index_http.specs.Shows.{EndsShown}
 use Rattle.index_http.specs.declared.end.IoEnd.{IoEnd}
 use Rattle.index_http.specs.declared.end.IoEnd.TheVariants.{ReadFault, OutOfMemory, WriteFault, Cut}
-use Rattle.index_http.proofs.EndLemmas.{failed_ends, shown_ends}
 
 -- ---- whether there is a page
 
@@ -56,16 +51,12 @@ pub unmeasured : (page : Option Bytes) (before after : ℕ) → MeasuresProject 
 unmeasured None before after is = refl
 unmeasured (Some bytes) before after is = absurd is
 
--- the reply where no length could be told
-pub store_ends : (to_head : Bool) (served : Served) (page : Option Bytes) (old new : ℕ) (Unchanged : Type 0) (given : Reply) (before after : Option Bytes) (result : Result (Unit {0}) IoEnd)
-    → given ≡ store_reply → MeasuresProject page old new (Err fault.Store) → SendsText (reply_text to_head given) before after result
-    → EndsShown to_head (ShowsWhole served page) (HasFailed old new) Unchanged before after result
-store_ends to_head served None old new Unchanged given before after result same failed sends =
-    failed_ends to_head (ShowsWhole served None) (HasFailed old new) Unchanged given before after result same failed sends
-store_ends to_head served (Some page) old new Unchanged given before after result same (inl failed) sends =
-    failed_ends to_head (ShowsWhole served (Some page)) (HasFailed old new) Unchanged given before after result same failed sends
-store_ends to_head served (Some page) old new Unchanged given before after result same (inr long) sends =
-    shown_ends to_head (ShowsWhole served (Some page)) (HasFailed old new) Unchanged given store_reply before after result same (inr (refl, long)) sends
+-- a page whose length could not be told is too long, or the books failed
+pub unmeasurable : (served : Served) (page : Option Bytes) (old new : ℕ) → MeasuresProject page old new (Err fault.Store)
+    → ShowsWhole served page store_reply ⊎ HasFailed old new
+unmeasurable served None old new failed = inr failed
+unmeasurable served (Some page) old new (inl failed) = inr failed
+unmeasurable served (Some page) old new (inr long) = inl (inr (refl, long))
 
 -- ---- the text behind the head
 
@@ -84,19 +75,6 @@ sends_behind head page count before mid after (Err (WriteFault n)) is within sho
 sends_behind head page count before mid after (Err (Cut n)) is within short front sends = first_behind head page count n before mid after is within short front sends
 
 -- ---- a text that was gathered
-
--- what failed in the second of two calls failed since before the first
-pub failed_since : (old mid new : ℕ) → FailsAtMostOnce old mid → FailsAtMostOnce mid new → HasFailed mid new → HasFailed old new
-failed_since old mid new (inl same) later failed = rw same at failed
-failed_since old mid new (inr more) later (inr last) = inr last
-failed_since old mid new (inr more) (inl same) (inl failed) = inl (omega (arith, same, failed))
-failed_since old mid new (inr more) (inr later) (inl failed) = inl (omega (arith, more, later, failed))
-
-pub measured_since : (page : Option Bytes) (old mid new : ℕ) → FailsAtMostOnce old mid → FailsAtMostOnce mid new
-    → MeasuresProject page mid new (Err fault.Store) → MeasuresProject page old new (Err fault.Store)
-measured_since None old mid new first later failed = failed_since old mid new first later failed
-measured_since (Some page) old mid new first later (inl failed) = inl (failed_since old mid new first later failed)
-measured_since (Some page) old mid new first later (inr long) = inr long
 
 -- a page that was gathered is shown
 pub shows_gathered : (served : Served) (page : Option Bytes) (bytes : Bytes) → page ≡ Some bytes → ShowsWhole served page (page_reply served bytes)

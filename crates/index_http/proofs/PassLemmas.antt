@@ -1,5 +1,5 @@
 -- A pass over the rows of a page, from the walk to its end.
-use Rattle.std.proofs.Common.{◌≡◌, ℕ, ◌++◌, List, length, take, true, false, ◌∙◌, ap, refl, arith, length-append, Ok, Err, inl, inr}
+use Rattle.std.proofs.Common.{◌≡◌, ℕ, [], ◌++◌, List, length, take, true, false, ◌∙◌, ap, refl, subst, sym, arith, length-append, Ok, Err, inl, inr}
 use Rattle.std.specs.Prelude.{IfErr, Result, Option, None, Some, Bool, option_map}
 use Rattle.std.proofs.Math.Seq.{take-append_seam}
 use Rattle.std.specs.Result.{result_unwrap_or}
@@ -24,7 +24,7 @@ use Rattle.index_pages.proofs.TextLemmas.{taken_of}
 use Rattle.index_http.specs.PagePasses.{MeasuresPage, MeasuresProject, io_end_of, sent_by, without_stop}
 use Rattle.index_http.specs.Sends.{SendsFirst, SendsText, is_write_fault}
 use Rattle.index_http.specs.declared.end.IoEnd.{IoEnd}
-use Rattle.index_http.specs.declared.end.IoEnd.TheVariants.{WriteFault, Cut}
+use Rattle.index_http.specs.declared.end.IoEnd.TheVariants.{Cut}
 
 -- a walk that a fault did not end
 pub no_fault : {A : Type 0} (at_stop done : A) (walked : Result A WalkEnd) → without_stop at_stop walked ≡ Ok done → has_fault walked ≡ false
@@ -143,11 +143,22 @@ module _ {R K N A : Type 0} (takes stops : K → R → K → Type 0) (state : K 
       let by = walks_by takes stops TakesText StopsText state same step stop rows page now walked walks in
       (by.0, cut (state page) (state now) rows walked fresh by.1 fault written steady)
 
--- ---- what is told of writes
+-- ---- a page that is gathered
 
-pub told_fault : (result : Result (Unit {0}) IoEnd) (P : Type 0) → (is_write_fault result ≡ true → P) → IfErr result (λ end. (count : ℕ) → end ≡ WriteFault count → P)
-told_fault (Ok done) P holds = tt
-told_fault (Err end) P holds = λ count is. holds (ap (λ e. is_write_fault {A = Unit {0}} (Err e)) is)
+-- what was sent whole to a sink with nothing in it is what it has
+pub gathered : (page had has : Bytes) (count : ℕ) (result : Result ℕ PageEnd) → result ≡ Ok count → had ≡ []
+    → SendsText page (Some had) (Some has) (sent_by result) → page ≡ has
+gathered page had has count result is none sends =
+    let whole : has ≡ had ++ page = subst (λ r. SendsText page (Some had) (Some has) (sent_by r)) is sends in
+    sym (rw none at whole)
+
+-- a fault of a walk has its cause
+pub caused : {A : Type 0} (at_stop : A) (told : Fault) (Cause : Type 0) (walked : Result A WalkEnd) → without_stop at_stop walked ≡ Err told
+    → IfErr walked (λ end. end ≡ walk.Store → Cause) → told ≡ fault.Store → Cause
+caused at_stop told Cause (Ok done) e causes is = cc e
+caused at_stop told Cause (Err walk.Stopped) e causes is = cc e
+caused at_stop told Cause (Err walk.OutOfMemory) e causes is = cc (e, is)
+caused at_stop told Cause (Err walk.Store) e causes is = causes refl
 
 -- ---- where a project may not be there
 

@@ -1,5 +1,5 @@
 -- How a connection ends.
-use Rattle.std.specs.Prelude.{◌≡◌, ℕ, ◌≤◌, Option, Result, Ok, Err}
+use Rattle.std.specs.Prelude.{◌≡◌, ℕ, Option, Result, Ok, Err}
 use Rattle.std.specs.Io.KnownBytes.{Keeps}
 use Rattle.index_rules.specs.Maps.{Bytes}
 use Rattle.index_rules.specs.Tables.{Tables}
@@ -23,6 +23,10 @@ Ends IsReply Unchanged before after (Err (WriteFault count)) = Sends IsReply bef
 Ends IsReply Unchanged before after (Err (Cut count)) = Sends IsReply before after (Err (Cut count))
 Ends IsReply Unchanged before after (Err ReadFault) = Unchanged × Keeps before after
 Ends IsReply Unchanged before after (Err OutOfMemory) = Unchanged × Keeps before after
+
+-- the tables are these, where the store is honest
+abbrev pub Stands : {S : Type 0} → (S → Type 0) → (S → Tables) → S → Tables → Type 0
+Stands is_honest tables s T = is_honest s → tables s ≡ T
 
 -- the tables stand for a legal history after which the connection ends so, by the history before it
 pub record EndsAfter (Cause : Type 0) (at : ℕ) (h : History) (given before after : Option Bytes) (result : Result (Unit {0}) IoEnd) (T' : Tables) : Type 0 where

@@ -1,5 +1,5 @@
 -- The reply to a message, by rules over any state: the tables, or a history.
-use Rattle.std.specs.Prelude.{◌≡◌, ◌⊎◌, ℕ, ◌<◌, Bool, true, false, List, [], length, map, Option, Some, None, is_some, option_map, bytes_eq, codes}
+use Rattle.std.specs.Prelude.{◌≡◌, ◌⊎◌, ℕ, ◌<◌, Bool, true, false, List, length, map, Option, Some, None, is_some, option_map, bytes_eq, codes}
 use Rattle.std.specs.Borrow.{Bor}
 use Rattle.index_digest.specs.Digest.{sha256}
 use Rattle.index_names.specs.FileName.{read_file_name}

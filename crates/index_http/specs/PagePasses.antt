@@ -1,5 +1,5 @@
 -- The two passes over the rows of a page: the first counts its bytes, the second sends them.
-use Rattle.std.specs.Prelude.{◌≡◌, ◌⊎◌, ℕ, ◌<◌, ◌≤◌, Bool, true, false, length, take, Option, Some, None, Result, Ok, Err, ⊤}
+use Rattle.std.specs.Prelude.{◌≡◌, ◌⊎◌, ℕ, ◌<◌, ◌≤◌, Bool, false, length, Option, Some, None, Result, Ok, Err, ⊤}
 use Rattle.index_io.specs.Counts.{FailsAtMostOnce, HasFailed}
 use Rattle.index_rules.specs.Maps.{Bytes}
 use Rattle.index_rules.specs.Tables.{Tables}
@@ -11,7 +11,7 @@ use Rattle.index_pages.specs.Ends.{most_bytes}
 use Rattle.index_pages.specs.declared.end.PageEnd.{PageEnd}
 use Rattle.index_pages.specs.declared.end.PageEnd.TheVariants as page_end
 use Rattle.index_http.specs.declared.end.IoEnd.{IoEnd}
-use Rattle.index_http.specs.declared.end.IoEnd.TheVariants.{ReadFault, OutOfMemory, WriteFault, Cut}
+use Rattle.index_http.specs.declared.end.IoEnd.TheVariants.{WriteFault, Cut}
 
 -- the end of a walk, where a taker that wanted no more rows is no fault
 abbrev pub without_stop : {A : Type 0} → A → Result A WalkEnd → Result A Fault

@@ -1,17 +1,24 @@
 -- How a look at a resource ends.
-use Rattle.std.specs.Prelude.{◌≡◌, ◌⊎◌, ◌&&◌, Bool, true, false, not, Option, Result}
+use Rattle.std.specs.Prelude.{◌≡◌, ◌⊎◌, ◌&&◌, Bool, true, false, not, Option, Result, Err}
+use Rattle.std.specs.Io.KnownBytes.{Keeps}
+use Rattle.index_io.specs.Bytes.{IsInput}
+use Rattle.index_message.specs.Messages.{IsMessage}
 use Rattle.index_message.specs.Requests.{Request}
-use Rattle.index_message.specs.Resources.{is_head}
+use Rattle.index_message.specs.Resources.{is_head, is_reading}
 use Rattle.index_message.specs.declared.message.Message.{Message}
 use Rattle.index_message.specs.declared.message.Message.TheVariants.{Faulty, Whole}
 use Rattle.index_message.specs.declared.resource.Resource.{Resource}
 use Rattle.index_message.specs.declared.resource.Resource.TheVariants.{Simple, Root, Project, ProjectPage, File, Name, Requests}
 use Rattle.index_rules.specs.Maps.{Bytes}
 use Rattle.index_rules.specs.Tables.{Tables}
+use Rattle.index_rules.specs.declared.answer.Fault.{Fault}
+use Rattle.index_rules.specs.declared.answer.Fault.TheVariants.{Store, OutOfMemory as NoMemory}
 use Rattle.index_http.specs.Ends.{Ends}
 use Rattle.index_http.specs.Exchanges.{store_reply}
 use Rattle.index_http.specs.Replies.{Reply, reply_text}
+use Rattle.index_http.specs.Sends.{SendsText}
 use Rattle.index_http.specs.declared.end.IoEnd.{IoEnd}
+use Rattle.index_http.specs.declared.end.IoEnd.TheVariants.{OutOfMemory}
 
 -- the text of a reply of this kind, or of the one where a look failed for this cause
 abbrev pub IsShown : Bool → (Reply → Type 0) → Type 0 → Bytes → Type 0
@@ -19,8 +26,13 @@ IsShown to_head IsReply Cause text =
     (reply : Reply) × (text ≡ reply_text to_head reply) × (IsReply reply ⊎ ((reply ≡ store_reply) × Cause))
 
 -- a look ended so
-abbrev pub EndsShown : Bool → (Reply → Type 0) → Type 0 → Type 0 → Option Bytes → Option Bytes → Result (Unit {0}) IoEnd → Type 0
-EndsShown to_head IsReply Cause Unchanged before after result = Ends (IsShown to_head IsReply Cause) Unchanged before after result
+abbrev pub EndsShown : Bool → (Reply → Type 0) → Type 0 → Option Bytes → Option Bytes → Result (Unit {0}) IoEnd → Type 0
+EndsShown to_head IsReply Cause before after result = Ends (IsShown to_head IsReply Cause) (Unit {0}) before after result
+
+-- a look that failed: a fault of the store is replied, and where memory ran out nothing went out
+abbrev pub EndsFault : Bool → Fault → Option Bytes → Option Bytes → Result (Unit {0}) IoEnd → Type 0
+EndsFault to_head Store before after result = SendsText (reply_text to_head store_reply) before after result
+EndsFault to_head NoMemory before after result = (result ≡ Err OutOfMemory) × Keeps before after
 
 -- no table changed, and the store is as honest and as clean as it was
 pub record LeavesTables {S : Type 0} (is_honest is_clean : S → Type 0) (tables : S → Tables) (old new : S) : Type 0 where
@@ -46,3 +58,13 @@ shows_page request = is_page request.resource && not (is_head request.method)
 abbrev pub asks_page : Message → Bool
 asks_page (Faulty fault to_head) = false
 asks_page (Whole request body) = shows_page request
+
+-- a request that changes nothing
+abbrev pub is_look : Message → Bool
+is_look (Faulty fault to_head) = false
+is_look (Whole request body) = is_reading request.method
+
+-- the message that is given passes a test
+abbrev pub GivesMessage : (Message → Bool) → Option Bytes → Type 0
+GivesMessage passes given =
+    (input : Bytes) × (message : Message) × IsInput given input × IsMessage input message × (passes message ≡ true)

@@ -1,10 +1,11 @@
 //! Requests that change something.
-ghost use Rattle.std.specs.Prelude.{◌≡◌, ◌≢◌, Err, Some, IfOk, true, false};
+ghost use Rattle.std.specs.Prelude.{◌≡◌, Err, Some, IfOk, true, false};
 ghost use Rattle.index_io.specs.Counts.{HasFailed};
 ghost use Rattle.index_rules.specs.Facts.{HasOneBearer};
 ghost use Rattle.index_rules.specs.Sound.{IsSound};
+ghost use Rattle.index_rules.specs.Tables.{Tables};
 ghost use Rattle.index_desk.specs.Rules.{by_tables};
-ghost use Rattle.index_http.specs.Ends.{Ends};
+ghost use Rattle.index_http.specs.Ends.{Ends, Stands};
 ghost use Rattle.index_http.specs.Exchanges.{Acts, asked_by as asked_by_lem, asked_of_file as asked_of_file_lem, call_of as call_of_lem};
 ghost use Rattle.index_json.specs.Requests.{request_of};
 ghost use Rattle.index_message.specs.Resources.{is_head, is_put};
@@ -31,15 +32,17 @@ pub fn act<K: Sink, B: Books>(
     request: &Request,
     body: Bytes,
 ) -> Result<(), IoEnd>
-    ensures tables { B.IsHonest desk.new → HasOneBearer (B.tables desk.old) →
+    ensures tables { B.IsHonest desk.old → B.IsClean desk.new → HasOneBearer (B.tables desk.old) →
         let cause = HasFailed (B.failures desk.old) (B.failures desk.new) in
         let T = B.tables desk.old in
-        let T' = B.tables desk.new in
         let call = call_of_lem at request.now body in
         let method = request.now.method in
-        Ends (λ text. (reply : Reply) × (text ≡ reply_text (is_head method) reply)
-        × Acts by_tables cause (is_put method) T call reply T') (T' ≡ T)
+        let IsLater = Stands B.IsHonest B.tables desk.new in
+        Ends (λ text. (reply : Reply) × (later : Tables)
+        × (text ≡ reply_text (is_head method) reply)
+        × Acts by_tables cause (is_put method) T call reply later × IsLater later) (IsLater T)
         (K.contents sink.old) (K.contents sink.new) result }
+    ensures memory { result ≡ Err IoEnd.OutOfMemory → desk.new ≡ desk.old }
     ensures sends { SendsOnly (K.failures sink.old) (K.failures sink.new) result }
     ensures kind { is_cut result ≡ false }
     ensures one_bearer { B.IsHonest desk.new →

@@ -4,6 +4,7 @@
 mod act;
 mod buffer;
 mod end;
+mod gather;
 mod one;
 mod page;
 mod pages;

@@ -1,5 +1,5 @@
 //! One connection: one message and its reply.
-ghost use Rattle.std.specs.Prelude.{◌≡◌, ◌≢◌, ◌≤◌, ◌+◌, ℕ, List, length, true, false, Err};
+ghost use Rattle.std.specs.Prelude.{◌≡◌, ◌≢◌, ◌⊎◌, ◌≤◌, ◌+◌, ℕ, List, length, true, false, Err};
 ghost use Rattle.std.specs.Io.KnownBytes.{Consumes};
 ghost use Rattle.index_io.specs.Counts.{HasFailed};
 ghost use Rattle.index_rules.specs.Facts.{HasOneBearer};
@@ -7,16 +7,15 @@ ghost use Rattle.index_rules.specs.History.{History};
 ghost use Rattle.index_rules.specs.Legal.{IsLegal};
 ghost use Rattle.index_rules.specs.Sound.{IsSound};
 ghost use Rattle.index_rules.specs.StandsFor.{StandsFor};
+ghost use Rattle.index_rules.specs.Tables.{Tables};
 ghost use Rattle.index_desk.specs.Rules.{by_tables};
 ghost use Rattle.index_message.specs.Heads.{longest_head};
 ghost use Rattle.index_message.specs.Lengths.{longest_upload};
-ghost use Rattle.index_message.specs.Messages.{EndsUnfinished, IsMessage};
-ghost use Rattle.index_message.specs.declared.message.Message.{Message as MessageData};
-ghost use Rattle.index_io.specs.Bytes.{IsInput};
-ghost use Rattle.index_http.specs.Shows.{asks_page};
-ghost use Rattle.index_http.specs.Ends.{Ends, EndsAfter};
+ghost use Rattle.index_message.specs.Messages.{EndsUnfinished};
+ghost use Rattle.index_http.specs.Ends.{Ends, EndsAfter, Stands};
 ghost use Rattle.index_http.specs.Exchanges.{RepliesTo, RepliesToInput};
 ghost use Rattle.index_http.specs.Sends.{SendsOnly, is_cut, is_write_fault};
+ghost use Rattle.index_http.specs.Shows.{GivesMessage, asks_page, is_look};
 
 use crate::act::act;
 use crate::end::IoEnd;
@@ -59,6 +58,18 @@ pub fn answer_one<S: Source, K: Sink, B: Keeper>(
         EndsAfter cause at h (S.remaining source.old)
         (K.contents sink.old) (K.contents sink.new) result (B.tables desk.new) }
 
+    // Of a store that was honest the reply is the one by the tables before, or that of a fault, also where it was shut.
+    ensures replied { B.IsHonest desk.old → B.IsClean desk.new → HasOneBearer (B.tables desk.old) →
+        let cause = HasFailed (B.failures desk.old) (B.failures desk.new) in
+        let T = B.tables desk.old in
+        let given = S.remaining source.old in
+        Ends (λ text. (later : Tables) × RepliesToInput by_tables cause at T given text later)
+        (Unit {0}) (K.contents sink.old) (K.contents sink.new) result }
+
+    // Where memory ran out nothing was asked of the desk, or it was a look: an answer to a call is always replied.
+    ensures memory { result ≡ Err IoEnd.OutOfMemory → (desk.new ≡ desk.old)
+        ⊎ GivesMessage is_look (S.remaining source.old) }
+
     // Each fault has its cause, and else nothing failed.
     ensures read_fault { result ≡ Err IoEnd.ReadFault →
         HasFailed (S.failures source.old) (S.failures source.new) }
@@ -74,9 +85,7 @@ pub fn answer_one<S: Source, K: Sink, B: Keeper>(
     // A page that was cut short changed no table.
     ensures cut { B.IsHonest desk.new → is_cut result ≡ true →
         B.tables desk.new ≡ B.tables desk.old }
-    ensures cut_page { is_cut result ≡ true → (message : MessageData) × (input : List ℕ)
-        × IsInput (S.remaining source.old) input × IsMessage input message
-        × (asks_page message ≡ true) }
+    ensures cut_page { is_cut result ≡ true → GivesMessage asks_page (S.remaining source.old) }
 
     // No more is read than may be.
     ensures limit { (taken : List ℕ) × (length taken ≤ longest_head + longest_upload)
@@ -102,12 +111,15 @@ fn answer<K: Sink, B: Keeper>(
     at: u64,
     message: Message,
 ) -> Result<(), IoEnd>
-    ensures tables { B.IsHonest desk.new → HasOneBearer (B.tables desk.old) →
+    ensures tables { B.IsHonest desk.old → B.IsClean desk.new → HasOneBearer (B.tables desk.old) →
         let cause = HasFailed (B.failures desk.old) (B.failures desk.new) in
         let T = B.tables desk.old in
-        let T' = B.tables desk.new in
-        Ends (λ text. RepliesTo by_tables cause at T message text T') (T' ≡ T)
+        let IsLater = Stands B.IsHonest B.tables desk.new in
+        Ends (λ text. (later : Tables)
+        × RepliesTo by_tables cause at T message text later × IsLater later) (IsLater T)
         (K.contents sink.old) (K.contents sink.new) result }
+    ensures memory { result ≡ Err IoEnd.OutOfMemory →
+        (desk.new ≡ desk.old) ⊎ (is_look message ≡ true) }
     ensures sends { SendsOnly (K.failures sink.old) (K.failures sink.new) result }
     ensures cut { B.IsHonest desk.new → is_cut result ≡ true →
         B.tables desk.new ≡ B.tables desk.old }

@@ -1,13 +1,12 @@
 //! The two passes over the rows of a page: the first counts its bytes, the second sends them. No head is written here.
-ghost use Rattle.std.specs.Prelude.{◌≡◌, ◌≢◌, ℕ, List, Some, IfErr, false, is_err, option_map};
+ghost use Rattle.std.specs.Prelude.{◌≡◌, ◌≢◌, List, Some, Err, is_err, option_map};
 ghost use Rattle.std.specs.Io.KnownBytes.{Keeps};
-ghost use Rattle.index_io.specs.Counts.{HasFailed};
 ghost use Rattle.index_rules.specs.TableRows.{held_rows_in};
 ghost use Rattle.index_rules.specs.declared.rows.FileRow.{FileRow as FileRowData};
 ghost use Rattle.index_desk.specs.Projects.{project_rows_in};
 ghost use Rattle.index_pages.specs.Pages.{project_page_of, root_page_of};
 ghost use Rattle.index_http.specs.PagePasses.{KeepsTables, MeasuresPage, MeasuresProject, sent_by, without_stop as without_stop_lem};
-ghost use Rattle.index_http.specs.Sends.{is_cut, is_write_fault, SendsText};
+ghost use Rattle.index_http.specs.Sends.{SendsOnly, SendsText, is_cut};
 
 use crate::end::IoEnd;
 use index_desk::Desk;
@@ -46,13 +45,9 @@ pub fn root_text<K: Sink, B: Books>(
     ensures sent { B.IsHonest desk.old → B.IsClean desk.new →
         let page = root_page_of served (held_rows_in (B.tables desk.old)) in
         SendsText page (K.contents sink.old) (K.contents sink.new) result }
-    ensures write_fault { IfErr result (λ end. (count : ℕ) → end ≡ IoEnd.WriteFault count →
-        HasFailed (K.failures sink.old) (K.failures sink.new)) }
-    ensures writes { is_write_fault result ≡ false →
-        K.failures sink.new ≡ K.failures sink.old }
+    ensures sends { SendsOnly (K.failures sink.old) (K.failures sink.new) result }
     ensures keeps { KeepsTables B.IsHonest B.IsClean B.tables B.failures B.may_leave
         desk.old desk.new (is_cut result) }
-    ensures no_read_fault { result ≢ Err IoEnd.ReadFault }
 {
     let mut page = PageText::root(alloc, served, sink);
     let walked = desk.walk_root(alloc, &mut page);
@@ -101,13 +96,9 @@ pub fn project_text<K: Sink, B: Books>(
     ensures none { B.IsHonest desk.old → B.IsClean desk.new →
         project_rows_in (B.tables desk.old) name.now ≡ None →
         Keeps (K.contents sink.old) (K.contents sink.new) × (result ≡ Err (IoEnd.Cut 0)) }
-    ensures write_fault { IfErr result (λ end. (count : ℕ) → end ≡ IoEnd.WriteFault count →
-        HasFailed (K.failures sink.old) (K.failures sink.new)) }
-    ensures writes { is_write_fault result ≡ false →
-        K.failures sink.new ≡ K.failures sink.old }
+    ensures sends { SendsOnly (K.failures sink.old) (K.failures sink.new) result }
     ensures keeps { KeepsTables B.IsHonest B.IsClean B.tables B.failures B.may_leave
         desk.old desk.new (is_cut result) }
-    ensures no_read_fault { result ≢ Err IoEnd.ReadFault }
 {
     let mut page = PageText::project(alloc, name, served, sink);
     let walked = desk.walk_project(alloc, name, &mut page);
@@ -119,7 +110,7 @@ pub fn project_text<K: Sink, B: Books>(
 }
 
 /// The end of a walk, where a taker that wanted no more rows is no fault: its page tells why.
-fn without_stop<A: Copy>(walked: Result<A, WalkEnd>, at_stop: A) -> Result<A, Fault>
+pub fn without_stop<A: Copy>(walked: Result<A, WalkEnd>, at_stop: A) -> Result<A, Fault>
     ensures { result ≡ without_stop_lem at_stop walked }
 {
     match walked {

@@ -1,7 +1,8 @@
 //! Pages, whose head tells their length before their text is sent.
-ghost use Rattle.std.specs.Prelude.{◌≡◌, ◌≢◌, ◌≤◌, Err, IfSome, IsErr, None, Some, length, true, false, is_err};
-ghost use Rattle.index_io.specs.Counts.{FailsAtMostOnce, HasFailed};
+ghost use Rattle.std.specs.Prelude.{◌≡◌, ◌≤◌, IfOk, IfSome, IsErr, None, Some, length, true, false, is_err};
+ghost use Rattle.index_io.specs.Counts.{HasFailed};
 ghost use Rattle.index_rules.specs.Maps.{Bytes as BytesData};
+ghost use Rattle.index_desk.specs.Looks.{Looks};
 ghost use Rattle.index_desk.specs.Pages.{page_in};
 ghost use Rattle.index_desk.specs.Rules.{by_tables};
 ghost use Rattle.index_pages.specs.Ends.{most_bytes};
@@ -12,11 +13,11 @@ ghost use Rattle.index_http.specs.Replies.{page_reply, reply_text};
 ghost use Rattle.index_http.specs.Sends.{SendsOnly, SendsText, is_cut, is_write_fault};
 ghost use Rattle.index_http.specs.Shows.{EndsShown, LeavesTables};
 
-use crate::buffer::Buffer;
 use crate::end::IoEnd;
+use crate::gather::{gathered_project, gathered_root};
 use crate::page::{project_length, project_text, root_length, root_text};
-use crate::reply::{Fields, message_reply, page_reply, refusal_reply, store_reply};
-use crate::send::{send_head, send_reply};
+use crate::reply::{Fields, message_reply, page_reply, refusal_reply};
+use crate::send::{send_fault, send_head, send_reply};
 use http::StatusCode;
 use index_desk::{Desk, Keeper, Page};
 use index_io::Sink;
@@ -34,11 +35,11 @@ pub fn show_root<K: Sink, B: Keeper>(
     to_head: bool,
     chosen: Option<Served>,
 ) -> Result<(), IoEnd>
-    ensures shown { B.IsHonest desk.new →
+    ensures shown { B.IsHonest desk.old → B.IsClean desk.new →
         let cause = HasFailed (B.failures desk.old) (B.failures desk.new) in
         let T = B.tables desk.old in
         EndsShown to_head (ShowsRoot by_tables T chosen) cause
-        (B.tables desk.new ≡ T) (K.contents sink.old) (K.contents sink.new) result }
+        (K.contents sink.old) (K.contents sink.new) result }
     ensures leaves { LeavesTables B.IsHonest B.IsClean B.tables desk.old desk.new }
     ensures sends { SendsOnly (K.failures sink.old) (K.failures sink.new) result }
     ensures cut { is_cut result ≡ true → to_head ≡ false }
@@ -58,11 +59,11 @@ pub fn show_project<K: Sink, B: Keeper>(
     chosen: Option<Served>,
     name: &NormalName,
 ) -> Result<(), IoEnd>
-    ensures shown { B.IsHonest desk.new →
+    ensures shown { B.IsHonest desk.old → B.IsClean desk.new →
         let cause = HasFailed (B.failures desk.old) (B.failures desk.new) in
         let T = B.tables desk.old in
         EndsShown to_head (ShowsProject by_tables T name.now chosen) cause
-        (B.tables desk.new ≡ T) (K.contents sink.old) (K.contents sink.new) result }
+        (K.contents sink.old) (K.contents sink.new) result }
     ensures leaves { LeavesTables B.IsHonest B.IsClean B.tables desk.old desk.new }
     ensures sends { SendsOnly (K.failures sink.old) (K.failures sink.new) result }
     ensures cut { is_cut result ≡ true → to_head ≡ false }
@@ -81,11 +82,11 @@ fn show_no_page<K: Sink, B: Books>(
     to_head: bool,
     name: &NormalName,
 ) -> Result<(), IoEnd>
-    ensures shown { B.IsHonest desk.new →
+    ensures shown { B.IsHonest desk.old → B.IsClean desk.new →
         let cause = HasFailed (B.failures desk.old) (B.failures desk.new) in
         let T = B.tables desk.old in
         EndsShown to_head (ShowsProject by_tables T name.now None) cause
-        (B.tables desk.new ≡ T) (K.contents sink.old) (K.contents sink.new) result }
+        (K.contents sink.old) (K.contents sink.new) result }
     ensures leaves { LeavesTables B.IsHonest B.IsClean B.tables desk.old desk.new }
     ensures sends { SendsOnly (K.failures sink.old) (K.failures sink.new) result }
     ensures whole { is_cut result ≡ false }
@@ -93,8 +94,7 @@ fn show_no_page<K: Sink, B: Books>(
     match desk.is_held(alloc, name) {
         Ok(true) => send_reply(sink, to_head, message_reply(MessageFault::NotAcceptable)),
         Ok(false) => send_reply(sink, to_head, refusal_reply(Refusal::NoProject)),
-        Err(Fault::OutOfMemory) => Err(IoEnd::OutOfMemory),
-        Err(Fault::Store) => send_reply(sink, to_head, store_reply()),
+        Err(fault) => send_fault(sink, to_head, fault),
     }
 }
 
@@ -107,11 +107,11 @@ fn show_page<K: Sink, B: Keeper>(
     page: Page<'_>,
     served: Served,
 ) -> Result<(), IoEnd>
-    ensures shown { B.IsHonest desk.new →
+    ensures shown { B.IsHonest desk.old → B.IsClean desk.new →
         let cause = HasFailed (B.failures desk.old) (B.failures desk.new) in
         let T = B.tables desk.old in
         EndsShown to_head (ShowsWhole served (page_in T served page.entry)) cause
-        (B.tables desk.new ≡ T) (K.contents sink.old) (K.contents sink.new) result }
+        (K.contents sink.old) (K.contents sink.new) result }
     ensures leaves { LeavesTables B.IsHonest B.IsClean B.tables desk.old desk.new }
     ensures sends { SendsOnly (K.failures sink.old) (K.failures sink.new) result }
     ensures cut { is_cut result ≡ true → to_head ≡ false }
@@ -119,35 +119,58 @@ fn show_page<K: Sink, B: Keeper>(
     if let Some(text) = desk.kept_page(page, served) {
         return send_reply(sink, to_head, page_reply(served, text));
     }
-    if let Some(text) = gathered_text(alloc, desk, page, served) {
-        let sent = send_reply(sink, to_head, page_reply(served, text.as_slice()));
-        desk.keep_page(page, served, text);
-        return sent;
-    }
-    match length_of(alloc, desk, page, served) {
-        Ok(Some(size)) => send_page(alloc, sink, desk, to_head, page, served, size),
-        Ok(None) => send_reply(sink, to_head, refusal_reply(Refusal::NoProject)),
-        Err(Fault::OutOfMemory) => Err(IoEnd::OutOfMemory),
-        Err(Fault::Store) => send_reply(sink, to_head, store_reply()),
+    match gathered_text(alloc, desk, page, served) {
+        Ok(Some(text)) => {
+            let sent = send_reply(sink, to_head, page_reply(served, text.as_slice()));
+            desk.keep_page(page, served, text);
+            sent
+        }
+        Ok(None) => show_in_passes(alloc, sink, desk, to_head, page, served),
+        Err(fault) => send_fault(sink, to_head, fault),
     }
 }
 
-/// The text of a page, where it is short and no look failed. It changes no table.
+/// The text of a page, or `None` where there is none, or it is too long to be gathered or no memory is there for it. It
+/// changes no table.
 fn gathered_text<B: Books>(
     alloc: Global,
     desk: &mut Desk<B>,
     page: Page<'_>,
     served: Served,
-) -> Option<Vec<u8>>
-    ensures text { B.IsHonest desk.new → IfSome result (λ text.
-        page_in (B.tables desk.new) served page.entry ≡ Some text.items) }
-    ensures leaves { LeavesTables B.IsHonest B.IsClean B.tables desk.old desk.new }
-    ensures once { FailsAtMostOnce (B.failures desk.old) (B.failures desk.new) }
+) -> Result<Option<Vec<u8>>, Fault>
+    ensures text { B.IsHonest desk.old → B.IsClean desk.new → IfOk result (λ found.
+        IfSome found (λ text. page_in (B.tables desk.old) served page.entry ≡ Some text.items)) }
+    ensures look { Looks B.IsHonest B.IsClean B.tables B.failures B.may_leave
+        desk.old desk.new result }
 {
-    let mut buffer = Buffer::new(alloc);
-    match send_text(alloc, &mut buffer, desk, page, served) {
-        Ok(()) => Some(buffer.bytes),
-        Err(_) => None,
+    match page {
+        Page::Root => gathered_root(alloc, desk, served),
+        Page::Project(name) => gathered_project(alloc, desk, name, served),
+    }
+}
+
+/// Shows a page in a type, where there is one: a first pass over its rows counts its bytes, and a second sends them.
+fn show_in_passes<K: Sink, B: Books>(
+    alloc: Global,
+    sink: &mut K,
+    desk: &mut Desk<B>,
+    to_head: bool,
+    page: Page<'_>,
+    served: Served,
+) -> Result<(), IoEnd>
+    ensures shown { B.IsHonest desk.old → B.IsClean desk.new →
+        let cause = HasFailed (B.failures desk.old) (B.failures desk.new) in
+        let T = B.tables desk.old in
+        EndsShown to_head (ShowsWhole served (page_in T served page.entry)) cause
+        (K.contents sink.old) (K.contents sink.new) result }
+    ensures leaves { LeavesTables B.IsHonest B.IsClean B.tables desk.old desk.new }
+    ensures sends { SendsOnly (K.failures sink.old) (K.failures sink.new) result }
+    ensures cut { is_cut result ≡ true → to_head ≡ false }
+{
+    match length_of(alloc, desk, page, served) {
+        Ok(Some(size)) => send_page(alloc, sink, desk, to_head, page, served, size),
+        Ok(None) => send_reply(sink, to_head, refusal_reply(Refusal::NoProject)),
+        Err(fault) => send_fault(sink, to_head, fault),
     }
 }
 

@@ -6,12 +6,14 @@ ghost use Rattle.index_io.specs.Bytes.{joined};
 ghost use Rattle.index_io.specs.Counts.{HasFailed};
 ghost use Rattle.index_http.specs.Replies.{fields_text, head_text, phrase_of, reply_head, reply_of, reply_text};
 ghost use Rattle.index_http.specs.Sends.{SendsOnly, SendsText, is_cut};
+ghost use Rattle.index_http.specs.Shows.{EndsFault};
 
 use crate::end::IoEnd;
-use crate::reply::{Fields, Reply};
+use crate::reply::{Fields, Reply, store_reply};
 use crate::texts::{field_pieces, phrase};
 use http::StatusCode;
 use index_io::{Sink, write_pieces};
+use index_rules::Fault;
 use itoa::Buffer;
 
 /// Writes the head of a reply whose body has so many bytes, and answers the length of the head. An error tells how many
@@ -47,6 +49,18 @@ pub fn send_reply<K: Sink>(sink: &mut K, is_head: bool, reply: Reply<'_>) -> Res
     match send_parts(sink, reply.status, reply.fields, size, behind) {
         Ok(_) => Ok(()),
         Err(count) => Err(IoEnd::WriteFault(count)),
+    }
+}
+
+/// Ends a look that failed: a fault of the store is replied, and want of memory ends the connection before its reply.
+pub fn send_fault<K: Sink>(sink: &mut K, is_head: bool, fault: Fault) -> Result<(), IoEnd>
+    ensures told { EndsFault is_head fault (K.contents sink.old) (K.contents sink.new) result }
+    ensures whole { is_cut result ≡ false }
+    ensures sends { SendsOnly (K.failures sink.old) (K.failures sink.new) result }
+{
+    match fault {
+        Fault::OutOfMemory => Err(IoEnd::OutOfMemory),
+        Fault::Store => send_reply(sink, is_head, store_reply()),
     }
 }
 

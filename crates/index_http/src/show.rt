@@ -1,5 +1,5 @@
 //! Looks at pages, files and standings. None changes a table.
-ghost use Rattle.std.specs.Prelude.{◌≡◌, ◌≢◌, Err, IfOk, IfSome, Some, true, false, bytes_eq, is_some};
+ghost use Rattle.std.specs.Prelude.{◌≡◌, IfErr, IfOk, IfSome, IsSome, Some, true, false, bytes_eq, is_some};
 ghost use Rattle.index_io.specs.Counts.{HasFailed};
 ghost use Rattle.index_names.specs.FileName.{read_file_name};
 ghost use Rattle.index_names.specs.Project.{read_name};
@@ -12,16 +12,16 @@ ghost use Rattle.index_http.specs.Shows.{EndsShown, LeavesTables, shows_page};
 use crate::end::IoEnd;
 use crate::pages::{show_project, show_root};
 use crate::reply::{
-    file_reply, json_reply, message_reply, refusal_reply, store_reply, to_project, to_root, way_to,
+    file_reply, json_reply, message_reply, refusal_reply, to_project, to_root, way_to,
 };
-use crate::send::send_reply;
+use crate::send::{send_fault, send_reply};
 use index_desk::{Desk, Keeper};
 use index_io::Sink;
 use index_json::standing_text;
 use index_message::{Allowed, MessageFault, Request, Resource};
 use index_names::{FileName, NameFault, NormalName, normal};
 use index_pages::Served;
-use index_rules::{Books, Bytes, Fault, Refusal};
+use index_rules::{Books, Bytes, Refusal};
 use std::alloc::{AllocError, Global};
 
 /// Shows what a request asks for.
@@ -31,12 +31,12 @@ pub fn show<K: Sink, B: Keeper>(
     desk: &mut Desk<B>,
     request: &Request,
 ) -> Result<(), IoEnd>
-    ensures shown { B.IsHonest desk.new →
+    ensures shown { B.IsHonest desk.old → B.IsClean desk.new →
         let cause = HasFailed (B.failures desk.old) (B.failures desk.new) in
         let T = B.tables desk.old in
         let fields = request.now.fields in
         EndsShown (is_head request.now.method) (Shows by_tables T fields request.now.resource) cause
-        (B.tables desk.new ≡ T) (K.contents sink.old) (K.contents sink.new) result }
+        (K.contents sink.old) (K.contents sink.new) result }
     ensures leaves { LeavesTables B.IsHonest B.IsClean B.tables desk.old desk.new }
     ensures sends { SendsOnly (K.failures sink.old) (K.failures sink.new) result }
     ensures cut { is_cut result ≡ true → shows_page request.now ≡ true }
@@ -73,7 +73,8 @@ fn chosen(alloc: Global, request: &Request) -> Result<Option<Served>, AllocError
 
 /// The normal form of a name, or `None` where these bytes are no project name.
 fn name_of(alloc: Global, given: &Bytes) -> Result<Option<NormalName>, AllocError>
-    ensures { IfOk result (λ name. name ≡ read_name given.now) }
+    ensures name { IfOk result (λ name. name ≡ read_name given.now) }
+    ensures readable { IfErr result (λ _. IsSome (read_name given.now)) }
 {
     match normal(alloc, given.as_slice()) {
         Ok(name) => Ok(Some(name)),
@@ -86,6 +87,7 @@ fn name_of(alloc: Global, given: &Bytes) -> Result<Option<NormalName>, AllocErro
 fn file_of(alloc: Global, given: &Bytes) -> Result<Option<FileName>, AllocError>
     ensures file { IfOk result (λ file. IfSome file (λ file. file ≡ given.now)) }
     ensures found { IfOk result (λ file. is_some file ≡ is_some (read_file_name given.now)) }
+    ensures readable { IfErr result (λ _. IsSome (read_file_name given.now)) }
 {
     match FileName::read(alloc, given.as_slice()) {
         Ok(file) => Ok(Some(file)),
@@ -103,12 +105,12 @@ fn show_at<K: Sink, B: Keeper>(
     request: &Request,
     given: &Bytes,
 ) -> Result<(), IoEnd>
-    ensures shown { B.IsHonest desk.new →
+    ensures shown { B.IsHonest desk.old → B.IsClean desk.new →
         let cause = HasFailed (B.failures desk.old) (B.failures desk.new) in
         let T = B.tables desk.old in
         let fields = request.now.fields in
         EndsShown to_head (ShowsAt by_tables T fields given.now (read_name given.now)) cause
-        (B.tables desk.new ≡ T) (K.contents sink.old) (K.contents sink.new) result }
+        (K.contents sink.old) (K.contents sink.new) result }
     ensures leaves { LeavesTables B.IsHonest B.IsClean B.tables desk.old desk.new }
     ensures sends { SendsOnly (K.failures sink.old) (K.failures sink.new) result }
     ensures cut { is_cut result ≡ true → to_head ≡ false }
@@ -129,13 +131,13 @@ fn show_spelling<K: Sink, B: Keeper>(
     given: &Bytes,
     name: &NormalName,
 ) -> Result<(), IoEnd>
-    ensures shown { B.IsHonest desk.new →
+    ensures shown { B.IsHonest desk.old → B.IsClean desk.new →
         let cause = HasFailed (B.failures desk.old) (B.failures desk.new) in
         let T = B.tables desk.old in
         let fields = request.now.fields in
         let same = bytes_eq name.now given.now in
         EndsShown to_head (ShowsSpelling by_tables T fields name.now same) cause
-        (B.tables desk.new ≡ T) (K.contents sink.old) (K.contents sink.new) result }
+        (K.contents sink.old) (K.contents sink.new) result }
     ensures leaves { LeavesTables B.IsHonest B.IsClean B.tables desk.old desk.new }
     ensures sends { SendsOnly (K.failures sink.old) (K.failures sink.new) result }
     ensures cut { is_cut result ≡ true → to_head ≡ false }
@@ -156,11 +158,11 @@ fn show_file<K: Sink, B: Keeper>(
     to_head: bool,
     given: &Bytes,
 ) -> Result<(), IoEnd>
-    ensures shown { B.IsHonest desk.new →
+    ensures shown { B.IsHonest desk.old → B.IsClean desk.new →
         let cause = HasFailed (B.failures desk.old) (B.failures desk.new) in
         let T = B.tables desk.old in
         EndsShown to_head (ShowsFile by_tables T given.now (is_some (read_file_name given.now)))
-        cause (B.tables desk.new ≡ T) (K.contents sink.old) (K.contents sink.new) result }
+        cause (K.contents sink.old) (K.contents sink.new) result }
     ensures leaves { LeavesTables B.IsHonest B.IsClean B.tables desk.old desk.new }
     ensures sends { SendsOnly (K.failures sink.old) (K.failures sink.new) result }
     ensures whole { is_cut result ≡ false }
@@ -178,8 +180,7 @@ fn show_file<K: Sink, B: Keeper>(
             sent
         }
         Ok(None) => send_reply(sink, to_head, refusal_reply(Refusal::NoFile)),
-        Err(Fault::OutOfMemory) => Err(IoEnd::OutOfMemory),
-        Err(Fault::Store) => send_reply(sink, to_head, store_reply()),
+        Err(fault) => send_fault(sink, to_head, fault),
     }
 }
 
@@ -191,11 +192,11 @@ fn show_name<K: Sink, B: Books>(
     to_head: bool,
     given: &Bytes,
 ) -> Result<(), IoEnd>
-    ensures shown { B.IsHonest desk.new →
+    ensures shown { B.IsHonest desk.old → B.IsClean desk.new →
         let cause = HasFailed (B.failures desk.old) (B.failures desk.new) in
         let T = B.tables desk.old in
         EndsShown to_head (ShowsName by_tables T (read_name given.now)) cause
-        (B.tables desk.new ≡ T) (K.contents sink.old) (K.contents sink.new) result }
+        (K.contents sink.old) (K.contents sink.new) result }
     ensures leaves { LeavesTables B.IsHonest B.IsClean B.tables desk.old desk.new }
     ensures sends { SendsOnly (K.failures sink.old) (K.failures sink.new) result }
     ensures whole { is_cut result ≡ false }
@@ -214,11 +215,11 @@ fn show_standing<K: Sink, B: Books>(
     to_head: bool,
     name: &NormalName,
 ) -> Result<(), IoEnd>
-    ensures shown { B.IsHonest desk.new →
+    ensures shown { B.IsHonest desk.old → B.IsClean desk.new →
         let cause = HasFailed (B.failures desk.old) (B.failures desk.new) in
         let T = B.tables desk.old in
         EndsShown to_head (ShowsName by_tables T (Some name.now)) cause
-        (B.tables desk.new ≡ T) (K.contents sink.old) (K.contents sink.new) result }
+        (K.contents sink.old) (K.contents sink.new) result }
     ensures leaves { LeavesTables B.IsHonest B.IsClean B.tables desk.old desk.new }
     ensures sends { SendsOnly (K.failures sink.old) (K.failures sink.new) result }
     ensures whole { is_cut result ≡ false }
@@ -232,7 +233,6 @@ fn show_standing<K: Sink, B: Books>(
                 Err(_) => Err(IoEnd::OutOfMemory),
             }
         }
-        Err(Fault::OutOfMemory) => Err(IoEnd::OutOfMemory),
-        Err(Fault::Store) => send_reply(sink, to_head, store_reply()),
+        Err(fault) => send_fault(sink, to_head, fault),
     }
 }

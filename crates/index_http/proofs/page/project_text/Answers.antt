@@ -4,7 +4,7 @@ use Rattle.index_desk.specs.Projects.{project_rows_in}
 use Rattle.index_pages.specs.Parts.{project_rest}
 use Rattle.index_pages.specs.States.{sink_state, text_state}
 use Rattle.index_http.specs.PagePasses.{without_stop}
-use Rattle.index_http.proofs.PassLemmas.{cut_project, fresh_text, is_there, rows_given, sent_page, told_fault}
+use Rattle.index_http.proofs.PassLemmas.{cut_project, fresh_text, is_there, rows_given, sent_page}
 use Rattle.index_http.proofs.page.project_text.Goals as goal
 
 pub returns-then-unwrap_or : goal.returns-then-unwrap_or
@@ -31,10 +31,12 @@ returns-then-unwrap_or g c =
           let e : there.0 ≡ rows = cc (is_held, there.1) in
           rw (c.sent.ensures.end, back, ← e, ← c.project-page.ensures.kept, ← c.project-page.ensures.page there.0) (passed there.0 there.2).1.sends;
       none = λ honest clean free. let there = rows_given _ _ held page now walk.result (walk.ensures.walked honest clean) is in cc (free, there.1);
-      write_fault = told_fault c.sent.result _ (λ is. rw (back, ← c.project-page.ensures.kept) (all.1.failed (rw c.sent.ensures.end at is)));
-      writes = λ is. rw (back, ← c.project-page.ensures.kept) (all.1.steady (rw c.sent.ensures.end at is));
+      sends = record {
+        write_fault = λ is. rw (back, ← c.project-page.ensures.kept) (all.1.failed (rw c.sent.ensures.end at is));
+        writes = λ is. rw (back, ← c.project-page.ensures.kept) (all.1.steady (rw c.sent.ensures.end at is));
+        no_read_fault = c.sent.ensures.no_read_fault;
+      };
       keeps = search rules;
-      no_read_fault = c.sent.ensures.no_read_fault;
     }
 
 pub returns-else-unwrap_or-clause-sent : goal.returns-else-unwrap_or-clause-sent
@@ -54,8 +56,8 @@ returns-else-unwrap_or-clause-sent g c = λ honest clean rows is_held.
     let back = c.sink-else-unwrap_or-1.given.1 (sym (passed.0 ∙ c.project-page.ensures.sink)) in
     rw (c.abandon.ensures.count, back, c.abandon.ensures.kept, ← c.project-page.ensures.kept, ← c.project-page.ensures.page rows) (passed.2 rows is_held)
 
-pub returns-else-unwrap_or-clause-writes : goal.returns-else-unwrap_or-clause-writes
-returns-else-unwrap_or-clause-writes g c = λ no.
+pub returns-else-unwrap_or-clause-sends : goal.returns-else-unwrap_or-clause-sends
+returns-else-unwrap_or-clause-sends g c =
     let page = c.project-page.result in
     let walk = c.walk_project-walked in
     let now = walk.new.taker in
@@ -69,4 +71,8 @@ returns-else-unwrap_or-clause-writes g c = λ no.
     (λ p. p.sink.ghost_name) (λ before row after h. h) (λ before row after h. h)
     page now walk.result fresh is c.abandon.ensures.front c.abandon.ensures.steady given.0 given.1 in
     let back = c.sink-else-unwrap_or-1.given.1 (sym (passed.0 ∙ c.project-page.ensures.sink)) in
-    rw (back, c.abandon.ensures.kept, ← c.project-page.ensures.kept) passed.1
+    record {
+      write_fault = search rules;
+      writes = λ no. rw (back, c.abandon.ensures.kept, ← c.project-page.ensures.kept) passed.1;
+      no_read_fault = search rules;
+    }

@@ -2,7 +2,7 @@ use Rattle.std.proofs.Common.{◌∙◌, refl, rules, sym}
 use Rattle.index_rules.specs.TableRows.{held_rows_in}
 use Rattle.index_pages.specs.Parts.{root_rest}
 use Rattle.index_pages.specs.States.{sink_state, text_state}
-use Rattle.index_http.proofs.PassLemmas.{cut_page, faulty, fresh_text, no_fault, sent_page, told_fault}
+use Rattle.index_http.proofs.PassLemmas.{cut_page, faulty, fresh_text, no_fault, sent_page}
 use Rattle.index_http.proofs.page.root_text.Goals as goal
 
 pub returns-in-Ok : goal.returns-in-Ok
@@ -24,10 +24,12 @@ returns-in-Ok g c =
     record {
       sent = λ honest clean. rw (c.sent.ensures.end, back)
           (rw (c.root-page.ensures.page rows, c.root-page.ensures.kept) at (passed rows (walk.ensures.walked honest clean)).1).sends;
-      write_fault = told_fault c.sent.result _ (λ is. rw back (whole.failed (rw c.sent.ensures.end at is)));
-      writes = λ is. rw back (whole.steady (rw c.sent.ensures.end at is));
+      sends = record {
+        write_fault = λ is. rw back (whole.failed (rw c.sent.ensures.end at is));
+        writes = λ is. rw back (whole.steady (rw c.sent.ensures.end at is));
+        no_read_fault = c.sent.ensures.no_read_fault;
+      };
       keeps = search rules;
-      no_read_fault = c.sent.ensures.no_read_fault;
     }
 
 pub returns-in-Err : goal.returns-in-Err
@@ -49,8 +51,10 @@ returns-in-Err g c =
     record {
       sent = λ honest clean. rw (c.abandon.ensures.count, back, c.abandon.ensures.kept)
           (rw (c.root-page.ensures.page rows, c.root-page.ensures.kept) at (passed rows (walk.ensures.walked honest clean)).1).sends;
-      write_fault = search rules;
-      writes = λ is. rw (back, c.abandon.ensures.kept) (whole.steady refl);
+      sends = record {
+        write_fault = search rules;
+        writes = λ is. rw (back, c.abandon.ensures.kept) (whole.steady refl);
+        no_read_fault = search rules;
+      };
       keeps = search rules;
-      no_read_fault = search rules;
     }

@@ -1,4 +1,4 @@
-use Rattle.std.proofs.Common.{◌≡◌, ◌≤◌, ◌∙◌, ap, sym, refl, length}
+use Rattle.std.proofs.Common.{◌≤◌, sym, length}
 use Rattle.index_pages.specs.Ends.{most_bytes}
 use Rattle.index_http.proofs.PageLemmas.{sends_behind}
 use Rattle.index_http.proofs.pages.send_page.Goals as goal

@@ -1,31 +1,30 @@
-use Rattle.std.proofs.Common.{◌≡◌, ◌∙◌, ap, sym, refl, Some, None}
-use Rattle.index_names.specs.Project.{read_name}
+use Rattle.std.proofs.Common.{◌≡◌, ◌∙◌, ap, sym, refl}
 use Rattle.index_message.specs.Resources.{is_head}
 use Rattle.index_message.specs.declared.resource.Resource.TheVariants as resource
 use Rattle.index_http.proofs.EndLemmas.{ends_shown_map, shown_ends}
 use Rattle.index_http.proofs.show.show.Goals as goal
 
 pub returns-in-Simple-clause-shown : goal.returns-in-Simple-clause-shown
-returns-in-Simple-clause-shown g c = λ honest.
+returns-in-Simple-clause-shown g c = λ honest clean.
     let to_head : c.is_head-to_head.result ≡ is_head c.args.request.now.method = c.is_head-to_head.ensures ∙ ap is_head c.method.ensures in
     let is : c.args.request.now.resource ≡ resource.Simple = sym c.resource.ensures ∙ c.in-Simple.is in
-    rw (sym to_head, is) (shown_ends _ _ _ _ _ _ _ _ _ c.to_root.ensures refl c.send_reply.ensures.sent)
+    rw (sym to_head, is) (shown_ends _ _ _ _ _ _ _ _ c.to_root.ensures refl c.send_reply.ensures.sent)
 
 pub returns-in_ok-chosen-in-Root-clause-shown : goal.returns-in_ok-chosen-in-Root-clause-shown
-returns-in_ok-chosen-in-Root-clause-shown g c = λ honest.
+returns-in_ok-chosen-in-Root-clause-shown g c = λ honest clean.
     let to_head : c.is_head-to_head.result ≡ is_head c.args.request.now.method = c.is_head-to_head.ensures ∙ ap is_head c.method.ensures in
     let is : c.args.request.now.resource ≡ resource.Root = sym c.resource.ensures ∙ c.in-Root.is in
     rw (sym to_head, is)
-    (ends_shown_map _ _ _ _ _ _ _ _ (λ reply shows. (c.in_ok-chosen-in-Root.chosen, c.in_ok-chosen-in-Root.ensures, shows)) (c.show_root.ensures.shown honest))
+    (ends_shown_map _ _ _ _ _ _ _ (λ reply shows. (c.in_ok-chosen-in-Root.chosen, c.in_ok-chosen-in-Root.ensures, shows)) (c.show_root.ensures.shown honest clean))
 
 pub returns-in_ok-name-in-Project-clause-shown : goal.returns-in_ok-name-in-Project-clause-shown
-returns-in_ok-name-in-Project-clause-shown g c = λ honest.
+returns-in_ok-name-in-Project-clause-shown g c = λ honest clean.
     let to_head : c.is_head-to_head.result ≡ is_head c.args.request.now.method = c.is_head-to_head.ensures ∙ ap is_head c.method.ensures in
     let is : c.args.request.now.resource ≡ resource.Project c.in-Project.given = sym c.resource.ensures ∙ c.in-Project.is in
-    rw (sym to_head, is) (shown_ends _ _ _ _ _ _ _ _ _ refl (rw (← c.in_ok-name-in-Project.ensures) c.way_to.ensures) c.send_reply-in-Project.ensures.sent)
+    rw (sym to_head, is) (shown_ends _ _ _ _ _ _ _ _ refl (rw (← c.in_ok-name-in-Project.ensures.name) c.way_to.ensures) c.send_reply-in-Project.ensures.sent)
 
 pub returns-in-Requests-clause-shown : goal.returns-in-Requests-clause-shown
-returns-in-Requests-clause-shown g c = λ honest.
+returns-in-Requests-clause-shown g c = λ honest clean.
     let to_head : c.is_head-to_head.result ≡ is_head c.args.request.now.method = c.is_head-to_head.ensures ∙ ap is_head c.method.ensures in
     let is : c.args.request.now.resource ≡ resource.Requests = sym c.resource.ensures ∙ c.in-Requests.is in
-    rw (sym to_head, is) (shown_ends _ _ _ _ _ _ _ _ _ c.message_reply.ensures refl c.send_reply-in-Requests.ensures.sent)
+    rw (sym to_head, is) (shown_ends _ _ _ _ _ _ _ _ c.message_reply.ensures refl c.send_reply-in-Requests.ensures.sent)

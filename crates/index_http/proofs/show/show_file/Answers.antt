@@ -1,36 +1,36 @@
-use Rattle.std.proofs.Common.{◌≡◌, ◌∙◌, ap, sym, refl, true, false, Some, None}
+use Rattle.std.proofs.Common.{◌≡◌, ◌∙◌, ap, inr, sym, refl, true, false, Some, None}
 use Rattle.std.specs.Prelude.{is_some}
 use Rattle.index_names.specs.FileName.{read_file_name}
 use Rattle.index_http.specs.Replies.{file_reply}
-use Rattle.index_http.proofs.EndLemmas.{failed_ends, shown_ends}
+use Rattle.index_http.proofs.EndLemmas.{fault_ends, shown_ends}
 use Rattle.index_http.proofs.show.show_file.Goals as goal
 
 pub returns-in_default-clause-shown : goal.returns-in_default-clause-shown
-returns-in_default-clause-shown g c = λ honest.
+returns-in_default-clause-shown g c = λ honest clean.
     let none : is_some (read_file_name c.args.given.now) ≡ false = sym (rw c.in_default.is at c.in_ok-file.ensures.found) in
-    shown_ends _ _ _ _ _ _ _ _ _ c.refusal_reply.ensures (rw none refl) c.send_reply.ensures.sent
+    shown_ends _ _ _ _ _ _ _ _ c.refusal_reply.ensures (rw none refl) c.send_reply.ensures.sent
 
 pub returns-in-Some-kept_body-clause-shown : goal.returns-in-Some-kept_body-clause-shown
-returns-in-Some-kept_body-clause-shown g c = λ honest.
+returns-in-Some-kept_body-clause-shown g c = λ honest clean.
     let found : is_some (read_file_name c.args.given.now) ≡ true = sym (rw c.in-Some.is at c.in_ok-file.ensures.found) in
     let name : c.in-Some.file ≡ c.args.given.now = rw c.in-Some.is at c.in_ok-file.ensures.file in
     let body = rw name at (c.in-Some-kept_body.ensures honest) in
-    shown_ends _ _ _ _ _ _ _ _ _ (c.file_reply.ensures ∙ ap file_reply c.bytes.ensures) (rw found (Some c.in-Some-kept_body.body.now, sym body, refl)) c.send_reply-in-Some-kept_body.ensures.sent
+    shown_ends _ _ _ _ _ _ _ _ (c.file_reply.ensures ∙ ap file_reply c.bytes.ensures) (rw found (Some c.in-Some-kept_body.body.now, sym body, refl)) c.send_reply-in-Some-kept_body.ensures.sent
 
 pub returns-in-Ok-Some-clause-shown : goal.returns-in-Ok-Some-clause-shown
-returns-in-Ok-Some-clause-shown g c = λ honest.
+returns-in-Ok-Some-clause-shown g c = λ honest clean.
     let found : is_some (read_file_name c.args.given.now) ≡ true = sym (rw c.in-Some.is at c.in_ok-file.ensures.found) in
     let name : c.in-Some.file ≡ c.args.given.now = rw c.in-Some.is at c.in_ok-file.ensures.file in
-    let body = rw (c.in-Ok-Some.field-0-is, name) at (c.in-Ok-Some.ensures.body (c.keep_body.ensures.honest honest)) in
-    shown_ends _ _ _ _ _ _ _ _ _ (c.file_reply-in-Ok-Some.ensures ∙ ap file_reply c.bytes-in-Ok-Some.ensures) (rw found (Some c.in-Ok-Some.body, body, refl)) c.send_reply-sent.ensures.sent
+    let body = rw (c.in-Ok-Some.field-0-is, name) at (c.in-Ok-Some.ensures.body (c.in-Ok-Some.ensures.look.lasts honest (c.keep_body.ensures.clean clean))) in
+    shown_ends _ _ _ _ _ _ _ _ (c.file_reply-in-Ok-Some.ensures ∙ ap file_reply c.bytes-in-Ok-Some.ensures) (rw found (Some c.in-Ok-Some.body, body, refl)) c.send_reply-sent.ensures.sent
 
 pub returns-in-Ok-None-clause-shown : goal.returns-in-Ok-None-clause-shown
-returns-in-Ok-None-clause-shown g c = λ honest.
+returns-in-Ok-None-clause-shown g c = λ honest clean.
     let found : is_some (read_file_name c.args.given.now) ≡ true = sym (rw c.in-Some.is at c.in_ok-file.ensures.found) in
     let name : c.in-Some.file ≡ c.args.given.now = rw c.in-Some.is at c.in_ok-file.ensures.file in
-    let none = rw (c.in-Ok-None.field-0-is, name) at (c.in-Ok-None.ensures.body honest) in
-    shown_ends _ _ _ _ _ _ _ _ _ c.refusal_reply-in-Ok-None.ensures (rw found (None, none, refl)) c.send_reply-in-Ok-None.ensures.sent
+    let none = rw (c.in-Ok-None.field-0-is, name) at (c.in-Ok-None.ensures.body (c.in-Ok-None.ensures.look.lasts honest clean)) in
+    shown_ends _ _ _ _ _ _ _ _ c.refusal_reply-in-Ok-None.ensures (rw found (None, none, refl)) c.send_reply-in-Ok-None.ensures.sent
 
-pub returns-clause-shown : goal.returns-clause-shown
-returns-clause-shown g c = λ honest.
-    failed_ends _ _ _ _ _ _ _ _ c.store_reply.ensures (c.in-Err-Store.ensures.look.store c.in-Err-Store.field-0-is) c.send_reply-in-Err-Store.ensures.sent
+pub returns-in-Err-clause-shown : goal.returns-in-Err-clause-shown
+returns-in-Err-clause-shown g c = λ honest clean.
+    fault_ends _ _ _ _ _ _ _ (λ store. inr (c.in-Err.ensures.look.store store)) c.send_fault.ensures.told

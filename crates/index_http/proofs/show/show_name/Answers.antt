@@ -4,11 +4,11 @@ use Rattle.index_http.proofs.EndLemmas.{ends_shown_map, shown_ends}
 use Rattle.index_http.proofs.show.show_name.Goals as goal
 
 pub returns-in_default-clause-shown : goal.returns-in_default-clause-shown
-returns-in_default-clause-shown g c = λ honest.
-    let none : read_name c.args.given.now ≡ None = sym c.in_ok-name.ensures ∙ c.in_default.is in
-    shown_ends _ _ _ _ _ _ _ _ _ c.refusal_reply.ensures (rw none refl) c.send_reply.ensures.sent
+returns-in_default-clause-shown g c = λ honest clean.
+    let none : read_name c.args.given.now ≡ None = sym c.in_ok-name.ensures.name ∙ c.in_default.is in
+    shown_ends _ _ _ _ _ _ _ _ c.refusal_reply.ensures (rw none refl) c.send_reply.ensures.sent
 
 pub returns-clause-shown : goal.returns-clause-shown
-returns-clause-shown g c = λ honest.
-    let found : read_name c.args.given.now ≡ Some c.in-Some.name = sym c.in_ok-name.ensures ∙ c.in-Some.is in
-    ends_shown_map _ _ _ _ _ _ _ _ (λ reply shows. rw found shows) (c.show_standing.ensures.shown honest)
+returns-clause-shown g c = λ honest clean.
+    let found : read_name c.args.given.now ≡ Some c.in-Some.name = sym c.in_ok-name.ensures.name ∙ c.in-Some.is in
+    ends_shown_map _ _ _ _ _ _ _ (λ reply shows. rw found shows) (c.show_standing.ensures.shown honest clean)

@@ -4,14 +4,14 @@ use Rattle.index_http.proofs.EndLemmas.{ends_shown_map, shown_ends}
 use Rattle.index_http.proofs.show.show_spelling.Goals as goal
 
 pub returns-in_ok-chosen-clause-shown : goal.returns-in_ok-chosen-clause-shown
-returns-in_ok-chosen-clause-shown g c = λ honest.
+returns-in_ok-chosen-clause-shown g c = λ honest clean.
     let same : bytes_eq c.args.name.now c.args.given.now ≡ true =
     sym (rw (c.as_bytes.ensures.value, c.text.ensures.text, c.as_slice.ensures) at c.eq.ensures) ∙ c.if-eq.true in
-    ends_shown_map _ _ _ _ _ _ _ _ (λ reply shows. rw same (c.in_ok-chosen.chosen, c.in_ok-chosen.ensures, shows))
-    (c.show_project.ensures.shown honest)
+    ends_shown_map _ _ _ _ _ _ _ (λ reply shows. rw same (c.in_ok-chosen.chosen, c.in_ok-chosen.ensures, shows))
+    (c.show_project.ensures.shown honest clean)
 
 pub returns-else-eq-clause-shown : goal.returns-else-eq-clause-shown
-returns-else-eq-clause-shown g c = λ honest.
+returns-else-eq-clause-shown g c = λ honest clean.
     let other : bytes_eq c.args.name.now c.args.given.now ≡ false =
     sym (rw (c.as_bytes.ensures.value, c.text.ensures.text, c.as_slice.ensures) at c.eq.ensures) ∙ c.if-eq.false in
-    shown_ends _ _ _ _ _ _ _ _ _ c.to_project.ensures (rw other refl) c.send_reply.ensures.sent
+    shown_ends _ _ _ _ _ _ _ _ c.to_project.ensures (rw other refl) c.send_reply.ensures.sent

@@ -1,0 +1,64 @@
+//! Texts of short pages, gathered in one pass over their rows.
+ghost use Rattle.std.specs.Prelude.{◌≡◌, Some, IfOk, IfSome, option_map};
+ghost use Rattle.index_rules.specs.TableRows.{held_rows_in};
+ghost use Rattle.index_desk.specs.Looks.{Looks};
+ghost use Rattle.index_desk.specs.Projects.{project_rows_in};
+ghost use Rattle.index_pages.specs.Pages.{project_page_of, root_page_of};
+
+use crate::buffer::Buffer;
+use crate::page::without_stop;
+use index_desk::Desk;
+use index_names::NormalName;
+use index_pages::{PageText, Served};
+use index_rules::{Books, Fault};
+use std::alloc::Global;
+
+/// The text of the page of the names, or `None` where it is too long to be gathered or no memory is there for it. It
+/// changes no table.
+pub fn gathered_root<B: Books>(
+    alloc: Global,
+    desk: &mut Desk<B>,
+    served: Served,
+) -> Result<Option<Vec<u8>>, Fault>
+    ensures text { B.IsHonest desk.old → B.IsClean desk.new →
+        let page = root_page_of served (held_rows_in (B.tables desk.old)) in
+        IfOk result (λ found. IfSome found (λ text. Some page ≡ Some text.items)) }
+    ensures look { Looks B.IsHonest B.IsClean B.tables B.failures B.may_leave
+        desk.old desk.new result }
+{
+    let mut buffer = Buffer::new(alloc);
+    let mut page = PageText::root(alloc, served, &mut buffer);
+    let walked = desk.walk_root(alloc, &mut page);
+    without_stop(walked, ())?;
+    match page.finish() {
+        Ok(_) => Ok(Some(buffer.bytes)),
+        Err(_) => Ok(None),
+    }
+}
+
+/// The text of the page of a project, or `None` where the name is not held, or the text is too long to be gathered or no
+/// memory is there for it. It changes no table.
+pub fn gathered_project<B: Books>(
+    alloc: Global,
+    desk: &mut Desk<B>,
+    name: &NormalName,
+    served: Served,
+) -> Result<Option<Vec<u8>>, Fault>
+    ensures text { B.IsHonest desk.old → B.IsClean desk.new →
+        let rows = project_rows_in (B.tables desk.old) name.now in
+        let page = option_map (project_page_of served name.now) rows in
+        IfOk result (λ found. IfSome found (λ text. page ≡ Some text.items)) }
+    ensures look { Looks B.IsHonest B.IsClean B.tables B.failures B.may_leave
+        desk.old desk.new result }
+{
+    let mut buffer = Buffer::new(alloc);
+    let mut page = PageText::project(alloc, name, served, &mut buffer);
+    let walked = desk.walk_project(alloc, name, &mut page);
+    if !without_stop(walked, true)? {
+        return Ok(None);
+    }
+    match page.finish() {
+        Ok(_) => Ok(Some(buffer.bytes)),
+        Err(_) => Ok(None),
+    }
+}
