@@ -28,4 +28,11 @@ def run(words, seconds=60, **more):
 
 def ends(name, ended, status, *said):
     """The check that a command ended with this status, and said each of these."""
-    told(name, ended.returncode == status and all(text in ended.stdout for text in said), (ended.returncode, ended.stdout[-800:]))
+    is_well = ended.returncode == status and all(text in ended.stdout for text in said)
+    told(name, is_well, (ended.returncode, ended.stdout[-800:]))
+
+
+def tells(name, reply, status, kind=None, body=b""):
+    """The check that a reply has this status, this type where one is given, and this in its body."""
+    is_well = reply[0] == status and kind in (None, reply[1]["Content-Type"]) and body in reply[2]
+    told(name, is_well, (reply[0], reply[1].items(), reply[2][:200]))

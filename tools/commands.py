@@ -1,4 +1,4 @@
-"""What try-operate runs of the commands of operate/: index-upload with each of its ends, index-health, install and the units."""
+"""What try-operate runs of the commands: index-upload with each of its ends, index-health, install and the units."""
 import http.server
 import json
 import os
@@ -28,10 +28,10 @@ class Uploads:
         setting = {name: value for name, value in {**self.setting, **setting}.items() if value is not None}
         return run([sys.executable, f"{OPERATE}/index-upload", *words], **setting)
 
-    def wheel(self, name, version, inside=None, code="", requires=""):
+    def wheel(self, name, version, inside=None, more="", requires=""):
         """A wheel whose metadata may have another name than the file."""
         path = f"{self.folder}/{wheel_name(name, version)}"
-        make_wheel(path, wheel_files(inside or name, version, code, requires=requires))
+        make_wheel(path, wheel_files(inside or name, version, f'VERSION = "{version}"\n{more}', requires=requires))
         return path
 
 
@@ -46,22 +46,23 @@ def try_uploads(front, index, folder, packages):
     ends("it sent nothing", by.run(dist), 1, "NoProject", "--claim", "0 of 3 files are there")
     ends("index-upload --claim", by.run("--claim", dist, *other), 0, "frob: claimed", "5 of 5 files are there")
     ends("index-upload again", by.run(dist), 0, "is there already", "3 of 3 files are there")
-    ends("Requires-Python", by.run(by.wheel("frob", "1.2", requires=">=99")), 0, "frob-1.2")
+    declares = by.wheel("frob", "1.2", requires=">=99")
+    ends("Requires-Python", by.run(declares), 0, "frob-1.2")
     page = front.ask("GET", "/simple/frob/", Accept="text/html")
     told("it stands on the page", b'data-requires-python="&gt;=99"' in page[2], page[2])
-    try_refused_uploads(by, index)
+    try_refused_uploads(by, index, declares)
     try_wrong_uploads(by)
     try_late_uploads(by, index, dist)
 
 
-def try_refused_uploads(by, index):
-    """What the index refuses: status 1, the refusal, and what to do."""
+def try_refused_uploads(by, index, known):
+    """What the index refuses: status 1, the refusal, and what to do. One file is known to it."""
     ends("a token of nobody", by.run(f"{by.folder}/dist", INDEX_TOKEN="x"), 1, "BadToken", "INDEX_TOKEN", "0 of 3")
     post(index, do="add_user", user="ann", office=False, token_sha256=sha256(b"abc"))
     ends("a project of others", by.run(by.wheel("frob", "2.0"), INDEX_TOKEN="abc"), 1, "NotOwner", "add_owner")
-    ends("other bytes", by.run(by.wheel("frob", "1.0", code="# other bytes")), 1, "FileNameTaken", "Raise the version")
-    post(index, do="ban_file", file=wheel_name("frob", "1.2"))
-    ends("a banned file", by.run(by.wheel("frob", "1.2", requires=">=99")), 1, "FileBanned", "Raise the version")
+    ends("other bytes", by.run(by.wheel("frob", "1.0", more="# other bytes")), 1, "FileNameTaken", "Raise the version")
+    post(index, do="ban_file", file=os.path.basename(known))
+    ends("a banned file", by.run(known), 1, "FileBanned", "Raise the version")
     claim(index, "small")
     post(index, do="set_quota", name="small", quota=1)
     ends("a full quota", by.run(by.wheel("small", "1.0")), 1, "OverQuota", "quota is full")

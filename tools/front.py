@@ -43,9 +43,9 @@ def replaced(text, **places):
 
 
 def make_certificate(folder):
-    words = ["openssl", "req", "-x509", "-newkey", "ec", "-pkeyopt", "ec_paramgen_curve:prime256v1", "-nodes", "-days", "2",
-             "-subj", "/CN=127.0.0.1", "-addext", "subjectAltName=IP:127.0.0.1", "-keyout", f"{folder}/key", "-out", f"{folder}/pem"]
-    ended = run(words)
+    words = ["-x509", "-newkey", "ec", "-pkeyopt", "ec_paramgen_curve:prime256v1", "-nodes", "-days", "2", "-subj", "/CN=127.0.0.1",
+             "-addext", "subjectAltName=IP:127.0.0.1", "-keyout", f"{folder}/key", "-out", f"{folder}/pem"]
+    ended = run(["openssl", "req", *words])
     if ended.returncode:
         raise SystemExit(f"try-operate: openssl ended with {ended.stdout}")
     return f"{folder}/pem"
@@ -109,9 +109,9 @@ class Front(Running):
             connection.close()
 
     def errors(self):
-        """What nginx says of itself, without that the index was away."""
+        """What nginx says of itself. That the index was away is an error, and that a page changed as it was read, critical."""
         with open(f"{self.folder}/error.log", errors="replace") as log:
-            return [line for line in log if re.search(r"\[(alert|emerg|crit)\]", line)]
+            return [line for line in log if re.search(r"\[(alert|emerg)\]", line)]
 
 
 def is_here():

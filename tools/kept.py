@@ -10,6 +10,7 @@ from serving import Index, free_port, sha256
 
 # how long systemd waits before it starts the index anew
 PAUSE = 0.2
+MOST_REQUESTS = 1_000_000
 TOKEN = {"X_Index_Token": "office"}
 
 
@@ -29,7 +30,7 @@ def accepted(reply):
 class Kept:
     """The index on one port. It ends by itself after so many connections, and is then started anew."""
 
-    def __init__(self, program, path, requests=1_000_000):
+    def __init__(self, program, path, requests=MOST_REQUESTS):
         self.program, self.path, self.requests, self.port = program, path, requests, free_port()
         self.is_wanted, self.is_over = threading.Event(), threading.Event()
         self.listens = threading.Event()
@@ -79,7 +80,7 @@ class Kept:
         """Ends the index about every second, and as a crash would each second time."""
         is_crash = False
         while time.monotonic() < until:
-            time.sleep(random.uniform(0.5, 1.5))
+            time.sleep(random.uniform(0.8, 1.8))
             if self.listens.wait(timeout=60):
                 self.index.process.kill() if is_crash else self.index.process.terminate()
                 is_crash = not is_crash
