@@ -90,13 +90,14 @@ def try_late_uploads(by, index, dist):
     """An index that is away is asked again, and what does not come back ends with status 3."""
     nobody = f"https://127.0.0.1:{free_port()}"
     ends("nobody listens", by.run("--again", "1", dist, INDEX_URL=nobody), 3, "Again in", "again later")
-    late = []
+    late, direct = [], f"http://127.0.0.1:{index.port}"
     with index.away():
-        asking = threading.Thread(target=lambda: late.append(by.run(by.wheel("frob", "1.3"))))
+        # past nginx, which would wait in its place
+        asking = threading.Thread(target=lambda: late.append(by.run(by.wheel("frob", "1.3"), INDEX_URL=direct)))
         asking.start()
         asking.join(timeout=1)
     asking.join()
-    ends("an index that comes back", late[0], 0, "1 of 1 files are there")
+    ends("an index that comes back", late[0], 0, "Again in", "1 of 1 files are there")
 
 
 class Failing(http.server.BaseHTTPRequestHandler):

@@ -77,13 +77,13 @@ class Kept:
             self.is_wanted.set()
 
     def ends_often(self, until):
-        """Ends the index about every second, and as a crash would each second time."""
+        """Ends the index about a second after each of its starts, and as a crash would each second time."""
         is_crash = False
         while time.monotonic() < until:
-            time.sleep(random.uniform(0.8, 1.8))
-            if self.listens.wait(timeout=60):
-                self.index.process.kill() if is_crash else self.index.process.terminate()
-                is_crash = not is_crash
+            self.listens.wait(timeout=60)
+            time.sleep(random.uniform(0.8, 1.6))
+            self.index.process.kill() if is_crash else self.index.process.terminate()
+            is_crash = not is_crash
 
     def ask(self, *request, **headers):
         self.listens.wait(timeout=60)
