@@ -129,7 +129,8 @@ def try_install(program, folder):
     words = [sys.executable, f"{OPERATE}/install", "--root", root, "--program", program]
     ends("install", run(words), 0, "put     " + root + "/usr/local/bin/index\n", "What is left to do")
     ends("install again", run(words), 0, "there   " + root + "/usr/local/bin/index\n")
-    told("the database is kept from others", os.stat(f"{root}/var/lib/index").st_mode & 0o777 == 0o700)
+    modes = [os.stat(f"{root}/var/{it}").st_mode & 0o777 for it in ("lib/index", "backups/index", "cache/nginx")]
+    told("the database is kept from others", modes == [0o700, 0o700, 0o755], modes)
     try_units(root, f"{folder}/units")
     edited = f"{root}/etc/nginx/conf.d/packages.conf"
     with open(edited, "a") as conf:
