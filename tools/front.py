@@ -43,9 +43,9 @@ def replaced(text, **places):
 
 
 def make_certificate(folder):
-    words = ["-x509", "-newkey", "ec", "-pkeyopt", "ec_paramgen_curve:prime256v1", "-nodes", "-days", "2", "-subj", "/CN=127.0.0.1",
-             "-addext", "subjectAltName=IP:127.0.0.1", "-keyout", f"{folder}/key", "-out", f"{folder}/pem"]
-    ended = run(["openssl", "req", *words])
+    host = ["-subj", "/CN=127.0.0.1", "-addext", "subjectAltName=IP:127.0.0.1"]
+    kind = ["-x509", "-newkey", "ec", "-pkeyopt", "ec_paramgen_curve:prime256v1", "-nodes", "-days", "2"]
+    ended = run(["openssl", "req", *kind, *host, "-keyout", f"{folder}/key", "-out", f"{folder}/pem"])
     if ended.returncode:
         raise SystemExit(f"try-operate: openssl ended with {ended.stdout}")
     return f"{folder}/pem"

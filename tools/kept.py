@@ -1,4 +1,5 @@
 """An index that is started anew as soon as it ends, as systemd does, and somebody who uploads to it all the while."""
+import http.client
 import json
 import os
 import random
@@ -81,7 +82,7 @@ class Kept:
         is_crash = False
         while time.monotonic() < until:
             self.listens.wait(timeout=60)
-            time.sleep(random.uniform(0.8, 1.6))
+            time.sleep(random.uniform(1, 2))
             self.index.process.kill() if is_crash else self.index.process.terminate()
             is_crash = not is_crash
 
@@ -106,7 +107,8 @@ class Uploader(threading.Thread):
             file, body = f"{self.project}-1.{number}.tar.gz", os.urandom(random.randrange(60_000))
             try:
                 reply = upload(self.index, self.project, file, body)
-            except OSError:
+            except (OSError, http.client.HTTPException):
+                time.sleep(0.1)
                 continue
             if reply[0] in (200, 201):
                 self.files[file] = body
