@@ -29,10 +29,11 @@ def recorded(path, data):
     return f"{path},sha256={digest},{len(data)}\n"
 
 
-def wheel_files(name, version, code, needs=()):
+def wheel_files(name, version, code, needs=(), requires=""):
     """The files of a wheel with one module, by path."""
     info = f"{name}-{version}.dist-info"
     metadata = f"Metadata-Version: 2.1\nName: {name}\nVersion: {version}\n"
+    metadata += f"Requires-Python: {requires}\n" if requires else ""
     metadata += "".join(f"Requires-Dist: {need}\n" for need in needs)
     files = {
         f"{name}.py": code,

@@ -1,0 +1,58 @@
+"""What try-operate runs where more than one server answers: PyPI beside the index, and several indexes behind one address."""
+import http.server
+import json
+import threading
+
+from checks import tells, told
+from front import Front
+from kept import TOKEN, Kept, accepted, claim, upload
+from serving import Index
+
+
+class Stranger(http.server.BaseHTTPRequestHandler):
+    """Stands for PyPI: it has a page for each path, with a file of the highest version."""
+
+    def do_GET(self):
+        body = b"<a href=\"/99.0\">a stranger's 99.0</a>"
+        self.send_response_only(200)
+        self.send_header("Content-Type", "text/html")
+        self.send_header("Content-Length", str(len(body)))
+        self.end_headers()
+        self.wfile.write(body)
+
+    def log_message(self, *_):
+        pass
+
+
+def try_pypi(program, folder, certificate):
+    """A project of ours never comes from elsewhere, and one that nobody holds does."""
+    with Kept(program, f"{folder}/ours.db") as ours, http.server.ThreadingHTTPServer(("127.0.0.1", 0), Stranger) as pypi:
+        threading.Thread(target=pypi.serve_forever, kwargs={"poll_interval": 0.05}, daemon=True).start()
+        accepted(claim(ours, "frob"))
+        accepted(upload(ours, "frob", "frob-1.0.tar.gz", b"ours"))
+        with Front(f"{folder}/pypi", certificate, ours.port, pypi=pypi.server_port) as front:
+            tells("a name that we don't hold is PyPI's", front.ask("GET", "/simple/other/"), 200, "text/html", b"a stranger's")
+            page = front.ask("GET", "/simple/frob/")
+            told("a name that we hold is ours", page[0] == 200 and b"frob-1.0" in page[2] and b"99.0" not in page[2], page)
+            tells("no other path leads to PyPI", front.ask("GET", "/simple/x/../frob/"), 404, "application/json", b"NoRoute")
+            tells("another spelling is moved", front.ask("GET", "/simple/FROB/"), 301)
+            tells("a file is not PyPI's", front.ask("GET", "/files/frob/frob-99.0.tar.gz"), 404, None, b"NoFile")
+            with ours.away():
+                reply = front.ask("GET", "/simple/frob/", Accept="x/y, */*")
+            tells("nor is a name of ours while the index is away", reply, 503, "application/json", b"Unavailable")
+        pypi.shutdown()
+
+
+def try_shards(program, folder, certificate):
+    """Three indexes behind one address."""
+    with Index(program, patience=60) as first, Index(program, patience=60) as second, Index(program, patience=60) as third:
+        indexes = first, second, third
+        with Front(f"{folder}/shards", certificate, *(it.port for it in indexes)) as front:
+            for name, index in zip(("Frob", "ham", "x-ray"), indexes):
+                body, normal = json.dumps({"do": "claim", "name": name}), name.lower()
+                accepted(front.ask("POST", "/requests", body, X_Index_Name=name, **TOKEN))
+                accepted(upload(front, normal, f"{normal}-1.0.tar.gz", name.encode()))
+                tells(f"{name} is on its index", index.ask("GET", f"/names/{name}"), 200, None, b'"held"')
+                tells(f"the page of {name}", front.ask("GET", f"/simple/{normal}/"), 200, "text/html", b"-1.0.tar.gz")
+            tells("a POST without a name", claim(front, "frob"), 404, "application/json", b"NoIndexName")
+            tells("the health of one", front.ask("GET", "/health?index=2"), 200, None, b'"state"')
