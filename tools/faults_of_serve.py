@@ -40,7 +40,7 @@ class Served:
 
 
 def shown(rows):
-    """What the three looks give of these rows."""
+    """What the three looks give of these rows, with None where there is no such page or file."""
     names = [(name, text) for name, state, text, *_ in rows["names"] if state == 1]
     root = {"meta": {"api-version": "1.1"}, "projects": [{"name": text} for _, text in names]}
     yanks = {(name, release): reason or True for name, release, reason in rows["yanks"]}
@@ -53,7 +53,7 @@ def shown(rows):
             files.append(row | ({"yanked": yanks[name, release]} if (name, release) in yanks else {}))
     page = {"files": files, "meta": {"api-version": "1.1"}, "name": "frob", "versions": sorted(versions)}
     bodies = dict(rows["blobs"])
-    return [as_text(root), as_text(page), bodies.get("frob-1.0.tar.gz")]
+    return [as_text(root), as_text(page) if "frob" in dict(names) else None, bodies.get("frob-1.0.tar.gz")]
 
 
 def as_text(value):
@@ -87,8 +87,8 @@ class Judged:
             return
         wanted = shown(self.bench.judge.rows(lines))
         for text, part, reply, is_whole in zip(wanted, self.parts[-3:], self.served.replies[-3:], self.whole[-3:]):
-            is_right = is_whole and part[2] in (text, STORE) or is_whole and text is None and part[0] == 404
-            is_cut = not is_whole and b"index: connection: Cut\n" in self.served.said and (not part or text.startswith(part[2]))
+            is_right = is_whole and (part[2] in (text, STORE) or text is None and part[0] == 404)
+            is_cut = not is_whole and b"index: connection: Cut\n" in self.served.said and (not part or (text or b"").startswith(part[2]))
             self.told("a look", is_right or is_cut, (text, reply, self.served.said))
 
 
@@ -135,10 +135,14 @@ def peer_fault(bench, judged, fault, lines):
         made = [at for at in range(min([count, *lost], default=0))][:len(REQUESTS)]
     elif fault.is_harmless():
         is_well, made = not lost and (judged.served.status, judged.served.said) == (0, b""), range(len(REQUESTS))
+    elif fault.kind == "recv":
+        is_well = lost and (judged.served.status, judged.served.said) == (0, b"index: connection: ReadFault\n" * len(lost))
+        made = [at for at in range(len(REQUESTS)) if at not in lost]
     else:
-        said = b"index: connection: ReadFault\n" if fault.kind == "recv" else b"index: connection: WriteFault\n"
-        is_well = lost and (judged.served.status, judged.served.said) == (0, said * len(lost))
-        made = [at for at in range(len(REQUESTS)) if fault.kind == "send" or at not in lost]
+        # what was gathered of a reply may go out by a second send, after the first was told as failed
+        said = judged.served.said.splitlines()
+        is_well = judged.served.status == 0 and len(said) >= max(1, len(lost)) and {*said} == {b"index: connection: WriteFault"}
+        made = range(len(REQUESTS))
     judged.told("its end", is_well, (judged.served.status, judged.served.said, lost, count))
     judged.statuses_are_right()
     asked = tuple(lines[at] for at in made)

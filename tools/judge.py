@@ -2,15 +2,16 @@
 import os
 import shutil
 import sqlite3
-import tempfile
 from contextlib import closing
 
-from serving import make_index
-from trying import run
+from serving import make_index, sha256
+from trying import new_folder, run
 from workload import STORE
 
 TABLES = ("meta", "users", "names", "owners", "files", "blobs", "yanks", "cases", "bans")
 LOG = "-wal"
+# the answer to what asks nothing, for which the tables are not looked at
+MESSAGE = b'{"answer":"message"'
 
 
 def copy_index(path, to):
@@ -29,17 +30,25 @@ def rows_of(path):
     with closing(sqlite3.connect(path)) as database:
         for table in TABLES:
             if database.execute("SELECT 1 FROM sqlite_master WHERE name = ?", (table,)).fetchall():
-                found[table] = sorted(database.execute(f"SELECT * FROM {table}").fetchall(), key=repr)
+                found[table] = sorted(map(short, database.execute(f"SELECT * FROM {table}").fetchall()), key=repr)
     return found
 
 
+def short(row):
+    """A row with a digest in the place of what is long."""
+    return tuple(value if len(repr(value)) < 1_000 else (len(value), sha256(value)) for value in row)
+
+
 def seen_by_sqlite(path):
-    """What SQLite says of a copy of a database and its log: of its integrity, and its rows."""
-    with tempfile.TemporaryDirectory() as folder:
+    """What SQLite says of a copy of a database and its log: whether it is sound, and its rows."""
+    with new_folder() as folder:
         copy = copy_index(path, f"{folder}/copy.db")
-        with closing(sqlite3.connect(copy)) as database:
-            said = database.execute("PRAGMA integrity_check").fetchall()
-        return said == [("ok",)], rows_of(copy)
+        try:
+            with closing(sqlite3.connect(copy)) as database:
+                said = database.execute("PRAGMA integrity_check").fetchall()
+            return said == [("ok",)], rows_of(copy)
+        except sqlite3.DatabaseError as end:
+            return False, repr(end)
 
 
 class Judge:
@@ -70,9 +79,9 @@ class Judge:
 
 
 def kept_lines(lines, answers):
-    """The lines that were not answered by Store, and those behind the last of them."""
+    """The lines that were not answered by Store; and of those that were, the ones behind which nothing came of the tables."""
     stopped = [at for at, answer in enumerate(answers) if answer == STORE]
-    last = max((at for at in range(len(answers)) if at not in stopped), default=-1)
+    last = max((at for at, answer in enumerate(answers) if answer != STORE and not answer.startswith(MESSAGE)), default=-1)
     kept = tuple(line for at, line in enumerate(lines[:len(answers)]) if at not in stopped)
     return kept, tuple(lines[at] for at in stopped if at > last)
 

@@ -5,6 +5,7 @@ import random
 import signal
 import subprocess
 import sys
+import tempfile
 import time
 
 from serving import PROGRAM, TOP
@@ -68,6 +69,12 @@ def run_whole(tried, body):
     except (Exception, SystemExit) as end:
         tried.told("the run goes to its end", False, repr(end))
     tried.end()
+
+
+def new_folder():
+    """A folder for one run, in memory where that is to be had: a sync of it takes no time, and none is lost by a kill."""
+    memory = "/dev/shm"
+    return tempfile.TemporaryDirectory(dir=memory if os.access(memory, os.W_OK) else None)
 
 
 def built(name, folder):
