@@ -1,16 +1,14 @@
 """The runs of which try-crashes makes images, each with its record and the rows that hold at each of its answers."""
 import os
-import subprocess
 from dataclasses import dataclass, replace
 
 from images import ANSWERED, LOG, SYNCED, read_record
 from judge import copy_index, seen_by_sqlite
 from old_version import make_old_version
-from serving import Index, reply_to, sha256
-from trying import built, run
+from serving import OFFICE, Index, reply_to
+from trying import built, kill_after, run
 from workload import REQUESTS, lines_of, message_of, of_name, upload
 
-INIT = "--user", "office", "--token-sha256", sha256(b"office")
 # more than the log holds before it is copied, and more than the program keeps in memory of one change
 LARGE, LARGEST = 4_400_000, 9_000_000
 
@@ -89,7 +87,7 @@ class Recording:
 
     def init(self):
         first = self.begin(None)
-        run(self.program, "init", "--db", self.path, *INIT, more=self.more)
+        run(self.program, "init", "--db", self.path, *OFFICE, more=self.more)
         return self.recorded("init", first, (None, self.judge.rows(())))
 
     def migration(self):
@@ -122,18 +120,6 @@ def large_requests():
     large, largest = body * (LARGE // len(body)), body * (LARGEST // len(body))
     return [of_name("office", "claim", "frob"), upload("office", "frob-1.0.tar.gz", large), upload("office", "frob-1.1.tar.gz", b"abc"),
             upload("office", "frob-1.2.tar.gz", largest), upload("office", "frob-1.3.tar.gz", b"a")]
-
-
-def kill_after(program, path, lines):
-    """Applies these lines to a database, and kills the program when all are answered."""
-    words = [program, "apply", "--db", path]
-    with subprocess.Popen(words, stdin=subprocess.PIPE, stdout=subprocess.PIPE) as applying:
-        applying.stdin.write(b"".join(lines))
-        applying.stdin.flush()
-        for _ in lines:
-            applying.stdout.readline()
-        applying.kill()
-    return path
 
 
 def all_runs(recording, judge):

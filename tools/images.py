@@ -2,11 +2,11 @@
 
 Between two syncs of a file each range that was written may hold what was there, what was written, or anything, and the
 length is any between the least and the greatest; what lies past the least may be anything. All else is as it was. A file
-whose name was not synced with its folder may be gone."""
+whose name was not synced with its folder may be gone, and one that was removed is."""
 import struct
 from dataclasses import dataclass
 
-MADE, WRITTEN, CUT, SYNCED, ANSWERED = range(5)
+MADE, WRITTEN, CUT, SYNCED, ANSWERED, REMOVED = range(6)
 DATABASE, LOG, FOLDER, OTHER = range(4)
 SECTOR = 512
 # what becomes of the writes that were not synced
@@ -53,6 +53,8 @@ class File:
     def take(self, entry):
         if entry.done == MADE:
             self.content, self.synced, self.has_name = bytearray(), b"", False
+        elif entry.done == REMOVED:
+            self.content, self.synced, self.done = None, None, []
         elif entry.done == SYNCED and self.done:
             self.synced, self.done = bytes(self.content), []
         elif entry.done in (WRITTEN, CUT):

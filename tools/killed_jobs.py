@@ -2,10 +2,10 @@
 import subprocess
 import time
 
-from crash_runs import INIT, kill_after
 from judge import Judge, copy_index, seen_by_sqlite
 from old_version import make_old_version
-from trying import run
+from serving import OFFICE
+from trying import kill_after, run
 from workload import REQUESTS, lines_of
 
 
@@ -59,7 +59,7 @@ class Killing:
         self.told(f"killed {name}: what is there", is_well, (checked, is_sound, rows))
 
     def init(self, rounds):
-        words = "init", "--db", self.path, *INIT
+        words = "init", "--db", self.path, *OFFICE
         for name, output in self.each(rounds, "init", None, *words):
             again = run(self.program, *words)
             ends = [b"index: NotEmpty\n"] if output else [b"index: NotEmpty\n", b""]

@@ -17,7 +17,7 @@
 #include <sys/uio.h>
 #include <unistd.h>
 
-enum done { MADE, WRITTEN, CUT, SYNCED, ANSWERED };
+enum done { MADE, WRITTEN, CUT, SYNCED, ANSWERED, REMOVED };
 enum file { DATABASE, LOG, FOLDER, OTHER };
 
 static const char *under;
@@ -80,6 +80,15 @@ int openat(int folder, const char *path, int flags, ...) {
     va_end(rest);
     return opened(path, flags, NEXT(int, "openat")(folder, path, flags, mode));
 }
+
+static int removed(const char *path, int done) {
+    if (done == 0 && under != NULL && strncmp(path, under, strlen(under)) == 0) note(REMOVED, named(path), 0, NULL, 0, 0);
+    return done;
+}
+
+int unlink(const char *path) { return removed(path, NEXT(int, "unlink")(path)); }
+
+int unlinkat(int folder, const char *path, int flags) { return removed(path, NEXT(int, "unlinkat")(folder, path, flags)); }
 
 int close(int file) {
     if (is_file(file)) name_of[file] = 0;

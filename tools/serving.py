@@ -19,6 +19,10 @@ def sha256(data):
     return hashlib.sha256(data).hexdigest()
 
 
+# the words of `init` for the user `office`, with the token `office`
+OFFICE = "--user", "office", "--token-sha256", sha256(b"office")
+
+
 def free_port():
     """A port of loopback that nobody listens on."""
     with socket.create_server(("127.0.0.1", 0)) as found:
@@ -69,7 +73,7 @@ class Running:
 
 def make_index(program, path):
     """Makes a new index in this file. Its one user is `office`, with the token `office`."""
-    words = [program, "init", "--db", path, "--user", "office", "--token-sha256", sha256(b"office")]
+    words = [program, "init", "--db", path, *OFFICE]
     ended = subprocess.run(words, stdin=subprocess.DEVNULL, stdout=subprocess.PIPE, stderr=subprocess.STDOUT, timeout=10)
     if (ended.returncode, ended.stdout) != (0, b"created\n"):
         raise SystemExit(f"{program} init ended with {ended.returncode} {ended.stdout!r}")

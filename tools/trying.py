@@ -16,7 +16,7 @@ def read_words(text, rounds, seconds, told=""):
     words = argparse.ArgumentParser(description=text, formatter_class=argparse.RawDescriptionHelpFormatter)
     words.add_argument("program", nargs="?", default=PROGRAM, help="the built program; crates/index/out/index where none is told")
     words.add_argument("--rounds", type=int, default=rounds, help=f"{told or 'how often something is tried'}; {rounds} where it isn't told")
-    words.add_argument("--seconds", type=int, default=seconds, help=f"after so many no new round begins; {seconds} where it isn't told")
+    words.add_argument("--seconds", type=int, default=seconds, help=f"after so many seconds no new round begins; {seconds} where it isn't told")
     words.add_argument("--seed", type=int, default=random.randrange(10 ** 6), help="of what is chosen at random; printed first")
     given = words.parse_args()
     given.program = os.path.abspath(given.program)
@@ -89,3 +89,14 @@ def run(program, *words, given=b"", more={}, patience=60):
     """The end of the program on these words: its status, standard output and standard error."""
     return subprocess.run([program, *words], input=given, stdout=subprocess.PIPE, stderr=subprocess.PIPE,
                           timeout=patience, env={**os.environ, **more})
+
+
+def kill_after(program, path, lines):
+    """Applies these lines to a database, and kills the program when all are answered. So its log has them."""
+    with subprocess.Popen([program, "apply", "--db", path], stdin=subprocess.PIPE, stdout=subprocess.PIPE) as applying:
+        applying.stdin.write(b"".join(lines))
+        applying.stdin.flush()
+        for _ in lines:
+            applying.stdout.readline()
+        applying.kill()
+    return path
