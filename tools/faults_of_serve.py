@@ -27,6 +27,9 @@ class Served:
                 self.ask(index.port)
                 self.status = index.process.wait(timeout=30)
                 self.said = index.errors()
+            # a connection that it didn't take before it ended was not asked
+            while self.status and self.replies and not self.replies[-1]:
+                self.replies.pop()
         except SystemExit as end:
             # it doesn't listen, and the reason stands in the text of this
             self.said = b"index: Store\n" if "index: Store" in str(end) else str(end).encode()

@@ -36,7 +36,7 @@ def rows_of(path):
 
 def short(row):
     """A row with a digest in the place of what is long."""
-    return tuple(value if len(repr(value)) < 1_000 else (len(value), sha256(value)) for value in row)
+    return tuple(sha256(value) if isinstance(value, bytes) and len(value) > 1_000 else value for value in row)
 
 
 def seen_by_sqlite(path):

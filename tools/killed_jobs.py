@@ -62,8 +62,8 @@ class Killing:
         words = "init", "--db", self.path, *OFFICE
         for name, output in self.each(rounds, "init", None, *words):
             again = run(self.program, *words)
-            ends = [b"index: NotEmpty\n"] if output else [b"index: NotEmpty\n", b""]
-            self.told(f"killed {name}: init again", output in (b"", b"created\n") and again.stderr in ends, (output, again))
+            is_well = again.stderr.startswith(b"index: NotEmpty\n") or not output and again.stdout == b"created\n"
+            self.told(f"killed {name}: init again", output in (b"", b"created\n") and is_well, (output, again))
             self.is_there(name, [self.judge.rows(())])
 
     def migration(self, rounds):
