@@ -9,8 +9,8 @@ from serving import OFFICE, Index, reply_to
 from trying import built, kill_after, run
 from workload import REQUESTS, lines_of, message_of, of_name, upload
 
-# more than the log holds before it is copied, and more than the program keeps in memory of one change
-LARGE, LARGEST = 4_400_000, 9_000_000
+# more than the program keeps in memory of one change, and than the log holds before it is copied
+LARGE = 8_400_000
 
 
 @dataclass(frozen=True)
@@ -98,7 +98,7 @@ class Recording:
         return self.recorded("migration", first, (rows, rows), before=(before,))
 
     def large(self):
-        """Large files by `serve`: the log is copied while it serves, and one change doesn't fit into memory."""
+        """A large file by `serve`: it doesn't fit into memory as one change, and the log is copied while it serves."""
         messages = [message_of(request) for request in large_requests()]
         states = [self.served(messages[:count]) for count in range(len(messages) + 1)]
         self.served(messages, self.more)
@@ -116,10 +116,10 @@ class Recording:
 
 
 def large_requests():
-    body = bytes(at * at % 253 for at in range(65_536))
-    large, largest = body * (LARGE // len(body)), body * (LARGEST // len(body))
-    return [of_name("office", "claim", "frob"), upload("office", "frob-1.0.tar.gz", large), upload("office", "frob-1.1.tar.gz", b"abc"),
-            upload("office", "frob-1.2.tar.gz", largest), upload("office", "frob-1.3.tar.gz", b"a")]
+    piece = bytes(at * at % 253 for at in range(65_536))
+    large = piece * (LARGE // len(piece) + 1)
+    return [of_name("office", "claim", "frob"), upload("office", "frob-1.0.tar.gz", b"abc"), upload("office", "frob-1.1.tar.gz", large),
+            upload("office", "frob-1.2.tar.gz", b"a")]
 
 
 def all_runs(recording, judge):
@@ -127,6 +127,6 @@ def all_runs(recording, judge):
     lines = lines_of(REQUESTS)
     killed = kill_after(recording.program, copy_index(judge.new, f"{recording.folder}/killed.db"), lines)
     return [(recording.lines(lines), 0.45), (recording.opening(killed, judge.rows(lines)), 0.15), (recording.init(), 0.15),
-            (recording.migration(), 0.15), (recording.large(), 0.1)]
+            (recording.migration(), 0.2), (recording.large(), 0.05)]
 
 
