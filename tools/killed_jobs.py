@@ -41,7 +41,7 @@ class Killing:
             begun = time.monotonic()
             run(self.program, *words, given=given)
             took.append(time.monotonic() - begun)
-        return 1.1 * min(took)
+        return 1.3 * min(took)
 
     def each(self, rounds, name, first, *words, given=b""):
         """By round what was told before a kill. Not each of them may come too late."""
