@@ -66,10 +66,11 @@ class Failing:
 
 
 def faults_of(counted, kinds, tried, count):
-    """About so many faults of a run that makes these calls, as many of each kind: of each place one, or of some places."""
-    found = []
+    """About so many faults of a run that makes these calls, as many of each kind, and how many there are in all."""
+    found, of_all = [], 0
     for kind in kinds:
         every = [Fault(kind, at, how, is_lasting) for at in range(1, counted[kind] + 1) for how in HOWS[kind]
                  for is_lasting in ((False,) if how in ONCE_ONLY else (False, True))]
         found += tried.chosen(every, max(1, count // len(kinds)))
-    return found
+        of_all += len(every)
+    return found, of_all

@@ -106,8 +106,8 @@ def try_serve(bench, share):
     judged.looks_are_right(lines)
     counted = bench.failing.counted()
     for kinds, tries in ((FILE_KINDS, file_fault), (PEER_KINDS, peer_fault)):
-        found = faults_of(counted, kinds, bench.tried, int(bench.rounds * share / 2))
-        bench.tried.says(f"serve: {len(found)} faults of {', '.join(kinds)}")
+        found, of_all = faults_of(counted, kinds, bench.tried, int(bench.rounds * share / 2))
+        bench.tried.says(f"serve: {len(found)} of {of_all} faults of {', '.join(kinds)}")
         for fault in bench.each(found):
             bench.begin(bench.judge.new)
             served = Served(bench.program, bench.path, setting(bench.under, fault))
