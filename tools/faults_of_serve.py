@@ -89,7 +89,7 @@ class Judged:
         if len(self.parts) < len(MESSAGES):
             return
         wanted = shown(self.bench.judge.rows(lines))
-        for text, part, reply, is_whole in zip(wanted, self.parts[-3:], self.served.replies[-3:], self.whole[-3:]):
+        for text, part, reply, is_whole in zip(wanted, *(found[-len(LOOKS):] for found in (self.parts, self.served.replies, self.whole))):
             is_right = is_whole and (part[2] in (text, STORE) or text is None and part[0] == 404)
             is_cut = not is_whole and b"index: connection: Cut\n" in self.served.said and (not part or (text or b"").startswith(part[2]))
             self.told("a look", is_right or is_cut, (text, reply, self.served.said))
@@ -103,6 +103,7 @@ def try_serve(bench, share):
     served = Served(bench.program, bench.path, setting(bench.under))
     judged = Judged(bench, "serve without a fault", served)
     judged.told("answers", tuple(judged.answers(None)) == bench.judge.answers(lines) and served.status == 0 and all(judged.whole))
+    judged.told("looks", [part[0] for part in judged.parts[-len(LOOKS):]] == [200] * len(LOOKS))
     judged.looks_are_right(lines)
     counted = bench.failing.counted()
     for kinds, tries in ((FILE_KINDS, file_fault), (PEER_KINDS, peer_fault)):
