@@ -1,12 +1,14 @@
-"""What try-with-pip and bench share: a server that is started and always stopped, and requests that are sent to it."""
+"""What the tools share: a server that is started and always stopped, and requests that are sent to it."""
 import hashlib
 import http.client
 import os
+import re
 import select
 import socket
 import subprocess
 import tempfile
 import time
+from contextlib import suppress
 
 TOP = os.path.dirname(os.path.dirname(os.path.abspath(__file__)))
 PROGRAM = f"{TOP}/crates/index/out/index"
@@ -17,10 +19,35 @@ def sha256(data):
     return hashlib.sha256(data).hexdigest()
 
 
+# the words of `init` for the user `office`, with the token `office`
+OFFICE = "--user", "office", "--token-sha256", sha256(b"office")
+
+
 def free_port():
     """A port of loopback that nobody listens on."""
     with socket.create_server(("127.0.0.1", 0)) as found:
         return found.getsockname()[1]
+
+
+def reply_to(port, message, patience=30):
+    """What comes back for a message before the connection ends. One whose request was not read whole may be reset."""
+    reply = b""
+    with suppress(ConnectionResetError, BrokenPipeError):
+        with socket.create_connection(("127.0.0.1", port), timeout=patience) as peer:
+            peer.sendall(message)
+            while more := peer.recv(1 << 16):
+                reply += more
+    return reply
+
+
+def parts_of(reply):
+    """The status, the headers by name, and the body of a reply, or None where it is not one whole reply."""
+    head, end, body = reply.partition(b"\r\n\r\n")
+    first, *lines = head.split(b"\r\n")
+    found = re.fullmatch(rb"HTTP/1\.1 (\d{3}) [A-Za-z ]+", first)
+    if not found or not end or not all(b": " in line for line in lines):
+        return None
+    return int(found[1]), dict(line.split(b": ", 1) for line in lines), body
 
 
 class Running:
@@ -46,7 +73,7 @@ class Running:
 
 def make_index(program, path):
     """Makes a new index in this file. Its one user is `office`, with the token `office`."""
-    words = [program, "init", "--db", path, "--user", "office", "--token-sha256", sha256(b"office")]
+    words = [program, "init", "--db", path, *OFFICE]
     ended = subprocess.run(words, stdin=subprocess.DEVNULL, stdout=subprocess.PIPE, stderr=subprocess.STDOUT, timeout=10)
     if (ended.returncode, ended.stdout) != (0, b"created\n"):
         raise SystemExit(f"{program} init ended with {ended.returncode} {ended.stdout!r}")
@@ -56,11 +83,12 @@ def make_index(program, path):
 class Index(Running):
     """The built program, serving on loopback the index in a file, or a new one. What it says on standard error is kept."""
 
-    def __init__(self, program, requests=1_000_000, path=None, patience=10, more={}, port=0):
+    def __init__(self, program, requests=1_000_000, path=None, patience=10, more={}, port=0, at=None):
         self.patience = patience
         self.said, self.folder = tempfile.TemporaryFile(), tempfile.TemporaryDirectory()
         self.path = path or f"{self.folder.name}/index.db"
         words = [program, "serve", "--db", self.path, "--listen", f"127.0.0.1:{port}", "--requests", str(requests)]
+        words += [] if at is None else ["--at", str(at)]
         super().__init__(words, stdout=subprocess.PIPE, stderr=self.said, env={**os.environ, **more})
 
     def __enter__(self):
