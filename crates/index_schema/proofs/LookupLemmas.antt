@@ -106,4 +106,3 @@ module _ (at : ℕ) (table : Table) (t : PairKeyed at table) (text : List ℕ) (
   shows_pair P Q keeps key old new rows h shown all =
       let found = found_pair key old new rows h shown in
       shown_all P Q (λ r. eval_all project ((Text key.0 ∷ Text key.1 ∷ []) ∷ r ∷ [])) (keeps (Text key.0 ∷ Text key.1 ∷ [])) (λ r. eq_by_cmp pair_cmp key (pair_key r)) (old.now.trees table.tree) found.0 rows found.1 found.2 all
-
