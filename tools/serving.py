@@ -1,4 +1,4 @@
-"""What try-with-pip and bench share: a server that is started and always stopped, and requests that are sent to it."""
+"""What the tools share: a server that is started and always stopped, and requests that are sent to it."""
 import hashlib
 import http.client
 import os
