@@ -3,6 +3,7 @@ import http.server
 import json
 import os
 import shutil
+import subprocess
 import sys
 import threading
 
@@ -24,9 +25,14 @@ class Uploads:
         self.folder = folder
         self.setting = {"INDEX_URL": front.url, "INDEX_CA": front.certificate, "INDEX_TOKEN": "office"}
 
-    def run(self, *words, **setting):
+    def words(self, *words, **setting):
+        """The command, and what it finds in its environment."""
         setting = {name: value for name, value in {**self.setting, **setting}.items() if value is not None}
-        return run([sys.executable, f"{OPERATE}/index-upload", *words], **setting)
+        return [sys.executable, f"{OPERATE}/index-upload", *words], setting
+
+    def run(self, *words, **setting):
+        words, setting = self.words(*words, **setting)
+        return run(words, **setting)
 
     def wheel(self, name, version, inside=None, more="", requires=""):
         """A wheel whose metadata may have another name than the file."""
@@ -90,14 +96,14 @@ def try_late_uploads(by, index, dist):
     """An index that is away is asked again, and what does not come back ends with status 3."""
     nobody = f"https://127.0.0.1:{free_port()}"
     ends("nobody listens", by.run("--again", "1", dist, INDEX_URL=nobody), 3, "Again in", "again later")
-    late, direct = [], f"http://127.0.0.1:{index.port}"
+    # past nginx, which would wait in its place
+    words, setting = by.words(by.wheel("frob", "1.3"), INDEX_URL=f"http://127.0.0.1:{index.port}")
     with index.away():
-        # past nginx, which would wait in its place
-        asking = threading.Thread(target=lambda: late.append(by.run(by.wheel("frob", "1.3"), INDEX_URL=direct)))
-        asking.start()
-        asking.join(timeout=1)
-    asking.join()
-    ends("an index that comes back", late[0], 0, "Again in", "1 of 1 files are there")
+        late = subprocess.Popen(words, stderr=subprocess.PIPE, stdout=subprocess.PIPE, env={**os.environ, **setting}, text=True)
+        said = late.stderr.readline()
+    told("an index that is away is asked again", "Again in" in said, said)
+    said = late.communicate(timeout=60)[0]
+    told("an index that comes back", late.returncode == 0 and "1 of 1 files are there" in said, said)
 
 
 class Failing(http.server.BaseHTTPRequestHandler):

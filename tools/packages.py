@@ -1,4 +1,4 @@
-"""The packages that try-with-pip uploads: small wheels, and a source archive that is built without a network."""
+"""The packages that the tools upload: small wheels, and a source archive that is built without a network."""
 import base64
 import hashlib
 import io
