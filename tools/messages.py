@@ -102,7 +102,7 @@ MUTATIONS = (with_first_line, with_lines, with_length, with_bytes, with_bytes, w
 
 
 def odd_message(random):
-    """A message made at random, and whether it is one piece that a server takes in at once."""
+    """A message made at random."""
     if random.random() < 0.05:
         return random.choice(STRANGE)
     message = random.choice(WELL_FORMED)

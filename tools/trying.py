@@ -6,6 +6,7 @@ import signal
 import subprocess
 import sys
 import tempfile
+import threading
 import time
 
 from serving import PROGRAM, TOP
@@ -94,9 +95,12 @@ def run(program, *words, given=b"", more={}, patience=60):
 def kill_after(program, path, lines):
     """Applies these lines to a database, and kills the program when all are answered. So its log has them."""
     with subprocess.Popen([program, "apply", "--db", path], stdin=subprocess.PIPE, stdout=subprocess.PIPE) as applying:
+        late = threading.Timer(60, applying.kill)
+        late.start()
         applying.stdin.write(b"".join(lines))
         applying.stdin.flush()
         for _ in lines:
             applying.stdout.readline()
         applying.kill()
+        late.cancel()
     return path
