@@ -56,6 +56,7 @@ fn desk_over<S: Alter + Drop>(
 }
 
 fn new_books<S: Alter + Drop>(rt: &(impl Abort + AllocGlobal), conn: Connection<S>) -> SqlBooks<S> {
+    assert!(rt; conn.is_autocommit());
     match SqlBooks::create(rt.alloc(), conn, b"office", Digest256::of(b"office")) {
         Ok(books) => books,
         Err(Unopened { why, conn }) => {
