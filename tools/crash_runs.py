@@ -2,7 +2,7 @@
 import os
 from dataclasses import dataclass, replace
 
-from images import ANSWERED, LOG, SYNCED, read_record
+from images import ANSWERED, SYNCED, read_record
 from judge import copy_index, seen_by_sqlite
 from old_version import make_old_version
 from serving import OFFICE, Index, reply_to
