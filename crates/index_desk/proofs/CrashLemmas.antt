@@ -67,41 +67,41 @@ LeavesAll-more T (d ∷ calls) (Fault fault ∷ answers) call answer T' other le
 ]
 
 -- that was accepted
-pub LeavesAll-accepted : (T : Tables) (calls : List Call) (answers : List Answer) (T1 : Tables) (call : Call) (T' : Tables) → Runs T calls answers T1 → IsWithCall T1 call T'
+pub LeavesAll-accepted : (T : Tables) (calls : List Call) (answers : List Answer) (between : Tables) (call : Call) (T' : Tables) → Runs T calls answers between → IsWithCall between call T'
     → LeavesAll T (calls ++ call ∷ []) (answers ++ Accepted ∷ []) T'
-LeavesAll-accepted T [] [] T1 call T' run is = subst (λ x. IsWithCall x call T') run is
-LeavesAll-accepted T [] (b ∷ answers) T1 call T' run is = absurd run
-LeavesAll-accepted T (d ∷ calls) [] T1 call T' run is = absurd run
-LeavesAll-accepted T (d ∷ calls) (Accepted ∷ answers) T1 call T' run is = (run.0, LeavesAll-accepted (tables_after T d Accepted) calls answers T1 call T' run.1 is)
-LeavesAll-accepted T (d ∷ calls) (Already ∷ answers) T1 call T' run is = LeavesAll-accepted T calls answers T1 call T' run.1 is
-LeavesAll-accepted T (d ∷ calls) (Refused refusal ∷ answers) T1 call T' run is = LeavesAll-accepted T calls answers T1 call T' run.1 is
-LeavesAll-accepted T (d ∷ calls) (Fault fault ∷ answers) T1 call T' run is = inl (LeavesAll-accepted T calls answers T1 call T' run.1 is)
+LeavesAll-accepted T [] [] between call T' run is = subst (λ x. IsWithCall x call T') run is
+LeavesAll-accepted T [] (b ∷ answers) between call T' run is = absurd run
+LeavesAll-accepted T (d ∷ calls) [] between call T' run is = absurd run
+LeavesAll-accepted T (d ∷ calls) (Accepted ∷ answers) between call T' run is = (run.0, LeavesAll-accepted (tables_after T d Accepted) calls answers between call T' run.1 is)
+LeavesAll-accepted T (d ∷ calls) (Already ∷ answers) between call T' run is = LeavesAll-accepted T calls answers between call T' run.1 is
+LeavesAll-accepted T (d ∷ calls) (Refused refusal ∷ answers) between call T' run is = LeavesAll-accepted T calls answers between call T' run.1 is
+LeavesAll-accepted T (d ∷ calls) (Fault fault ∷ answers) between call T' run is = inl (LeavesAll-accepted T calls answers between call T' run.1 is)
 
 -- to which a fault was answered, where it is left
-pub LeavesAll-fault : (T : Tables) (calls : List Call) (answers : List Answer) (T1 : Tables) (call : Call) (fault : FaultData) (T' : Tables) → Runs T calls answers T1 → IsWithCall T1 call T'
+pub LeavesAll-fault : (T : Tables) (calls : List Call) (answers : List Answer) (between : Tables) (call : Call) (fault : FaultData) (T' : Tables) → Runs T calls answers between → IsWithCall between call T'
     → LeavesAll T (calls ++ call ∷ []) (answers ++ Fault fault ∷ []) T'
-LeavesAll-fault T [] [] T1 call fault T' run is = let it = subst (λ x. IsWithCall x call T') run is in inr ((λ found. absurd (omega (arith, found.1))), it.0, it.1)
-LeavesAll-fault T [] (b ∷ answers) T1 call fault T' run is = absurd run
-LeavesAll-fault T (d ∷ calls) [] T1 call fault T' run is = absurd run
-LeavesAll-fault T (d ∷ calls) (Accepted ∷ answers) T1 call fault T' run is = (run.0, LeavesAll-fault (tables_after T d Accepted) calls answers T1 call fault T' run.1 is)
-LeavesAll-fault T (d ∷ calls) (Already ∷ answers) T1 call fault T' run is = LeavesAll-fault T calls answers T1 call fault T' run.1 is
-LeavesAll-fault T (d ∷ calls) (Refused refusal ∷ answers) T1 call fault T' run is = LeavesAll-fault T calls answers T1 call fault T' run.1 is
-LeavesAll-fault T (d ∷ calls) (Fault b ∷ answers) T1 call fault T' run is = inl (LeavesAll-fault T calls answers T1 call fault T' run.1 is)
+LeavesAll-fault T [] [] between call fault T' run is = let it = subst (λ x. IsWithCall x call T') run is in inr ((λ found. absurd (omega (arith, found.1))), it.0, it.1)
+LeavesAll-fault T [] (b ∷ answers) between call fault T' run is = absurd run
+LeavesAll-fault T (d ∷ calls) [] between call fault T' run is = absurd run
+LeavesAll-fault T (d ∷ calls) (Accepted ∷ answers) between call fault T' run is = (run.0, LeavesAll-fault (tables_after T d Accepted) calls answers between call fault T' run.1 is)
+LeavesAll-fault T (d ∷ calls) (Already ∷ answers) between call fault T' run is = LeavesAll-fault T calls answers between call fault T' run.1 is
+LeavesAll-fault T (d ∷ calls) (Refused refusal ∷ answers) between call fault T' run is = LeavesAll-fault T calls answers between call fault T' run.1 is
+LeavesAll-fault T (d ∷ calls) (Fault b ∷ answers) between call fault T' run is = inl (LeavesAll-fault T calls answers between call fault T' run.1 is)
 
 -- whatever was answered: `before` is what could be left before the call
-pub LeavesAll-push : (T : Tables) (calls : List Call) (answers : List Answer) (T1 : Tables) (call : Call) (answer : Answer) (before : Tables → Type 0) (honest honest' : Type 0) (T' : Tables)
-    → (honest → Runs T calls answers T1) → ((U : Tables) → before U → LeavesAll T calls answers U) → Lasts answer honest honest' → (honest' → honest) → before T' ⊎ honest
-    → (honest → Leaves before (IsWithCall T1 call) answer T') → LeavesAll T (calls ++ call ∷ []) (answers ++ answer ∷ []) T'
-LeavesAll-push T calls answers T1 call Accepted before honest honest' T' runs earlier lasts back either leaves = LeavesAll-accepted T calls answers T1 call T' (runs (back lasts)) (leaves (back lasts))
-LeavesAll-push T calls answers T1 call Already before honest honest' T' runs earlier lasts back either leaves =
+pub LeavesAll-push : (T : Tables) (calls : List Call) (answers : List Answer) (between : Tables) (call : Call) (answer : Answer) (before : Tables → Type 0) (honest honest' : Type 0) (T' : Tables)
+    → (honest → Runs T calls answers between) → ((U : Tables) → before U → LeavesAll T calls answers U) → Lasts answer honest honest' → (honest' → honest) → before T' ⊎ honest
+    → (honest → Leaves before (IsWithCall between call) answer T') → LeavesAll T (calls ++ call ∷ []) (answers ++ answer ∷ []) T'
+LeavesAll-push T calls answers between call Accepted before honest honest' T' runs earlier lasts back either leaves = LeavesAll-accepted T calls answers between call T' (runs (back lasts)) (leaves (back lasts))
+LeavesAll-push T calls answers between call Already before honest honest' T' runs earlier lasts back either leaves =
     LeavesAll-more T calls answers call Already T' (λ h. absurd (cc)) (earlier T' (elim either [ inl b ↦ b | inr h ↦ leaves h ]))
-LeavesAll-push T calls answers T1 call (Refused refusal) before honest honest' T' runs earlier lasts back either leaves =
+LeavesAll-push T calls answers between call (Refused refusal) before honest honest' T' runs earlier lasts back either leaves =
     LeavesAll-more T calls answers call (Refused refusal) T' (λ h. absurd (cc)) (earlier T' (elim either [ inl b ↦ b | inr h ↦ leaves h ]))
-LeavesAll-push T calls answers T1 call (Fault fault) before honest honest' T' runs earlier lasts back either leaves =
+LeavesAll-push T calls answers between call (Fault fault) before honest honest' T' runs earlier lasts back either leaves =
     let more = λ (b : before T'). LeavesAll-more T calls answers call (Fault fault) T' (λ h. absurd (cc)) (earlier T' b) in
     elim either [
       | inl b ↦ more b
-      | inr h ↦ elim (leaves h) [ inl b ↦ more b | inr w ↦ LeavesAll-fault T calls answers T1 call fault T' (runs h) w ]
+      | inr h ↦ elim (leaves h) [ inl b ↦ more b | inr w ↦ LeavesAll-fault T calls answers between call fault T' (runs h) w ]
     ]
 
 -- tables that are left stand for a legal history
