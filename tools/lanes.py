@@ -3,6 +3,7 @@ import argparse
 import copy
 import importlib.machinery
 import importlib.util
+import json
 import os
 import queue
 import signal
@@ -31,26 +32,7 @@ def kit():
     loader = importlib.machinery.SourceFileLoader("rt", f"{os.path.dirname(said)}/bin/rt")
     made = importlib.util.module_from_spec(importlib.util.spec_from_loader("rt", loader))
     loader.exec_module(made)
-    made.rtlib.Crate.stamp = summed_once(made.rtlib.Crate.stamp)
     return made
-
-
-def summed_once(stamp):
-    """The kit's sum of a crate's sources and of all below it, which takes each crate once, and not for each way
-    down."""
-    found = threading.local()
-
-    def summed(crate):
-        if hasattr(found, "sums"):
-            if crate.name not in found.sums:
-                found.sums[crate.name] = stamp(crate)
-            return found.sums[crate.name]
-        found.sums = {}
-        try:
-            return stamp(crate)
-        finally:
-            del found.sums
-    return summed
 
 
 def weight(crate):
@@ -67,16 +49,33 @@ def prove(library, jobs):
         return status, library.out.read(), time.monotonic() - begun
 
 
-def is_fresh(rt, crate, known):
+def is_fresh(rt, crate, known, of_ci):
     """Returns whether the crate's library is there, made of its sources and of the libraries below as they are.
-    Those of `rt ci` hold statements, and have no stamp: then nothing that the library is made of may be younger
-    than it is."""
+    Those of `rt ci` hold statements, and have no stamp: then it is one of of_ci, or nothing that the library is
+    made of is younger than it."""
     if crate.name not in known:
         known[crate.name] = crate.is_built() or (
-            all(is_fresh(rt, it, known) and not has_stamp(it) for it in crate.deps)
+            all(is_fresh(rt, it, known, of_ci) and not has_stamp(it) for it in crate.deps)
             and not has_stamp(crate) and os.path.isfile(f"{crate.rlib}/format")
-            and youngest(rt, crate) < os.path.getmtime(f"{crate.rlib}/format"))
+            and (crate.name in of_ci or youngest(rt, crate) < os.path.getmtime(f"{crate.rlib}/format")))
     return known[crate.name]
+
+
+def libraries_of_ci(rt, crates):
+    """Returns the names of the libraries that stand as `rt ci` keeps them on this machine for these sources, over
+    libraries below that do so too. An earlier run may have made them, so their times tell nothing."""
+    rt.Crate.allowed, found = rt.handles_of(ROOT), set()
+    kept = rt.Kept(crates)
+    for it in crates:
+        try:
+            with open(f"{kept.place(it, False, kept.key(it))}/made.json", encoding="utf-8") as entry:
+                sums = json.load(entry)["files"]
+        except (OSError, ValueError, KeyError):
+            continue
+        if not it.is_program and sums == [[path, rt.rtlib.sum_of(f"{it.folder}/out/{path}")] for path in kept.made(it, False)]:
+            kept.is_built(it)
+            found.add(it.name)
+    return found
 
 
 def has_stamp(crate):
