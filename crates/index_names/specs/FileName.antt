@@ -57,6 +57,10 @@ unfoldable pub read_file_name : List ℕ → Option Spelled
 read_file_name f =
     if nat_le (length f) longest_file_name then read_stem (strip_suffix (codes ".whl") f) (strip_suffix (codes ".tar.gz") f) else None
 
+-- a text is read as the name of a file of this project, release and kind
+abbrev pub IsReadAs : List ℕ → List ℕ → List ℕ → FileKind → Type 0
+IsReadAs f project release kind = read_file_name f ≡ Some (record { project = project; release = release; kind = kind })
+
 -- of what a file name is read as; of no other text do these say anything
 abbrev pub project_of : List ℕ → List ℕ
 project_of f = option_map_or (λ spelled. spelled.project) (read_file_name f) []

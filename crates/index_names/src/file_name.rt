@@ -57,14 +57,14 @@ impl Drop for FileName {
 }
 
 impl Model for FileName {
-    ghost use Rattle.std.specs.Prelude.{◌≡◌, List, ℕ, Some};
-    ghost use Rattle.index_names.specs.FileName.{read_file_name};
+    ghost use Rattle.std.specs.Prelude.{List, ℕ};
+    ghost use Rattle.index_names.specs.FileName.{IsReadAs};
 
     ghost Value = { List ℕ };
 
     ghost view = { λ name. name.text };
 
-    ghost invariant = { λ name. read_file_name name.text ≡ Some (record { project = name.project; release = name.release; kind = name.kind }) };
+    ghost invariant = { λ name. IsReadAs name.text name.project name.release name.kind };
 }
 
 impl FileName {
