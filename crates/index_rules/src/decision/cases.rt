@@ -18,6 +18,8 @@ use crate::records::CaseRecord;
 use index_retention::{CaseFault, CaseKind, CaseState, Means, may_transfer, note};
 use std::alloc::AllocError;
 
+/// Opens a case on a held name, whose candidate is the caller. Refused, in this order, as BadName, BadText,
+/// NoProject, CaseOpen, OwnerCandidate; never Already.
 pub fn open_case(
     context: &Context<'_>,
     name: &Bytes,
@@ -79,6 +81,8 @@ fn opened_case(
     })
 }
 
+/// Records an attempt to reach the owner. Refused, in this order, as NotOffice, BadName, NoProject, NoCase,
+/// AttemptsFull; never Already.
 pub fn record_attempt(
     context: &Context<'_>,
     name: &Bytes,
@@ -110,6 +114,8 @@ pub fn record_attempt(
     Ok(Decision::Change(Change::RecordAttempt { name, case }))
 }
 
+/// Transfers a name to the candidate of its case. Refused, in this order, as NotOffice, BadName, NoProject, NoCase,
+/// TooFewAttempts, TooEarly, RecentRelease, HomePageActive; never Already.
 pub fn transfer(context: &Context<'_>, name: &Bytes, quiet: bool) -> Result<Decision, Stop>
     requires { IsOfCaller context.now }
     ensures { DecidesIn context.now (Transfer name.now quiet) result }
@@ -147,6 +153,8 @@ fn refusal_by(fault: CaseFault) -> Refusal
     }
 }
 
+/// Closes a case, for the office or its candidate. Refused, in this order, as NotOffice, BadName, NoProject,
+/// NoCase; never Already.
 pub fn close_case(context: &Context<'_>, name: &Bytes) -> Result<Decision, Stop>
     requires { IsOfCaller context.now }
     ensures { DecidesIn context.now (CloseCase name.now) result }
@@ -178,6 +186,8 @@ fn is_candidate(context: &Context<'_>) -> bool
     }
 }
 
+/// Answers a case, for an owner, which ends it. Refused, in this order, as BadName, NoProject, NotOwner, NoCase;
+/// never Already.
 pub fn answer_case(context: &Context<'_>, name: &Bytes) -> Result<Decision, Stop>
     requires { IsOfCaller context.now }
     ensures { DecidesIn context.now (AnswerCase name.now) result }

@@ -26,6 +26,9 @@ use std::alloc::{AllocError, Global};
 /// The most bytes of a body.
 const LARGEST_BODY: usize = 16_777_216;
 
+/// Uploads a file to the project that its name decides. Refused, in this order, as BadFileName, BadText, BadDigest,
+/// TooLarge, DigestMismatch, NoProject, NotOwner, FileNameTaken, FileBanned, OverQuota; Already where it is
+/// undeleted.
 pub fn upload(
     context: &Context<'_>,
     file: &Bytes,
@@ -191,6 +194,8 @@ fn is_other(known: &FileRecord, digest: &Digest256, size: u64) -> bool
     !(*digest == known.digest && size == known.size)
 }
 
+/// Deletes a file, whose record stays. Refused, in this order, as BadFileName, NoProject, NotOwner, NoFile; Already
+/// where it is not undeleted.
 pub fn delete(context: &Context<'_>, file: &Bytes) -> Result<Decision, Stop>
     requires { IsOfCaller context.now }
     ensures { DecidesIn context.now (Delete file.now) result }
@@ -222,6 +227,8 @@ pub fn delete(context: &Context<'_>, file: &Bytes) -> Result<Decision, Stop>
     }))
 }
 
+/// Bans a file for good, and deletes it where it is undeleted. Refused, in this order, as NotOffice, BadFileName,
+/// NoFile; Already where it is banned.
 pub fn ban_file(context: &Context<'_>, file: &Bytes) -> Result<Decision, Stop>
     requires { IsOfCaller context.now }
     ensures { DecidesIn context.now (BanFile file.now) result }

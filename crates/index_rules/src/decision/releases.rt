@@ -12,6 +12,8 @@ use crate::bytes::Bytes;
 use crate::change::Change;
 use crate::reading::{is_name, is_release, is_text, to_name, to_release, to_text};
 
+/// Yanks a release for a reason (PEP 592). Refused, in this order, as BadName, BadRelease, BadText, NoProject,
+/// NotOwner, NoRelease; Already where it is yanked for this reason.
 pub fn yank(
     context: &Context<'_>,
     name: &Bytes,
@@ -62,6 +64,8 @@ fn is_yanked_for(context: &Context<'_>, reason: &Bytes) -> bool
     }
 }
 
+/// Takes the yank off a release (PEP 592). Refused, in this order, as BadName, BadRelease, NoProject, NotOwner,
+/// NoRelease; Already where it is not yanked.
 pub fn unyank(context: &Context<'_>, name: &Bytes, release: &Bytes) -> Result<Decision, Stop>
     requires { IsOfCaller context.now }
     ensures { DecidesIn context.now (Unyank name.now release.now) result }

@@ -14,6 +14,8 @@ use crate::records::UserRecord;
 use crate::user::UserId;
 use index_digest::Digest256;
 
+/// Adds a user with the digest of a token. Refused, in this order, as NotOffice, BadUser, BadDigest, UserExists,
+/// TokenTaken; Already where the user is there with this flag and this digest.
 pub fn add_user(
     context: &Context<'_>,
     user: &Bytes,
@@ -52,6 +54,8 @@ pub fn add_user(
     Ok(Decision::Change(Change::AddUser { user, record }))
 }
 
+/// Gives a user the digest of another token. Refused, in this order, as NotOffice, BadUser, BadDigest, NoUser,
+/// TokenTaken; Already where the user has this digest.
 pub fn set_token(context: &Context<'_>, user: &Bytes, token: &Bytes) -> Result<Decision, Stop>
     requires { IsOfCaller context.now }
     ensures { DecidesIn context.now (SetToken user.now token.now) result }
