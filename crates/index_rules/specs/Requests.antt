@@ -1,5 +1,5 @@
 -- The readable parts of a request.
-use Rattle.std.specs.Prelude.{Bool, true, false, Option, Some, None, option_map}
+use Rattle.std.specs.Prelude.{◌⊎◌, Bool, true, false, Option, Some, None, IsSome, option_map}
 use Rattle.index_names.specs.Project.{read_name}
 use Rattle.index_names.specs.FileName.{read_file_name, project_of}
 use Rattle.index_names.specs.Release.{read_release}
@@ -89,6 +89,11 @@ keys_of_request caller request = record {
 -- what is looked up for a call
 abbrev pub keys_of : Call → Keys
 keys_of call = keys_of_request (Some call.token) call.request
+
+-- one of what is looked up for a request can be read of it
+abbrev pub HasReadableKey : Request → Type 0
+HasReadableKey request =
+    IsSome (user_key request) ⊎ IsSome (name_key request) ⊎ IsSome (file_key request) ⊎ IsSome (release_key request)
 
 -- a name alone
 abbrev pub keys_of_name : Bytes → Keys

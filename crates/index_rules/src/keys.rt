@@ -1,8 +1,8 @@
 //! The readable parts of a call.
-ghost use Rattle.std.specs.Prelude.{◌≡◌, IfOk, IfErr, option_map};
+ghost use Rattle.std.specs.Prelude.{◌≡◌, IfOk, IfErr, IsSome, option_map};
 ghost use Rattle.index_names.specs.FileName.{project_of};
 ghost use Rattle.index_rules.specs.declared.call.Request.TheVariants.{AddOwner, Claim, Delete, SetToken, Unyank};
-ghost use Rattle.index_rules.specs.Requests.{keys_of_request, keys_of, keys_of_name};
+ghost use Rattle.index_rules.specs.Requests.{HasReadableKey, keys_of_request, keys_of, keys_of_name};
 
 use crate::answer::Fault;
 use crate::bytes::Bytes;
@@ -64,6 +64,8 @@ impl Call {
     pub fn keys(&self, alloc: Global) -> Result<Keys, Fault>
         ensures keys { IfOk result (λ keys. keys ≡ keys_of self.now) }
         ensures memory { IfErr result (λ fault. fault ≡ Fault.OutOfMemory) }
+        // Of a call with nothing to be looked up but its caller no memory is wanted.
+        ensures readable { IfErr result (λ _. HasReadableKey self.now.request) }
     {
         let caller = Some(self.token);
         let keys = match &self.request {
@@ -101,7 +103,8 @@ fn user_keys(
     user: &Bytes,
     token: &Bytes,
 ) -> Result<Keys, AllocError>
-    ensures { IfOk result (λ keys. keys ≡ keys_of_request caller (SetToken user.now token.now)) }
+    ensures keys { IfOk result (λ keys. keys ≡ keys_of_request caller (SetToken user.now token.now)) }
+    ensures readable { IfErr result (λ _. HasReadableKey (SetToken user.now token.now)) }
 {
     Ok(Keys {
         caller,
@@ -113,8 +116,10 @@ fn user_keys(
     })
 }
 
+/// The name that a call speaks of.
 fn name_keys(alloc: Global, caller: Option<Digest256>, name: &Bytes) -> Result<Keys, AllocError>
-    ensures { IfOk result (λ keys. keys ≡ keys_of_request caller (Claim name.now)) }
+    ensures keys { IfOk result (λ keys. keys ≡ keys_of_request caller (Claim name.now)) }
+    ensures readable { IfErr result (λ _. HasReadableKey (Claim name.now)) }
 {
     Ok(Keys {
         caller,
@@ -126,13 +131,15 @@ fn name_keys(alloc: Global, caller: Option<Digest256>, name: &Bytes) -> Result<K
     })
 }
 
+/// The name and the user that a call speaks of.
 fn owner_keys(
     alloc: Global,
     caller: Option<Digest256>,
     name: &Bytes,
     user: &Bytes,
 ) -> Result<Keys, AllocError>
-    ensures { IfOk result (λ keys. keys ≡ keys_of_request caller (AddOwner name.now user.now)) }
+    ensures keys { IfOk result (λ keys. keys ≡ keys_of_request caller (AddOwner name.now user.now)) }
+    ensures readable { IfErr result (λ _. HasReadableKey (AddOwner name.now user.now)) }
 {
     Ok(Keys {
         caller,
@@ -144,13 +151,15 @@ fn owner_keys(
     })
 }
 
+/// The name and the release that a call speaks of.
 fn release_keys(
     alloc: Global,
     caller: Option<Digest256>,
     name: &Bytes,
     release: &Bytes,
 ) -> Result<Keys, AllocError>
-    ensures { IfOk result (λ keys. keys ≡ keys_of_request caller (Unyank name.now release.now)) }
+    ensures keys { IfOk result (λ keys. keys ≡ keys_of_request caller (Unyank name.now release.now)) }
+    ensures readable { IfErr result (λ _. HasReadableKey (Unyank name.now release.now)) }
 {
     Ok(Keys {
         caller,
@@ -164,7 +173,8 @@ fn release_keys(
 
 /// The file and the project that its name decides.
 fn file_keys(alloc: Global, caller: Option<Digest256>, file: &Bytes) -> Result<Keys, AllocError>
-    ensures { IfOk result (λ keys. keys ≡ keys_of_request caller (Delete file.now)) }
+    ensures keys { IfOk result (λ keys. keys ≡ keys_of_request caller (Delete file.now)) }
+    ensures readable { IfErr result (λ _. HasReadableKey (Delete file.now)) }
 {
     let file = readable_file(alloc, file)?;
     let name = project_of_file(&file)?;
@@ -178,8 +188,10 @@ fn file_keys(alloc: Global, caller: Option<Digest256>, file: &Bytes) -> Result<K
     })
 }
 
+/// The project that the name of a file decides.
 fn project_of_file(file: &Option<FileName>) -> Result<Option<NormalName>, AllocError>
-    ensures { IfOk result (λ name. name ≡ option_map project_of file.now) }
+    ensures name { IfOk result (λ name. name ≡ option_map project_of file.now) }
+    ensures readable { IfErr result (λ _. IsSome file.now) }
 {
     match file {
         Some(file) => Ok(Some(file.project().clone()?)),
