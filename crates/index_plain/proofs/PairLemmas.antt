@@ -132,13 +132,24 @@ module _ {A B : Type 0} {P : A → A → Ordering} {Q : B → B → Ordering} (o
           ∙ ap (cond (eq_by_cmp (by_both P Q) q (a, b)) (Some v)) (sym (get_without (pairs_of P Q m) a q.0 q.1))
           ∙ sym (get-insert total (without_first P Q a (pairs_of P Q m)) (a, b) v q))
 
-    -- nothing goes where a first key has no inner map
-    pub without_absent : (m : FinMap P (BTreeMap B X)) (a : A) → get m a ≡ None → without_first P Q a (pairs_of P Q m) ≡ pairs_of P Q m
-    without_absent m a none = same_map total exact_both _ _ (λ q.
-        get_without (pairs_of P Q m) a q.0 q.1 ∙ elim (eq_by_cmp P q.0 a) as (λ t. eq_by_cmp P q.0 a ≡ t → cond t None (get (pairs_of P Q m) q) ≡ get (pairs_of P Q m) q) [
-          | true ↦ λ e. sym (ap (λ x. get (pairs_of P Q m) (x, q.1)) (exact q.0 a ((Equal-is (P q.0 a)).0 e)) ∙ get_pairs m a q.1 ∙ ap (λ at. get (inner_of Q at) q.1) none ∙ get-empty Q q.1)
+    -- nothing goes where nothing stands at a first key
+    pub without_nothing : (m : FinMap (by_both P Q) X) (a : A) → ((b : B) → get m (a, b) ≡ None) → without_first P Q a m ≡ m
+    without_nothing m a none = same_map total exact_both _ _ (λ q.
+        get_without m a q.0 q.1 ∙ elim (eq_by_cmp P q.0 a) as (λ t. eq_by_cmp P q.0 a ≡ t → cond t None (get m q) ≡ get m q) [
+          | true ↦ λ e. sym (ap (λ x. get m (x, q.1)) (exact q.0 a ((Equal-is (P q.0 a)).0 e)) ∙ none q.1)
           | false ↦ λ e. refl
         ] refl)
+
+    -- what stands at a first key is its inner map
+    pub some_at : (m : FinMap P (BTreeMap B X)) (a : A) (inner : BTreeMap B X) → get m a ≡ Some inner → (b : B) → get (pairs_of P Q m) (a, b) ≡ get (map_of Q inner) b
+    some_at m a inner there b = get_pairs m a b ∙ ap (λ at. get (inner_of Q at) b) there
+
+    -- nothing stands where a first key has no inner map
+    pub nothing_at : (m : FinMap P (BTreeMap B X)) (a : A) → get m a ≡ None → (b : B) → get (pairs_of P Q m) (a, b) ≡ None
+    nothing_at m a none b = get_pairs m a b ∙ ap (λ at. get (inner_of Q at) b) none ∙ get-empty Q b
+
+    pub without_absent : (m : FinMap P (BTreeMap B X)) (a : A) → get m a ≡ None → without_first P Q a (pairs_of P Q m) ≡ pairs_of P Q m
+    without_absent m a none = without_nothing (pairs_of P Q m) a (nothing_at m a none)
 
     pub pairs_absent : (m : FinMap P (BTreeMap B X)) (a : A) (b : B) → get m a ≡ None → pairs_of P Q m ≡ remove (pairs_of P Q m) (a, b)
     pairs_absent m a b none = same_map total exact_both _ _ (λ q.

@@ -1,14 +1,32 @@
--- Who bears a token, from the first user that has it.
-use Rattle.std.proofs.Common.{◌≡◌, Option, Some, None, find}
-use Rattle.std.specs.FinMap.{entries}
+-- Who bears a token, by the pairs of digests and users.
+use Rattle.std.proofs.Common.{◌≡◌, Bool, true, false, sym, ap, ◌∙◌, subst, Option, Some, None, option_map, is_some}
+use Rattle.std.specs.Option.{option_map_or}
+use Rattle.std.specs.FinMap.{get}
+use Rattle.std.proofs.lemmas.Bool.{false≢true}
 use Rattle.index_rules.specs.declared.records.UserRecord.{UserRecord}
-use Rattle.index_rules.specs.Maps.{Bytes, same}
+use Rattle.index_rules.specs.Maps.{Bytes, Pairs, same}
 use Rattle.index_rules.specs.Tables.{Tables}
 use Rattle.index_rules.specs.Facts.{IsBearer}
-use Rattle.index_rules.proofs.EntryLemmas.{get-found, get-missed, find-passes}
+use Rattle.index_plain.specs.Bearers.{AreBearers}
 
-module _ (T : Tables) (token : Bytes) where
-  -- the first user that has the token bears it
-  pub IsBearer-first : (found : Option (Bytes × UserRecord)) → find (λ user. same token user.1.token) (entries T.users) ≡ found → IsBearer T token found
-  IsBearer-first None missed = λ u user at. get-missed T.users (λ user. same token user.1.token) u user missed at
-  IsBearer-first (Some e) is = (get-found T.users (λ user. same token user.1.token) e is, find-passes (λ user. same token user.1.token) (entries T.users) e is)
+-- whether the token of a user who may be known has this digest
+abbrev has_token : Bytes → Option UserRecord → Bool
+has_token token at = option_map_or (λ known. same token known.token) at false
+
+module _ (T : Tables) (bearers : Pairs) (are : AreBearers T.users bearers) (token : Bytes) where
+  -- nobody bears a token at whose digest there is nobody
+  pub IsBearer-none : ((user : Bytes) → get bearers (token, user) ≡ None) → IsBearer T token None
+  IsBearer-none none user known found =
+      sym (ap (has_token token) found) ∙ sym (are token user) ∙ ap is_some (none user)
+
+  -- a user who is there is known, and bears it
+  pub IsBearer-there : (user : Bytes) (known : UserRecord) → is_some (get bearers (token, user)) ≡ true → get T.users user ≡ Some known → IsBearer T token (Some (user, known))
+  IsBearer-there user known there found =
+      (found, sym (ap (has_token token) found) ∙ sym (are token user) ∙ there)
+
+  pub is_known : (user : Bytes) → is_some (get bearers (token, user)) ≡ true → get T.users user ≡ None → ⊥
+  is_known user there none =
+      false≢true (sym (ap (has_token token) none) ∙ sym (are token user) ∙ there)
+
+  pub IsBearer-missed : {R : Type 0} (part : R → Bytes × UserRecord) (found : Option R) → found ≡ None → ((user : Bytes) → get bearers (token, user) ≡ None) → IsBearer T token (option_map part found)
+  IsBearer-missed part found none nobody = subst (λ it. IsBearer T token (option_map part it)) (sym none) (IsBearer-none nobody)

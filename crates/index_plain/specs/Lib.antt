@@ -1,3 +1,4 @@
 pub mod Trees
 pub mod Pairs
+pub mod Bearers
 pub mod Plain

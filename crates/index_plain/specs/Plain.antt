@@ -12,7 +12,7 @@ use Rattle.index_plain.specs.Pairs.{pairs_of}
 -- the tables that are kept here
 abbrev pub tables_of : PlainBooks → Tables
 tables_of b = record {
-  users = map_of bytes_cmp b.users;
+  users = map_of bytes_cmp b.accounts.users;
   names = map_of bytes_cmp b.names;
   owners = pairs_of bytes_cmp bytes_cmp (map_of bytes_cmp b.owners);
   files = map_of bytes_cmp b.files;

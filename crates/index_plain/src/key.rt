@@ -4,6 +4,7 @@ ghost use Rattle.std.specs.FinMap.{IsAntisymmetric};
 ghost use Rattle.std.proofs.Common.{sym, ◌∙◌};
 ghost use Rattle.std.proofs.lemmas.Map.Lookups.{exact_bytes};
 
+use index_digest::Digest256;
 use index_names::{FileName, NormalName, Release};
 use index_rules::UserId;
 
@@ -36,4 +37,10 @@ impl Key for Release {
     ghost exact = { exact_bytes };
 
     ghost copied = { λ key copy c. sym c.3 ∙ c.4 ∙ c.2 };
+}
+
+impl Key for Digest256 {
+    ghost exact = { exact_bytes };
+
+    ghost copied = { λ key copy c. c };
 }

@@ -1,5 +1,5 @@
 //! A table by pairs, as a map of maps: what stands at a first key goes with one call.
-ghost use Rattle.std.specs.Prelude.{◌≡◌, OnOk, OnErr, option_copied};
+ghost use Rattle.std.specs.Prelude.{◌≡◌, MatchOption, IsSome, None, OnOk, OnErr, option_copied};
 ghost use Rattle.std.specs.FinMap.{get, insert, remove};
 ghost use Rattle.index_plain.specs.Trees.{map_of};
 ghost use Rattle.index_plain.specs.Pairs.{pairs_of, without_first};
@@ -20,6 +20,21 @@ pub fn find<'a, A: Key, B: Key, V>(
 {
     match table::find(map, first) {
         Some(inner) => table::find(inner, second),
+        None => None,
+    }
+}
+
+/// A second key that stands at a first key, where one does.
+pub fn first_at<'a, A: Key, B: Key, V>(
+    map: &'a BTreeMap<A, BTreeMap<B, V>>,
+    first: &A,
+) -> Option<&'a B>
+    ensures { let pairs = pairs_of A.cmp B.cmp (map_of A.cmp map.now) in
+        MatchOption result ((second : B) → get pairs (first.now, second) ≡ None)
+        (λ second. IsSome (get pairs (first.now, second.now))) }
+{
+    match table::find(map, first) {
+        Some(inner) => table::first_key(inner),
         None => None,
     }
 }
@@ -74,6 +89,17 @@ pub fn put_alone<A: Key, B: Key, V: Drop>(
 
 /// Takes a pair away with its value.
 pub fn remove<A: Key, B: Key, V: Drop>(map: &mut BTreeMap<A, BTreeMap<B, V>>, first: &A, second: &B)
+    ensures { let before = pairs_of A.cmp B.cmp (map_of A.cmp map.old) in
+        pairs_of A.cmp B.cmp (map_of A.cmp map.new) ≡ remove before (first.now, second.now) }
+{
+    take(map, first, second);
+    if first_at(map, first).is_none() {
+        clear(map, first);
+    }
+}
+
+/// Takes a pair away with its value, from an inner map that stays.
+fn take<A: Key, B: Key, V: Drop>(map: &mut BTreeMap<A, BTreeMap<B, V>>, first: &A, second: &B)
     ensures { let before = pairs_of A.cmp B.cmp (map_of A.cmp map.old) in
         pairs_of A.cmp B.cmp (map_of A.cmp map.new) ≡ remove before (first.now, second.now) }
 {

@@ -3,12 +3,13 @@ ghost use Rattle.std.specs.Prelude.{◌≡◌, ◌≢◌, ◌⊎◌, ◌↔◌, 
 ghost use Rattle.index_io.specs.Counts.{next_count};
 ghost use Rattle.index_rules.specs.Walks.{Walks, has_fault};
 
+use crate::accounts::Accounts;
 use crate::table;
 use index_digest::{Digest256, Sealed};
 use index_names::{FileName, NormalName, Release};
 use index_rules::{
     Books, CaseRecord, Change, Fault, FileRecord, FileRow, FileTaker, Keys, NameRecord, NameRow,
-    NameTaker, OpenFault, Owners, UserId, UserRecord, View, WalkEnd, first_user,
+    NameTaker, OpenFault, Owners, UserId, View, WalkEnd, first_user,
 };
 use index_text::Text;
 use std::alloc::Global;
@@ -26,7 +27,7 @@ mod write;
 /// The tables in memory, as ordered maps. A fault of theirs is always `OutOfMemory`.
 #[derive(Debug)]
 pub struct PlainBooks {
-    users: BTreeMap<UserId, UserRecord>,
+    accounts: Accounts,
     names: BTreeMap<NormalName, NameRecord>,
     owners: BTreeMap<NormalName, BTreeMap<UserId, ()>>,
     files: BTreeMap<FileName, FileRecord>,
@@ -41,7 +42,7 @@ pub struct PlainBooks {
 impl Drop for PlainBooks {
     fn drop(self) {
         let PlainBooks {
-            users: _users,
+            accounts: _accounts,
             names: _names,
             owners: _owners,
             files: _files,
@@ -88,9 +89,10 @@ impl PlainBooks {
             (fault ≡ OpenFault.BadFirstUser) ⊎ (fault ≡ OpenFault.OutOfMemory)) }
     {
         let (user, record) = first_user(alloc, user, token)?;
-        let users = table::one(alloc, &user, record)?;
+        let mut accounts = Accounts::new(alloc);
+        accounts.put(alloc, &user, record)?;
         Ok(PlainBooks {
-            users,
+            accounts,
             names: BTreeMap::new(alloc),
             owners: BTreeMap::new(alloc),
             files: BTreeMap::new(alloc),

@@ -1,7 +1,7 @@
 //! A table as one ordered map.
 #![tactic(auto, using(crate::proofs::TreeLemmas::trees))]
 
-ghost use Rattle.std.specs.Prelude.{◌≡◌, IfOk, OnOk, OnErr, IsSome, option_and_then, option_copied};
+ghost use Rattle.std.specs.Prelude.{◌≡◌, IfOk, MatchOption, OnOk, OnErr, IsSome, option_and_then, option_copied};
 ghost use Rattle.std.specs.FinMap.{empty, get, insert, remove};
 ghost use Rattle.index_plain.specs.Trees.{map_of, with_at};
 
@@ -23,6 +23,17 @@ pub fn find<'a, K: Key, V>(map: &'a BTreeMap<K, V>, key: &K) -> Option<&'a V>
     ensures { option_copied result ≡ get (map_of K.cmp map.now) key.now }
 {
     map.get(key)
+}
+
+/// A key that is there, where one is.
+pub fn first_key<K: Key, V>(map: &BTreeMap<K, V>) -> Option<&K>
+    ensures { let table = map_of K.cmp map.now in
+        MatchOption result (table ≡ empty) (λ key. IsSome (get table key.now)) }
+{
+    match map.first_key_value() {
+        Some((key, _)) => Some(key),
+        None => None,
+    }
 }
 
 /// A copy of the value at a key.

@@ -88,7 +88,7 @@ impl PlainBooks {
             let T = tables_of self.now in
             IfOk result (λ seen. IsBearerAs (λ user. user.0) T k.token seen.bearer) }
     {
-        let user = table::copy_at_key(&self.users, &keys.user)?;
+        let user = table::copy_at_key(&self.accounts.users, &keys.user)?;
         let caller = self.caller(keys.caller)?;
         let bearer = self.bearer_id(keys.token)?;
         Ok(UsersSeen {
@@ -195,12 +195,16 @@ impl PlainBooks {
         }
     }
 
-    /// Who bears the token with this digest. It looks at all users.
+    /// Who bears the token with this digest.
     fn bearer(&self, token: Digest256) -> Option<(&UserId, &UserRecord)>
         ensures { let bearer = option_map (λ user. (user.0.now, user.1.now)) result in
             IsBearer (tables_of self.now) token bearer }
     {
-        self.users.iter().find(|(_, record)| token == record.token)
+        let user = pairs::first_at(&self.accounts.bearers, &token)?;
+        match table::find(&self.accounts.users, user) {
+            Some(known) => Some((user, known)),
+            None => unreachable!(),
+        }
     }
 
     fn caller(&self, token: Option<Digest256>) -> Result<Option<Caller>, AllocError>

@@ -3,7 +3,6 @@ ghost use Rattle.std.specs.Prelude.{◌≡◌, OnOk, OnErr};
 ghost use Rattle.index_plain.specs.Plain.{Writes, tables_of, failures_of};
 
 use crate::plain::PlainBooks;
-use crate::table;
 use index_rules::Change;
 use std::alloc::{AllocError, Global};
 
@@ -17,7 +16,7 @@ impl PlainBooks {
     {
         match change {
             Change::AddUser { user, record } | Change::SetToken { user, record } => {
-                table::put(&mut self.users, &user, record)
+                self.accounts.put(alloc, &user, record)
             }
             change @ (Change::Upload { .. }
             | Change::Delete { .. }

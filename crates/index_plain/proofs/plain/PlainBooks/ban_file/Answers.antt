@@ -1,4 +1,4 @@
-use Rattle.std.proofs.Common.{◌≡◌, sym, subst, OnOk}
+use Rattle.std.proofs.Common.{sym, subst, OnOk}
 use Rattle.index_rules.specs.declared.change.Change.TheVariants.{BanFile}
 use Rattle.index_plain.specs.Plain.{Writes}
 use Rattle.index_plain.proofs.plain.PlainBooks.ban_file.Goals as goal

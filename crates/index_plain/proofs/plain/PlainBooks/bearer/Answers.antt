@@ -1,19 +1,25 @@
-use Rattle.std.proofs.Common.{sym, ap, ◌∙◌, rules, tests, find}
-use Rattle.std.proofs.lemmas.Cmp.{nat_list_cmp_total}
-use Rattle.std.proofs.lemmas.Map.Lookups.{exact_bytes}
-use Rattle.std.proofs.lemmas.Iterator.Consumers.{YieldsList-from_rest}
-use Rattle.std.proofs.lemmas.Iterator.Search.{find_from_yields_List}
-use Rattle.index_rules.specs.declared.records.UserRecord.{UserRecord}
-use Rattle.index_rules.specs.Maps.{Bytes, same}
+use Rattle.std.proofs.Common.{sym, ap, ◌∙◌, option_copied}
+use Rattle.index_rules.specs.Maps.{bytes_cmp}
 use Rattle.index_plain.specs.Plain.{tables_of}
-use Rattle.index_plain.proofs.TreeLemmas.{entries_map}
-use Rattle.index_plain.proofs.UserLemmas.{IsBearer-first}
+use Rattle.index_plain.specs.Pairs.{pairs_of}
+use Rattle.index_plain.specs.Trees.{map_of}
+use Rattle.index_plain.proofs.UserLemmas.{IsBearer-missed, IsBearer-there, is_known}
 use Rattle.index_plain.proofs.plain.PlainBooks.bearer.Goals as goal
+
+pub returns-in_err-user : goal.returns-in_err-user
+returns-in_err-user c =
+    let books = c.args.self.now in
+    let bearers = pairs_of bytes_cmp bytes_cmp (map_of bytes_cmp books.accounts.bearers) in
+    IsBearer-missed (tables_of books) bearers books.accounts.agree c.args.token _ c.from_residual.result c.from_residual.ensures c.in_err-user.ensures
+
+pub unreachable-requires : goal.unreachable-requires
+unreachable-requires c =
+    let books = c.args.self.now in
+    let bearers = pairs_of bytes_cmp bytes_cmp (map_of bytes_cmp books.accounts.bearers) in
+    is_known (tables_of books) bearers books.accounts.agree c.args.token c.in_ok-user.user.now c.in_ok-user.ensures (sym c.find.ensures ∙ ap option_copied c.in-None.is)
 
 pub returns : goal.returns
 returns c =
     let books = c.args.self.now in
-    let test = λ (user : Bytes × UserRecord). same c.args.token user.1.token in
-    IsBearer-first (tables_of books) c.args.token _
-    (ap (find test) (entries_map nat_list_cmp_total exact_bytes books.users c.iter.ensures.ordered)
-    ∙ sym (find_from_yields_List test _ _ c.find.result c.find.ensures.ran (YieldsList-from_rest books.users.entries c.iter.ensures.rest) (λ x b q k. search (rules, tests))))
+    let bearers = pairs_of bytes_cmp bytes_cmp (map_of bytes_cmp books.accounts.bearers) in
+    IsBearer-there (tables_of books) bearers books.accounts.agree c.args.token c.in_ok-user.user.now c.in-Some.known.now c.in_ok-user.ensures (sym c.find.ensures ∙ ap option_copied c.in-Some.is)

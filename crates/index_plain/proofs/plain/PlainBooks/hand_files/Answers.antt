@@ -1,4 +1,4 @@
-use Rattle.std.proofs.Common.{◌≡◌, [], Err, rules, sym, ap, subst}
+use Rattle.std.proofs.Common.{◌≡◌, Err, rules, sym, ap, subst}
 use Rattle.std.proofs.lemmas.Cmp.{nat_list_cmp_total}
 use Rattle.std.proofs.lemmas.Map.Lookups.{exact_bytes}
 use Rattle.std.proofs.lemmas.Map.Iter.{rest_more, rest_all}

@@ -4,7 +4,7 @@ use Rattle.std.specs.FinMap.{empty, insert, from_entries}
 use Rattle.std.proofs.lemmas.Cmp.{nat_list_cmp_total}
 use Rattle.std.proofs.lemmas.Map.Lookups.{exact_bytes}
 use Rattle.index_rules.specs.declared.records.UserRecord.{UserRecord}
-use Rattle.index_rules.specs.Maps.{Bytes, bytes_cmp}
+use Rattle.index_rules.specs.Maps.{Bytes, Map, bytes_cmp}
 use Rattle.index_plain.specs.Pairs.{pairs_of}
 use Rattle.index_plain.proofs.PairLemmas.{pairs_empty}
 use Rattle.index_plain.proofs.plain.PlainBooks.opened.Goals as goal
@@ -14,7 +14,9 @@ no_pairs = pairs_empty nat_list_cmp_total nat_list_cmp_total exact_bytes exact_b
 
 pub returns-clause-tables : goal.returns-clause-tables
 returns-clause-tables c =
-    let users = c.in_ok-users.ensures ∙ ap (λ (user : Bytes × UserRecord). insert empty user.0 user.1) c.in_ok-user.ensures.first in
+    let user = c.in_ok-user.user in
+    let account = c.in_ok-user.record in
+    let users = c.in_ok-put.ensures.written ∙ ap (λ (m : Map UserRecord). insert m user account) c.new-accounts.ensures ∙ ap (λ (it : Bytes × UserRecord). insert empty it.0 it.1) c.in_ok-user.ensures.first in
     let owners = ap (λ es. pairs_of bytes_cmp bytes_cmp (from_entries {R = bytes_cmp} es)) c.new-2.ensures.empty ∙ no_pairs in
     let yanks = ap (λ es. pairs_of bytes_cmp bytes_cmp (from_entries {R = bytes_cmp} es)) c.new-5.ensures.empty ∙ no_pairs in
     λ i. record {

@@ -1,0 +1,21 @@
+-- Users by the digests of their tokens.
+use Rattle.std.specs.Prelude.{◌≡◌, Bool, false}
+use Rattle.std.specs.Option.{option_map_or}
+use Rattle.std.specs.BTreeMap.{BTreeMap}
+use Rattle.std.specs.FinMap.{get, contains_key}
+use Rattle.index_rules.specs.declared.records.UserRecord.{UserRecord}
+use Rattle.index_rules.specs.Maps.{Bytes, Map, Pairs, bytes_cmp, same}
+use Rattle.index_plain.specs.Trees.{map_of}
+use Rattle.index_plain.specs.Pairs.{pairs_of}
+
+-- whether this user is known, and the token has this digest
+abbrev pub bears : Map UserRecord → Bytes → Bytes → Bool
+bears users token user = option_map_or (λ known. same token known.token) (get users user) false
+
+-- the pairs are the digest of each user's token with that user, and no others
+abbrev pub AreBearers : Map UserRecord → Pairs → Type 0
+AreBearers users bearers = (token user : Bytes) → contains_key bearers (token, user) ≡ bears users token user
+
+-- the pairs of a digest and a user that a map of maps has
+abbrev pub bearers_of : BTreeMap Bytes (BTreeMap Bytes (Unit {0})) → Pairs
+bearers_of bearers = pairs_of bytes_cmp bytes_cmp (map_of bytes_cmp bearers)

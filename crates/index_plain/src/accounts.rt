@@ -1,0 +1,122 @@
+//! The users, and who bears which token.
+ghost use Rattle.std.specs.Prelude.{◌≡◌, None, OnOk, OnErr, false, option_map};
+ghost use Rattle.std.specs.FinMap.{empty, get, insert};
+ghost use Rattle.index_rules.specs.Maps.{bytes_cmp, same};
+ghost use Rattle.index_plain.specs.Trees.{map_of};
+ghost use Rattle.index_plain.specs.Bearers.{AreBearers, bearers_of};
+
+use crate::{pairs, table};
+use index_digest::Digest256;
+use index_rules::{UserId, UserRecord};
+use std::alloc::{AllocError, Global};
+use std::collections::BTreeMap;
+
+/// The users with their records, and beside them the users by the digests of their tokens.
+#[derive(Debug)]
+pub(crate) struct Accounts {
+    pub(crate) users: BTreeMap<UserId, UserRecord>,
+    pub(crate) bearers: BTreeMap<Digest256, BTreeMap<UserId, ()>>,
+    ghost agree: { AreBearers (map_of bytes_cmp users) (bearers_of bearers) },
+}
+
+// By hand: a drop is then one call at each exit of a function (docs/ARCHITECTURE.md, "What a proof costs").
+impl Drop for Accounts {
+    fn drop(self) {
+        let Accounts {
+            users: _users,
+            bearers: _bearers,
+        } = self;
+    }
+}
+
+impl Accounts {
+    /// No users.
+    pub(crate) fn new(alloc: Global) -> Accounts
+        ensures { map_of bytes_cmp result.users ≡ empty }
+    {
+        Accounts {
+            users: BTreeMap::new(alloc),
+            bearers: BTreeMap::new(alloc),
+        }
+    }
+
+    /// Puts the record of a user, in place of the one that stood there. Without memory all stays as it was.
+    pub(crate) fn put(
+        &mut self,
+        alloc: Global,
+        user: &UserId,
+        known: UserRecord,
+    ) -> Result<(), AllocError>
+        ensures written { let before = map_of bytes_cmp self.old.users in
+            OnOk result (map_of bytes_cmp self.new.users ≡ insert before user.now known) }
+        ensures unchanged { let before = map_of bytes_cmp self.old.users in
+            OnErr result (map_of bytes_cmp self.new.users ≡ before) }
+    {
+        match self.token_of(user) {
+            Some(former) if former == known.token => table::put(&mut self.users, user, known),
+            Some(former) => self.put_with_token(alloc, user, former, known),
+            None => put_both(alloc, &mut self.users, &mut self.bearers, user, known),
+        }
+    }
+
+    /// The digest of a user's token.
+    fn token_of(&self, user: &UserId) -> Option<Digest256>
+        ensures { let known = get (map_of bytes_cmp self.now.users) user.now in
+            result ≡ option_map (λ account. account.token) known }
+    {
+        match table::find(&self.users, user) {
+            Some(known) => Some(known.token),
+            None => None,
+        }
+    }
+
+    /// Puts the record of a user whose token was another.
+    fn put_with_token(
+        &mut self,
+        alloc: Global,
+        user: &UserId,
+        former: Digest256,
+        known: UserRecord,
+    ) -> Result<(), AllocError>
+        requires former { let before = get (map_of bytes_cmp self.old.users) user.now in
+            option_map (λ account. account.token) before ≡ Some former }
+        requires other { same former known.token ≡ false }
+        ensures written { let before = map_of bytes_cmp self.old.users in
+            OnOk result (map_of bytes_cmp self.new.users ≡ insert before user.now known) }
+        ensures unchanged { let before = map_of bytes_cmp self.old.users in
+            OnErr result (map_of bytes_cmp self.new.users ≡ before) }
+    {
+        put_both(alloc, &mut self.users, &mut self.bearers, user, known)?;
+        pairs::remove(&mut self.bearers, &former, user);
+        Ok(())
+    }
+}
+
+/// Puts the record of a user, and the user at the digest of the token. Without memory both maps stay as they were.
+fn put_both(
+    alloc: Global,
+    users: &mut BTreeMap<UserId, UserRecord>,
+    bearers: &mut BTreeMap<Digest256, BTreeMap<UserId, ()>>,
+    user: &UserId,
+    known: UserRecord,
+) -> Result<(), AllocError>
+    requires { let before = bearers_of bearers.old in
+        get before (known.token, user.now) ≡ None }
+    ensures written { let before = map_of bytes_cmp users.old in
+        OnOk result (map_of bytes_cmp users.new ≡ insert before user.now known) }
+    ensures bearer_written { let before = bearers_of bearers.old in
+        OnOk result (bearers_of bearers.new
+        ≡ insert before (known.token, user.now) tt) }
+    ensures unchanged { OnErr result (map_of bytes_cmp users.new ≡ map_of bytes_cmp users.old) }
+    ensures bearers_unchanged { let before = bearers_of bearers.old in
+        OnErr result (bearers_of bearers.new ≡ before) }
+{
+    pairs::put(alloc, bearers, &known.token, user, ())?;
+    match table::put(users, user, known) {
+        Ok(()) => Ok(()),
+        Err(error) => {
+            pairs::remove(bearers, &known.token, user);
+            Err(error)
+        }
+    }
+}
