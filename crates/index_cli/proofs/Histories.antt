@@ -12,7 +12,6 @@ use Rattle.index_desk.proofs.RulesLemmas.{standing_by_history}
 use Rattle.index_json.specs.Line.{line_of}
 use Rattle.index_json.specs.declared.line.Line.{Line}
 use Rattle.index_json.specs.declared.line.Line.TheVariants as line
-use Rattle.index_cli.specs.Ends.{TellsAll, TellsBefore, TellsDuring}
 use Rattle.index_cli.specs.Lines.{longest_line}
 use Rattle.index_cli.specs.Telling.{TellsAsked, TellsLine, TellsLines, TellsStanding}
 use Rattle.index_cli.specs.TellsHistory.{TellsHistory}
@@ -77,7 +76,7 @@ line_after h legal T stands line text T' tells = elim (cases_lt longest_line (le
       }
 ]
 
-TellsHistory-TellsLines : (h : History) → IsLegal h → (T : Tables) → StandsFor T h
+pub TellsHistory-TellsLines : (h : History) → IsLegal h → (T : Tables) → StandsFor T h
     → (lines : List (List ℕ)) (text : List ℕ) (T' : Tables)
     → TellsLines by_tables T lines text T' → TellsHistory h lines text T'
 TellsHistory-TellsLines h legal T stands [] text T' (is, same) =
@@ -91,49 +90,3 @@ TellsHistory-TellsLines h legal T stands (line ∷ lines) text T' (first, more, 
       legal = rest.legal;
       stands = rest.stands;
     }
-
--- ---- the ends of a run by the tables are those by a history for which they stood
-
-pub TellsAll-history : (h : History) → IsLegal h → (S : Tables) → StandsFor S h → (T : Tables) (a b w0 w1 : Option (List ℕ)) (count : ℕ)
-    → TellsAll (TellsLines by_tables S) T a b w0 w1 count → TellsAll (TellsHistory h) T a b w0 w1 count
-TellsAll-history h legal S stands T a b w0 w1 count e = record {
-  input = e.input;
-  text = e.text;
-  is_input = e.is_input;
-  taken = e.taken;
-  at_end = e.at_end;
-  told = TellsHistory-TellsLines h legal S stands _ _ T e.told;
-  wrote = e.wrote;
-  counted = e.counted;
-}
-
-pub TellsBefore-history : (h : History) → IsLegal h → (S : Tables) → StandsFor S h → (T : Tables) (a b w0 w1 : Option (List ℕ))
-    → TellsBefore (TellsLines by_tables S) T a b w0 w1 → TellsBefore (TellsHistory h) T a b w0 w1
-TellsBefore-history h legal S stands T a b w0 w1 e = record {
-  input = e.input;
-  done = e.done;
-  more = e.more;
-  text = e.text;
-  is_input = e.is_input;
-  lines = e.lines;
-  taken = e.taken;
-  told = TellsHistory-TellsLines h legal S stands _ _ T e.told;
-  wrote = e.wrote;
-}
-
-pub TellsDuring-history : (h : History) → IsLegal h → (S : Tables) → StandsFor S h → (T : Tables) (a b w0 w1 : Option (List ℕ))
-    → TellsDuring (TellsLines by_tables S) T a b w0 w1 → TellsDuring (TellsHistory h) T a b w0 w1
-TellsDuring-history h legal S stands T a b w0 w1 e = record {
-  input = e.input;
-  done = e.done;
-  line = e.line;
-  more = e.more;
-  text = e.text;
-  count = e.count;
-  is_input = e.is_input;
-  lines = e.lines;
-  taken = e.taken;
-  told = TellsHistory-TellsLines h legal S stands _ _ T e.told;
-  less = e.less;
-  wrote = e.wrote;
-}

@@ -1,4 +1,6 @@
 pub mod Cuts
+pub mod Calls
 pub mod Progress
 pub mod RunEnds
 pub mod Histories
+pub mod Crashes

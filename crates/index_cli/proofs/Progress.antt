@@ -7,7 +7,7 @@ use Rattle.index_rules.specs.Tables.{Tables}
 use Rattle.index_desk.specs.Rules.{by_tables}
 use Rattle.index_json.specs.AnswerText.{bad_body_text}
 use Rattle.index_json.specs.Line.{line_of}
-use Rattle.index_cli.specs.Ends.{TellsAll, TellsBefore, TellsDuring}
+use Rattle.index_cli.specs.Ends.{Telling, TellsAll, TellsBefore, TellsDuring}
 use Rattle.index_cli.specs.Lines.{line_feed, longest_line, TakesLine, TakesPart}
 use Rattle.index_cli.specs.Replies.{TellsKept}
 use Rattle.index_cli.specs.Telling.{TellsAsked, TellsLine, TellsLines}
@@ -30,6 +30,12 @@ TellsKept-long front T size text far is line long _ = (λ near. absurd (omega (a
 
 -- ---- lines
 
+-- after one more line of this size, of which this front was kept, and this text
+abbrev pub Pushes : Telling → Telling → Tables → Tables → ℕ → List ℕ → List ℕ → Type 0
+Pushes tells tells' T U size kept first =
+    (done : List (List ℕ)) (text line : List ℕ) → length line ≡ size → kept ≡ take longest_line line
+    → tells done text T → tells' (done ++ line ∷ []) (text ++ (first ++ line_feed ∷ [])) U
+
 TellsLines-push : (S T U : Tables) (done : List (List ℕ)) (text line first : List ℕ)
     → TellsLines by_tables S done text T → TellsLine by_tables line T first U
     → TellsLines by_tables S (done ++ line ∷ []) (text ++ (first ++ line_feed ∷ [])) U
@@ -50,34 +56,39 @@ TellsLines-push S T U (before ∷ done) text line first (earlier, more, between,
   ap (λ l. l ++ (first ++ line_feed ∷ [])) is ∙ append_assoc (earlier ++ line_feed ∷ []) more (first ++ line_feed ∷ []),
 )
 
--- the lines so far were told of: of a reader (a to b), of the tables (S to T), of a writer (w0 to w1)
-pub record Progress (a b : Option (List ℕ)) (S T : Tables) (w0 w1 : Option (List ℕ)) (count : ℕ) : Type 0 where
+pub lines_push : (S T U : Tables) (size : ℕ) (kept first : List ℕ) → TellsKept size kept T first U
+    → Pushes (TellsLines by_tables S) (TellsLines by_tables S) T U size kept first
+lines_push S T U size kept first tells done text line sized front told =
+    TellsLines-push S T U done text line first told (tells line sized front)
+
+-- the lines so far were told of: of a reader (a to b), of a writer (w0 to w1), and these tables
+pub record Progress (tells : Telling) (T : Tables) (a b w0 w1 : Option (List ℕ)) (count : ℕ) : Type 0 where
   pub done : List (List ℕ)
   pub text : List ℕ
   pub cuts : Cuts a b done
-  pub told : TellsLines by_tables S done text T
+  pub told : tells done text T
   pub sent : Appends w0 w1 text
   pub counted : length done ≡ count
 
-pub Progress-none : (a : Option (List ℕ)) (T : Tables) (w : Option (List ℕ)) → Progress a a T T w w 0
-Progress-none a T w = record {
+pub Progress-none : (tells : Telling) (T : Tables) (a w : Option (List ℕ)) → tells [] [] T → Progress tells T a a w w 0
+Progress-none tells T a w told = record {
   done = [];
   text = [];
   cuts = Cuts-nil a;
-  told = (refl, refl);
+  told = told;
   sent = Appends-nil w;
   counted = refl;
 }
 
 -- a line was taken and told of
-pub Progress-push : (a b c : Option (List ℕ)) (S T U : Tables) (w0 w1 w2 : Option (List ℕ)) (count size : ℕ) (kept first : List ℕ)
-    → Progress a b S T w0 w1 count → TakesLine (Some size) kept b c → TellsKept size kept T first U
-    → Appends w1 w2 (first ++ line_feed ∷ []) → Progress a c S U w0 w2 (count + 1)
-Progress-push a b c S T U w0 w1 w2 count size kept first before (line, is, passes) tells sent = record {
+pub Progress-push : (tells tells' : Telling) (T U : Tables) (a b c w0 w1 w2 : Option (List ℕ)) (count size : ℕ) (kept first : List ℕ)
+    → Progress tells T a b w0 w1 count → TakesLine (Some size) kept b c → Pushes tells tells' T U size kept first
+    → Appends w1 w2 (first ++ line_feed ∷ []) → Progress tells' U a c w0 w2 (count + 1)
+Progress-push tells tells' T U a b c w0 w1 w2 count size kept first before (line, is, passes) push sent = record {
   done = before.done ++ line ∷ [];
   text = before.text ++ (first ++ line_feed ∷ []);
   cuts = Cuts-push a b c before.done line before.cuts is.plain passes;
-  told = TellsLines-push S T U before.done before.text line first before.told (tells line is.sized is.front);
+  told = push before.done before.text line is.sized is.front before.told;
   sent = Appends-trans w0 w1 w2 before.text (first ++ line_feed ∷ []) before.sent sent;
   counted = omega (arith, length-append before.done (line ∷ []), before.counted);
 }
@@ -85,10 +96,9 @@ Progress-push a b c S T U w0 w1 w2 count size kept first before (line, is, passe
 -- ---- the ends
 
 -- no line is left
-pub Progress-whole : (a b c : Option (List ℕ)) (S T : Tables) (w0 w1 : Option (List ℕ)) (count : ℕ)
-    → Progress a b S T w0 w1 count → Consumes b c [] → IsAtEnd c
-    → TellsAll (TellsLines by_tables S) T a c w0 w1 count
-Progress-whole a b c S T w0 w1 count before taken end =
+pub Progress-whole : (tells : Telling) (T : Tables) (a b c w0 w1 : Option (List ℕ)) (count : ℕ)
+    → Progress tells T a b w0 w1 count → Consumes b c [] → IsAtEnd c → TellsAll tells T a c w0 w1 count
+Progress-whole tells T a b c w0 w1 count before taken end =
     let (input, is_input, whole, lines) = Cuts-whole a b c before.done before.cuts taken end in
     record {
       input = input;
@@ -96,15 +106,15 @@ Progress-whole a b c S T w0 w1 count before taken end =
       is_input = is_input;
       taken = whole;
       at_end = end;
-      told = rw lines before.told;
+      told = subst (λ done. tells done before.text T) (sym lines) before.told;
       wrote = before.sent;
       counted = rw lines (sym before.counted);
     }
 
 -- a part of the next line was taken
-pub Progress-part : (a b c : Option (List ℕ)) (S T : Tables) (w0 w1 : Option (List ℕ)) (count : ℕ)
-    → Progress a b S T w0 w1 count → TakesPart b c → TellsBefore (TellsLines by_tables S) T a c w0 w1
-Progress-part a b c S T w0 w1 count before part =
+pub Progress-part : (tells : Telling) (T : Tables) (a b c w0 w1 : Option (List ℕ)) (count : ℕ)
+    → Progress tells T a b w0 w1 count → TakesPart b c → TellsBefore tells T a c w0 w1
+Progress-part tells T a b c w0 w1 count before part =
     let (input, left, is_input, lines) = Cuts-input a b before.done before.cuts in
     record {
       input = input;
@@ -119,9 +129,9 @@ Progress-part a b c S T w0 w1 count before part =
     }
 
 -- the next line was taken, and not told of
-pub Progress-taken : (a b c : Option (List ℕ)) (S T : Tables) (w0 w1 : Option (List ℕ)) (count size : ℕ) (kept : List ℕ)
-    → Progress a b S T w0 w1 count → TakesLine (Some size) kept b c → TellsBefore (TellsLines by_tables S) T a c w0 w1
-Progress-taken a b c S T w0 w1 count size kept before (line, is, passes) =
+pub Progress-taken : (tells : Telling) (T : Tables) (a b c w0 w1 : Option (List ℕ)) (count size : ℕ) (kept : List ℕ)
+    → Progress tells T a b w0 w1 count → TakesLine (Some size) kept b c → TellsBefore tells T a c w0 w1
+Progress-taken tells T a b c w0 w1 count size kept before (line, is, passes) =
     let (input, left, is_input, lines) = Cuts-input a b before.done before.cuts in
     record {
       input = input;
@@ -136,11 +146,11 @@ Progress-taken a b c S T w0 w1 count size kept before (line, is, passes) =
     }
 
 -- the next line was told of, and a front of the text went out
-pub Progress-during : (a b c : Option (List ℕ)) (S T U : Tables) (w0 w1 w2 : Option (List ℕ)) (count size n : ℕ) (kept first : List ℕ)
-    → Progress a b S T w0 w1 count → TakesLine (Some size) kept b c → TellsKept size kept T first U
+pub Progress-during : (tells tells' : Telling) (T U : Tables) (a b c w0 w1 w2 : Option (List ℕ)) (count size n : ℕ) (kept first : List ℕ)
+    → Progress tells T a b w0 w1 count → TakesLine (Some size) kept b c → Pushes tells tells' T U size kept first
     → n < length (first ++ line_feed ∷ []) → Appends w1 w2 (take n (first ++ line_feed ∷ []))
-    → TellsDuring (TellsLines by_tables S) U a c w0 w2
-Progress-during a b c S T U w0 w1 w2 count size n kept first before (line, is, passes) tells less sent =
+    → TellsDuring tells' U a c w0 w2
+Progress-during tells tells' T U a b c w0 w1 w2 count size n kept first before (line, is, passes) push less sent =
     let cuts = Cuts-push a b c before.done line before.cuts is.plain passes in
     let (input, left, is_input, lines) = Cuts-input a c (before.done ++ line ∷ []) cuts in
     record {
@@ -153,7 +163,7 @@ Progress-during a b c S T U w0 w1 w2 count size n kept first before (line, is, p
       is_input = is_input;
       lines = lines;
       taken = Cuts-taken a c (before.done ++ line ∷ []) cuts;
-      told = TellsLines-push S T U before.done before.text line first before.told (tells line is.sized is.front);
+      told = push before.done before.text line is.sized is.front before.told;
       less = omega (arith, length-append before.text (first ++ line_feed ∷ []), less);
       wrote = rw (take-append-add before.text (first ++ line_feed ∷ []) n)
           (Appends-trans w0 w1 w2 before.text (take n (first ++ line_feed ∷ [])) before.sent sent);

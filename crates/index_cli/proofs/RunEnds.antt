@@ -1,10 +1,10 @@
--- The ends of a run that come by an error.
-use Rattle.std.proofs.Common.{◌≡◌, ◌≢◌, ℕ, ◌⊎◌, inl, inr, List, Option, Result, Err, sym, subst}
+-- The ends of a run.
+use Rattle.std.proofs.Common.{◌≡◌, ◌≢◌, ℕ, ◌⊎◌, inl, inr, List, Option, Result, Ok, Err, sym, subst}
 use Rattle.index_io.specs.Counts.{HasFailed}
 use Rattle.index_rules.specs.Tables.{Tables}
 use Rattle.index_cli.specs.declared.end.LineEnd.{LineEnd}
 use Rattle.index_cli.specs.declared.end.LineEnd.TheVariants.{ReadFault, WriteFault, OutOfMemory}
-use Rattle.index_cli.specs.Ends.{Ends, Telling, TellsBefore}
+use Rattle.index_cli.specs.Ends.{Ends, Telling, TellsAll, TellsBefore, TellsDuring}
 use Rattle.index_cli.specs.Lines.{Charges}
 use Rattle.index_cli.proofs.Cuts.{Charges-trans}
 
@@ -21,3 +21,53 @@ pub failed_or_spent : (f0 f1 f2 first left now : ℕ) (a b c : Option (List ℕ)
 failed_or_spent f0 f1 f2 first left now a b c same charged more (inl failed) = inl (subst (λ n. HasFailed n f2) same failed)
 failed_or_spent f0 f1 f2 first left now a b c same charged more (inr none) =
     inr (subst (λ n. Charges first n a c) none (Charges-trans first left now a b c charged more))
+
+-- ---- where more may be told of the same lines by the same text
+
+module _ (tells tells' : Telling) (T T' : Tables) (f : (lines : List (List ℕ)) (text : List ℕ) → tells lines text T → tells' lines text T') where
+  all_map : (a b w0 w1 : Option (List ℕ)) (count : ℕ) → TellsAll tells T a b w0 w1 count → TellsAll tells' T' a b w0 w1 count
+  all_map a b w0 w1 count e = record {
+    input = e.input;
+    text = e.text;
+    is_input = e.is_input;
+    taken = e.taken;
+    at_end = e.at_end;
+    told = f _ _ e.told;
+    wrote = e.wrote;
+    counted = e.counted;
+  }
+
+  before_map : (a b w0 w1 : Option (List ℕ)) → TellsBefore tells T a b w0 w1 → TellsBefore tells' T' a b w0 w1
+  before_map a b w0 w1 e = record {
+    input = e.input;
+    done = e.done;
+    more = e.more;
+    text = e.text;
+    is_input = e.is_input;
+    lines = e.lines;
+    taken = e.taken;
+    told = f _ _ e.told;
+    wrote = e.wrote;
+  }
+
+  during_map : (a b w0 w1 : Option (List ℕ)) → TellsDuring tells T a b w0 w1 → TellsDuring tells' T' a b w0 w1
+  during_map a b w0 w1 e = record {
+    input = e.input;
+    done = e.done;
+    line = e.line;
+    more = e.more;
+    text = e.text;
+    count = e.count;
+    is_input = e.is_input;
+    lines = e.lines;
+    taken = e.taken;
+    told = f _ _ e.told;
+    less = e.less;
+    wrote = e.wrote;
+  }
+
+  pub Ends-map : (a b w0 w1 : Option (List ℕ)) (result : Result ℕ LineEnd) → Ends tells T a b w0 w1 result → Ends tells' T' a b w0 w1 result
+  Ends-map a b w0 w1 (Ok count) e = all_map a b w0 w1 count e
+  Ends-map a b w0 w1 (Err ReadFault) e = before_map a b w0 w1 e
+  Ends-map a b w0 w1 (Err WriteFault) e = during_map a b w0 w1 e
+  Ends-map a b w0 w1 (Err OutOfMemory) e = before_map a b w0 w1 e

@@ -2,6 +2,7 @@
 pub mod Lines
 pub mod Telling
 pub mod TellsHistory
+pub mod TellsCalls
 pub mod Replies
 pub mod Ends
 pub mod Serving

@@ -1,12 +1,15 @@
 -- What is made of the tables by the messages of connections, one after the other, by rules over any state.
-use Rattle.std.specs.Prelude.{◌≡◌, ◌<◌, ℕ, List, [], ◌∷◌, length, Option, IfSome, Result, Ok, Err}
+use Rattle.std.specs.Prelude.{◌≡◌, ◌<◌, ℕ, List, [], ◌∷◌, ◌++◌, length, Option, IfSome, Result, Ok, Err}
 use Rattle.std.specs.List.{AllByRecursion}
 use Rattle.index_io.specs.Counts.{HasFailed}
+use Rattle.index_rules.specs.declared.answer.Answer.{Answer}
+use Rattle.index_rules.specs.declared.call.Call.{Call}
 use Rattle.index_rules.specs.Tables.{Tables}
 use Rattle.index_rules.specs.History.{History}
 use Rattle.index_rules.specs.Legal.{IsLegal}
 use Rattle.index_rules.specs.StandsFor.{StandsFor}
 use Rattle.index_desk.specs.Rules.{Rules, by_history}
+use Rattle.index_http.specs.Asks.{Asks}
 use Rattle.index_http.specs.Ends.{Ends}
 use Rattle.index_http.specs.Exchanges.{RepliesToInput}
 use Rattle.index_http.specs.declared.end.IoEnd.{IoEnd}
@@ -47,6 +50,27 @@ pub record ServesHistory (h : History) (given : Option ℕ) (count : ℕ) (T' : 
   pub serves : Serves by_history given count h later
   pub legal : IsLegal later
   pub stands : StandsFor T' later
+
+-- what a connection at a moment asked of a desk: nothing but looks, or one call, to whose answer it got the reply
+pub record AsksOne (at : ℕ) (Looked : Type 0) (Took : Call → Answer → Type 0) : Type 0 where
+  pub given : Option (List ℕ)
+  pub had : Option (List ℕ)
+  pub has : Option (List ℕ)
+  pub ended : Result (Unit {0}) IoEnd
+  pub asks : Asks at given Looked Took had has ended
+
+-- this holds of the calls of connections at these moments, of which the newest comes first, and of their answers
+abbrev pub AsksEach : List ℕ → (List Call → List Answer → Type 0) → Type 0
+AsksEach [] Holds = Holds [] []
+AsksEach (at ∷ earlier) Holds =
+    AsksEach earlier (λ calls answers. AsksOne at (Holds calls answers) (λ call answer. Holds (calls ++ call ∷ []) (answers ++ answer ∷ [])))
+
+-- these tables may be left by the calls of so many connections and their answers
+pub record ServesCalls (Left : List Call → List Answer → Tables → Type 0) (given : Option ℕ) (count : ℕ) (T' : Tables) : Type 0 where
+  pub moments : List ℕ
+  pub asked : AsksEach moments (λ calls answers. Left calls answers T')
+  pub counted : length moments ≡ count
+  pub are_given : AllByRecursion (λ at. IfSome given (λ it. at ≡ it)) moments
 
 -- all of so many, or fewer where the run ended early
 abbrev pub IsCount : ℕ → Result (Unit {0}) ServeEnd → ℕ → Type 0

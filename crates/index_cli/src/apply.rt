@@ -6,10 +6,13 @@ ghost use Rattle.index_rules.specs.Sound.{IsSound};
 ghost use Rattle.index_rules.specs.History.{History};
 ghost use Rattle.index_rules.specs.StandsFor.{StandsFor};
 ghost use Rattle.index_rules.specs.Legal.{IsLegal};
+ghost use Rattle.index_rules.specs.Tables.{Tables};
+ghost use Rattle.index_desk.specs.Crashes.{LeavesAll, LeavesAllOf};
 ghost use Rattle.index_desk.specs.Rules.{by_tables};
 ghost use Rattle.index_cli.specs.Ends.{Ends};
 ghost use Rattle.index_cli.specs.Lines.{Charges};
 ghost use Rattle.index_cli.specs.Telling.{TellsLines};
+ghost use Rattle.index_cli.specs.TellsCalls.{TellsCalls};
 ghost use Rattle.index_cli.specs.TellsHistory.{TellsHistory};
 
 use crate::end::LineEnd;
@@ -49,6 +52,22 @@ pub fn apply_lines<S: Source, K: Sink, B: Books>(
         (S.remaining source.old) (S.remaining source.new)
         (K.contents sink.old) (K.contents sink.new) result }
 
+    // A crash leaves the tables after the accepted calls, or these with one call to which a fault was answered since the
+    // last of them; also where a fault has shut the store.
+    ensures crash { B.IsHonest desk.old → B.IsClean desk.new → HasOneBearer (B.tables desk.old)
+        → (T : Tables) → B.may_leave desk.new T
+        → Ends (TellsCalls (LeavesAll (B.tables desk.old))) T
+        (S.remaining source.old) (S.remaining source.new)
+        (K.contents sink.old) (K.contents sink.new) result }
+
+    // The former stand for the legal history with these calls, for which the tables stood without them.
+    ensures crash_history { B.IsHonest desk.old → B.IsClean desk.new
+        → (h : History) → IsLegal h → StandsFor (B.tables desk.old) h
+        → (T : Tables) → B.may_leave desk.new T
+        → Ends (TellsCalls (LeavesAllOf h)) T
+        (S.remaining source.old) (S.remaining source.new)
+        (K.contents sink.old) (K.contents sink.new) result }
+
     // Each fault has its cause, and else nothing failed.
     ensures read_fault { result ≡ Err LineEnd.ReadFault
         → HasFailed (S.failures source.old) (S.failures source.new)
@@ -68,6 +87,7 @@ pub fn apply_lines<S: Source, K: Sink, B: Books>(
     ensures sound { B.IsHonest desk.new
         → IsSound (B.tables desk.old) → IsSound (B.tables desk.new) }
     ensures honest { B.IsHonest desk.new → B.IsHonest desk.old }
+    ensures clean { B.IsClean desk.new → B.IsClean desk.old }
 {
     let mut line = Vec::new(alloc);
     let mut left = MOST_BYTES;

@@ -4,9 +4,12 @@ ghost use Rattle.index_names.specs.Project.{read_name};
 ghost use Rattle.index_rules.specs.Facts.{HasOneBearer};
 ghost use Rattle.index_rules.specs.Sound.{IsSound};
 ghost use Rattle.index_desk.specs.Rules.{by_tables};
+ghost use Rattle.index_http.specs.Asks.{Takes};
+ghost use Rattle.index_http.specs.Shows.{LeavesTables};
 ghost use Rattle.index_json.specs.Line.{line_of};
 ghost use Rattle.index_cli.specs.Replies.{reply_text, TellsKept};
 ghost use Rattle.index_cli.specs.Telling.{TellsAsked, TellsStanding};
+ghost use Rattle.index_cli.specs.TellsCalls.{AsksKept, AsksOf};
 
 use crate::end::LineEnd;
 use crate::input::LONGEST_LINE;
@@ -38,7 +41,7 @@ impl Reply {
 
 /// The reply to a line of this size, of which `front` has the first 65,536 bytes. A longer one asks
 /// nothing.
-/// After `OutOfMemory`, its one error, the tables are what they were.
+/// After `OutOfMemory`, its one error, no call was taken.
 pub fn reply_to<B: Books>(
     alloc: Global,
     desk: &mut Desk<B>,
@@ -47,7 +50,11 @@ pub fn reply_to<B: Books>(
 ) -> Result<Reply, LineEnd>
     ensures reply { B.IsHonest desk.new → HasOneBearer (B.tables desk.old) → IfOk result (λ reply.
         TellsKept size front.now (B.tables desk.old) (reply_text reply) (B.tables desk.new)) }
-    ensures unchanged { B.IsHonest desk.new → OnErr result (B.tables desk.new ≡ B.tables desk.old) }
+    ensures asks { IfOk result (λ reply. AsksKept size front.now (reply_text reply)
+        (LeavesTables B.IsHonest B.IsClean B.tables B.may_leave desk.old desk.new)
+        (Takes B.IsHonest B.IsClean B.tables B.may_leave desk.old desk.new)) }
+    ensures leaves { OnErr result
+        (LeavesTables B.IsHonest B.IsClean B.tables B.may_leave desk.old desk.new) }
     ensures kept { OnErr result (B.failures desk.new ≡ B.failures desk.old) }
     ensures memory { IfErr result (λ end. end ≡ LineEnd.OutOfMemory) }
     ensures one_bearer { B.IsHonest desk.new
@@ -55,6 +62,7 @@ pub fn reply_to<B: Books>(
     ensures sound { B.IsHonest desk.new
         → IsSound (B.tables desk.old) → IsSound (B.tables desk.new) }
     ensures honest { B.IsHonest desk.new → B.IsHonest desk.old }
+    ensures clean { B.IsClean desk.new → B.IsClean desk.old }
 {
     if size > LONGEST_LINE {
         return Ok(Reply::Fixed(bad_body()));
@@ -67,7 +75,11 @@ fn reply_to_read<B: Books>(alloc: Global, desk: &mut Desk<B>, line: &[u8]) -> Re
     ensures reply { B.IsHonest desk.new → HasOneBearer (B.tables desk.old) → IfOk result (λ reply.
         TellsAsked by_tables (line_of line.now)
         (B.tables desk.old) (reply_text reply) (B.tables desk.new)) }
-    ensures unchanged { B.IsHonest desk.new → OnErr result (B.tables desk.new ≡ B.tables desk.old) }
+    ensures asks { IfOk result (λ reply. AsksOf (line_of line.now) (reply_text reply)
+        (LeavesTables B.IsHonest B.IsClean B.tables B.may_leave desk.old desk.new)
+        (Takes B.IsHonest B.IsClean B.tables B.may_leave desk.old desk.new)) }
+    ensures leaves { OnErr result
+        (LeavesTables B.IsHonest B.IsClean B.tables B.may_leave desk.old desk.new) }
     ensures kept { OnErr result (B.failures desk.new ≡ B.failures desk.old) }
     ensures memory { IfErr result (λ end. end ≡ LineEnd.OutOfMemory) }
     ensures one_bearer { B.IsHonest desk.new
@@ -75,6 +87,7 @@ fn reply_to_read<B: Books>(alloc: Global, desk: &mut Desk<B>, line: &[u8]) -> Re
     ensures sound { B.IsHonest desk.new
         → IsSound (B.tables desk.old) → IsSound (B.tables desk.new) }
     ensures honest { B.IsHonest desk.new → B.IsHonest desk.old }
+    ensures clean { B.IsClean desk.new → B.IsClean desk.old }
 {
     let Ok(asked) = read_line(alloc, line) else {
         return Err(LineEnd::OutOfMemory);
@@ -94,10 +107,9 @@ fn standing_reply<B: Books>(
 ) -> Result<Reply, LineEnd>
     ensures reply { B.IsHonest desk.new → IfOk result (λ reply.
         TellsStanding by_tables (B.tables desk.old) (read_name name.now) (reply_text reply)) }
-    ensures unchanged { B.IsHonest desk.new → B.tables desk.new ≡ B.tables desk.old }
+    ensures leaves { LeavesTables B.IsHonest B.IsClean B.tables B.may_leave desk.old desk.new }
     ensures kept { OnErr result (B.failures desk.new ≡ B.failures desk.old) }
     ensures memory { IfErr result (λ end. end ≡ LineEnd.OutOfMemory) }
-    ensures honest { B.IsHonest desk.new → B.IsHonest desk.old }
 {
     match normal(alloc, name) {
         Ok(name) => known_reply(alloc, desk, &name),
@@ -114,10 +126,9 @@ fn known_reply<B: Books>(
 ) -> Result<Reply, LineEnd>
     ensures reply { B.IsHonest desk.new → IfOk result (λ reply.
         TellsStanding by_tables (B.tables desk.old) (Some name.now) (reply_text reply)) }
-    ensures unchanged { B.IsHonest desk.new → B.tables desk.new ≡ B.tables desk.old }
+    ensures leaves { LeavesTables B.IsHonest B.IsClean B.tables B.may_leave desk.old desk.new }
     ensures kept { OnErr result (B.failures desk.new ≡ B.failures desk.old) }
     ensures memory { IfErr result (λ end. end ≡ LineEnd.OutOfMemory) }
-    ensures honest { B.IsHonest desk.new → B.IsHonest desk.old }
 {
     let standing = match desk.standing(alloc, name) {
         Ok(standing) => standing,

@@ -5,8 +5,12 @@ ghost use Rattle.index_rules.specs.History.{History};
 ghost use Rattle.index_rules.specs.Legal.{IsLegal};
 ghost use Rattle.index_rules.specs.Sound.{IsSound};
 ghost use Rattle.index_rules.specs.StandsFor.{StandsFor};
+ghost use Rattle.index_rules.specs.Tables.{Tables};
+ghost use Rattle.index_desk.specs.Crashes.{LeavesAll, LeavesAllOf};
 ghost use Rattle.index_desk.specs.Rules.{by_tables};
-ghost use Rattle.index_cli.specs.Serving.{AnswersOne, IsCount, OneHistory, Serves, ServesHistory};
+ghost use Rattle.index_http.specs.Asks.{Takes};
+ghost use Rattle.index_http.specs.Shows.{LeavesTables};
+ghost use Rattle.index_cli.specs.Serving.{AnswersOne, AsksOne, IsCount, OneHistory, Serves, ServesCalls, ServesHistory};
 
 use crate::end::ServeEnd;
 use index_desk::{Desk, Keeper};
@@ -45,12 +49,25 @@ pub fn serve_connections<B: Keeper>(
         (count : ℕ) × IsCount requests result count
         × ServesHistory h at count (B.tables desk.new) }
 
+    // A crash leaves the tables after the accepted calls, or these with one call to which a fault was answered since the
+    // last of them; also where a fault has shut the store.
+    ensures crash { B.IsHonest desk.old → B.IsClean desk.new → HasOneBearer (B.tables desk.old) →
+        (T : Tables) → B.may_leave desk.new T → (count : ℕ) × IsCount requests result count
+        × ServesCalls (LeavesAll (B.tables desk.old)) at count T }
+
+    // The former stand for the legal history with these calls, for which the tables stood without them.
+    ensures crash_history { B.IsHonest desk.old → B.IsClean desk.new →
+        (h : History) → IsLegal h → StandsFor (B.tables desk.old) h →
+        (T : Tables) → B.may_leave desk.new T → (count : ℕ) × IsCount requests result count
+        × ServesCalls (LeavesAllOf h) at count T }
+
     // However it ends: one user at most bears a digest, and accounts that add up keep adding up.
     ensures one_bearer { B.IsHonest desk.new →
         HasOneBearer (B.tables desk.old) → HasOneBearer (B.tables desk.new) }
     ensures sound { B.IsHonest desk.new →
         IsSound (B.tables desk.old) → IsSound (B.tables desk.new) }
     ensures honest { B.IsHonest desk.new → B.IsHonest desk.old }
+    ensures clean { B.IsClean desk.new → B.IsClean desk.old }
 {
     for _count in 0..requests {
         let Ok((stream, _)) = listener.accept() else {
@@ -101,11 +118,15 @@ fn answer_stream<B: Keeper>(
     ensures history { B.IsHonest desk.new →
         (h : History) → IsLegal h → StandsFor (B.tables desk.old) h →
         OneHistory h at (B.tables desk.new) }
+    ensures asks { AsksOne at
+        (LeavesTables B.IsHonest B.IsClean B.tables B.may_leave desk.old desk.new)
+        (Takes B.IsHonest B.IsClean B.tables B.may_leave desk.old desk.new) }
     ensures one_bearer { B.IsHonest desk.new →
         HasOneBearer (B.tables desk.old) → HasOneBearer (B.tables desk.new) }
     ensures sound { B.IsHonest desk.new →
         IsSound (B.tables desk.old) → IsSound (B.tables desk.new) }
     ensures honest { B.IsHonest desk.new → B.IsHonest desk.old }
+    ensures clean { B.IsClean desk.new → B.IsClean desk.old }
 {
     let Ok(writer) = BufWriter::with_capacity(rt.alloc(), GATHERED_BYTES, stream) else {
         return Err(IoEnd::OutOfMemory);
@@ -133,11 +154,15 @@ fn answer_message<S: Source, K: Sink, B: Keeper>(
     ensures history { B.IsHonest desk.new →
         (h : History) → IsLegal h → StandsFor (B.tables desk.old) h →
         OneHistory h at (B.tables desk.new) }
+    ensures asks { AsksOne at
+        (LeavesTables B.IsHonest B.IsClean B.tables B.may_leave desk.old desk.new)
+        (Takes B.IsHonest B.IsClean B.tables B.may_leave desk.old desk.new) }
     ensures one_bearer { B.IsHonest desk.new →
         HasOneBearer (B.tables desk.old) → HasOneBearer (B.tables desk.new) }
     ensures sound { B.IsHonest desk.new →
         IsSound (B.tables desk.old) → IsSound (B.tables desk.new) }
     ensures honest { B.IsHonest desk.new → B.IsHonest desk.old }
+    ensures clean { B.IsClean desk.new → B.IsClean desk.old }
 {
     answer_one(alloc, site, source, sink, desk, at)
 }

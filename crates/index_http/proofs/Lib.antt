@@ -5,3 +5,4 @@ pub mod EndLemmas
 pub mod Histories
 pub mod PageLemmas
 pub mod AnswerLemmas
+pub mod AskLemmas

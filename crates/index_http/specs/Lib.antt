@@ -8,3 +8,4 @@ pub mod Exchanges
 pub mod Ends
 pub mod Shows
 pub mod PageShows
+pub mod Asks

@@ -36,6 +36,14 @@ is_write_fault (Err OutOfMemory) = false
 is_write_fault (Err (WriteFault count)) = true
 is_write_fault (Err (Cut count)) = false
 
+-- nothing of a reply went out, since none was made
+abbrev pub is_silent : {A : Type 0} → Result A IoEnd → Bool
+is_silent (Ok done) = false
+is_silent (Err ReadFault) = true
+is_silent (Err OutOfMemory) = true
+is_silent (Err (WriteFault count)) = false
+is_silent (Err (Cut count)) = false
+
 -- a write failed, or took no byte, just where the result says so; and no read failed
 pub record SendsOnly (failures_before failures_after : ℕ) (result : Result (Unit {0}) IoEnd) : Type 0 where
   pub write_fault : is_write_fault result ≡ true → HasFailed failures_before failures_after

@@ -34,11 +34,12 @@ abbrev pub EndsFault : Bool → Fault → Option Bytes → Option Bytes → Resu
 EndsFault to_head Store before after result = SendsText (reply_text to_head store_reply) before after result
 EndsFault to_head NoMemory before after result = (result ≡ Err OutOfMemory) × Keeps before after
 
--- no table changed, and the store is as honest and as clean as it was
-pub record LeavesTables {S : Type 0} (is_honest is_clean : S → Type 0) (tables : S → Tables) (old new : S) : Type 0 where
+-- no table changed, the store is as honest and as clean as it was, and a crash leaves what it could have left before
+pub record LeavesTables {S : Type 0} (is_honest is_clean : S → Type 0) (tables : S → Tables) (may_leave : S → Tables → Type 0) (old new : S) : Type 0 where
   pub unchanged : is_honest new → tables new ≡ tables old
   pub honest : is_honest new → is_honest old
   pub clean : is_clean new → is_clean old
+  pub crash : (T : Tables) → may_leave new T → may_leave old T
 
 -- a page
 abbrev pub is_page : Resource → Bool

@@ -9,8 +9,10 @@ ghost use Rattle.index_http.specs.Ends.{Ends, Stands};
 ghost use Rattle.index_http.specs.Exchanges.{Acts, asked_by as asked_by_lem, asked_of_file as asked_of_file_lem, call_of as call_of_lem};
 ghost use Rattle.index_json.specs.Requests.{request_of};
 ghost use Rattle.index_message.specs.Resources.{is_head, is_put};
+ghost use Rattle.index_http.specs.Asks.{AsksFor, Takes};
 ghost use Rattle.index_http.specs.Sends.{SendsOnly, is_cut};
-ghost use Rattle.index_http.specs.Replies.{Reply, reply_text};
+ghost use Rattle.index_http.specs.Shows.{LeavesTables};
+ghost use Rattle.index_http.specs.Replies.{Reply, answer_reply as answer_reply_lem, reply_text};
 
 use crate::end::IoEnd;
 use crate::reply::{answer_reply, message_reply};
@@ -41,6 +43,13 @@ pub fn act<K: Sink, B: Books>(
         Ends (λ text. (reply : Reply) × (later : Tables)
         × (text ≡ reply_text (is_head method) reply)
         × Acts by_tables cause (is_put method) T call reply later × IsLater later) (IsLater T)
+        (K.contents sink.old) (K.contents sink.new) result }
+    ensures asks { let call = call_of_lem at request.now body in
+        let method = request.now.method in
+        AsksFor call
+        (λ answer. reply_text (is_head method) (answer_reply_lem (is_put method) answer))
+        (LeavesTables B.IsHonest B.IsClean B.tables B.may_leave desk.old desk.new)
+        (Takes B.IsHonest B.IsClean B.tables B.may_leave desk.old desk.new)
         (K.contents sink.old) (K.contents sink.new) result }
     ensures memory { result ≡ Err IoEnd.OutOfMemory → desk.new ≡ desk.old }
     ensures sends { SendsOnly (K.failures sink.old) (K.failures sink.new) result }

@@ -12,10 +12,11 @@ ghost use Rattle.index_desk.specs.Rules.{by_tables};
 ghost use Rattle.index_message.specs.Heads.{longest_head};
 ghost use Rattle.index_message.specs.Lengths.{longest_upload};
 ghost use Rattle.index_message.specs.Messages.{EndsUnfinished};
+ghost use Rattle.index_http.specs.Asks.{Asks, AsksFor, Takes, call_in, text_of_answer};
 ghost use Rattle.index_http.specs.Ends.{Ends, EndsAfter, Stands};
 ghost use Rattle.index_http.specs.Exchanges.{RepliesTo, RepliesToInput};
 ghost use Rattle.index_http.specs.Sends.{SendsOnly, is_cut, is_write_fault};
-ghost use Rattle.index_http.specs.Shows.{GivesMessage, asks_page, is_look};
+ghost use Rattle.index_http.specs.Shows.{GivesMessage, LeavesTables, asks_page, is_look};
 
 use crate::act::act;
 use crate::end::IoEnd;
@@ -65,6 +66,13 @@ pub fn answer_one<S: Source, K: Sink, B: Keeper>(
         let given = S.remaining source.old in
         Ends (λ text. (later : Tables) × RepliesToInput by_tables cause at T given text later)
         (Unit {0}) (K.contents sink.old) (K.contents sink.new) result }
+
+    // The desk takes one call at most, that of the message, and the reply is that to its answer. Else no table changes, and
+    // a crash leaves nothing new.
+    ensures asks { Asks at (S.remaining source.old)
+        (LeavesTables B.IsHonest B.IsClean B.tables B.may_leave desk.old desk.new)
+        (Takes B.IsHonest B.IsClean B.tables B.may_leave desk.old desk.new)
+        (K.contents sink.old) (K.contents sink.new) result }
 
     // Where memory ran out nothing was asked of the desk, or it was a look: an answer to a call is always replied.
     ensures memory { result ≡ Err IoEnd.OutOfMemory → (desk.new ≡ desk.old)
@@ -117,6 +125,10 @@ fn answer<K: Sink, B: Keeper>(
         let IsLater = Stands B.IsHonest B.tables desk.new in
         Ends (λ text. (later : Tables)
         × RepliesTo by_tables cause at T message text later × IsLater later) (IsLater T)
+        (K.contents sink.old) (K.contents sink.new) result }
+    ensures asks { AsksFor (call_in at message) (text_of_answer message)
+        (LeavesTables B.IsHonest B.IsClean B.tables B.may_leave desk.old desk.new)
+        (Takes B.IsHonest B.IsClean B.tables B.may_leave desk.old desk.new)
         (K.contents sink.old) (K.contents sink.new) result }
     ensures memory { result ≡ Err IoEnd.OutOfMemory →
         (desk.new ≡ desk.old) ⊎ (is_look message ≡ true) }

@@ -40,7 +40,8 @@ pub fn show_root<K: Sink, B: Keeper>(
         let T = B.tables desk.old in
         EndsShown to_head (ShowsRoot by_tables T chosen) cause
         (K.contents sink.old) (K.contents sink.new) result }
-    ensures leaves { LeavesTables B.IsHonest B.IsClean B.tables desk.old desk.new }
+    ensures leaves { LeavesTables B.IsHonest B.IsClean B.tables B.may_leave
+        desk.old desk.new }
     ensures sends { SendsOnly (K.failures sink.old) (K.failures sink.new) result }
     ensures cut { is_cut result ≡ true → to_head ≡ false }
 {
@@ -64,7 +65,8 @@ pub fn show_project<K: Sink, B: Keeper>(
         let T = B.tables desk.old in
         EndsShown to_head (ShowsProject by_tables T name.now chosen) cause
         (K.contents sink.old) (K.contents sink.new) result }
-    ensures leaves { LeavesTables B.IsHonest B.IsClean B.tables desk.old desk.new }
+    ensures leaves { LeavesTables B.IsHonest B.IsClean B.tables B.may_leave
+        desk.old desk.new }
     ensures sends { SendsOnly (K.failures sink.old) (K.failures sink.new) result }
     ensures cut { is_cut result ≡ true → to_head ≡ false }
 {
@@ -87,7 +89,8 @@ fn show_no_page<K: Sink, B: Books>(
         let T = B.tables desk.old in
         EndsShown to_head (ShowsProject by_tables T name.now None) cause
         (K.contents sink.old) (K.contents sink.new) result }
-    ensures leaves { LeavesTables B.IsHonest B.IsClean B.tables desk.old desk.new }
+    ensures leaves { LeavesTables B.IsHonest B.IsClean B.tables B.may_leave
+        desk.old desk.new }
     ensures sends { SendsOnly (K.failures sink.old) (K.failures sink.new) result }
     ensures whole { is_cut result ≡ false }
 {
@@ -112,7 +115,8 @@ fn show_page<K: Sink, B: Keeper>(
         let T = B.tables desk.old in
         EndsShown to_head (ShowsWhole served (page_in T served page.entry)) cause
         (K.contents sink.old) (K.contents sink.new) result }
-    ensures leaves { LeavesTables B.IsHonest B.IsClean B.tables desk.old desk.new }
+    ensures leaves { LeavesTables B.IsHonest B.IsClean B.tables B.may_leave
+        desk.old desk.new }
     ensures sends { SendsOnly (K.failures sink.old) (K.failures sink.new) result }
     ensures cut { is_cut result ≡ true → to_head ≡ false }
 {
@@ -163,7 +167,8 @@ fn show_in_passes<K: Sink, B: Books>(
         let T = B.tables desk.old in
         EndsShown to_head (ShowsWhole served (page_in T served page.entry)) cause
         (K.contents sink.old) (K.contents sink.new) result }
-    ensures leaves { LeavesTables B.IsHonest B.IsClean B.tables desk.old desk.new }
+    ensures leaves { LeavesTables B.IsHonest B.IsClean B.tables B.may_leave
+        desk.old desk.new }
     ensures sends { SendsOnly (K.failures sink.old) (K.failures sink.new) result }
     ensures cut { is_cut result ≡ true → to_head ≡ false }
 {
@@ -208,7 +213,8 @@ fn send_page<K: Sink, B: Books>(
         size ≡ length bytes → size ≤ most_bytes →
         SendsText (reply_text to_head (page_reply served bytes))
         (K.contents sink.old) (K.contents sink.new) result }
-    ensures leaves { LeavesTables B.IsHonest B.IsClean B.tables desk.old desk.new }
+    ensures leaves { LeavesTables B.IsHonest B.IsClean B.tables B.may_leave
+        desk.old desk.new }
     ensures sends { SendsOnly (K.failures sink.old) (K.failures sink.new) result }
     ensures cut { is_cut result ≡ true → to_head ≡ false }
 {

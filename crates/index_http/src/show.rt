@@ -37,7 +37,8 @@ pub fn show<K: Sink, B: Keeper>(
         let fields = request.now.fields in
         EndsShown (is_head request.now.method) (Shows by_tables T fields request.now.resource) cause
         (K.contents sink.old) (K.contents sink.new) result }
-    ensures leaves { LeavesTables B.IsHonest B.IsClean B.tables desk.old desk.new }
+    ensures leaves { LeavesTables B.IsHonest B.IsClean B.tables B.may_leave
+        desk.old desk.new }
     ensures sends { SendsOnly (K.failures sink.old) (K.failures sink.new) result }
     ensures cut { is_cut result ≡ true → shows_page request.now ≡ true }
 {
@@ -111,7 +112,8 @@ fn show_at<K: Sink, B: Keeper>(
         let fields = request.now.fields in
         EndsShown to_head (ShowsAt by_tables T fields given.now (read_name given.now)) cause
         (K.contents sink.old) (K.contents sink.new) result }
-    ensures leaves { LeavesTables B.IsHonest B.IsClean B.tables desk.old desk.new }
+    ensures leaves { LeavesTables B.IsHonest B.IsClean B.tables B.may_leave
+        desk.old desk.new }
     ensures sends { SendsOnly (K.failures sink.old) (K.failures sink.new) result }
     ensures cut { is_cut result ≡ true → to_head ≡ false }
 {
@@ -138,7 +140,8 @@ fn show_spelling<K: Sink, B: Keeper>(
         let same = bytes_eq name.now given.now in
         EndsShown to_head (ShowsSpelling by_tables T fields name.now same) cause
         (K.contents sink.old) (K.contents sink.new) result }
-    ensures leaves { LeavesTables B.IsHonest B.IsClean B.tables desk.old desk.new }
+    ensures leaves { LeavesTables B.IsHonest B.IsClean B.tables B.may_leave
+        desk.old desk.new }
     ensures sends { SendsOnly (K.failures sink.old) (K.failures sink.new) result }
     ensures cut { is_cut result ≡ true → to_head ≡ false }
 {
@@ -163,7 +166,8 @@ fn show_file<K: Sink, B: Keeper>(
         let T = B.tables desk.old in
         EndsShown to_head (ShowsFile by_tables T given.now (is_some (read_file_name given.now)))
         cause (K.contents sink.old) (K.contents sink.new) result }
-    ensures leaves { LeavesTables B.IsHonest B.IsClean B.tables desk.old desk.new }
+    ensures leaves { LeavesTables B.IsHonest B.IsClean B.tables B.may_leave
+        desk.old desk.new }
     ensures sends { SendsOnly (K.failures sink.old) (K.failures sink.new) result }
     ensures whole { is_cut result ≡ false }
 {
@@ -197,7 +201,8 @@ fn show_name<K: Sink, B: Books>(
         let T = B.tables desk.old in
         EndsShown to_head (ShowsName by_tables T (read_name given.now)) cause
         (K.contents sink.old) (K.contents sink.new) result }
-    ensures leaves { LeavesTables B.IsHonest B.IsClean B.tables desk.old desk.new }
+    ensures leaves { LeavesTables B.IsHonest B.IsClean B.tables B.may_leave
+        desk.old desk.new }
     ensures sends { SendsOnly (K.failures sink.old) (K.failures sink.new) result }
     ensures whole { is_cut result ≡ false }
 {
@@ -220,7 +225,8 @@ fn show_standing<K: Sink, B: Books>(
         let T = B.tables desk.old in
         EndsShown to_head (ShowsName by_tables T (Some name.now)) cause
         (K.contents sink.old) (K.contents sink.new) result }
-    ensures leaves { LeavesTables B.IsHonest B.IsClean B.tables desk.old desk.new }
+    ensures leaves { LeavesTables B.IsHonest B.IsClean B.tables B.may_leave
+        desk.old desk.new }
     ensures sends { SendsOnly (K.failures sink.old) (K.failures sink.new) result }
     ensures whole { is_cut result ≡ false }
 {

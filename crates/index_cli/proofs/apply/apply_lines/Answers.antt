@@ -1,9 +1,9 @@
-use Rattle.std.proofs.Common.{◌≡◌, ◌≢◌, ◌∙◌, Err, arith, rules}
+use Rattle.std.proofs.Common.{◌≡◌, ◌≢◌, ◌∙◌, Ok, Err, arith, rules}
 use Rattle.index_rules.proofs.StandsOn.{sound_when_legal}
 use Rattle.index_cli.specs.declared.end.LineEnd.TheVariants.{ReadFault, WriteFault}
+use Rattle.index_cli.proofs.Crashes.{lines_crash, lines_crash_history, lines_history, taken_push}
 use Rattle.index_cli.proofs.Cuts.{Charges-trans, TakesPart-none}
-use Rattle.index_cli.proofs.Histories.{TellsAll-history, TellsBefore-history, TellsDuring-history}
-use Rattle.index_cli.proofs.Progress.{Progress-during, Progress-part, Progress-push, Progress-taken, Progress-whole}
+use Rattle.index_cli.proofs.Progress.{Progress-during, Progress-part, Progress-push, Progress-taken, Progress-whole, lines_push}
 use Rattle.index_cli.proofs.RunEnds.{Ends-before, failed_or_spent}
 use Rattle.index_cli.proofs.apply.apply_lines.Goals as goal
 
@@ -18,12 +18,22 @@ returns-in_err-size-clause-tables g c = λ honest one.
 
 pub returns-in_err-size-clause-history : goal.returns-in_err-size-clause-history
 returns-in_err-size-clause-history g c = λ honest h legal stands.
-    let one = (sound_when_legal h legal _ stands).one_bearer in
+    lines_history h legal _ stands _ _ _ _ _ _
+    (returns-in_err-size-clause-tables g c honest (sound_when_legal h legal _ stands).one_bearer)
+
+pub returns-in_err-size-clause-crash : goal.returns-in_err-size-clause-crash
+returns-in_err-size-clause-crash g c = λ honest clean one T left.
     let is : c.from_residual.result ≡ Err c.in_err-size.field-0.0 = search rules in
     let other : c.from_residual.result ≢ Err WriteFault = search rules in
-    Ends-before _ _ _ _ _ _ c.from_residual.result c.in_err-size.field-0.0 is other
-    (TellsBefore-history h legal _ stands _ _ _ _ _
-    (Progress-part _ _ _ _ _ _ _ _ (c.loop-count.invariant.progress honest one) c.in_err-size.ensures.part))
+    let B = g.B.Books in
+    lines_crash B.IsHonest B.IsClean B.tables B.may_leave _ _ honest clean one T left _ _ _ _ _ _
+    (Ends-before _ _ _ _ _ _ c.from_residual.result c.in_err-size.field-0.0 is other
+    (Progress-part _ _ _ _ _ _ _ _ c.loop-count.invariant.called c.in_err-size.ensures.part))
+
+pub returns-in_err-size-clause-crash_history : goal.returns-in_err-size-clause-crash_history
+returns-in_err-size-clause-crash_history g c = λ honest clean h legal stands T left.
+    lines_crash_history h legal _ stands T _ _ _ _ _
+    (returns-in_err-size-clause-crash g c honest clean (sound_when_legal h legal _ stands).one_bearer T left)
 
 pub returns-in_err-size-clause-read_fault : goal.returns-in_err-size-clause-read_fault
 returns-in_err-size-clause-read_fault g c = λ end.
@@ -44,8 +54,20 @@ returns-in_default-clause-tables g c = λ honest one.
 
 pub returns-in_default-clause-history : goal.returns-in_default-clause-history
 returns-in_default-clause-history g c = λ honest h legal stands.
-    TellsAll-history h legal _ stands _ _ _ _ _ _
+    lines_history h legal _ stands _ _ _ _ _ (Ok _)
     (returns-in_default-clause-tables g c honest (sound_when_legal h legal _ stands).one_bearer)
+
+pub returns-in_default-clause-crash : goal.returns-in_default-clause-crash
+returns-in_default-clause-crash g c = λ honest clean one T left.
+    let end = rw c.in_default.is at c.in_ok-size.ensures.line in
+    let B = g.B.Books in
+    lines_crash B.IsHonest B.IsClean B.tables B.may_leave _ _ honest clean one T left _ _ _ _ _ (Ok _)
+    (Progress-whole _ _ _ _ _ _ _ _ c.loop-count.invariant.called end.0 end.1)
+
+pub returns-in_default-clause-crash_history : goal.returns-in_default-clause-crash_history
+returns-in_default-clause-crash_history g c = λ honest clean h legal stands T left.
+    lines_crash_history h legal _ stands T _ _ _ _ (Ok _)
+    (returns-in_default-clause-crash g c honest clean (sound_when_legal h legal _ stands).one_bearer T left)
 
 -- ---- memory ran out for a reply
 
@@ -54,20 +76,29 @@ returns-in_err-reply-clause-tables g c = λ honest one.
     let is : c.from_residual-in_err-reply.result ≡ Err c.in_err-reply.field-0.0 = search rules in
     let other : c.from_residual-in_err-reply.result ≢ Err WriteFault = search rules in
     Ends-before _ _ _ _ _ _ c.from_residual-in_err-reply.result c.in_err-reply.field-0.0 is other
-    (rw (c.in_err-reply.ensures.unchanged honest)
+    (rw (c.in_err-reply.ensures.leaves.unchanged honest)
     (Progress-taken _ _ _ _ _ _ _ _ c.in-Some.size _ (c.loop-count.invariant.progress (c.reply_to.ensures.honest honest) one)
     (rw c.in-Some.is at c.in_ok-size.ensures.line)))
 
 pub returns-in_err-reply-clause-history : goal.returns-in_err-reply-clause-history
 returns-in_err-reply-clause-history g c = λ honest h legal stands.
-    let one = (sound_when_legal h legal _ stands).one_bearer in
+    lines_history h legal _ stands _ _ _ _ _ _
+    (returns-in_err-reply-clause-tables g c honest (sound_when_legal h legal _ stands).one_bearer)
+
+pub returns-in_err-reply-clause-crash : goal.returns-in_err-reply-clause-crash
+returns-in_err-reply-clause-crash g c = λ honest clean one T left.
     let is : c.from_residual-in_err-reply.result ≡ Err c.in_err-reply.field-0.0 = search rules in
     let other : c.from_residual-in_err-reply.result ≢ Err WriteFault = search rules in
-    Ends-before _ _ _ _ _ _ c.from_residual-in_err-reply.result c.in_err-reply.field-0.0 is other
-    (rw (c.in_err-reply.ensures.unchanged honest)
-    (TellsBefore-history h legal _ stands _ _ _ _ _
-    (Progress-taken _ _ _ _ _ _ _ _ c.in-Some.size _ (c.loop-count.invariant.progress (c.reply_to.ensures.honest honest) one)
-    (rw c.in-Some.is at c.in_ok-size.ensures.line))))
+    let leaves = c.in_err-reply.ensures.leaves in
+    let B = g.B.Books in
+    lines_crash B.IsHonest B.IsClean B.tables B.may_leave _ _ honest (leaves.clean clean) one T (leaves.crash T left) _ _ _ _ _ _
+    (Ends-before _ _ _ _ _ _ c.from_residual-in_err-reply.result c.in_err-reply.field-0.0 is other
+    (Progress-taken _ _ _ _ _ _ _ _ c.in-Some.size _ c.loop-count.invariant.called (rw c.in-Some.is at c.in_ok-size.ensures.line)))
+
+pub returns-in_err-reply-clause-crash_history : goal.returns-in_err-reply-clause-crash_history
+returns-in_err-reply-clause-crash_history g c = λ honest clean h legal stands T left.
+    lines_crash_history h legal _ stands T _ _ _ _ _
+    (returns-in_err-reply-clause-crash g c honest clean (sound_when_legal h legal _ stands).one_bearer T left)
 
 pub returns-in_err-reply-clause-limit : goal.returns-in_err-reply-clause-limit
 returns-in_err-reply-clause-limit g c =
@@ -79,15 +110,33 @@ pub returns-in_default-told-clause-tables : goal.returns-in_default-told-clause-
 returns-in_default-told-clause-tables g c = λ honest one.
     let honest_then = c.reply_to.ensures.honest honest in
     let front = rw c.as_bytes.ensures at c.in_default-told.ensures.front in
-    Progress-during _ _ _ _ _ _ _ _ _ _ c.in-Some.size _ _ _ (c.loop-count.invariant.progress honest_then one)
+    Progress-during _ _ _ _ _ _ _ _ _ _ _ c.in-Some.size _ _ _ (c.loop-count.invariant.progress honest_then one)
     (rw c.in-Some.is at c.in_ok-size.ensures.line)
-    (rw c.as_slice.ensures.value at (c.in_ok-reply.ensures.reply honest (c.loop-count.invariant.one_bearer honest_then one)))
+    (lines_push _ _ _ _ _ _ (rw c.as_slice.ensures.value at (c.in_ok-reply.ensures.reply honest (c.loop-count.invariant.one_bearer honest_then one))))
     front.0 front.1
 
 pub returns-in_default-told-clause-history : goal.returns-in_default-told-clause-history
 returns-in_default-told-clause-history g c = λ honest h legal stands.
-    TellsDuring-history h legal _ stands _ _ _ _ _
+    lines_history h legal _ stands _ _ _ _ _ (Err WriteFault)
     (returns-in_default-told-clause-tables g c honest (sound_when_legal h legal _ stands).one_bearer)
+
+pub returns-in_default-told-clause-crash : goal.returns-in_default-told-clause-crash
+returns-in_default-told-clause-crash g c = λ honest clean one T left.
+    let front = rw c.as_bytes.ensures at c.in_default-told.ensures.front in
+    let B = g.B.Books in
+    lines_crash B.IsHonest B.IsClean B.tables B.may_leave _ _ honest clean one T left (B.tables c.reply_to.new.desk) _ _ _ _ (Err WriteFault)
+    (Progress-during _ _ _ _ _ _ _ _ _ _ _ c.in-Some.size _ _ _ c.loop-count.invariant.called
+    (rw c.in-Some.is at c.in_ok-size.ensures.line)
+    (taken_push B.IsHonest B.IsClean B.tables B.may_leave _ _ _ _ (B.tables c.reply_to.new.desk) _ _ _ (rw c.as_slice.ensures.value at c.in_ok-reply.ensures.asks))
+    front.0 front.1)
+
+pub returns-in_default-told-clause-crash_history : goal.returns-in_default-told-clause-crash_history
+returns-in_default-told-clause-crash_history g c = λ honest clean h legal stands T left.
+    lines_crash_history h legal _ stands T _ _ _ _ (Err WriteFault)
+    (returns-in_default-told-clause-crash g c honest clean (sound_when_legal h legal _ stands).one_bearer T left)
+
+pub returns-in_default-told-clause-write_fault : goal.returns-in_default-told-clause-write_fault
+returns-in_default-told-clause-write_fault g c = λ _. rw c.loop-count.invariant.writes at c.in_default-told.ensures.failed
 
 pub returns-in_default-told-clause-limit : goal.returns-in_default-told-clause-limit
 returns-in_default-told-clause-limit g c =
@@ -104,13 +153,18 @@ returns-in_default-told-clause-honest g c = λ honest. c.loop-count.invariant.ho
 
 pub loop-count-preserved : goal.loop-count-preserved
 loop-count-preserved g c =
+    let B = g.B.Books in
     let invariant = c.loop-count.invariant in
     record {
       progress = λ honest one.
           let honest_then = c.reply_to.ensures.honest honest in
-          Progress-push _ _ _ _ _ _ _ _ _ _ c.in-Some.size _ _ (invariant.progress honest_then one)
+          Progress-push _ _ _ _ _ _ _ _ _ _ _ c.in-Some.size _ _ (invariant.progress honest_then one)
           (rw c.in-Some.is at c.in_ok-size.ensures.line)
-          (rw c.as_slice.ensures.value at (c.in_ok-reply.ensures.reply honest (invariant.one_bearer honest_then one)))
+          (lines_push _ _ _ _ _ _ (rw c.as_slice.ensures.value at (c.in_ok-reply.ensures.reply honest (invariant.one_bearer honest_then one))))
+          (rw c.as_bytes.ensures at c.in-Ok.ensures.whole);
+      called = Progress-push _ _ _ _ _ _ _ _ _ _ _ c.in-Some.size _ _ invariant.called
+          (rw c.in-Some.is at c.in_ok-size.ensures.line)
+          (taken_push B.IsHonest B.IsClean B.tables B.may_leave _ _ _ _ _ _ _ _ (rw c.as_slice.ensures.value at c.in_ok-reply.ensures.asks))
           (rw c.as_bytes.ensures at c.in-Ok.ensures.whole);
       charged = Charges-trans _ _ _ _ _ _ invariant.charged c.next_line.ensures.charged;
       spent = let less = rw c.in-Some.is at c.in_ok-size.ensures.left in omega (arith, less.1, invariant.spent);
@@ -120,6 +174,7 @@ loop-count-preserved g c =
           c.reply_to.ensures.one_bearer honest (invariant.one_bearer (c.reply_to.ensures.honest honest) one);
       sound = λ honest sound. c.reply_to.ensures.sound honest (invariant.sound (c.reply_to.ensures.honest honest) sound);
       honest = λ honest. invariant.honest (c.reply_to.ensures.honest honest);
+      clean = λ clean. invariant.clean (c.reply_to.ensures.clean clean);
     }
 
 -- ---- no more lines may be read
@@ -130,5 +185,16 @@ returns-clause-tables g c = λ honest one.
 
 pub returns-clause-history : goal.returns-clause-history
 returns-clause-history g c = λ honest h legal stands.
-    TellsBefore-history h legal _ stands _ _ _ _ _
+    lines_history h legal _ stands _ _ _ _ _ (Err ReadFault)
     (returns-clause-tables g c honest (sound_when_legal h legal _ stands).one_bearer)
+
+pub returns-clause-crash : goal.returns-clause-crash
+returns-clause-crash g c = λ honest clean one T left.
+    let B = g.B.Books in
+    lines_crash B.IsHonest B.IsClean B.tables B.may_leave _ _ honest clean one T left _ _ _ _ _ (Err ReadFault)
+    (Progress-part _ _ _ _ _ _ _ _ c.loop-count.invariant.called (TakesPart-none _))
+
+pub returns-clause-crash_history : goal.returns-clause-crash_history
+returns-clause-crash_history g c = λ honest clean h legal stands T left.
+    lines_crash_history h legal _ stands T _ _ _ _ (Err ReadFault)
+    (returns-clause-crash g c honest clean (sound_when_legal h legal _ stands).one_bearer T left)

@@ -2,7 +2,11 @@ use Rattle.std.proofs.Common.{◌≡◌, ◌≤◌, ◌+◌}
 use Rattle.index_rules.specs.Facts.{HasOneBearer}
 use Rattle.index_rules.specs.Sound.{IsSound}
 use Rattle.index_cli.specs.declared.apply.TheConstants.{MOST_BYTES}
+use Rattle.index_desk.specs.Rules.{by_tables}
 use Rattle.index_cli.specs.Lines.{Charges}
+use Rattle.index_cli.specs.Telling.{TellsLines}
+use Rattle.index_cli.specs.TellsCalls.{TellsCalls}
+use Rattle.index_cli.proofs.Calls.{by_taken}
 use Rattle.index_cli.proofs.Progress.{Progress}
 use Rattle.index_cli.proofs.apply.apply_lines.Given as goal
 
@@ -15,7 +19,9 @@ invariant-loop-count g l =
     let left = g.S.Source.remaining l.source in
     record {
       progress : honest → HasOneBearer before
-          → Progress given left before now (g.K.Sink.contents l.fn.sink) (g.K.Sink.contents l.sink) l.count;
+          → Progress (TellsLines by_tables before) now given left (g.K.Sink.contents l.fn.sink) (g.K.Sink.contents l.sink) l.count;
+      called : Progress (TellsCalls (by_taken g.B.Books.IsHonest g.B.Books.IsClean g.B.Books.tables g.B.Books.may_leave l.fn.desk l.desk)) now
+          given left (g.K.Sink.contents l.fn.sink) (g.K.Sink.contents l.sink) l.count;
       charged : Charges MOST_BYTES l.left given left;
       spent : l.left + l.count ≤ MOST_BYTES;
       reads : g.S.Source.failures l.source ≡ g.S.Source.failures l.fn.source;
@@ -23,4 +29,5 @@ invariant-loop-count g l =
       one_bearer : honest → HasOneBearer before → HasOneBearer now;
       sound : honest → IsSound before → IsSound now;
       honest : honest → g.B.Books.IsHonest l.fn.desk;
+      clean : g.B.Books.IsClean l.desk → g.B.Books.IsClean l.fn.desk;
     }

@@ -28,3 +28,12 @@ returns-clause-history g c = λ honest h legal stands.
       legal = it.legal;
       stands = it.stands;
     }
+
+pub returns-clause-asks : goal.returns-clause-asks
+returns-clause-asks g c = record {
+  given = g.S.Source.remaining c.args.source.now;
+  had = g.K.Sink.contents c.args.sink.now;
+  has = g.K.Sink.contents c.answer_one.new.sink;
+  ended = c.answer_one.result;
+  asks = c.answer_one.ensures.asks;
+}

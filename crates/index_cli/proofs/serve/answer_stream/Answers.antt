@@ -1,4 +1,4 @@
-use Rattle.std.proofs.Common.{refl, None, Err}
+use Rattle.std.proofs.Common.{inl, refl, None, Err}
 use Rattle.index_http.specs.declared.end.IoEnd.TheVariants.{OutOfMemory}
 use Rattle.index_cli.proofs.serve.answer_stream.Goals as goal
 
@@ -27,4 +27,13 @@ returns-in_default-clause-history g c = λ honest h legal stands. record {
   };
   legal = legal;
   stands = stands;
+}
+
+pub returns-in_default-clause-asks : goal.returns-in_default-clause-asks
+returns-in_default-clause-asks g c = record {
+  given = None;
+  had = None;
+  has = None;
+  ended = Err OutOfMemory;
+  asks = inl (record { unchanged = λ _. refl; honest = λ h. h; clean = λ h. h; crash = λ _ left. left }, refl);
 }

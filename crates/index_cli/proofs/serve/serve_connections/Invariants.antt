@@ -5,7 +5,8 @@ use Rattle.index_rules.specs.Legal.{IsLegal}
 use Rattle.index_rules.specs.Sound.{IsSound}
 use Rattle.index_rules.specs.StandsFor.{StandsFor}
 use Rattle.index_desk.specs.Rules.{by_tables}
-use Rattle.index_cli.specs.Serving.{Serves, ServesHistory}
+use Rattle.index_cli.specs.Serving.{Serves, ServesCalls, ServesHistory}
+use Rattle.index_cli.proofs.Calls.{by_taken}
 use Rattle.index_cli.proofs.serve.serve_connections.Given as goal
 
 -- what was true of the tables is, and they are those after the connections so far
@@ -17,7 +18,9 @@ invariant-loop-count g l =
     record {
       tables : honest → HasOneBearer before → Serves by_tables l.fn.at l._count before now;
       history : honest → (h : History) → IsLegal h → StandsFor before h → ServesHistory h l.fn.at l._count now;
+      called : ServesCalls (by_taken g.B.Books.IsHonest g.B.Books.IsClean g.B.Books.tables g.B.Books.may_leave l.fn.desk l.desk) l.fn.at l._count now;
       one_bearer : honest → HasOneBearer before → HasOneBearer now;
       sound : honest → IsSound before → IsSound now;
       honest : honest → g.B.Books.IsHonest l.fn.desk;
+      clean : g.B.Books.IsClean l.desk → g.B.Books.IsClean l.fn.desk;
     }

@@ -25,6 +25,34 @@ returns-in_default-clause-tables g c = λ honest clean one.
     (reply_of c.message_reply.result, g.B.Books.tables c.args.desk.now, ap (λ h. reply_text h (reply_of c.message_reply.result)) to_head, rw none (c.message_reply.ensures, refl), λ _. refl)
     c.send_reply.ensures.sent
 
+-- a body that is no request asks for nothing
+pub returns-in_default-clause-asks : goal.returns-in_default-clause-asks
+returns-in_default-clause-asks g c =
+    let none : call_of c.args.at c.args.request.now c.args.body ≡ None = sym c.in_ok-call.ensures ∙ c.in_default.is in
+    rw none (record { unchanged = λ _. refl; honest = λ h. h; clean = λ h. h; crash = λ _ left. left })
+
+pub returns-clause-asks : goal.returns-clause-asks
+returns-clause-asks g c =
+    let call : call_of c.args.at c.args.request.now c.args.body ≡ Some c.in-Some.call = sym c.in_ok-call.ensures ∙ c.in-Some.is in
+    let to_head : c.is_head-2.result ≡ is_head c.args.request.now.method = c.is_head-2.ensures ∙ ap is_head c.method-method.ensures in
+    let by_put : c.is_put.result ≡ is_put c.args.request.now.method = c.is_put.ensures ∙ ap is_put c.method-method.ensures in
+    let reply = c.answer_reply.ensures ∙ ap (λ put. answer_reply put c.apply-answer.result) by_put in
+    let text = ap (λ h. reply_text h (reply_of c.answer_reply.result)) to_head ∙ ap (reply_text (is_head c.args.request.now.method)) reply in
+    let applied = c.apply-answer.ensures in
+    rw call (sent_ends _ _ _ _ _ _ (
+      c.apply-answer.result,
+      text,
+      record {
+        verdict = applied.answer;
+        next = applied.tables;
+        crash = applied.crash;
+        nothing_new = applied.nothing_new;
+        lasts = applied.lasts;
+        honest = applied.honest;
+        clean = applied.clean;
+      },
+    ) c.send_reply-2.ensures.sent)
+
 pub returns-clause-tables : goal.returns-clause-tables
 returns-clause-tables g c = λ honest clean one.
     let call : call_of c.args.at c.args.request.now c.args.body ≡ Some c.in-Some.call = sym c.in_ok-call.ensures ∙ c.in-Some.is in

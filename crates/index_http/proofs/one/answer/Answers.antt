@@ -22,3 +22,17 @@ returns-clause-tables g c = λ honest clean one.
     let changes : is_reading c.in-Whole.request.method ≡ false = sym (c.is_reading.ensures ∙ ap is_reading c.method.ensures) ∙ c.if-is_reading.false in
     rw c.in-Whole.is
     (call_ends _ _ _ (Stands g.B.Books.IsHonest g.B.Books.tables c.act.new.desk) _ _ _ _ _ changes (c.act.ensures.tables honest clean one))
+
+pub returns-in-Faulty-clause-asks : goal.returns-in-Faulty-clause-asks
+returns-in-Faulty-clause-asks g c =
+    rw c.in-Faulty.is (record { unchanged = λ _. refl; honest = λ h. h; clean = λ h. h; crash = λ _ left. left })
+
+pub returns-then-is_reading-clause-asks : goal.returns-then-is_reading-clause-asks
+returns-then-is_reading-clause-asks g c =
+    let reads : is_reading c.in-Whole.request.method ≡ true = sym (c.is_reading.ensures ∙ ap is_reading c.method.ensures) ∙ c.if-is_reading.true in
+    rw (c.in-Whole.is, reads) c.show.ensures.leaves
+
+pub returns-clause-asks : goal.returns-clause-asks
+returns-clause-asks g c =
+    let changes : is_reading c.in-Whole.request.method ≡ false = sym (c.is_reading.ensures ∙ ap is_reading c.method.ensures) ∙ c.if-is_reading.false in
+    rw (c.in-Whole.is, changes) c.act.ensures.asks

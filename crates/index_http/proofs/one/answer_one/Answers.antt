@@ -39,3 +39,8 @@ returns-clause-memory g c = λ is.
       | inl same ↦ inl same
       | inr look ↦ inr (read.0, c.in_ok-message.message, read.1, read.2, look)
     ]
+
+pub returns-clause-asks : goal.returns-clause-asks
+returns-clause-asks g c =
+    let read = c.in_ok-message.ensures.message in
+    inr (read.0, c.in_ok-message.message, read.1, read.2, c.answer.ensures.asks)

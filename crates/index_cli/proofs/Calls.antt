@@ -1,0 +1,148 @@
+-- What a crash may leave after the calls that lines or connections ask for.
+use Rattle.std.proofs.Common.{◌≡◌, ◌≤◌, ◌<◌, ℕ, refl, sym, ap, ◌∙◌, subst, List, [], ◌∷◌, ◌++◌, length, Option, Some, None, arith, append_assoc, append-nil, take_all}
+use Rattle.index_rules.specs.declared.answer.Answer.{Answer}
+use Rattle.index_rules.specs.declared.call.Call.{Call}
+use Rattle.index_rules.specs.Facts.{HasOneBearer}
+use Rattle.index_rules.specs.Runs.{Runs}
+use Rattle.index_rules.specs.Tables.{Tables}
+use Rattle.index_rules.proofs.OneBearer.{HasOneBearer-Runs}
+use Rattle.index_rules.proofs.RunLemmas.{Runs-push}
+use Rattle.index_desk.specs.Crashes.{LeavesAll}
+use Rattle.index_desk.proofs.CrashLemmas.{LeavesAll-push}
+use Rattle.index_http.specs.Asks.{Takes}
+use Rattle.index_http.specs.Shows.{LeavesTables}
+use Rattle.index_http.proofs.AskLemmas.{asks_map}
+use Rattle.index_json.specs.Line.{line_of}
+use Rattle.index_json.specs.declared.line.Line.{Line}
+use Rattle.index_json.specs.declared.line.Line.TheVariants as line
+use Rattle.index_cli.specs.Lines.{line_feed, longest_line}
+use Rattle.index_cli.specs.Serving.{AsksEach, AsksOne, ServesCalls}
+use Rattle.index_cli.specs.TellsCalls.{AsksKept, AsksLine, AsksOf, TellsCalls}
+
+-- what calls and answers, or these and tables, may have to do with one another
+abbrev pub Leaving : Type 1
+Leaving = List Call → List Answer → Tables → Type 0
+
+-- ---- calls that a desk took since it was as it was first
+
+module _ {S : Type 0} (is_honest is_clean : S → Type 0) (tables : S → Tables) (may_leave : S → Tables → Type 0) where
+  -- the tables are those after them, and a crash leaves what it may
+  pub record Taken (first now : S) (calls : List Call) (answers : List Answer) : Type 0 where
+    pub runs : is_honest now → HasOneBearer (tables first) → Runs (tables first) calls answers (tables now)
+    pub left : is_honest first → is_clean now → HasOneBearer (tables first) → (T : Tables) → may_leave now T → LeavesAll (tables first) calls answers T
+
+  -- so of calls and answers, whatever the tables
+  abbrev pub by_taken : (first now : S) → Leaving
+  by_taken first now calls answers T = Taken first now calls answers
+
+  pub taken_none : (first : S) → (is_honest first → (T : Tables) → may_leave first T → T ≡ tables first) → Taken first first [] []
+  taken_none first settled = record { runs = λ _ _. refl; left = λ honest _ _ T left. settled honest T left }
+
+  pub taken_look : (first now new : S) (calls : List Call) (answers : List Answer) → LeavesTables is_honest is_clean tables may_leave now new
+      → Taken first now calls answers → Taken first new calls answers
+  taken_look first now new calls answers looked taken = record {
+    runs = λ honest one. subst (λ T. Runs (tables first) calls answers T) (sym (looked.unchanged honest)) (taken.runs (looked.honest honest) one);
+    left = λ honest clean one T left. taken.left honest (looked.clean clean) one T (looked.crash T left);
+  }
+
+  pub taken_call : (first now new : S) (calls : List Call) (answers : List Answer) (call : Call) (answer : Answer) → Takes is_honest is_clean tables may_leave now new call answer
+      → Taken first now calls answers → Taken first new (calls ++ call ∷ []) (answers ++ answer ∷ [])
+  taken_call first now new calls answers call answer took taken =
+      let before = λ (then : is_honest now) (one : HasOneBearer (tables first)).
+      HasOneBearer-Runs (tables first) one calls answers (tables now) (taken.runs then one) in
+      record {
+        runs = λ honest one.
+            let then = took.honest honest in
+            Runs-push (tables first) calls answers (tables now) call answer (tables new) (taken.runs then one)
+            (took.verdict honest (before then one)) (took.next honest (before then one));
+        left = λ honest clean one T left.
+            LeavesAll-push (tables first) calls answers (tables now) call answer (may_leave now) (is_honest now) (is_honest new) T
+            (λ then. taken.runs then one) (taken.left honest (took.clean clean) one) (took.lasts clean) took.honest
+            (took.nothing_new T left) (λ then. took.crash then clean (before then one) T left);
+      }
+
+-- ---- lines
+
+asks_of_map : (asked : Option Line) (text : List ℕ) (L L' : Type 0) (K K' : Call → Answer → Type 0) → (L → L') → ((call : Call) (answer : Answer) → K call answer → K' call answer)
+    → AsksOf asked text L K → AsksOf asked text L' K'
+asks_of_map None text L L' K K' f k asks = f asks
+asks_of_map (Some (line.Call call)) text L L' K K' f k (answer, is, took) = (answer, is, k call answer took)
+asks_of_map (Some (line.Standing name)) text L L' K K' f k asks = f asks
+
+pub asks_line_map : (line text : List ℕ) (L L' : Type 0) (K K' : Call → Answer → Type 0) → (L → L') → ((call : Call) (answer : Answer) → K call answer → K' call answer)
+    → AsksLine line text L K → AsksLine line text L' K'
+asks_line_map line text L L' K K' f k asks =
+    (λ short. asks_of_map (line_of line) text L L' K K' f k (asks.0 short), λ long. f (asks.1 long))
+
+-- a line that is not too long is its own front
+pub AsksKept-read : (front text : List ℕ) (size : ℕ) (L : Type 0) (K : Call → Answer → Type 0) → size ≤ longest_line
+    → AsksOf (line_of front) text L K → AsksKept size front text L K
+AsksKept-read front text size L K short asks line long is =
+    let whole : front ≡ line = is ∙ take_all longest_line line (omega (arith, short, long)) in (
+      λ _. subst (λ (l : List ℕ). AsksOf (line_of l) text L K) whole asks,
+      λ far. absurd (omega (arith, short, long, far)),
+    )
+
+pub AsksKept-long : (front text : List ℕ) (size : ℕ) (L : Type 0) (K : Call → Answer → Type 0) → longest_line < size → L → AsksKept size front text L K
+AsksKept-long front text size L K far looked line long is = (λ near. absurd (omega (arith, far, long, near)), λ _. looked)
+
+pub TellsCalls-map : (Left Left' : Leaving) (T T' : Tables) → ((calls : List Call) (answers : List Answer) → Left calls answers T → Left' calls answers T')
+    → (lines : List (List ℕ)) (text : List ℕ) → TellsCalls Left lines text T → TellsCalls Left' lines text T'
+TellsCalls-map Left Left' T T' f [] text (is, left) = (is, f [] [] left)
+TellsCalls-map Left Left' T T' f (line ∷ lines) text (first, more, is, asks) = (
+  first,
+  more,
+  is,
+  asks_line_map line first _ _ _ _ (λ it. TellsCalls-map Left Left' T T' f lines more it)
+      (λ call answer it. TellsCalls-map (λ calls answers. Left (call ∷ calls) (answer ∷ answers)) (λ calls answers. Left' (call ∷ calls) (answer ∷ answers)) T T' (λ calls answers. f (call ∷ calls) (answer ∷ answers)) lines more it)
+      asks,
+)
+
+-- one more line
+pub TellsCalls-push : (Left Left' : Leaving) (T U : Tables) (line first : List ℕ)
+    → ((calls : List Call) (answers : List Answer) → Left calls answers T → AsksLine line first (Left' calls answers U) (λ call answer. Left' (calls ++ call ∷ []) (answers ++ answer ∷ []) U))
+    → (done : List (List ℕ)) (text : List ℕ) → TellsCalls Left done text T → TellsCalls Left' (done ++ line ∷ []) (text ++ (first ++ line_feed ∷ [])) U
+TellsCalls-push Left Left' T U line first step [] text (is, left) = (
+  first,
+  [],
+  ap (λ l. l ++ (first ++ line_feed ∷ [])) is ∙ sym (append-nil (first ++ line_feed ∷ [])),
+  asks_line_map line first _ _ _ _ (λ it. (refl, it)) (λ call answer it. (refl, it)) (step [] [] left),
+)
+TellsCalls-push Left Left' T U line first step (before ∷ done) text (earlier, more, is, asks) = (
+  earlier,
+  more ++ (first ++ line_feed ∷ []),
+  ap (λ l. l ++ (first ++ line_feed ∷ [])) is ∙ append_assoc (earlier ++ line_feed ∷ []) more (first ++ line_feed ∷ []),
+  asks_line_map before earlier _ _ _ _ (λ it. TellsCalls-push Left Left' T U line first step done more it)
+      (λ call answer it. TellsCalls-push (λ calls answers. Left (call ∷ calls) (answer ∷ answers)) (λ calls answers. Left' (call ∷ calls) (answer ∷ answers)) T U line first (λ calls answers. step (call ∷ calls) (answer ∷ answers)) done more it)
+      asks,
+)
+
+-- ---- connections
+
+asks_one_map : (at : ℕ) (L L' : Type 0) (K K' : Call → Answer → Type 0) → (L → L') → ((call : Call) (answer : Answer) → K call answer → K' call answer) → AsksOne at L K → AsksOne at L' K'
+asks_one_map at L L' K K' f k it = record {
+  given = it.given;
+  had = it.had;
+  has = it.has;
+  ended = it.ended;
+  asks = asks_map L L' K K' it.had it.has it.ended f k at it.given it.asks;
+}
+
+asks_each_map : (moments : List ℕ) (Holds Holds' : List Call → List Answer → Type 0) → ((calls : List Call) (answers : List Answer) → Holds calls answers → Holds' calls answers)
+    → AsksEach moments Holds → AsksEach moments Holds'
+asks_each_map [] Holds Holds' f asked = f [] [] asked
+asks_each_map (at ∷ earlier) Holds Holds' f asked =
+    asks_each_map earlier _ _ (λ calls answers it. asks_one_map at _ _ _ _ (f calls answers) (λ call answer. f (calls ++ call ∷ []) (answers ++ answer ∷ [])) it) asked
+
+pub ServesCalls-map : (Left Left' : Leaving) (given : Option ℕ) (count : ℕ) (T T' : Tables) → ((calls : List Call) (answers : List Answer) → Left calls answers T → Left' calls answers T')
+    → ServesCalls Left given count T → ServesCalls Left' given count T'
+ServesCalls-map Left Left' given count T T' f it =
+    record { moments = it.moments; asked = asks_each_map it.moments _ _ f it.asked; counted = it.counted; are_given = it.are_given }
+
+-- one more connection
+pub asks_push : (at : ℕ) (earlier : List ℕ) (Holds Holds' : List Call → List Answer → Type 0) (L : Type 0) (K : Call → Answer → Type 0)
+    → ((calls : List Call) (answers : List Answer) → Holds calls answers → L → Holds' calls answers)
+    → ((calls : List Call) (answers : List Answer) → Holds calls answers → (call : Call) (answer : Answer) → K call answer → Holds' (calls ++ call ∷ []) (answers ++ answer ∷ []))
+    → AsksEach earlier Holds → AsksOne at L K → AsksEach (at ∷ earlier) Holds'
+asks_push at earlier Holds Holds' L K f k asked one =
+    asks_each_map earlier _ _ (λ calls answers it. asks_one_map at _ _ _ _ (f calls answers it) (k calls answers it) one) asked

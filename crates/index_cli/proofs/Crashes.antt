@@ -1,0 +1,88 @@
+-- What a crash may leave of a run over lines or over connections.
+use Rattle.std.proofs.Common.{◌≡◌, ℕ, ◌+◌, List, [], ◌∷◌, Option, Result, refl, arith}
+use Rattle.std.specs.Prelude.{IfSome}
+use Rattle.index_rules.specs.Facts.{HasOneBearer}
+use Rattle.index_rules.specs.History.{History}
+use Rattle.index_rules.specs.Legal.{IsLegal}
+use Rattle.index_rules.specs.StandsFor.{StandsFor}
+use Rattle.index_rules.specs.Tables.{Tables}
+use Rattle.index_desk.specs.Crashes.{LeavesAll, LeavesAllOf}
+use Rattle.index_desk.specs.Rules.{by_tables}
+use Rattle.index_desk.proofs.CrashLemmas.{LeavesAllOf-LeavesAll}
+use Rattle.index_http.specs.Asks.{Takes}
+use Rattle.index_http.specs.Shows.{LeavesTables}
+use Rattle.index_cli.specs.declared.end.LineEnd.{LineEnd}
+use Rattle.index_cli.specs.Ends.{Ends}
+use Rattle.index_cli.specs.Serving.{AsksOne, ServesCalls}
+use Rattle.index_cli.specs.Telling.{TellsLines}
+use Rattle.index_cli.specs.TellsCalls.{AsksKept, TellsCalls}
+use Rattle.index_cli.specs.TellsHistory.{TellsHistory}
+use Rattle.index_cli.proofs.Calls.{ServesCalls-map, TellsCalls-map, TellsCalls-push, asks_line_map, asks_push, by_taken, taken_call, taken_look, taken_none}
+use Rattle.index_cli.proofs.Histories.{TellsHistory-TellsLines}
+use Rattle.index_cli.proofs.Progress.{Pushes}
+use Rattle.index_cli.proofs.RunEnds.{Ends-map}
+
+module _ {S : Type 0} (is_honest is_clean : S → Type 0) (tables : S → Tables) (may_leave : S → Tables → Type 0) where
+  pub taken_push : (first now new : S) (T U : Tables) (size : ℕ) (kept text : List ℕ)
+      → AsksKept size kept text (LeavesTables is_honest is_clean tables may_leave now new) (Takes is_honest is_clean tables may_leave now new)
+      → Pushes (TellsCalls (by_taken is_honest is_clean tables may_leave first now)) (TellsCalls (by_taken is_honest is_clean tables may_leave first new)) T U size kept text
+  taken_push first now new T U size kept text asks done told line sized front so_far =
+      TellsCalls-push (by_taken is_honest is_clean tables may_leave first now) (by_taken is_honest is_clean tables may_leave first new) T U line text
+      (λ calls answers taken.
+      asks_line_map line text _ _ _ _
+      (λ looked. taken_look is_honest is_clean tables may_leave first now new calls answers looked taken)
+      (λ call answer took. taken_call is_honest is_clean tables may_leave first now new calls answers call answer took taken)
+      (asks line sized front))
+      done told so_far
+
+  module _ (first now : S) (honest : is_honest first) (clean : is_clean now) (one : HasOneBearer (tables first)) (T : Tables) (left : may_leave now T) where
+    pub lines_crash : (U : Tables) (a b w0 w1 : Option (List ℕ)) (result : Result ℕ LineEnd)
+        → Ends (TellsCalls (by_taken is_honest is_clean tables may_leave first now)) U a b w0 w1 result
+        → Ends (TellsCalls (LeavesAll (tables first))) T a b w0 w1 result
+    lines_crash U a b w0 w1 result ends =
+        Ends-map (TellsCalls (by_taken is_honest is_clean tables may_leave first now)) (TellsCalls (LeavesAll (tables first))) U T
+        (TellsCalls-map (by_taken is_honest is_clean tables may_leave first now) (LeavesAll (tables first)) U T (λ calls answers taken. taken.left honest clean one T left))
+        a b w0 w1 result ends
+
+    pub serves_crash : (U : Tables) (given : Option ℕ) (count : ℕ)
+        → ServesCalls (by_taken is_honest is_clean tables may_leave first now) given count U
+        → ServesCalls (LeavesAll (tables first)) given count T
+    serves_crash U given count serves =
+        ServesCalls-map (by_taken is_honest is_clean tables may_leave first now) (LeavesAll (tables first)) given count U T (λ calls answers taken. taken.left honest clean one T left) serves
+
+  pub serves_none : (first : S) (given : Option ℕ) (U : Tables) → (is_honest first → (T : Tables) → may_leave first T → T ≡ tables first)
+      → ServesCalls (by_taken is_honest is_clean tables may_leave first first) given 0 U
+  serves_none first given U settled =
+      record { moments = []; asked = taken_none is_honest is_clean tables may_leave first settled; counted = refl; are_given = tt }
+
+  -- one more connection
+  pub serves_push : (first now new : S) (T U : Tables) (given : Option ℕ) (count at : ℕ) → IfSome given (λ it. at ≡ it)
+      → AsksOne at (LeavesTables is_honest is_clean tables may_leave now new) (Takes is_honest is_clean tables may_leave now new)
+      → ServesCalls (by_taken is_honest is_clean tables may_leave first now) given count T
+      → ServesCalls (by_taken is_honest is_clean tables may_leave first new) given (count + 1) U
+  serves_push first now new T U given count at is_given asks serves = record {
+    moments = at ∷ serves.moments;
+    asked = asks_push at serves.moments _ _ _ _
+        (λ calls answers taken looked. taken_look is_honest is_clean tables may_leave first now new calls answers looked taken)
+        (λ calls answers taken call answer took. taken_call is_honest is_clean tables may_leave first now new calls answers call answer took taken)
+        serves.asked asks;
+    counted = omega (arith, serves.counted);
+    are_given = (is_given, serves.are_given);
+  }
+
+-- ---- by a history for which the tables stood
+
+module _ (h : History) (legal : IsLegal h) (S : Tables) (stands : StandsFor S h) (T : Tables) where
+  pub lines_history : (a b w0 w1 : Option (List ℕ)) (result : Result ℕ LineEnd) → Ends (TellsLines by_tables S) T a b w0 w1 result → Ends (TellsHistory h) T a b w0 w1 result
+  lines_history a b w0 w1 result ends =
+      Ends-map (TellsLines by_tables S) (TellsHistory h) T T (λ lines text. TellsHistory-TellsLines h legal S stands lines text T) a b w0 w1 result ends
+
+  pub lines_crash_history : (a b w0 w1 : Option (List ℕ)) (result : Result ℕ LineEnd) → Ends (TellsCalls (LeavesAll S)) T a b w0 w1 result → Ends (TellsCalls (LeavesAllOf h)) T a b w0 w1 result
+  lines_crash_history a b w0 w1 result ends =
+      Ends-map (TellsCalls (LeavesAll S)) (TellsCalls (LeavesAllOf h)) T T
+      (TellsCalls-map (LeavesAll S) (LeavesAllOf h) T T (λ calls answers. LeavesAllOf-LeavesAll h legal S stands calls answers T))
+      a b w0 w1 result ends
+
+  pub serves_crash_history : (given : Option ℕ) (count : ℕ) → ServesCalls (LeavesAll S) given count T → ServesCalls (LeavesAllOf h) given count T
+  serves_crash_history given count serves =
+      ServesCalls-map (LeavesAll S) (LeavesAllOf h) given count T T (λ calls answers. LeavesAllOf-LeavesAll h legal S stands calls answers T) serves
