@@ -3,13 +3,11 @@ import http.client
 import os
 import re
 import shutil
-import socket
 import ssl
 import subprocess
-import time
 
 from checks import run
-from serving import TOP, Running, free_port
+from serving import TOP, Running, asked, free_port, listens
 
 OPERATE = f"{TOP}/operate"
 # What a distribution's nginx.conf says around the server.
@@ -37,9 +35,14 @@ def replaced(text, **places):
     """The text with each of these in another place, which has to be there."""
     for old, new in places.items():
         if old not in text:
-            raise SystemExit(f"try-operate: {old} is not in the configuration any more")
+            raise SystemExit(f"{old} is not in the configuration any more")
         text = text.replace(old, new)
     return text
+
+
+def kept(name):
+    with open(f"{OPERATE}/nginx/{name}") as conf:
+        return conf.read()
 
 
 def make_certificate(folder):
@@ -47,71 +50,64 @@ def make_certificate(folder):
     kind = ["-x509", "-newkey", "ec", "-pkeyopt", "ec_paramgen_curve:prime256v1", "-nodes", "-days", "2"]
     ended = run(["openssl", "req", *kind, *host, "-keyout", f"{folder}/key", "-out", f"{folder}/pem"])
     if ended.returncode:
-        raise SystemExit(f"try-operate: openssl ended with {ended.stdout}")
+        raise SystemExit(f"openssl ended with {ended.stdout}")
     return f"{folder}/pem"
 
 
-class Front(Running):
-    """nginx in a folder of its own, in front of the indexes at these ports; with several, as shards.conf has it."""
+class Nginx(Running):
+    """nginx in a folder of its own, on a free port. The files of `conf.d` there say what it serves."""
 
-    def __init__(self, folder, certificate, *behind, pypi=None):
-        os.mkdir(folder)
-        self.folder, self.certificate, self.port = folder, certificate, free_port()
-        self.url = f"https://127.0.0.1:{self.port}"
-        self.trust = ssl.create_default_context(cafile=certificate)
-        self.write(behind, pypi)
-        self.words_of_nginx = ["nginx", "-p", folder, "-e", f"{folder}/error.log", "-c", f"{folder}/nginx.conf"]
-        super().__init__(self.words_of_nginx, stdout=subprocess.DEVNULL, stderr=subprocess.DEVNULL)
+    def __init__(self, folder):
+        self.folder, self.port = folder, free_port()
+        os.makedirs(f"{folder}/conf.d")
+        with open(f"{folder}/nginx.conf", "w") as conf:
+            conf.write(MAIN.format(folder=folder))
+        words = ["nginx", "-p", folder, "-e", f"{folder}/error.log", "-c", f"{folder}/nginx.conf"]
+        super().__init__(words, stdout=subprocess.DEVNULL, stderr=subprocess.DEVNULL)
 
-    def write(self, behind, pypi):
-        """The configuration, with the ports and folders of this run."""
-        for inner in ("conf.d", "index/server.d", "cache"):
-            os.makedirs(f"{self.folder}/{inner}")
-        pem = self.certificate
-        self.put("conf.d/packages.conf", "packages.conf", **{
-            "listen 443 ssl": f"listen 127.0.0.1:{self.port} ssl", "/etc/ssl/packages.example.pem": pem,
-            "/etc/ssl/packages.example.key": f"{os.path.dirname(pem)}/key", "/var/cache/nginx/": f"{self.folder}/cache/"})
-        self.put("index/pages.conf", "pages.conf")
-        ports = {f"127.0.0.1:{8080 + at}": f"127.0.0.1:{port}" for at, port in enumerate(behind)}
-        self.put("index/indexes.conf", "one-index.conf" if len(behind) == 1 else "shards.conf", **ports)
-        if pypi:
-            self.put("index/server.d/with-pypi.conf", "with-pypi.conf", **{"https://pypi.org": f"http://127.0.0.1:{pypi}"})
-        with open(f"{self.folder}/nginx.conf", "w") as conf:
-            conf.write(MAIN.format(folder=self.folder))
-
-    def put(self, target, source, **places):
-        with open(f"{OPERATE}/nginx/{source}") as kept, open(f"{self.folder}/{target}", "w") as made:
-            made.write(replaced(kept.read(), **places))
+    def put(self, target, text, **places):
+        os.makedirs(os.path.dirname(f"{self.folder}/{target}"), exist_ok=True)
+        with open(f"{self.folder}/{target}", "w") as made:
+            made.write(replaced(text, **places))
 
     def __enter__(self):
-        tested = run([*self.words_of_nginx, "-t"])
+        tested = run([*self.words, "-t"])
         if tested.returncode:
-            raise SystemExit(f"try-operate: nginx refuses its configuration: {tested.stdout}")
+            raise SystemExit(f"nginx refuses its configuration: {tested.stdout}")
         super().__enter__()
-        until = time.monotonic() + 10
-        while time.monotonic() < until:
-            try:
-                socket.create_connection(("127.0.0.1", self.port), timeout=1).close()
-                return self
-            except OSError:
-                time.sleep(0.02)
-        self.__exit__()
-        raise SystemExit("try-operate: nginx does not listen")
-
-    def ask(self, method, path, body=None, **headers):
-        """The status, the headers and the body of a reply. `X_Index_Token` stands for `X-Index-Token`."""
-        connection = http.client.HTTPSConnection("127.0.0.1", self.port, timeout=60, context=self.trust)
-        try:
-            connection.request(method, path, body, {name.replace("_", "-"): value for name, value in headers.items()})
-            reply = connection.getresponse()
-            return reply.status, reply.headers, reply.read()
-        finally:
-            connection.close()
+        if not listens(self.port):
+            self.__exit__()
+            raise SystemExit("nginx does not listen")
+        return self
 
     def errors(self):
         """What nginx says of itself. That the index was away is an error, and that a page changed as it was read, critical."""
         with open(f"{self.folder}/error.log", errors="replace") as log:
             return [line for line in log if re.search(r"\[(alert|emerg)\]", line)]
+
+
+class Front(Nginx):
+    """nginx in front of the indexes at these ports; with several, as shards.conf has it. A plain one speaks no TLS."""
+
+    def __init__(self, folder, certificate, *behind, pypi=None, is_plain=False):
+        super().__init__(folder)
+        self.certificate, self.url = certificate, f"http{'' if is_plain else 's'}://127.0.0.1:{self.port}"
+        self.trust = ssl.create_default_context(cafile=certificate)
+        for inner in ("index/server.d", "cache"):
+            os.makedirs(f"{folder}/{inner}")
+        self.put("conf.d/packages.conf", kept("packages.conf"), **{
+            "listen 443 ssl": f"listen 127.0.0.1:{self.port}{'' if is_plain else ' ssl'}",
+            "/etc/ssl/packages.example.pem": certificate, "/var/cache/nginx/": f"{folder}/cache/",
+            "/etc/ssl/packages.example.key": f"{os.path.dirname(certificate)}/key"})
+        self.put("index/pages.conf", kept("pages.conf"))
+        ports = {f"127.0.0.1:{8080 + at}": f"127.0.0.1:{port}" for at, port in enumerate(behind)}
+        self.put("index/indexes.conf", kept("one-index.conf" if len(behind) == 1 else "shards.conf"), **ports)
+        if pypi:
+            self.put("index/server.d/with-pypi.conf", kept("with-pypi.conf"), **{"https://pypi.org": f"http://127.0.0.1:{pypi}"})
+
+    def ask(self, method, path, body=None, **headers):
+        connection = http.client.HTTPSConnection("127.0.0.1", self.port, timeout=60, context=self.trust)
+        return asked(connection, method, path, body, headers)
 
 
 def is_here():

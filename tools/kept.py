@@ -19,13 +19,14 @@ def claim(index, name):
     return index.ask("POST", "/requests", json.dumps({"do": "claim", "name": name}), **TOKEN)
 
 
-def upload(index, project, file, body):
-    return index.ask("PUT", f"/files/{project}/{file}", body, X_Index_SHA256=sha256(body), **TOKEN)
+def upload(index, project, file, body, requires=""):
+    headers = {"X_Index_SHA256": sha256(body), "X_Requires_Python": requires, **TOKEN}
+    return index.ask("PUT", f"/files/{project}/{file}", body, **headers)
 
 
 def accepted(reply):
     if reply[0] not in (200, 201):
-        raise SystemExit(f"try-operate: a request was answered {reply[0]} {reply[2][:200]!r}")
+        raise SystemExit(f"a request was answered {reply[0]} {reply[2][:200]!r}")
 
 
 class Kept:
@@ -58,7 +59,7 @@ class Kept:
         self.keeper.start()
         if not self.listens.wait(timeout=60):
             self.__exit__()
-            raise SystemExit(f"try-operate: the index does not listen: {self.faults}")
+            raise SystemExit(f"the index does not listen: {self.faults}")
         return self
 
     def __exit__(self, *_):

@@ -29,6 +29,28 @@ def free_port():
         return found.getsockname()[1]
 
 
+def listens(port, patience=10):
+    """Whether somebody listens on this port of loopback before so many seconds are over."""
+    until = time.monotonic() + patience
+    while time.monotonic() < until:
+        try:
+            socket.create_connection(("127.0.0.1", port), timeout=1).close()
+            return True
+        except OSError:
+            time.sleep(0.02)
+    return False
+
+
+def asked(connection, method, path, body, headers):
+    """The status, the headers and the body of the reply on this connection. `X_Index_Token` stands for `X-Index-Token`."""
+    try:
+        connection.request(method, path, body, {name.replace("_", "-"): value for name, value in headers.items()})
+        reply = connection.getresponse()
+        return reply.status, reply.headers, reply.read()
+    finally:
+        connection.close()
+
+
 def reply_to(port, message, patience=30):
     """What comes back for a message before the connection ends. One whose request was not read whole may be reset."""
     reply = b""
@@ -126,11 +148,4 @@ class Index(Running):
         return self.said.read()
 
     def ask(self, method, path, body=None, **headers):
-        """The status, the headers and the body of the reply. `X_Index_Token` stands for `X-Index-Token`."""
-        connection = http.client.HTTPConnection("127.0.0.1", self.port, timeout=30)
-        try:
-            connection.request(method, path, body, {name.replace("_", "-"): value for name, value in headers.items()})
-            reply = connection.getresponse()
-            return reply.status, reply.headers, reply.read()
-        finally:
-            connection.close()
+        return asked(http.client.HTTPConnection("127.0.0.1", self.port, timeout=30), method, path, body, headers)

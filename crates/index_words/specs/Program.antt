@@ -39,9 +39,12 @@ serve_app =
     (number_in 0 18446744073709551615 (option (codes "at"))))
     (number_in 0 18446744073709551615 (option (codes "keep-recent")))
 
--- the program's name alone, which wants a subcommand after it
+-- the program's name alone, which has a version and wants a subcommand after it
 abbrev pub program_app : App
-program_app = record { top = record (new_app (codes "index")).top { subcommand_required = true }; subs = [] }
+program_app = record {
+  top = record (new_app (codes "index")).top { has_version = true; subcommand_required = true };
+  subs = [];
+}
 
 -- the whole command line
 abbrev pub index_app : App

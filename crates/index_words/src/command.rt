@@ -8,6 +8,9 @@ use clap::builder::ValueParser;
 use clap::{Arg, Command};
 use std::alloc::{AllocError, Global};
 
+/// What `--version` tells behind the program's name: the version, and the kit that proves and builds it.
+const VERSION: &str = "0.1.0 (rattle-kit-13f logic dac8208d650f15bf)";
+
 /// What the option `--db` is.
 const DATABASE: &str = "The file of the index, an SQLite database";
 
@@ -121,7 +124,9 @@ pub fn index<'a>(alloc: Global) -> Result<Command<'a>, AllocError>
     ensures { IfOk result (λ command. IsApp command index_app) }
 {
     let check = "Prints how many names have a wrong charge";
-    let index = Command::new(alloc, "index").subcommand_required(true);
+    let index = Command::new(alloc, "index")
+        .version(VERSION)
+        .subcommand_required(true);
     let index = joined(index, init(alloc))?;
     let index = joined(index, apply(alloc))?;
     let index = joined(index, serve(alloc))?;

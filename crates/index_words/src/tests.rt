@@ -90,6 +90,8 @@ fn refuses_other_words(rt: HostRuntime) {
         "index init --db a --user office",
         "index init --db a --token-sha256 ba78",
         "index init --user office --token-sha256 ba78",
+        "index version",
+        "index init --version",
         "index apply now",
         "index apply --db",
         "index apply --db a --db b",
@@ -115,6 +117,13 @@ fn helps(rt: HostRuntime) {
         "index check --help",
     ];
     for line in asked {
+        assert_ends(&rt, line, 0);
+    }
+}
+
+#[test]
+fn tells_the_version(rt: HostRuntime) {
+    for line in ["index --version", "index -V"] {
         assert_ends(&rt, line, 0);
     }
 }
