@@ -1,3 +1,4 @@
 pub mod RowidLemmas
 pub mod LookLemmas
 pub mod MigrationLemmas
+pub mod SureLemmas

@@ -1,5 +1,5 @@
 -- What looks at the version leave.
-use Rattle.std.proofs.Common.{◌≡◌, ◌⊎◌, inl, inr, ◌∙◌, ℕ, Bool, true, false, List, [], Option, Some, None, IsTrue, refl, sym, subst, arith}
+use Rattle.std.proofs.Common.{◌≡◌, ◌⊎◌, inl, inr, ◌∙◌, ℕ, Bool, true, false, true≢false, List, [], Option, Some, None, IsTrue, refl, sym, subst, arith}
 use Rattle.sqlite_value.specs.Order.{Row}
 use Rattle.sqlite_trees.specs.declared.store.Store.{Ghosts}
 use Rattle.sqlite_schema.specs.declared.command.Returning.{Returning}
@@ -69,6 +69,11 @@ module _ (old new : State) where
       by_returning : (what : Option Returning) → ShowsRows old new sql h.0 (timed params h.0.formats h.1.now) rows what → KeepsCommit old new
       by_returning None it = unchanged_keeps it.3
       by_returning (Some what) it = record { was_open = λ _. it.1.shown.was_open; committed = λ _. rw inside at it.1.shown.committed_is }
+
+  -- inside a transaction it is never too late
+  pub fails_inside : (sql : List ℕ) (params : Row) (e : Error) → old.in_transaction ≡ true → FailsToQuery sql params old new e ⊎ IsTooLate sql params old new e → FailsToQuery sql params old new e
+  fails_inside sql params e inside (inl fails) = fails
+  fails_inside sql params e inside (inr late) = absurd (true≢false (sym inside ∙ late.3))
 
   pub refused_keeps : (sql : List ℕ) (params : Row) (e : Error) → FailsToQuery sql params old new e ⊎ IsTooLate sql params old new e → KeepsCommit old new
   unfolding FailsToQuery IsNotRun

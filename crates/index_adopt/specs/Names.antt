@@ -1,7 +1,7 @@
 -- Whether a schema has tables by the names of ours.
-use Rattle.std.specs.Prelude.{ℕ, Bool, false, ◌||◌, List, is_some, option_map, unwrap_or}
+use Rattle.std.specs.Prelude.{ℕ, Bool, false, ◌&&◌, ◌||◌, List, codes, is_some, option_map, unwrap_or}
 use Rattle.std.specs.List.{list_all, list_any}
-use Rattle.sqlite_schema.specs.Names.{same_name, table_named}
+use Rattle.sqlite_schema.specs.Names.{column_named, same_name, table_named}
 use Rattle.sqlite_schema.specs.declared.schema.Schema.{Schema}
 use Rattle.sqlite_schema.specs.declared.schema.Table.{Table}
 use Rattle.sqlite_schema.specs.declared.schema.View.{View}
@@ -21,3 +21,11 @@ has_any_of schema = list_any (λ (t : Table). has_table schema t.name)
 -- one by the name of each of these
 abbrev pub has_all_of : Schema → List Table → Bool
 has_all_of schema = list_all (λ (t : Table). has_table schema t.name)
+
+-- a table `meta` with the columns of the version, which can be read
+abbrev pub is_meta : Table → Bool
+is_meta table = same_name table.name (codes "meta") && is_some (column_named table (codes "id")) && is_some (column_named table (codes "kind")) && is_some (column_named table (codes "version"))
+
+-- such a table is there
+abbrev pub has_meta : Schema → Bool
+has_meta schema = list_any is_meta schema.tables

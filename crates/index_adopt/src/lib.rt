@@ -10,6 +10,6 @@ mod versions;
 
 pub use connections::known;
 pub use migration::migrate;
-pub use names::{has_all_tables, has_any_table, has_table};
+pub use names::{has_all_tables, has_any_table, has_meta, has_table};
 pub use schemas::{is_blank, is_first_version, is_ours};
 pub use versions::{read_version, told_version};

@@ -1,12 +1,12 @@
 //! Which of the tables of an index a schema has, by their names alone.
 ghost use Rattle.std.specs.Prelude.{◌≡◌};
 ghost use Rattle.std.specs.List.{list_any};
-ghost use Rattle.index_adopt.specs.Names.{is_of, has_table, has_any_of, has_all_of};
+ghost use Rattle.index_adopt.specs.Names.{is_meta, is_of, has_meta, has_table, has_any_of, has_all_of};
 ghost use Rattle.index_schema.specs.Schema.{index_schema};
 ghost use Rattle.index_schema.specs.FirstVersion.{first_version_schema};
 
 use sqlite_schema::names::same_name;
-use sqlite_schema::schema::{Schema, View};
+use sqlite_schema::schema::{Schema, Table, View};
 
 /// Whether the schema has a table of that name, whoever made it. It may be one that the database does not understand, and
 /// keeps as it is.
@@ -31,6 +31,24 @@ fn is_of(view: &View, name: &[u8]) -> bool
         Some(table) => same_name(table.as_slice(), name),
         None => false,
     }
+}
+
+/// Whether the schema has a table `meta` with the columns in which an index keeps its version, which can be read. That of
+/// another program has other columns.
+pub fn has_meta(schema: &Schema) -> bool
+    ensures found { result ≡ has_meta schema.now }
+{
+    schema.tables.as_slice().iter().any(|table| is_meta(table))
+}
+
+/// Whether this is such a table.
+fn is_meta(table: &Table) -> bool
+    ensures found { result ≡ is_meta table.now }
+{
+    table.is_named(b"meta")
+        && table.column_named(b"id").is_some()
+        && table.column_named(b"kind").is_some()
+        && table.column_named(b"version").is_some()
 }
 
 /// Whether the schema has a table by the name of one of an index.

@@ -11,7 +11,7 @@ ghost use Rattle.index_schema.specs.FirstVersion.{first_version_schema};
 use index_create::{make_first_version, make_tables};
 use index_same::Same;
 use sqlite::{Alter, Connection, Error, MemStore};
-use std::alloc::Global;
+use std::alloc::{AllocError, Global};
 
 /// Whether nothing is in the database.
 pub fn is_blank<S: Alter>(conn: &Connection<S>) -> bool
@@ -21,22 +21,26 @@ pub fn is_blank<S: Alter>(conn: &Connection<S>) -> bool
     schema.tables.is_empty() && schema.indexes.is_empty() && schema.views.is_empty()
 }
 
-/// Whether the schema is that of an index.
-pub fn is_ours<S: Alter>(alloc: Global, conn: &Connection<S>) -> Result<bool, Error>
+/// Whether the schema is that of an index, which is made in memory: that fails for want of memory alone.
+pub fn is_ours<S: Alter>(alloc: Global, conn: &Connection<S>) -> Result<bool, AllocError>
     ensures schema { IfOk result (λ it. IsTrue it
         → (state S.Store conn.now).now.schema ≡ index_schema) }
 {
-    let ours = ours(alloc)?;
-    Ok(conn.schema().same(ours.schema()))
+    match ours(alloc) {
+        Ok(ours) => Ok(conn.schema().same(ours.schema())),
+        Err(_) => Err(AllocError),
+    }
 }
 
-/// Whether the schema is that of version 1.
-pub fn is_first_version<S: Alter>(alloc: Global, conn: &Connection<S>) -> Result<bool, Error>
+/// Whether the schema is that of version 1, which is made in memory too.
+pub fn is_first_version<S: Alter>(alloc: Global, conn: &Connection<S>) -> Result<bool, AllocError>
     ensures schema { IfOk result (λ it. IsTrue it
         → (state S.Store conn.now).now.schema ≡ first_version_schema) }
 {
-    let first = first_version(alloc)?;
-    Ok(conn.schema().same(first.schema()))
+    match first_version(alloc) {
+        Ok(first) => Ok(conn.schema().same(first.schema())),
+        Err(_) => Err(AllocError),
+    }
 }
 
 /// A database in memory with the tables of an index.

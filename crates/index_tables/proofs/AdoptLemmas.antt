@@ -1,5 +1,6 @@
 -- What is done after a look at the version.
-use Rattle.std.proofs.Common.{◌≡◌, inl, inr, ◌∙◌, ap, codes, refl, subst, sym, true, true≢false, IsTrue, ℕ, Option, Result, Ok, Err, IfOk, IfErr}
+use Rattle.std.proofs.lemmas.Bool.{cases_Bool}
+use Rattle.std.proofs.Common.{◌≡◌, inl, inr, ◌∙◌, ap, refl, subst, sym, true, true≢false, IsTrue, ℕ, Option, Some, Result, Ok, Err, IfOk, IfErr}
 use Rattle.sqlite_trees.specs.declared.store.Store.{Ghosts}
 use Rattle.sqlite.specs.Effect.{Database}
 use Rattle.sqlite.specs.Held.{Held, state}
@@ -8,15 +9,18 @@ use Rattle.index_looks.specs.Looks.{Looks}
 use Rattle.index_rules.specs.declared.open.OpenFault.{OpenFault}
 use Rattle.index_rules.specs.declared.open.OpenFault.TheVariants.{BadFirstUser, NotEmpty, NotAnIndex, OtherVersion, OutOfMemory, Store}
 use Rattle.sqlite_schema.specs.Names.{same_name}
-use Rattle.index_adopt.specs.Names.{has_table}
+use Rattle.index_adopt.specs.Names.{has_meta}
 use Rattle.index_adopt.specs.Versions.{begun}
+use Rattle.index_rules.specs.declared.answer.Fault.{Fault}
+use Rattle.index_rules.specs.declared.answer.Fault.TheVariants as fault
 use Rattle.index_schema.proofs.SelectVersion.{selects}
 use Rattle.index_schema.specs.FirstVersion.{IsAnyVersion, IsFirstVersion, without_bans}
 use Rattle.index_schema.specs.Index.{version_in}
 use Rattle.index_schema.specs.Records.{tables_in}
 use Rattle.index_schema.specs.Stays.{Stays}
 use Rattle.index_tables.specs.Kept.{AreCurrent}
-use Rattle.index_tables.specs.Adopted.{IsFault, IsOurs, IsReason, LeavesMigrated, TellsVersion, refusal_in}
+use Rattle.index_tables.specs.Adopted.{FailsToOpen, IsFault, IsOurs, IsReason, LeavesMigrated, TellsVersion, refusal_in}
+use Rattle.index_tables.specs.Opened.{open_fault_by}
 
 -- the version that such a database tells leaves the store to blame
 store_alone : (db : Database) → IsOurs db → refusal_in db.schema (version_in db.trees) ≡ Store
@@ -24,10 +28,10 @@ unfolding same_name
 store_alone db (inl (h, told)) = rw (h.schema, told) refl
 store_alone db (inr (h, told)) = rw (h.schema, told) refl
 
-has_meta : (db : Database) → IsOurs db → has_table db.schema (codes "meta") ≡ true
+ours_tell : (db : Database) → IsOurs db → has_meta db.schema ≡ true
 unfolding same_name
-has_meta db (inl (h, told)) = rw h.schema refl
-has_meta db (inr (h, told)) = rw h.schema refl
+ours_tell db (inl (h, told)) = rw h.schema refl
+ours_tell db (inr (h, told)) = rw h.schema refl
 
 any_version : (db : Database) → IsOurs db → IsAnyVersion db
 any_version db (inl (h, told)) = inl h
@@ -42,23 +46,41 @@ module _ {S : Type 0} (g : Ghosts S) where
   by_version held version why o ours tells is = inr (is ∙ ap (refusal_in (state g held).now.schema) (told_is held version o ours tells) ∙ store_alone (state g held).now ours)
 
   -- of an index only a fault is a reason
-  pub fault_alone : (held : Held S) (why : OpenFault) → IsReason g held why → IsTrue (state g held).is_open → IsOurs (state g held).now → IsFault why
-  fault_alone held NotAnIndex (inl none) o ours = absurd (true≢false (sym (has_meta (state g held).now ours) ∙ none))
-  fault_alone held NotAnIndex (inr (version, tells, is)) o ours = by_version held version NotAnIndex o ours tells is
-  fault_alone held OutOfMemory reason o ours = inl refl
-  fault_alone held Store reason o ours = inr refl
-  fault_alone held BadFirstUser (version, tells, is) o ours = by_version held version BadFirstUser o ours tells is
-  fault_alone held NotEmpty (version, tells, is) o ours = by_version held version NotEmpty o ours tells is
-  fault_alone held OtherVersion (version, tells, is) o ours = by_version held version OtherVersion o ours tells is
+  pub fault_alone : (held new : Held S) (why : OpenFault) → IsReason g held new why → IsTrue (state g held).is_open → IsOurs (state g held).now → IsFault why
+  fault_alone held new NotAnIndex (inl none) o ours = absurd (true≢false (sym (ours_tell (state g held).now ours) ∙ none))
+  fault_alone held new NotAnIndex (inr (version, tells, is)) o ours = by_version held version NotAnIndex o ours tells is
+  fault_alone held new OutOfMemory reason o ours = inl refl
+  fault_alone held new Store reason o ours = inr refl
+  fault_alone held new BadFirstUser (version, tells, is) o ours = by_version held version BadFirstUser o ours tells is
+  fault_alone held new NotEmpty (version, tells, is) o ours = by_version held version NotEmpty o ours tells is
+  fault_alone held new OtherVersion (version, tells, is) o ours = by_version held version OtherVersion o ours tells is
 
-  -- what the version that is told says is a reason
-  pub reason_told : (held : Held S) (version : Option ℕ) (why : OpenFault) → TellsVersion g held version → why ≡ refusal_in (state g held).now.schema version → IsReason g held why
-  reason_told held version NotAnIndex tells is = inr (version, tells, is)
-  reason_told held version OutOfMemory tells is = tt
-  reason_told held version Store tells is = tt
-  reason_told held version BadFirstUser tells is = (version, tells, is)
-  reason_told held version NotEmpty tells is = (version, tells, is)
-  reason_told held version OtherVersion tells is = (version, tells, is)
+  -- what is known of a database with a table of the version
+  module _ (held new : Held S) (meta : IsTrue (has_meta (state g held).now.schema)) where
+    -- what the version that is told says is a reason
+    pub reason_told : (version : Option ℕ) (why : OpenFault) → TellsVersion g held version → why ≡ refusal_in (state g held).now.schema version → IsReason g held new why
+    reason_told version NotAnIndex tells is = inr (version, tells, is)
+    reason_told version OutOfMemory tells is = meta
+    reason_told version Store tells is = (meta, inl (version, tells, is))
+    reason_told version BadFirstUser tells is = (version, tells, is)
+    reason_told version NotEmpty tells is = (version, tells, is)
+    reason_told version OtherVersion tells is = (version, tells, is)
+
+    -- and so is a fault
+    pub reason_failed : (f : Fault) (why : OpenFault) → why ≡ open_fault_by f → (f ≡ fault.Store → FailsToOpen g held new) → IsReason g held new why
+    reason_failed fault.OutOfMemory why is fails = subst (IsReason g held new) (sym is) meta
+    reason_failed fault.Store why is fails = subst (IsReason g held new) (sym is) (meta, inr (fails refl))
+
+    -- of version 1 it may be that it is not raised
+    pub reason_raised : (why : OpenFault) → (IsTrue (state g held).is_open → IsFirstVersion (state g held).now) → version_in (state g held).now.trees ≡ Some 1 → IsFault why → IsReason g held new why
+    reason_raised why first told (inl memory) = subst (IsReason g held new) (sym memory) meta
+    reason_raised why first told (inr store) = subst (IsReason g held new) (sym store) (
+      meta,
+      inr (elim (cases_Bool (state g held).is_open) [
+        | inl opened ↦ inr (inr (first opened, told))
+        | inr shut ↦ inl (inr (inl shut))
+      ]),
+    )
 
   module _ (a b c : Held S) (looks : Looks g a b true) (was_clean : HasCleanDisk (state g c) → HasCleanDisk (state g b)) where
     pub stays_after : (HasCleanDisk (state g c) → Stays (state g b) (state g c)) → HasCleanDisk (state g c) → Stays (state g a) (state g c)

@@ -1,5 +1,5 @@
 -- What a look at the connection leaves of the books.
-use Rattle.std.proofs.Common.{◌≡◌, ◌⊎◌, inl, inr, Bool, OnOk, Result, Ok, Err, ap, is_ok, refl, subst, sym}
+use Rattle.std.proofs.Common.{◌≡◌, ◌⊎◌, inl, inr, Bool, not, IsTrue, OnOk, Result, Ok, Err, ap, is_ok, refl, subst, sym}
 use Rattle.sqlite_trees.specs.declared.store.Store.{Ghosts}
 use Rattle.sqlite.specs.Effect.{Database}
 use Rattle.sqlite.specs.Held.{Held, state}
@@ -8,17 +8,22 @@ use Rattle.index_io.specs.Counts.{next_count}
 use Rattle.index_looks.specs.Looks.{IsKept, Looks}
 use Rattle.index_looks.proofs.LookLemmas.{looks_kept}
 use Rattle.index_rules.specs.declared.answer.Fault.{Fault}
+use Rattle.index_rules.specs.declared.rows.WalkEnd.{WalkEnd}
 use Rattle.index_rules.specs.Tables.{Tables}
+use Rattle.index_rules.specs.Walks.{has_fault}
 use Rattle.index_schema.specs.RecordRows.{AreRecords}
 use Rattle.index_schema.specs.Records.{tables_in}
 use Rattle.index_tables.specs.Kept.{IsHonest, Kept, Leaves}
-use Rattle.index_tables.specs.LooksUp.{LooksUp}
+use Rattle.index_tables.specs.LooksUp.{LooksUp, WalksUp}
+
+keeps : {S : Type 0} (g : Ghosts S) (old new : Held S) (did : Bool) → IsTrue did → IsKept g old → Looks g old new did → IsHonest (state g old) → HasCleanDisk (state g new) → IsHonest (state g new)
+keeps g old new did right kept looks honest clean =
+    let after = looks_kept g old new did kept looks in
+    let o = looks.lasts right clean honest.is_open in
+    record { clean = clean; is_open = o; index = after.index clean o; committed = after.committed clean o; version = after.version clean o }
 
 pub looks_last : {A E S : Type 0} (g : Ghosts S) (old new : Held S) (r : Result A E) → IsKept g old → Looks g old new (is_ok r) → OnOk r (IsHonest (state g old) → HasCleanDisk (state g new) → IsHonest (state g new))
-looks_last g old new (Ok a) kept looks = λ honest clean.
-    let after = looks_kept g old new _ kept looks in
-    let o = looks.lasts refl clean honest.is_open in
-    record { clean = clean; is_open = o; index = after.index clean o; committed = after.committed clean o; version = after.version clean o }
+looks_last g old new (Ok a) kept looks = keeps g old new _ refl kept looks
 looks_last g old new (Err e) kept looks = tt
 
 looks_back : {S : Type 0} (g : Ghosts S) (old new : Held S) (did : Bool) → IsKept g old → Looks g old new did → IsHonest (state g new) → IsHonest (state g old)
@@ -41,6 +46,18 @@ looks_up g old new r kept looks counted = record {
   honest = looks_back g old.conn new.conn _ kept looks;
   clean = looks.was_clean;
   lasts = looks_last g old.conn new.conn r kept looks;
+  crash = looks_leave g old.conn new.conn _ looks;
+  records = λ honest records. subst AreRecords (sym (looks.now_is honest.clean honest.is_open)) records;
+  failures = counted;
+}
+
+-- and so is a walk
+pub walks_up : {A S : Type 0} (g : Ghosts S) (old new : Kept S) (r : Result A WalkEnd) → IsKept g old.conn → Looks g old.conn new.conn (not (has_fault r)) → new.failures ≡ next_count old.failures (not (has_fault r)) → WalksUp g old new r
+walks_up g old new r kept looks counted = record {
+  unchanged = λ honest. ap (λ (d : Database). tables_in d.trees) (looks.now_is honest.clean honest.is_open);
+  honest = looks_back g old.conn new.conn _ kept looks;
+  clean = looks.was_clean;
+  lasts = λ right. keeps g old.conn new.conn _ (subst (λ faulty. IsTrue (not faulty)) (sym right) refl) kept looks;
   crash = looks_leave g old.conn new.conn _ looks;
   records = λ honest records. subst AreRecords (sym (looks.now_is honest.clean honest.is_open)) records;
   failures = counted;

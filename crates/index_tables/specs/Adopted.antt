@@ -6,8 +6,9 @@ use Rattle.sqlite_schema.specs.declared.schema.Schema.{Schema}
 use Rattle.sqlite.specs.Effect.{Database}
 use Rattle.sqlite.specs.Held.{Held, state}
 use Rattle.sqlite.specs.State.{State, HasCleanDisk}
-use Rattle.index_adopt.specs.Names.{has_table, has_all_of}
-use Rattle.index_adopt.specs.Versions.{Tells, begun}
+use Rattle.index_adopt.specs.Names.{has_all_of, has_meta, has_table}
+use Rattle.index_adopt.specs.Versions.{FailsToTell, Tells, begun}
+use Rattle.index_looks.specs.Reasons.{HasReason}
 use Rattle.index_rules.specs.declared.open.OpenFault.{OpenFault}
 use Rattle.index_rules.specs.declared.open.OpenFault.TheVariants.{NotAnIndex, OtherVersion, OutOfMemory, Store}
 use Rattle.index_rules.specs.Tables.{Tables}
@@ -77,10 +78,19 @@ refusal_by (Some version) has_first has_bans = if version == 1 then unlike has_f
 abbrev pub refusal_in : Schema → Option ℕ → OpenFault
 refusal_in schema version = refusal_by version (has_all_of schema first_version_schema.tables) (has_table schema (codes "bans"))
 
--- the reason is what the database has or tells, or want of memory, or a fault of the store
-abbrev pub IsReason : {S : Type 0} → Ghosts S → Held S → OpenFault → Type 0
-IsReason g held NotAnIndex =
-    (has_table (state g held).now.schema (codes "meta") ≡ false) ⊎ ((version : Option ℕ) × TellsVersion g held version × (NotAnIndex ≡ refusal_in (state g held).now.schema version))
-IsReason g held OutOfMemory = ⊤
-IsReason g held Store = ⊤
-IsReason g held why = (version : Option ℕ) × TellsVersion g held version × (why ≡ refusal_in (state g held).now.schema version)
+-- it is refused for this by the version that it tells
+abbrev pub IsRefusal : {S : Type 0} → Ghosts S → Held S → OpenFault → Type 0
+IsRefusal g held why = (version : Option ℕ) × TellsVersion g held version × (why ≡ refusal_in (state g held).now.schema version)
+
+-- the store fails, the query of the version is refused, or the database is of version 1 and is not raised
+abbrev pub FailsToOpen : {S : Type 0} → Ghosts S → Held S → Held S → Type 0
+FailsToOpen g old new =
+    HasReason (state g old) (state g new) ⊎ (FailsToTell g (begun old) ⊎ (IsFirstVersion (state g old).now × (version_in (state g old).now.trees ≡ Some 1)))
+
+-- Why no index is opened on a connection, which is left as `new`. Without a table of the version it is no index, whatever
+-- the store does.
+abbrev pub IsReason : {S : Type 0} → Ghosts S → Held S → Held S → OpenFault → Type 0
+IsReason g old new NotAnIndex = (has_meta (state g old).now.schema ≡ false) ⊎ IsRefusal g old NotAnIndex
+IsReason g old new OutOfMemory = IsTrue (has_meta (state g old).now.schema)
+IsReason g old new Store = IsTrue (has_meta (state g old).now.schema) × (IsRefusal g old Store ⊎ FailsToOpen g old new)
+IsReason g old new why = IsRefusal g old why

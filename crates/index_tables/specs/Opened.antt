@@ -1,11 +1,9 @@
 -- What the opening of an index answers, and what it leaves of a connection.
-use Rattle.std.specs.Prelude.{◌≡◌, ◌⊎◌, Result, Ok, Err, IsTrue}
+use Rattle.std.specs.Prelude.{◌≡◌, ◌≢◌, ◌⊎◌, Result, Ok, Err, IsTrue, false}
 use Rattle.sqlite_trees.specs.Tree.{Trees}
 use Rattle.sqlite_schema.specs.declared.schema.Schema.{Schema}
-use Rattle.sqlite.specs.declared.error.Error.{Error}
 use Rattle.sqlite.specs.State.{State, HasCleanDisk}
 use Rattle.index_adopt.specs.Names.{has_any_of}
-use Rattle.index_looks.specs.Faults.{fault_by}
 use Rattle.index_rules.specs.declared.answer.Fault.{Fault}
 use Rattle.index_rules.specs.declared.answer.Fault.TheVariants as fault
 use Rattle.index_rules.specs.declared.open.OpenFault.{OpenFault}
@@ -14,7 +12,7 @@ use Rattle.index_rules.specs.FirstTables.{IsBadFirstUser}
 use Rattle.index_rules.specs.Maps.{Bytes}
 use Rattle.index_rules.specs.Tables.{Tables}
 use Rattle.index_schema.specs.Records.{tables_in}
-use Rattle.index_schema.specs.Schema.{index_schema}
+use Rattle.index_schema.specs.Schema.{index_schema, no_schema}
 use Rattle.index_tables.specs.declared.opening.Unopened.{Unopened}
 use Rattle.index_tables.specs.Kept.{AreCurrent, IsWorking}
 
@@ -23,17 +21,18 @@ abbrev pub IsRefusedAs : {S A : Type 0} → OpenFault → Result A (Unopened S) 
 IsRefusedAs why (Ok opened) = ⊥
 IsRefusedAs why (Err refused) = refused.why ≡ why
 
--- an error of the database as the reason
-abbrev pub open_fault_by : Error → OpenFault
-open_fault_by error = of_fault (fault_by error)
-  where
-    of_fault : Fault → OpenFault
-    of_fault fault.OutOfMemory = open_fault.OutOfMemory
-    of_fault fault.Store = open_fault.Store
+-- a fault as the reason
+abbrev pub open_fault_by : Fault → OpenFault
+open_fault_by fault.OutOfMemory = open_fault.OutOfMemory
+open_fault_by fault.Store = open_fault.Store
 
 -- the first user will do, and a table has the name of one of ours
 abbrev pub IsTaken : Bytes → Bytes → Schema → Type 0
 IsTaken user token schema = (¬ IsBadFirstUser user token) × IsTrue (has_any_of schema index_schema.tables)
+
+-- the first user will do, and there is something, but no such table
+abbrev pub IsAmongOthers : Bytes → Bytes → Schema → Type 0
+IsAmongOthers user token schema = (¬ IsBadFirstUser user token) × (has_any_of schema index_schema.tables ≡ false) × (schema ≢ no_schema)
 
 -- of an honest store, an open after a crash may find what it could find before, or an index that tells version 2, with
 -- these tables

@@ -1,5 +1,5 @@
 //! The index in a database that is there.
-ghost use Rattle.std.specs.Prelude.{◌≡◌, ◌⊎◌, false, Some, IfOk, IfErr, IsTrue, codes};
+ghost use Rattle.std.specs.Prelude.{◌≡◌, ◌⊎◌, false, Some, IfOk, IfErr, IsTrue};
 ghost use Rattle.sqlite.specs.Held.{state};
 ghost use Rattle.sqlite.specs.State.{HasCleanDisk};
 ghost use Rattle.index_rules.specs.Facts.{HasOneBearer};
@@ -7,7 +7,7 @@ ghost use Rattle.index_rules.specs.Tables.{Tables};
 ghost use Rattle.index_schema.specs.FirstVersion.{IsFirstVersion, first_version_schema, without_bans};
 ghost use Rattle.index_schema.specs.Index.{IsIndex, version_in};
 ghost use Rattle.index_schema.specs.Stays.{Stays};
-ghost use Rattle.index_adopt.specs.Names.{has_all_of, has_table};
+ghost use Rattle.index_adopt.specs.Names.{has_meta};
 ghost use Rattle.index_reads.specs.Held.{tables_of};
 ghost use Rattle.index_tables.specs.Kept.{IsHonest, IsWorking, Leaves};
 ghost use Rattle.index_tables.specs.Opened.{IsRefusedAs};
@@ -16,12 +16,13 @@ ghost use Rattle.index_tables.specs.Adopted.{IsFault, IsFound, IsOfKind, IsOurs,
 use crate::opening::{Unopened, open_fault_of};
 use crate::tables::SqlBooks;
 use index_adopt::{
-    has_all_tables, has_table, is_first_version, is_ours, known, migrate, read_version,
+    has_all_tables, has_meta, has_table, is_first_version, is_ours, known, migrate, read_version,
     told_version,
 };
+use index_looks::fault_of;
 use index_rules::OpenFault;
-use sqlite::{Alter, Connection, Error};
-use std::alloc::Global;
+use sqlite::{Alter, Connection};
+use std::alloc::{AllocError, Global};
 
 /// Whose schema a database has.
 #[derive(Clone, Copy)]
@@ -37,10 +38,10 @@ pub(crate) enum Kind {
 impl<S: Alter> SqlBooks<S> {
     /// The index in a database that is there. One of version 1 is made one of version 2, in one transaction.
     ///
-    /// `NotAnIndex` where there is no table `meta`, where it has no row with id 1 and kind `python-index`, or where a
-    /// table of the version that it tells is not there by name; `OtherVersion` where that version is neither 1 nor 2;
-    /// else `OutOfMemory` for want of memory, and `Store` where the tables are not as an index has them or the store
-    /// fails. A refused database is as it was. A crash leaves what was there, or of version 1 the whole index; once it is
+    /// `NotAnIndex` where there is no table `meta` with the columns of the version, where it has no row with id 1 and kind
+    /// `python-index`, or where a table of the version that it tells is not there by name; `OtherVersion` where that
+    /// version is neither 1 nor 2; else `OutOfMemory` for want of memory, and `Store` where the tables are not as an index
+    /// has them or the store fails. A refused database is as it was. A crash leaves what was there, or of version 1 the whole index; once it is
     /// adopted, the index alone.
     pub fn adopt(alloc: Global, conn: Connection<S>) -> Result<SqlBooks<S>, Unopened<S>>
         requires outside { conn.in_transaction ≡ false }
@@ -57,10 +58,10 @@ impl<S: Alter> SqlBooks<S> {
         ensures clean_refused { IfErr result (λ refused.
             HasCleanDisk (state S.Store refused.conn) → HasCleanDisk (state S.Store conn)) }
         ensures failures { IfOk result (λ books. books.failures ≡ 0) }
-        ensures no_meta { has_table (state S.Store conn).now.schema (codes "meta") ≡ false
+        ensures no_meta { has_meta (state S.Store conn).now.schema ≡ false
             → IsRefusedAs OpenFault.NotAnIndex result }
         ensures reason { IfErr result (λ refused. HasCleanDisk (state S.Store refused.conn)
-            → IsReason S.Store conn refused.why) }
+            → IsReason S.Store conn refused.conn refused.why) }
         ensures again { IfErr result (λ refused. HasCleanDisk (state S.Store refused.conn)
             → IsTrue (state S.Store conn).is_open → IsOurs (state S.Store conn).now
             → IsFault refused.why) }
@@ -75,7 +76,7 @@ impl<S: Alter> SqlBooks<S> {
             (state S.Store conn) (state S.Store refused.conn)) }
     {
         let conn = known(conn);
-        if !has_table(conn.schema(), b"meta") {
+        if !has_meta(conn.schema()) {
             return Err(Unopened {
                 why: OpenFault::NotAnIndex,
                 conn,
@@ -85,8 +86,8 @@ impl<S: Alter> SqlBooks<S> {
             Ok(Kind::Index) => adopt_index(conn),
             Ok(Kind::FirstVersion) => adopt_first_version(conn),
             Ok(Kind::Other) => Err(refuse_other(conn)),
-            Err(error) => Err(Unopened {
-                why: open_fault_of(error),
+            Err(AllocError) => Err(Unopened {
+                why: OpenFault::OutOfMemory,
                 conn,
             }),
         }
@@ -94,7 +95,7 @@ impl<S: Alter> SqlBooks<S> {
 }
 
 /// Whose schema it is.
-fn kind_of<S: Alter>(alloc: Global, conn: &Connection<S>) -> Result<Kind, Error>
+fn kind_of<S: Alter>(alloc: Global, conn: &Connection<S>) -> Result<Kind, AllocError>
     ensures kind { IfOk result (IsOfKind (state S.Store conn.now).now.schema) }
 {
     if is_ours(alloc, conn)? {
@@ -109,6 +110,7 @@ fn kind_of<S: Alter>(alloc: Global, conn: &Connection<S>) -> Result<Kind, Error>
 /// The index on a connection to one.
 fn adopt_index<S: Alter>(conn: Connection<S>) -> Result<SqlBooks<S>, Unopened<S>>
     requires outside { conn.in_transaction ≡ false }
+    requires meta { IsTrue (has_meta (state S.Store conn).now.schema) }
     requires index { IsTrue (state S.Store conn).is_open → IsIndex (state S.Store conn).now }
     requires settled { IsTrue (state S.Store conn).is_open
         → (state S.Store conn).now ≡ (state S.Store conn).committed }
@@ -126,7 +128,7 @@ fn adopt_index<S: Alter>(conn: Connection<S>) -> Result<SqlBooks<S>, Unopened<S>
         HasCleanDisk (state S.Store refused.conn) → HasCleanDisk (state S.Store conn)) }
     ensures failures { IfOk result (λ books. books.failures ≡ 0) }
     ensures reason { IfErr result (λ refused. HasCleanDisk (state S.Store refused.conn)
-        → IsReason S.Store conn refused.why) }
+        → IsReason S.Store conn refused.conn refused.why) }
     ensures refused { IfErr result (λ refused. HasCleanDisk (state S.Store refused.conn)
         → Stays (state S.Store conn) (state S.Store refused.conn)) }
     ensures ended { IfErr result (λ refused. refused.conn.in_transaction ≡ false) }
@@ -144,8 +146,8 @@ fn adopt_index<S: Alter>(conn: Connection<S>) -> Result<SqlBooks<S>, Unopened<S>
             why: refusal(version, has_first, has_bans),
             conn,
         }),
-        Err(error) => Err(Unopened {
-            why: open_fault_of(error),
+        Err(fault) => Err(Unopened {
+            why: open_fault_of(fault),
             conn,
         }),
     }
@@ -154,6 +156,7 @@ fn adopt_index<S: Alter>(conn: Connection<S>) -> Result<SqlBooks<S>, Unopened<S>
 /// The index that comes of a database of version 1.
 fn adopt_first_version<S: Alter>(conn: Connection<S>) -> Result<SqlBooks<S>, Unopened<S>>
     requires outside { conn.in_transaction ≡ false }
+    requires meta { IsTrue (has_meta (state S.Store conn).now.schema) }
     requires first { IsTrue (state S.Store conn).is_open
         → IsFirstVersion (state S.Store conn).now }
     requires settled { IsTrue (state S.Store conn).is_open
@@ -172,7 +175,7 @@ fn adopt_first_version<S: Alter>(conn: Connection<S>) -> Result<SqlBooks<S>, Uno
         HasCleanDisk (state S.Store refused.conn) → HasCleanDisk (state S.Store conn)) }
     ensures failures { IfOk result (λ books. books.failures ≡ 0) }
     ensures reason { IfErr result (λ refused. HasCleanDisk (state S.Store refused.conn)
-        → IsReason S.Store conn refused.why) }
+        → IsReason S.Store conn refused.conn refused.why) }
     ensures refused { IfErr result (λ refused. HasCleanDisk (state S.Store refused.conn)
         → Stays (state S.Store conn) (state S.Store refused.conn)) }
     ensures ended { IfErr result (λ refused. refused.conn.in_transaction ≡ false) }
@@ -190,8 +193,8 @@ fn adopt_first_version<S: Alter>(conn: Connection<S>) -> Result<SqlBooks<S>, Uno
             why: refusal(version, has_first, has_bans),
             conn,
         }),
-        Err(error) => Err(Unopened {
-            why: open_fault_of(error),
+        Err(fault) => Err(Unopened {
+            why: open_fault_of(fault),
             conn,
         }),
     }
@@ -223,12 +226,13 @@ fn unlike(has_all: bool) -> OpenFault
 /// A database whose tables others made, refused by the version that it tells.
 fn refuse_other<S: Alter>(conn: Connection<S>) -> Unopened<S>
     requires outside { conn.in_transaction ≡ false }
+    requires meta { IsTrue (has_meta (state S.Store conn).now.schema) }
     requires settled { IsTrue (state S.Store conn).is_open
         → (state S.Store conn).now ≡ (state S.Store conn).committed }
     ensures clean { HasCleanDisk (state S.Store result.conn)
         → HasCleanDisk (state S.Store conn) }
     ensures reason { HasCleanDisk (state S.Store result.conn)
-        → IsReason S.Store conn result.why }
+        → IsReason S.Store conn result.conn result.why }
     ensures refused { HasCleanDisk (state S.Store result.conn)
         → Stays (state S.Store conn) (state S.Store result.conn) }
     ensures ended { result.conn.in_transaction ≡ false }
@@ -237,11 +241,16 @@ fn refuse_other<S: Alter>(conn: Connection<S>) -> Unopened<S>
     let has_first = has_all_tables(conn.schema());
     let has_bans = has_table(conn.schema(), b"bans");
     let mut conn = conn;
-    let why = match told_version(&mut conn) {
-        Ok(version) => refusal(version, has_first, has_bans),
-        Err(error) => open_fault_of(error),
-    };
-    Unopened { why, conn }
+    match told_version(&mut conn) {
+        Ok(version) => Unopened {
+            why: refusal(version, has_first, has_bans),
+            conn,
+        },
+        Err(fault) => Unopened {
+            why: open_fault_of(fault),
+            conn,
+        },
+    }
 }
 
 /// Makes the index of a database of version 1.
@@ -280,7 +289,7 @@ fn raise<S: Alter>(conn: Connection<S>) -> Result<SqlBooks<S>, Unopened<S>>
     match migrate(&mut conn) {
         Ok(()) => Ok(SqlBooks { conn, failures: 0 }),
         Err(error) => Err(Unopened {
-            why: open_fault_of(error),
+            why: open_fault_of(fault_of(error)),
             conn,
         }),
     }

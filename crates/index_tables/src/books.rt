@@ -1,17 +1,20 @@
 //! The tables as `Books`: each call is done by the connection, and then counted.
-ghost use Rattle.std.specs.Prelude.{◌≡◌, ◌⊎◌, Err, IfErr, IfOk, OnErr, OnOk, is_ok};
+ghost use Rattle.std.specs.Prelude.{◌≡◌, ◌⊎◌, Err, IfErr, IfOk, List, OnErr, OnOk, is_ok};
 ghost use Rattle.std.specs.FinMap.{get};
 ghost use Rattle.index_io.specs.Counts.{next_count};
 ghost use Rattle.index_looks.specs.Faults.{fault_by};
 ghost use Rattle.index_looks.specs.Reasons.{FailsForReason};
 ghost use Rattle.index_reads.specs.Sealed.{IsBoundTo, digest_in};
+ghost use Rattle.index_rules.specs.declared.rows.FileRow.{FileRow as FileRowData};
+ghost use Rattle.index_rules.specs.declared.rows.NameRow.{NameRow as NameRowData};
 ghost use Rattle.index_rules.specs.Effect.{means};
 ghost use Rattle.index_rules.specs.Facts.{Sees};
-ghost use Rattle.index_rules.specs.TableRows.{file_rows_in, name_rows_in};
+ghost use Rattle.index_rules.specs.TableRows.{file_rows_in, held_rows_in, name_rows_in};
 ghost use Rattle.index_rules.specs.Tables.{Tables, owners_in};
-ghost use Rattle.index_rules.specs.Walks.{has_fault};
+ghost use Rattle.index_rules.specs.Walks.{Walks, has_fault};
 ghost use Rattle.index_schema.specs.RecordRows.{AreRecords};
-ghost use Rattle.index_tables.specs.LooksUp.{LooksUp};
+ghost use Rattle.index_tables.specs.LooksUp.{LooksUp, WalksUp};
+ghost use Rattle.index_walks.specs.Reasons.{EndsForReason};
 
 use crate::tables::{SqlBooks, counted};
 use index_changes::make_change;
@@ -131,7 +134,17 @@ impl<S: Alter> Books for SqlBooks<S> {
         rows
     }
 
-    fn walk_held<K: NameTaker>(&mut self, alloc: Global, taker: &mut K) -> Result<(), WalkEnd> {
+    fn walk_held<K: NameTaker>(&mut self, alloc: Global, taker: &mut K) -> Result<(), WalkEnd>
+        ensures walked { IsHonest (state S.Store self.old.conn)
+            → HasCleanDisk (state S.Store self.new.conn)
+            → let rows = held_rows_in (tables_of S.Store self.old.conn) in
+            Walks K.takes K.stops rows taker.old taker.new result }
+        ensures given { (rows : List NameRowData)
+            × Walks K.takes K.stops rows taker.old taker.new result }
+        ensures walks { WalksUp S.Store self.old self.new result }
+        ensures reason { let rows = held_rows_in (tables_of S.Store self.old.conn) in
+            EndsForReason S.Store self.old.conn self.new.conn rows result }
+    {
         let ended = index_walks::walk_held(alloc, &mut self.conn, taker);
         self.failures = counted(self.failures, !is_broken(&ended));
         ended
@@ -142,7 +155,17 @@ impl<S: Alter> Books for SqlBooks<S> {
         alloc: Global,
         name: &NormalName,
         taker: &mut K,
-    ) -> Result<(), WalkEnd> {
+    ) -> Result<(), WalkEnd>
+        ensures walked { IsHonest (state S.Store self.old.conn)
+            → HasCleanDisk (state S.Store self.new.conn)
+            → let rows = file_rows_in (tables_of S.Store self.old.conn) name.now in
+            Walks K.takes K.stops rows taker.old taker.new result }
+        ensures given { (rows : List FileRowData)
+            × Walks K.takes K.stops rows taker.old taker.new result }
+        ensures walks { WalksUp S.Store self.old self.new result }
+        ensures reason { let rows = file_rows_in (tables_of S.Store self.old.conn) name.now in
+            EndsForReason S.Store self.old.conn self.new.conn rows result }
+    {
         let ended = index_walks::walk_files(alloc, &mut self.conn, name, taker);
         self.failures = counted(self.failures, !is_broken(&ended));
         ended

@@ -14,13 +14,14 @@ ghost use Rattle.index_schema.specs.RecordRows.{AreRecords};
 ghost use Rattle.index_create.specs.Created.{one_user, IsBlank};
 ghost use Rattle.index_tables.specs.Kept.{IsHonest, IsWorking, Leaves};
 ghost use Rattle.index_reads.specs.Held.{tables_of};
-ghost use Rattle.index_tables.specs.Opened.{IsRefusedAs, IsTaken, LeavesOr};
+ghost use Rattle.index_tables.specs.Opened.{IsAmongOthers, IsRefusedAs, IsTaken, LeavesOr};
 
 use crate::opening::{Unopened, open_fault_of};
 use crate::tables::SqlBooks;
 use index_adopt::{has_any_table, is_blank, known};
 use index_create::fill_new;
 use index_digest::Digest256;
+use index_looks::fault_of;
 use index_rules::{OpenFault, UserId, UserRecord, first_user};
 use sqlite::{Alter, Connection};
 use std::alloc::Global;
@@ -59,6 +60,8 @@ impl<S: Alter> SqlBooks<S> {
             → IsTaken user.now token (state S.Store conn).now.schema }
         ensures not_empty { IsTaken user.now token (state S.Store conn).now.schema
             → IsRefusedAs OpenFault.NotEmpty result ⊎ IsRefusedAs OpenFault.OutOfMemory result }
+        ensures among_others { IsAmongOthers user.now token (state S.Store conn).now.schema
+            → IsRefusedAs OpenFault.Store result ⊎ IsRefusedAs OpenFault.OutOfMemory result }
         ensures refused { IfErr result (λ refused. HasCleanDisk (state S.Store refused.conn)
             → Stays (state S.Store conn) (state S.Store refused.conn)) }
         ensures ended { IfErr result (λ refused. refused.conn.in_transaction ≡ false) }
@@ -101,6 +104,8 @@ fn fill_blank<S: Alter>(
         → IsTrue (has_any_of (state S.Store conn).now.schema index_schema.tables) }
     ensures not_empty { IsTrue (has_any_of (state S.Store conn).now.schema index_schema.tables)
         → IsRefusedAs OpenFault.NotEmpty result }
+    ensures among_others { has_any_of (state S.Store conn).now.schema index_schema.tables ≡ false
+        → (state S.Store conn).now.schema ≢ no_schema → IsRefusedAs OpenFault.Store result }
     ensures refused { IfErr result (λ refused. HasCleanDisk (state S.Store refused.conn)
         → Stays (state S.Store conn) (state S.Store refused.conn)) }
     ensures ended { IfErr result (λ refused. refused.conn.in_transaction ≡ false) }
@@ -125,7 +130,7 @@ fn fill_blank<S: Alter>(
     match fill_new(&mut conn, user, account) {
         Ok(()) => Ok(SqlBooks { conn, failures: 0 }),
         Err(error) => Err(Unopened {
-            why: open_fault_of(error),
+            why: open_fault_of(fault_of(error)),
             conn,
         }),
     }

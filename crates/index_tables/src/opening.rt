@@ -2,9 +2,8 @@
 ghost use Rattle.std.specs.Prelude.{◌≡◌};
 ghost use Rattle.index_tables.specs.Opened.{open_fault_by};
 
-use index_looks::fault_of;
 use index_rules::{Fault, OpenFault};
-use sqlite::{Alter, Connection, Error};
+use sqlite::{Alter, Connection};
 
 /// A connection on which no index was opened, and why.
 pub struct Unopened<S: Alter> {
@@ -12,11 +11,11 @@ pub struct Unopened<S: Alter> {
     pub conn: Connection<S>,
 }
 
-/// The reason that an error of the database is.
-pub(crate) fn open_fault_of(error: Error) -> OpenFault
-    ensures { result ≡ open_fault_by error }
+/// The reason that a fault is.
+pub(crate) fn open_fault_of(fault: Fault) -> OpenFault
+    ensures { result ≡ open_fault_by fault }
 {
-    match fault_of(error) {
+    match fault {
         Fault::OutOfMemory => OpenFault::OutOfMemory,
         Fault::Store => OpenFault::Store,
     }

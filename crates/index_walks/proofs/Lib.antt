@@ -1,3 +1,4 @@
 pub mod WalkLemmas
 pub mod QueryLemmas
 pub mod EndLemmas
+pub mod HeldLemmas

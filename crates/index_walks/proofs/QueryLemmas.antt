@@ -1,6 +1,7 @@
 -- What a query whose rows are handed over leaves, and what its rows have to do with the tables.
-use Rattle.std.proofs.Common.{◌≡◌, ◌∙◌, ◌⊎◌, ℕ, Bool, true, false, not, List, [], ◌∷◌, ◌++◌, map, Ok, Err, Result, None, IsTrue, inl, inr, refl, sym, ap, subst, arith}
-use Rattle.std.proofs.lemmas.List.{map-append}
+use Rattle.std.proofs.Common.{◌≡◌, ◌∙◌, ◌⊎◌, ℕ, ◌≤◌, ◌-◌, ◌^◌, Bool, true, false, not, List, [], ◌∷◌, ◌++◌, length, map, Ok, Err, Result, IfErr, None, IsTrue, inl, inr, refl, sym, ap, subst, arith, length-append}
+use Rattle.std.specs.List.{AllByRecursion}
+use Rattle.std.proofs.lemmas.List.{map-append, length-map}
 use Rattle.sqlite_trees.specs.declared.store.Store.{Ghosts}
 use Rattle.sqlite_value.specs.Order.{Row}
 use Rattle.sqlite.specs.Clock.{timed}
@@ -15,6 +16,7 @@ use Rattle.sqlite.proofs.StateLemmas.{survives_then}
 use Rattle.index_rules.specs.declared.answer.Fault.{Fault}
 use Rattle.index_rules.specs.declared.answer.Fault.TheVariants as fault
 use Rattle.index_rules.specs.declared.rows.WalkEnd.{WalkEnd}
+use Rattle.index_rules.specs.declared.rows.WalkEnd.TheVariants.{Store}
 use Rattle.index_rules.specs.Tables.{Tables}
 use Rattle.index_rules.specs.Walks.{EndsEarly, Walks, has_fault, is_fault, walk_end_of}
 use Rattle.index_rules.proofs.WalkLemmas.{EndsEarly-within}
@@ -24,9 +26,12 @@ use Rattle.index_schema.specs.Index.{IsIndex}
 use Rattle.index_schema.specs.Stays.{Stays}
 use Rattle.index_schema.proofs.StayLemmas.{shown_open, unchanged_stays, undone_stays}
 use Rattle.index_looks.specs.Looks.{IsKept, Looks}
-use Rattle.index_looks.proofs.LookLemmas.{clean_before, looks_by}
-use Rattle.index_walks.specs.Handed.{HasStayed, IsGiving, IsLastLook, IsOf}
-use Rattle.index_walks.proofs.WalkLemmas.{read_walks}
+use Rattle.index_schema.specs.RecordRows.{AreRecords}
+use Rattle.index_schema.specs.Sure.{IsSure}
+use Rattle.index_looks.specs.Reasons.{HasReason}
+use Rattle.index_looks.proofs.LookLemmas.{clean_before, looks_by, looks_kept, reason_then, reasoned}
+use Rattle.index_walks.specs.Handed.{FailsAfter, GivesUnread, HasStayed, IsGiving, IsLastLook, IsOf}
+use Rattle.index_walks.proofs.WalkLemmas.{front_are, read_walks}
 
 -- a fault of another look is one of the walk
 is_faulty : (f : Fault) → is_fault (walk_end_of f) ≡ true
@@ -164,6 +169,31 @@ module _ {S : Type 0} (g : Ghosts S) (sql : List ℕ) (params : Row) (plain : Is
       let before = clean_before (state g mid) (state g now) _ last.survives clean in
       inr (mid, it.stayed.same before, it.gave before)
 
+  -- rows that were given are a look
+  looks_giving : (mid : Held S) (rows : List Row) → IsGiving g sql params old mid rows → Looks g old mid true
+  looks_giving mid rows it =
+      looks_by g old mid sql params plain kept it.stayed.outside it.stayed.survives true (λ clean. unchanged_stays (state g old) (state g mid) (it.stayed.same clean)) (λ did clean. (it.stayed.same clean).0.is_open)
+
+  -- what fails after them has a reason, or gave rows that are not read
+  pub ends_by : (IsRow : Row → Type 0) (mid now : Held S) (rows : List Row) (result : Result (Unit {0}) WalkEnd) → IsSure sql params → IsGiving g sql params old mid rows → IsLastLook g mid now result
+      → (HasCleanDisk (state g now) → HasGiven g sql params mid rows → IfErr result (λ end. end ≡ Store → FailsAfter g IsRow sql params mid now rows))
+      → HasCleanDisk (state g now) → IfErr result (λ end. end ≡ Store → HasReason (state g old) (state g now) ⊎ GivesUnread g IsRow sql params old)
+  ends_by IsRow mid now rows (Ok done) sure it last fails clean = tt
+  ends_by IsRow mid now rows (Err end) sure it last fails clean = λ is. by (fails clean gave is)
+    where
+      before : HasCleanDisk (state g mid)
+      before = clean_before (state g mid) (state g now) _ last.survives clean
+
+      gave : HasGiven g sql params mid rows
+      gave = it.gave before
+
+      looks : Looks g old mid true
+      looks = looks_giving mid rows it
+
+      by : FailsAfter g IsRow sql params mid now rows → HasReason (state g old) (state g now) ⊎ GivesUnread g IsRow sql params old
+      by (inl (e, failed, fault)) = inl (reason_then g old mid now looks before (reasoned g mid now sql params e (looks_kept g old mid true kept looks) before sure failed fault))
+      by (inr unread) = inr (rows, mid, it.stayed.same before, gave, unread)
+
 -- ---- a walk over all rows of the tables
 
 module _ {S : Type 0} (g : Ghosts S) (sql : List ℕ) (params : Row) (ends : (db : Database) (ps : Row) → EndsIn (command_of (understood index_schema sql)) db ps) (held : Held S) (kept : IsKept g held)
@@ -179,14 +209,18 @@ module _ {S : Type 0} (g : Ghosts S) (sql : List ℕ) (params : Row) (ends : (db
   all_shown : (at now : Held S) (rows : List Row) → IsUnchanged (state g held) (state g at) → Shown sql params (state g at) (state g now) rows → map read rows ≡ all
   all_shown at now rows same shown = selects (state g at) (state g now) rows (index_at at same) shown ∙ ap (λ (d : Database). rows_of (tables_in d.trees)) same.0.now_is
 
-  -- what was given is a front of all
-  front_given : (at : Held S) (rows : List Row) → IsUnchanged (state g held) (state g at) → HasGiven g sql params at rows → (tail : List Row) × (map read rows ++ map read tail ≡ all)
-  front_given at rows same gave =
+  -- what was given is a front of an answer
+  whole_of : (at : Held S) (rows : List Row) → IsUnchanged (state g held) (state g at) → HasGiven g sql params at rows → (tail : List Row) × Shown sql params (state g at) (state g at) (rows ++ tail)
+  whole_of at rows same gave =
       let schema = (index_at at same).schema in
       let s = state g at in
-      let whole = begins_shown sql params s s rows (given_begin g sql params at rows gave) (settled (state g held) s same)
-      (λ c db statement source. subst (λ k. EndsIn k db (timed params c.formats statement.now)) (ap (λ x. command_of (understood x sql)) (sym schema) ∙ ap command_of statement.is) (ends db (timed params c.formats statement.now))) in
-      (whole.0, sym (map-append read rows whole.0) ∙ all_shown at at (rows ++ whole.0) same whole.1)
+      begins_shown sql params s s rows (given_begin g sql params at rows gave) (settled (state g held) s same)
+      (λ c db statement source. subst (λ k. EndsIn k db (timed params c.formats statement.now)) (ap (λ x. command_of (understood x sql)) (sym schema) ∙ ap command_of statement.is) (ends db (timed params c.formats statement.now)))
+
+  -- so it is one of all
+  front_given : (at : Held S) (rows : List Row) → IsUnchanged (state g held) (state g at) → HasGiven g sql params at rows → (tail : List Row) × (map read rows ++ map read tail ≡ all)
+  front_given at rows same gave =
+      let whole = whole_of at rows same gave in (whole.0, sym (map-append read rows whole.0) ∙ all_shown at at (rows ++ whole.0) same whole.1)
 
   pub walks_all : {K : Type 0} (takes stops : K → R → K → Type 0) (rows : List Row) (a b : K) (result : Result (Unit {0}) WalkEnd) → IsOf g sql params held rows result
       → Walks (λ before row after. takes before (read row) after) (λ before row after. stops before (read row) after) rows a b result → Walks takes stops all a b result
@@ -197,3 +231,17 @@ module _ {S : Type 0} (g : Ghosts S) (sql : List ℕ) (params : Row) (ends : (db
   walks_all takes stops rows a b (Err end) (inr it) walks =
       let front = front_given it.0 rows it.1 it.2 in
       subst (λ rows. EndsEarly takes stops rows a b end) front.1 (EndsEarly-within takes stops (map read rows) (map read front.0) a b end (read_walks takes stops read rows a b (Err end) walks))
+
+  -- where each row of an answer can be read, only so many are not
+  module _ (IsRow : Row → Type 0) (reads : (old new : State) (rows : List Row) → IsIndex old.now → AreRecords old.now → Shown sql params old new rows → AllByRecursion IsRow rows) (records : AreRecords (state g held).now) where
+    counted : GivesUnread g IsRow sql params held → 2 ^ 64 - 1 ≤ length all
+    counted (rows, at, same, gave, inl unread) =
+        let whole = whole_of at rows same gave in
+        absurd (unread (front_are IsRow rows whole.0 (reads (state g at) (state g at) (rows ++ whole.0) (index_at at same) (subst AreRecords (sym same.0.now_is) records) whole.1)))
+    counted (rows, at, same, gave, inr many) =
+        let front = front_given at rows same gave in subst (λ l. 2 ^ 64 - 1 ≤ length l) front.1 (omega (arith, many, length-append (map read rows) (map read front.0), length-map rows read))
+
+    pub ends_for : (now : Held S) (result : Result (Unit {0}) WalkEnd) → IfErr result (λ end. end ≡ Store → HasReason (state g held) (state g now) ⊎ GivesUnread g IsRow sql params held)
+        → IfErr result (λ end. end ≡ Store → HasReason (state g held) (state g now) ⊎ (2 ^ 64 - 1 ≤ length all))
+    ends_for now (Ok done) it = tt
+    ends_for now (Err end) it = λ is. elim (it is) [ inl reason ↦ inl reason | inr unread ↦ inr (counted unread) ]

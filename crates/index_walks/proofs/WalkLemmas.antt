@@ -1,5 +1,6 @@
 -- What a walk makes of the taker of its rows.
 use Rattle.std.proofs.Common.{◌≡◌, ◌∙◌, List, [], ◌∷◌, ◌++◌, map, Ok, Err, Result, refl, sym, ap, subst, append-nil}
+use Rattle.std.specs.List.{AllByRecursion}
 use Rattle.std.proofs.lemmas.List.{map-append}
 use Rattle.index_rules.specs.declared.answer.Fault.{Fault}
 use Rattle.index_rules.specs.declared.answer.Fault.TheVariants as fault
@@ -7,6 +8,21 @@ use Rattle.index_rules.specs.declared.rows.WalkEnd.{WalkEnd}
 use Rattle.index_rules.specs.declared.rows.WalkEnd.TheVariants.{Stopped, OutOfMemory, Store}
 use Rattle.index_rules.specs.Rows.{Took, TookFront}
 use Rattle.index_rules.specs.Walks.{Walks, walk_end_of}
+
+-- the end of a walk tells the fault
+pub fault_told : (f : Fault) → walk_end_of f ≡ Store → f ≡ fault.Store
+fault_told fault.OutOfMemory is = absurd (let e = is in cc)
+fault_told fault.Store is = refl
+
+-- of what each of some rows is, the last of them is one, and their front
+module _ {R : Type 0} (P : R → Type 0) where
+  pub last_is : (rows : List R) (row : R) → AllByRecursion P (rows ++ row ∷ []) → P row
+  last_is [] row all = all.0
+  last_is (first ∷ rows) row all = last_is rows row all.1
+
+  pub front_are : (rows more : List R) → AllByRecursion P (rows ++ more) → AllByRecursion P rows
+  front_are [] more all = tt
+  front_are (row ∷ rows) more all = (all.0, front_are rows more all.1)
 
 module _ {K R : Type 0} (takes stops : K → R → K → Type 0) where
   -- rows that were taken are a front of what a fault ends

@@ -9,8 +9,9 @@ ghost use Rattle.sqlite.specs.Values.{bound};
 ghost use Rattle.index_schema.specs.Schema.{index_schema};
 ghost use Rattle.index_looks.specs.Faults.{fault_by};
 ghost use Rattle.index_looks.specs.Looks.{IsKept, Looks};
+ghost use Rattle.index_schema.specs.Sure.{IsSure};
 ghost use Rattle.index_rules.specs.Walks.{Walks, has_fault, walk_end_of};
-ghost use Rattle.index_walks.specs.Handed.{HasHanded, IsOf};
+ghost use Rattle.index_walks.specs.Handed.{HasHanded, IsOf, QueryEndsForReason};
 
 use crate::hand::Hand;
 use index_looks::fault_of;
@@ -22,8 +23,8 @@ use std::alloc::Global;
 /// Hands the rows that a query shows to a taker one at a time, until it wants no more. The tables stay as they are.
 ///
 /// # Errors
-/// `Stopped` exactly where the taker refused a row. `OutOfMemory` for want of memory, and `Store` where the store fails
-/// or a row is no record.
+/// `Stopped` exactly where the taker refused a row. `OutOfMemory` for want of memory, and `Store` where the store fails,
+/// a row is no record, or there are 18,446,744,073,709,551,615 rows or more.
 pub(crate) fn walk<S: Alter, K, H: Hand<K>>(
     alloc: Global,
     conn: &mut Connection<S>,
@@ -39,6 +40,8 @@ pub(crate) fn walk<S: Alter, K, H: Hand<K>>(
         × (HasCleanDisk (state S.Store conn.new)
         → IsOf S.Store query.now (bound params.now) conn.old rows result) }
     ensures looks { Looks S.Store conn.old conn.new (not (has_fault result)) }
+    ensures reason { IsSure query.now (bound params.now) → QueryEndsForReason S.Store H.is_row
+        query.now (bound params.now) conn.old conn.new result }
 {
     match conn.query(query, params) {
         Ok(mut rows) => hand_all::<S, K, H>(alloc, &mut rows, taker),
@@ -53,10 +56,10 @@ fn hand_all<S: Alter, K, H: Hand<K>>(
     taker: &mut K,
 ) -> Result<(), WalkEnd>
     ensures same_reference { rows.new.conn.ghost_name ≡ rows.old.conn.ghost_name }
-    ensures handed { HasHanded S.Store H.takes H.stops
+    ensures handed { HasHanded S.Store H.is_row H.takes H.stops
         rows.old.conn.now rows.new.conn.now taker.old taker.new result }
 {
-    'rows: for _ in 0..u64::MAX {
+    'rows: for _given in 0..u64::MAX {
         match rows.next() {
             Ok(Some(row)) => H::hand(alloc, row, taker)?,
             Ok(None) => return Ok(()),

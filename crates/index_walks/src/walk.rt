@@ -8,6 +8,7 @@ ghost use Rattle.index_rules.specs.declared.rows.NameRow.{NameRow as NameRowData
 ghost use Rattle.index_rules.specs.TableRows.{file_rows_in, held_rows_in};
 ghost use Rattle.index_rules.specs.Walks.{Walks, has_fault};
 ghost use Rattle.index_schema.specs.Records.{tables_in};
+ghost use Rattle.index_walks.specs.Reasons.{EndsForReason};
 
 use crate::hand::{Files, Names};
 use crate::rows::walk;
@@ -20,7 +21,7 @@ use std::alloc::Global;
 ///
 /// # Errors
 /// `Stopped` exactly where the taker answered `false`. `OutOfMemory` for want of memory, and `Store` where the store
-/// fails or a row is no name. Whatever the store does, the taker is given some rows in this way, and nothing else is
+/// fails, a row is no name, or there are 18,446,744,073,709,551,615 of them or more. Whatever the store does, the taker is given some rows in this way, and nothing else is
 /// done to it.
 pub fn walk_held<S: Alter, K: NameTaker>(
     alloc: Global,
@@ -35,6 +36,8 @@ pub fn walk_held<S: Alter, K: NameTaker>(
     ensures given { (rows : List NameRowData) ×
         Walks K.takes K.stops rows taker.old taker.new result }
     ensures looks { Looks S.Store conn.old conn.new (not (has_fault result)) }
+    ensures reason { let rows = held_rows_in (tables_in (state S.Store conn.old).now.trees) in
+        EndsForReason S.Store conn.old conn.new rows result }
 {
     walk::<S, K, Names>(
         alloc,
@@ -50,7 +53,7 @@ pub fn walk_held<S: Alter, K: NameTaker>(
 ///
 /// # Errors
 /// `Stopped` exactly where the taker answered `false`. `OutOfMemory` for want of memory, and `Store` where the store
-/// fails or a row is no file. Whatever the store does, the taker is given some rows in this way, and nothing else is
+/// fails, a row is no file, or there are 18,446,744,073,709,551,615 of them or more. Whatever the store does, the taker is given some rows in this way, and nothing else is
 /// done to it.
 pub fn walk_files<S: Alter, K: FileTaker>(
     alloc: Global,
@@ -66,6 +69,8 @@ pub fn walk_files<S: Alter, K: FileTaker>(
     ensures given { (rows : List FileRowData) ×
         Walks K.takes K.stops rows taker.old taker.new result }
     ensures looks { Looks S.Store conn.old conn.new (not (has_fault result)) }
+    ensures reason { let rows = file_rows_in (tables_in (state S.Store conn.old).now.trees) name.now in
+        EndsForReason S.Store conn.old conn.new rows result }
 {
     walk::<S, K, Files>(
         alloc,

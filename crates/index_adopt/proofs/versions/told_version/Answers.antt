@@ -2,10 +2,6 @@ use Rattle.std.proofs.Common.{rules}
 use Rattle.index_adopt.proofs.LookLemmas.{looks_dropped}
 use Rattle.index_adopt.proofs.versions.told_version.Goals as goal
 
-pub returns-in_err-version-clause-looks : goal.returns-in_err-version-clause-looks
-returns-in_err-version-clause-looks g c =
-    looks_dropped g.S.Store c.args.conn.now _ c.query_version.new.tx.conn.now _ c.transaction-tx.ensures.begun c.requires.settled c.query_version.ensures.kept c.query_version.ensures.survives (search rules) (search rules) (search rules)
-
 pub returns-clause-looks : goal.returns-clause-looks
 returns-clause-looks g c =
     looks_dropped g.S.Store c.args.conn.now _ c.query_version.new.tx.conn.now _ c.transaction-tx.ensures.begun c.requires.settled c.query_version.ensures.kept c.query_version.ensures.survives (search rules) (search rules) (search rules)

@@ -1,7 +1,11 @@
 use Rattle.std.proofs.Common.{rules, inl}
-use Rattle.index_tables.proofs.AdoptLemmas.{reason_told}
+use Rattle.index_tables.proofs.AdoptLemmas.{reason_failed, reason_told}
 use Rattle.index_tables.proofs.adopt.adopt_index.Goals as goal
 
 pub returns-in-Ok-clause-reason : goal.returns-in-Ok-clause-reason
 returns-in-Ok-clause-reason g c clean =
-    reason_told g.S.Store c.args.conn c.in-Ok.version c.refusal.result (inl (λ o. inl (c.requires.index o), c.in-Ok.ensures.found clean)) (search rules)
+    reason_told g.S.Store c.args.conn c.read_version.new.conn c.requires.meta c.in-Ok.version c.refusal.result (inl (λ o. inl (c.requires.index o), c.in-Ok.ensures.found clean)) (search rules)
+
+pub returns-in-Err-clause-reason : goal.returns-in-Err-clause-reason
+returns-in-Err-clause-reason g c clean =
+    reason_failed g.S.Store c.args.conn c.read_version.new.conn c.requires.meta c.in-Err.fault c.open_fault_of.result c.open_fault_of.ensures (λ is. inl (c.in-Err.ensures.reason clean is))

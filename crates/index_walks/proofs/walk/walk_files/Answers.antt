@@ -1,12 +1,15 @@
 use Rattle.std.proofs.Common.{[], ◌∷◌, map, rules, subst}
 use Rattle.sqlite_value.specs.declared.value.Value.TheVariants.{Text}
 use Rattle.index_rules.specs.TableRows.{file_rows_in}
+use Rattle.index_schema.specs.RecordRows.{IsListedRow}
 use Rattle.index_schema.specs.ShownRows.{file_row_shown}
 use Rattle.index_schema.specs.StatementTexts.{select_files_text}
-use Rattle.index_schema.proofs.SelectFiles.{is_plain, selects}
-use Rattle.index_walks.specs.Handed.{IsOf}
+use Rattle.index_schema.proofs.SelectFiles.{is_plain, records, selects, sure}
+use Rattle.index_schema.proofs.ShownRecords.{known_records}
+use Rattle.index_schema.specs.Sure.{IsSure}
+use Rattle.index_walks.specs.Handed.{IsOf, QueryEndsForReason}
 use Rattle.index_walks.proofs.EndLemmas.{files_ends}
-use Rattle.index_walks.proofs.QueryLemmas.{walks_all}
+use Rattle.index_walks.proofs.QueryLemmas.{ends_for, walks_all}
 use Rattle.index_walks.proofs.WalkLemmas.{read_walks}
 use Rattle.index_walks.proofs.walk.walk_files.Goals as goal
 
@@ -25,3 +28,12 @@ pub returns-clause-given : goal.returns-clause-given
 returns-clause-given g c =
     let it = c.walk.ensures.handed in
     (map file_row_shown it.0, read_walks g.K.FileTaker.takes g.K.FileTaker.stops file_row_shown it.0 c.args.taker.now c.walk.new.taker c.walk.result it.1)
+
+pub returns-clause-reason : goal.returns-clause-reason
+returns-clause-reason g c clean are =
+    let name = c.args.name.now in
+    let old = c.args.conn.now in
+    let new = c.walk.new.conn in
+    let told = subst (λ params. IsSure select_files_text params → QueryEndsForReason g.S.Store IsListedRow select_files_text params old new c.walk.result) (search rules) c.walk.ensures.reason in
+    ends_for g.S.Store select_files_text (Text name ∷ []) files_ends old c.requires.kept (c.walk.ensures.looks.was_clean clean) file_row_shown (λ T. file_rows_in T name) (selects name)
+    IsListedRow (λ before after rows h are shown. let known = known_records before.now h are in records name before after rows h shown known.1.1.1.1.0 known.1.1.1.1.1.1.0) are new c.walk.result ((told (sure name)).reason clean)

@@ -3,8 +3,8 @@ use Rattle.index_schema.specs.ShownRows.{file_row_shown}
 use Rattle.index_walks.proofs.WalkLemmas.{stopped}
 use Rattle.index_walks.proofs.hand.FilesHand.hand.Goals as goal
 
-pub returns : goal.returns
-returns g c =
+pub returns-clause-walks : goal.returns-clause-walks
+returns-clause-walks g c =
     let takes = g.K.FileTaker.takes in
     let stops = g.K.FileTaker.stops in
     stopped (λ before row after. takes before (file_row_shown row) after) (λ before row after. stops before (file_row_shown row) after) c.args.row.now _ _

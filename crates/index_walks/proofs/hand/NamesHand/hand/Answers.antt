@@ -3,8 +3,8 @@ use Rattle.index_schema.specs.ShownRows.{name_row_in}
 use Rattle.index_walks.proofs.WalkLemmas.{stopped}
 use Rattle.index_walks.proofs.hand.NamesHand.hand.Goals as goal
 
-pub returns : goal.returns
-returns g c =
+pub returns-clause-walks : goal.returns-clause-walks
+returns-clause-walks g c =
     let takes = g.K.NameTaker.takes in
     let stops = g.K.NameTaker.stops in
     stopped (λ before row after. takes before (name_row_in row) after) (λ before row after. stops before (name_row_in row) after) c.args.row.now _ _
