@@ -24,8 +24,9 @@ class Stranger(http.server.BaseHTTPRequestHandler):
         pass
 
 
-def try_pypi(program, folder, certificate):
+def try_pypi(place):
     """A project of ours never comes from elsewhere, and one that nobody holds does."""
+    program, folder, certificate = place.program, place.folder, place.certificate
     with Kept(program, f"{folder}/ours.db") as ours, http.server.ThreadingHTTPServer(("127.0.0.1", 0), Stranger) as pypi:
         threading.Thread(target=pypi.serve_forever, kwargs={"poll_interval": 0.05}, daemon=True).start()
         accepted(claim(ours, "frob"))
@@ -43,8 +44,9 @@ def try_pypi(program, folder, certificate):
         pypi.shutdown()
 
 
-def try_shards(program, folder, certificate):
+def try_shards(place):
     """Three indexes behind one address."""
+    program, folder, certificate = place.program, place.folder, place.certificate
     with Index(program, patience=60) as first, Index(program, patience=60) as second, Index(program, patience=60) as third:
         indexes = first, second, third
         with Front(f"{folder}/shards", certificate, *(it.port for it in indexes)) as front:

@@ -21,9 +21,13 @@ def post(index, **request):
 class Uploads:
     """index-upload for one front, as a build server runs it."""
 
-    def __init__(self, front, folder):
-        self.folder = folder
-        self.setting = {"INDEX_URL": front.url, "INDEX_CA": front.certificate, "INDEX_TOKEN": "office"}
+    def __init__(self, place):
+        self.folder, self.dist = place.folder, f"{place.folder}/dist"
+        self.setting = {"INDEX_URL": place.front.url, "INDEX_CA": place.certificate, "INDEX_TOKEN": "office"}
+        if not os.path.exists(self.dist):
+            os.mkdir(self.dist)
+            for file, (path, _) in place.packages["frob"].items():
+                shutil.copy(path, f"{self.dist}/{file}")
 
     def words(self, *words, **setting):
         """The command, and what it finds in its environment."""
@@ -41,34 +45,28 @@ class Uploads:
         return path
 
 
-def try_uploads(front, index, folder, packages):
-    """Each end of index-upload: the files of two projects go up by it first."""
-    by = Uploads(front, folder)
-    os.mkdir(f"{folder}/dist")
-    for file, (path, _) in packages["frob"].items():
-        shutil.copy(path, f"{folder}/dist/{file}")
-    dist, other = f"{folder}/dist", [path for path, _ in packages["spam-nest"].values()]
-    ends("index-upload --dry-run", by.run("--dry-run", dist, INDEX_URL=None, INDEX_TOKEN=None), 0, "frob-0.9.tar.gz: frob, ")
-    ends("it sent nothing", by.run(dist), 1, "NoProject", "--claim", "0 of 3 files are there")
-    ends("index-upload --claim", by.run("--claim", dist, *other), 0, "frob: claimed", "5 of 5 files are there")
-    ends("index-upload again", by.run(dist), 0, "is there already", "3 of 3 files are there")
-    declares = by.wheel("frob", "1.2", requires=">=99")
-    ends("Requires-Python", by.run(declares), 0, "frob-1.2")
-    page = front.ask("GET", "/simple/frob/", Accept="text/html")
+def try_uploads(place):
+    """The files of two projects go up by index-upload, into an index that has none."""
+    by, other = Uploads(place), [path for path, _ in place.packages["spam-nest"].values()]
+    ends("index-upload --dry-run", by.run("--dry-run", by.dist, INDEX_URL=None, INDEX_TOKEN=None), 0, "frob-0.9.tar.gz: frob, ")
+    by.run("--dry-run", "--claim", by.dist)
+    ends("it sent nothing", by.run(by.dist), 1, "NoProject", "--claim", "0 of 3 files are there")
+    ends("index-upload --claim", by.run("--claim", by.dist, *other), 0, "frob: claimed", "5 of 5 files are there")
+    ends("index-upload again", by.run(by.dist), 0, "is there already", "3 of 3 files are there")
+    ends("Requires-Python", by.run(by.wheel("frob", "1.2", requires=">=99")), 0, "frob-1.2")
+    page = place.front.ask("GET", "/simple/frob/", Accept="text/html")
     told("it stands on the page", b'data-requires-python="&gt;=99"' in page[2], page[2])
-    try_refused_uploads(by, index, declares)
-    try_wrong_uploads(by)
-    try_late_uploads(by, index, dist)
 
 
-def try_refused_uploads(by, index, known):
-    """What the index refuses: status 1, the refusal, and what to do. One file is known to it."""
-    ends("a token of nobody", by.run(f"{by.folder}/dist", INDEX_TOKEN="x"), 1, "BadToken", "INDEX_TOKEN", "0 of 3")
+def try_refused_uploads(place):
+    """What the index refuses: status 1, the refusal, and what to do."""
+    by, index = Uploads(place), place.index
+    ends("a token of nobody", by.run(by.dist, INDEX_TOKEN="x"), 1, "BadToken", "INDEX_TOKEN", "0 of 3")
     post(index, do="add_user", user="ann", office=False, token_sha256=sha256(b"abc"))
     ends("a project of others", by.run(by.wheel("frob", "2.0"), INDEX_TOKEN="abc"), 1, "NotOwner", "add_owner")
     ends("other bytes", by.run(by.wheel("frob", "1.0", more="# other bytes")), 1, "FileNameTaken", "Raise the version")
-    post(index, do="ban_file", file=os.path.basename(known))
-    ends("a banned file", by.run(known), 1, "FileBanned", "Raise the version")
+    post(index, do="ban_file", file="frob-1.1-py3-none-any.whl")
+    ends("a banned file", by.run(f"{by.dist}/frob-1.1-py3-none-any.whl"), 1, "FileBanned", "Raise the version")
     claim(index, "small")
     post(index, do="set_quota", name="small", quota=1)
     ends("a full quota", by.run(by.wheel("small", "1.0")), 1, "OverQuota", "quota is full")
@@ -76,9 +74,10 @@ def try_refused_uploads(by, index, known):
     ends("a prohibited name", by.run("--claim", by.wheel("evil", "1.0")), 1, "NameProhibited", "Ask the office")
 
 
-def try_wrong_uploads(by):
+def try_wrong_uploads(place):
     """What is found before anything goes out: status 2."""
-    fine = by.wheel("small", "2.0")
+    by = Uploads(place)
+    fine = by.wheel("frob", "2.0")
     ends("another name inside", by.run(fine, by.wheel("frob", "5.0", inside="spam")), 2, "the name inside is 'spam'")
     with open(f"{by.folder}/frob-6.0.tar.gz", "wb") as large:
         large.truncate((16 << 20) + 1)
@@ -90,12 +89,14 @@ def try_wrong_uploads(by):
     ends("no address", by.run(fine, INDEX_URL=None), 2, "INDEX_URL")
     ends("an address in the clear", by.run(fine, INDEX_URL="http://packages.example"), 2, "https")
     ends("a certificate that nobody vouches for", by.run(fine, INDEX_CA=None), 2, "INDEX_CA")
+    reply = place.index.ask("GET", f"/files/frob/{os.path.basename(fine)}")
+    told("no file went out beside a wrong one", reply[0] == 404, reply)
 
 
-def try_late_uploads(by, index, dist):
+def try_late_uploads(place):
     """An index that is away is asked again, and what does not come back ends with status 3."""
-    nobody = f"https://127.0.0.1:{free_port()}"
-    ends("nobody listens", by.run("--again", "1", dist, INDEX_URL=nobody), 3, "Again in", "again later")
+    by, index, nobody = Uploads(place), place.index, f"https://127.0.0.1:{free_port()}"
+    ends("nobody listens", by.run("--again", "1", by.dist, INDEX_URL=nobody), 3, "Again in", "again later")
     # past nginx, which would wait in its place
     words, setting = by.words(by.wheel("frob", "1.3"), INDEX_URL=f"http://127.0.0.1:{index.port}")
     with index.away():
@@ -117,10 +118,10 @@ class Failing(http.server.BaseHTTPRequestHandler):
         self.wfile.write(body)
 
 
-def try_health(program, folder):
+def try_health(place):
     """index-health asks for a new start where the index fails, and only there."""
     words = [sys.executable, f"{OPERATE}/index-health"]
-    with Kept(program, f"{folder}/health.db") as index:
+    with Kept(place.program, f"{place.folder}/health.db") as index:
         ends("an index that answers", run([*words, f"http://127.0.0.1:{index.port}"]), 0)
     ends("an index that starts", run([*words, f"http://127.0.0.1:{index.port}"]), 0)
     with http.server.HTTPServer(("127.0.0.1", 0), Failing) as failing:
@@ -129,15 +130,15 @@ def try_health(program, folder):
         failing.shutdown()
 
 
-def try_install(program, folder):
+def try_install(place):
     """install into a folder, again, over another's file, and away again; and what systemd says of the units."""
-    root = f"{folder}/root"
-    words = [sys.executable, f"{OPERATE}/install", "--root", root, "--program", program]
+    root = f"{place.folder}/root"
+    words = [sys.executable, f"{OPERATE}/install", "--root", root, "--program", place.program]
     ends("install", run(words), 0, "put     " + root + "/usr/local/bin/index\n", "What is left to do")
     ends("install again", run(words), 0, "there   " + root + "/usr/local/bin/index\n")
     modes = [os.stat(f"{root}/var/{it}").st_mode & 0o777 for it in ("lib/index", "backups/index", "cache/nginx")]
     told("the database is kept from others", modes == [0o700, 0o700, 0o755], modes)
-    try_units(root, f"{folder}/units")
+    try_units(root, f"{place.folder}/units")
     edited = f"{root}/etc/nginx/conf.d/packages.conf"
     with open(edited, "a") as conf:
         conf.write("# mine\n")

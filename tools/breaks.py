@@ -1,0 +1,90 @@
+"""Breaks of operate/, each made in a copy, and whether try-operate sees them there (tools/caught/operate.edits)."""
+import os
+import re
+import shutil
+import sys
+import tempfile
+
+from checks import run, told
+from serving import TOP
+
+BREAKS = f"{TOP}/tools/caught/operate.edits"
+MOST_SECONDS = 240
+
+
+class Break:
+    """One break: what is changed, the parts of try-operate that are tried then, and the checks that have to fail there."""
+
+    def __init__(self, block):
+        self.changes, self.fails, self.program = [], [], None
+        path = old = None
+        for key, value in re.findall(r"^(\w+): ?(.*)$", block, re.M):
+            if key == "file":
+                path = value
+            elif key == "old":
+                old = value
+            elif key == "new":
+                self.changes.append((path, old, value))
+            elif key == "fails":
+                self.fails.append(value)
+            elif key in ("name", "part", "program"):
+                setattr(self, key, value)
+            else:
+                raise SystemExit(f"{BREAKS}: what is {key}?")
+
+    def make(self, copy, program):
+        """Makes the break in a new copy, and returns the program that is tried in it."""
+        for top in ("operate", "tools"):
+            shutil.copytree(f"{TOP}/{top}", f"{copy}/{top}")
+        for path, old, new in self.changes:
+            with open(f"{copy}/{path}") as kept:
+                text = kept.read()
+            if text.count(old) != 1:
+                raise SystemExit(f"{self.name}: its text stands {text.count(old)} times in {path}")
+            with open(f"{copy}/{path}", "w") as made:
+                made.write(text.replace(old, new))
+        if not self.program:
+            return program
+        with open(f"{copy}/index", "w") as script:
+            script.write(f"#!/bin/sh\nindex='{program}'\n{self.program}\n")
+        os.chmod(f"{copy}/index", 0o755)
+        return script.name
+
+    def tried(self, program):
+        """The names of the checks that passed and of those that failed, in a copy with this break."""
+        with tempfile.TemporaryDirectory() as folder:
+            os.chmod(folder, 0o755)
+            made = self.make(f"{folder}/copy", program)
+            ended = run([sys.executable, f"{folder}/copy/tools/try-operate", made, "--only", *self.part.split()], MOST_SECONDS)
+        passed = {same(name) for name in re.findall(r"^ok (.*)$", ended.stdout, re.M)}
+        return passed, {same(name) for name in re.findall(r"^FAILED (.*?): ", ended.stdout, re.M)}
+
+
+def same(name):
+    """The name of a check with each number as N: some count what came by then."""
+    return re.sub(r"\d+", "N", name)
+
+
+def all_breaks():
+    with open(BREAKS) as kept:
+        text = re.sub(r"^#.*\n", "", kept.read(), flags=re.M)
+    return [Break(block) for block in re.split(r"\n{2,}", text.strip())]
+
+
+def try_breaks(program, names):
+    """Tries the breaks of these names, or all. With all, each check that was run has to stand at one."""
+    breaks = all_breaks()
+    unknown = set(names) - {it.name for it in breaks}
+    if unknown:
+        raise SystemExit(f"try-operate: {BREAKS} has no break {', '.join(sorted(unknown))}")
+    run_once, listed = set(), {same(name) for it in breaks for name in it.fails}
+    for it in breaks:
+        if names and it.name not in names:
+            continue
+        passed, failed = it.tried(program)
+        run_once |= passed | failed
+        unseen = [name for name in it.fails if same(name) not in failed]
+        told(f"{it.name} is seen", it.fails and not unseen, f"these did not fail: {unseen}; these did: {sorted(failed)}")
+    if not names:
+        never = sorted(run_once - listed - {same("the run to its end")})
+        told("each check stands at a break", not never, never)
