@@ -1,20 +1,33 @@
-/* Preloaded before a program: refuses the allocation whose number stands in REFUSE_ALLOCATION, the first being 1.
-   Where it did, it makes the empty file REFUSED_ALLOCATION. */
+/* Preloaded before a program: counts its allocations, and refuses one. The file REFUSALS has three numbers of eight bytes,
+   which whoever started the program may read and write while it runs: how many allocations were made, the number of the
+   one that is refused, the first being 1, and how many were refused. */
 #define _GNU_SOURCE
 #include <dlfcn.h>
 #include <errno.h>
 #include <fcntl.h>
+#include <stdint.h>
 #include <stdlib.h>
+#include <sys/mman.h>
 #include <unistd.h>
 
-static unsigned long made;
+enum { MADE, REFUSED_NUMBER, REFUSED, COUNT };
+
+static volatile uint64_t *numbers;
+
+__attribute__((constructor)) static void begin(void) {
+    const char *path = getenv("REFUSALS");
+    int file = path == NULL ? -1 : open(path, O_RDWR);
+    if (file < 0) return;
+    void *shared = mmap(NULL, COUNT * sizeof(uint64_t), PROT_READ | PROT_WRITE, MAP_SHARED, file, 0);
+    close(file);
+    if (shared != MAP_FAILED) numbers = shared;
+}
 
 static int is_refused(void) {
-    const char *number = getenv("REFUSE_ALLOCATION");
-    const char *path = getenv("REFUSED_ALLOCATION");
-    if (number == NULL || path == NULL || ++made != strtoul(number, NULL, 10)) return 0;
-    int file = open(path, O_CREAT | O_WRONLY, 0600);
-    if (file >= 0) close(file);
+    if (numbers == NULL) return 0;
+    numbers[MADE] += 1;
+    if (numbers[MADE] != numbers[REFUSED_NUMBER]) return 0;
+    numbers[REFUSED] += 1;
     return 1;
 }
 
