@@ -3,7 +3,7 @@ import os
 import subprocess
 import threading
 
-counts = {True: 0, False: 0}
+counts, names = {True: 0, False: 0}, []
 telling = threading.Lock()
 
 
@@ -11,6 +11,7 @@ def told(name, is_well, seen=None):
     """Counts and prints one check, with what was seen where it failed."""
     with telling:
         counts[bool(is_well)] += 1
+        names.append(name)
         print(f"ok {name}" if is_well else f"FAILED {name}: {seen}", flush=True)
 
 
