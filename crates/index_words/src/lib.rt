@@ -5,6 +5,3 @@ mod command;
 mod job;
 
 pub use job::{Job, WordsEnd, read_words};
-
-#[cfg(test)]
-mod tests;

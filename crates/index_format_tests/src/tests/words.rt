@@ -1,4 +1,5 @@
-use crate::{Job, WordsEnd, read_words};
+//! Command lines of each subcommand, and those that are refused.
+use index_words::{Job, WordsEnd, read_words};
 use std::alloc::AllocGlobal;
 use std::process::Abort;
 
