@@ -1,16 +1,21 @@
-"""What bench measures of an index in a database: uploads beside the C library, costs beside other projects, and openings."""
+"""What bench measures of an index in a database: uploads beside the C library, changes beside many files, and openings."""
 import json
 import os
+import shutil
 import sqlite3
-import statistics
 import subprocess
 import tempfile
 import time
+from contextlib import closing
 
+from figures import ROUNDS, accepted, goal, line, load, median, memory_of
+from rates import TOKEN, upload
 from serving import JSON_PAGE, Index, make_index, sha256
 
-UPLOADS, REPEATS, MEBIBYTE = 2_000, 100, 1 << 20
-FEW, MANY = 100, 10_000
+UPLOADS, MEBIBYTE = 2_000, 1 << 20
+# of other projects, 100 each, and of the one project with a release for each file
+OTHERS, OWN = 45_000, 5_000
+TABLES = "users", "names", "owners", "files", "blobs", "yanks", "cases", "bans"
 
 # what an upload writes, in its order
 STATEMENTS = (
@@ -36,120 +41,148 @@ def upload_line(project, number):
 
 
 def apply(program, path, lines):
-    """The seconds of a run over these lines, each of which was accepted."""
-    with tempfile.TemporaryFile("w+") as given:
+    """The seconds of a processor that a run over these lines takes, each of which was accepted."""
+    with tempfile.TemporaryFile("w+") as given, tempfile.TemporaryFile() as taken:
         given.writelines(lines)
         given.seek(0)
-        begun = time.monotonic()
-        ended = subprocess.run([program, "apply", "--db", path], stdin=given, stdout=subprocess.PIPE, check=True, timeout=600)
-        took = time.monotonic() - begun
-    if ended.stdout != b'{"answer":"accepted"}\n' * len(lines):
-        raise SystemExit("bench: a line was not accepted")
-    return took
+        running = subprocess.Popen([program, "apply", "--db", path], stdin=given, stdout=taken)
+        _, status, used = os.wait4(running.pid, 0)
+        running.returncode = os.waitstatus_to_exitcode(status)
+        taken.seek(0)
+        if running.returncode != 0 or taken.read() != b'{"answer":"accepted"}\n' * len(lines):
+            raise SystemExit("bench: a line was not accepted")
+    return used.ru_utime + used.ru_stime
 
 
-def uploads_a_second(program, folder):
-    path = make_index(program, f"{folder}/index.db")
+def upload_time(program, folder, number):
+    """The microseconds of a processor for an upload."""
+    path = make_index(program, f"{folder}/ours-{number}.db")
     apply(program, path, [asked(do="claim", name="frob")])
     took = apply(program, path, [upload_line("frob", number) for number in range(UPLOADS)])
-    return UPLOADS / (took - apply(program, path, []))
+    return 1e6 * (took - apply(program, path, [])) / UPLOADS
 
 
-def statements_a_second(program, folder):
-    """The same rows, written by the C library into a database that the program made."""
-    path = make_index(program, f"{folder}/plain.db")
+def statement_time(program, folder, number):
+    """The same for the rows of an upload, written by the C library into a database that the program made."""
+    path = make_index(program, f"{folder}/plain-{number}.db")
     apply(program, path, [asked(do="claim", name="frob")])
-    database = sqlite3.connect(path, isolation_level=None)
-    for setting in SETTINGS:
-        database.execute(setting)
     digest = bytes.fromhex(sha256(b"abc"))
-    begun = time.monotonic()
-    for number in range(UPLOADS):
-        file, done = file_name("frob", number), number + 1
-        database.execute("BEGIN")
-        database.execute(STATEMENTS[0], ("frob", 1, "frob", 1 << 30, 3 * done, done, 1))
-        database.execute(STATEMENTS[1], (file, "frob", f"1.{number}", digest, 3, "", 1))
-        database.execute(STATEMENTS[2], (file, b"abc"))
-        database.execute(STATEMENTS[3], ("frob",))
-        database.execute("COMMIT")
-    took = time.monotonic() - begun
-    database.close()
-    return UPLOADS / took
+    with closing(sqlite3.connect(path, isolation_level=None)) as database:
+        for setting in SETTINGS:
+            database.execute(setting)
+        begun = time.process_time()
+        for number in range(UPLOADS):
+            file, done = file_name("frob", number), number + 1
+            database.execute("BEGIN")
+            database.execute(STATEMENTS[0], ("frob", 1, "frob", 1 << 30, 3 * done, done, 1))
+            database.execute(STATEMENTS[1], (file, "frob", f"1.{number}", digest, 3, "", 1))
+            database.execute(STATEMENTS[2], (file, b"abc"))
+            database.execute(STATEMENTS[3], ("frob",))
+            database.execute("COMMIT")
+        return 1e6 * (time.process_time() - begun) / UPLOADS
 
 
-def bench_uploads(program, line, goal):
-    with tempfile.TemporaryDirectory() as folder:
-        ours = statistics.median(uploads_a_second(program, fresh(folder, at)) for at in range(3))
-        theirs = statistics.median(statements_a_second(program, fresh(folder, at)) for at in range(3))
-    line("uploads", f"{UPLOADS:,} of 3 bytes by apply --db: {ours:,.0f} a second",
-         f"the statements that write, by the C library: {theirs:,.0f}", f"ratio {ours / theirs:.2f}", goal(ours / theirs, least=0.7))
+def memory_folder():
+    """A folder on a file system in memory, where there is one, so that no disk counts."""
+    return tempfile.TemporaryDirectory(dir="/dev/shm" if os.access("/dev/shm", os.W_OK) else None)
 
 
-def fresh(folder, at):
-    path = f"{folder}/{at}-{time.monotonic_ns()}"
-    os.mkdir(path)
-    return path
+def bench_uploads(program):
+    with memory_folder() as folder:
+        ours = median(upload_time, program, folder)
+        theirs = median(statement_time, program, folder)
+        where = "in memory" if folder.startswith("/dev/shm") else "on a disk"
+    line("uploads", f"{UPLOADS:,} of 3 bytes by apply --db on a file system {where}: {ours:.0f} us of a processor each",
+         f"the statements that write, by the C library: {theirs:.0f} us", f"ratio {ours / theirs:.2f}",
+         goal(ours / theirs, most=3), load())
 
 
-def filled(program, folder, count):
-    """A database with so many files of other projects, 100 each, and the project `ours` with 10 files."""
-    path = make_index(program, f"{folder}/{count}.db")
-    lines = [asked(do="claim", name="ours"), *(upload_line("ours", number) for number in range(10))]
-    for project in range(count // 100):
+def filled(program, folder):
+    """A database of many projects, one of which has a release for each of its many files."""
+    path = make_index(program, f"{folder}/many.db")
+    lines = [asked(do="claim", name="ours"), *(upload_line("ours", number) for number in range(OWN))]
+    for project in range(OTHERS // 100):
         lines += [asked(do="claim", name=f"other{project}"), *(upload_line(f"other{project}", number) for number in range(100))]
+    lines += [asked(do="claim", name=f"{name}{number}") for name in ("none", "one") for number in range(ROUNDS)]
+    lines += [upload_line(f"one{number}", 0) for number in range(ROUNDS)]
     apply(program, path, lines)
     return path
 
 
-def took(ask):
-    """The median of the seconds that a request takes, in milliseconds."""
-    seen = []
-    for number in range(REPEATS):
-        begun = time.monotonic()
-        status, _, body = ask(number)
-        seen.append(time.monotonic() - begun)
-        if status not in (200, 201):
-            raise SystemExit(f"bench: the index answered {status} {body!r}")
-    return 1000 * statistics.median(seen)
-
-
-def costs(program, path):
-    """A claim, an upload and a page of 10 files, and the seconds until the server listens."""
-    token = {"X_Index_Token": "office"}
+def milliseconds(ask):
     begun = time.monotonic()
-    with Index(program, path=path) as index:
-        opened = time.monotonic() - begun
-        page = took(lambda number: index.ask("GET", "/simple/ours/", Accept=JSON_PAGE))
-        claim = took(lambda number: index.ask("POST", "/requests", json.dumps({"do": "claim", "name": f"new{number}"}), **token))
-        body = {"X_Index_SHA256": sha256(b"abc"), **token}
-        upload = took(lambda number: index.ask("PUT", f"/files/new{number}/{file_name(f'new{number}', 1)}", b"abc", **body))
-    return {"claim": claim, "upload": upload, "page of 10 files": page}, opened
+    reply = ask()
+    took = 1000 * (time.monotonic() - begun)
+    if reply[0] not in (200, 201):
+        raise SystemExit(f"bench: the index answered {reply[0]} {reply[2]!r}")
+    return took
 
 
-def bench_costs(program, line, goal):
+def changed(index, request_of, number):
+    """The milliseconds of a request, which is the one of this number."""
+    return milliseconds(lambda: index.ask("POST", "/requests", json.dumps(request_of(number)), **TOKEN))
+
+
+def page_time(index, number):
+    return milliseconds(lambda: index.ask("GET", f"/simple/other{number}/", Accept=JSON_PAGE))
+
+
+def upload_time_beside(index, number):
+    return milliseconds(lambda: index.ask("PUT", f"/files/other0/{file_name('other0', 100 + number)}", b"abc",
+                                          X_Index_SHA256=sha256(b"abc"), **TOKEN))
+
+
+def release(number):
+    """Releases that are spread over the files of the project."""
+    return f"1.{OWN // ROUNDS * number + OWN // (2 * ROUNDS)}"
+
+
+CHANGES = (
+    ("prohibit a name without files", lambda number: {"do": "prohibit", "name": f"none{number}"}, 5),
+    ("prohibit a name with one file", lambda number: {"do": "prohibit", "name": f"one{number}"}, 5),
+    (f"yank in a project of {OWN:,} files", lambda number: {"do": "yank", "name": "ours", "release": release(number), "reason": ""}, 2),
+    ("claim", lambda number: {"do": "claim", "name": f"new{number}"}, None),
+)
+
+
+def rows_of(path):
+    with closing(sqlite3.connect(path)) as database:
+        return sum(database.execute(f"SELECT count(*) FROM {table}").fetchone()[0] for table in TABLES)
+
+
+def bench_costs(program):
+    """What requests take beside many files, and how long that database takes to open."""
     with tempfile.TemporaryDirectory() as folder:
-        few, _ = costs(program, filled(program, folder, FEW))
-        many, opened = costs(program, filled(program, folder, MANY))
-    line("costs", f"the median of {REPEATS} requests over HTTP, with {FEW:,} and with {MANY:,} files of other projects")
-    for name, figure in few.items():
-        line("", f"{name}: {figure:.2f} ms and {many[name]:.2f} ms", f"ratio {many[name] / figure:.2f}", goal(many[name] / figure, most=2))
-    line("open", f"serve listens after {opened:.3f} s with {MANY:,} files", goal(opened, most=0.3))
+        with memory_folder() as made_in:
+            filled(program, made_in)
+            path = shutil.copytree(made_in, f"{folder}/made") + "/many.db"
+        begun = time.monotonic()
+        with Index(program, path=path, patience=60) as index:
+            opened = time.monotonic() - begun
+            line("costs", f"the median of {ROUNDS} requests over HTTP, beside {OTHERS + OWN:,} files", load())
+            for name, request_of, most in CHANGES:
+                took = median(changed, index, request_of)
+                line("", f"{name}: {took:.2f} ms", *([] if most is None else [goal(took, most=most)]))
+            line("", f"page of 100 files, asked first: {median(page_time, index):.2f} ms")
+            line("", f"upload: {median(upload_time_beside, index):.2f} ms")
+        rows = rows_of(path)
+    each = 1e6 * opened / rows
+    line("open", f"serve listens after {opened:.2f} s with {rows:,} rows", f"{each:.1f} us a row", goal(each, most=15))
 
 
-def bench_large(program, line, goal, mebibytes=1024):
-    """How long the database of so many bodies of 1 MiB takes to open, and the most memory that it takes."""
+def bench_large(program, mebibytes=256):
+    """How long the database of so many bodies of 1 MiB takes to open, and the most memory that it takes then."""
     with tempfile.TemporaryDirectory() as folder:
         path = make_index(program, f"{folder}/index.db")
         with Index(program, path=path) as index:
-            index.ask("POST", "/requests", '{"do":"claim","name":"big"}', X_Index_Token="office")
+            accepted(index.ask("POST", "/requests", '{"do":"claim","name":"big"}', **TOKEN))
             for number in range(mebibytes):
-                body = os.urandom(MEBIBYTE)
-                reply = index.ask("PUT", f"/files/big/{file_name('big', number)}", body, X_Index_Token="office", X_Index_SHA256=sha256(body))
-                if reply[0] != 201:
-                    raise SystemExit(f"bench: the index answered {reply[0]} {reply[2]!r}")
+                upload(index, "big", file_name("big", number), os.urandom(MEBIBYTE))
+        length = os.path.getsize(path)
         begun = time.monotonic()
         with Index(program, path=path, patience=120) as index:
             opened = time.monotonic() - begun
-            with open(f"/proc/{index.process.pid}/status") as kept:
-                peak = next(int(row.split()[1]) for row in kept if row.startswith("VmHWM:")) / 1024
-    line("large", f"serve listens after {opened:.1f} s with {mebibytes:,} MiB of bodies", f"its peak is {peak:.0f} MiB", goal(peak, most=256))
+            peak, after = (1024 * memory_of(index.process, row) for row in ("VmHWM", "VmRSS"))
+    line("large", f"serve listens after {opened:.1f} s with {length / MEBIBYTE:,.0f} MiB",
+         f"at most {peak / MEBIBYTE:.0f} MiB of memory, and {after / MEBIBYTE:.0f} MiB from then on",
+         f"{peak / length:.2f} of the file", goal(peak / length, most=1.1))

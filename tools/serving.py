@@ -105,12 +105,13 @@ def make_index(program, path):
 class Index(Running):
     """The built program, serving on loopback the index in a file, or a new one. What it says on standard error is kept."""
 
-    def __init__(self, program, requests=1_000_000, path=None, patience=10, more={}, port=0, at=None):
+    def __init__(self, program, requests=1_000_000, path=None, patience=10, more={}, port=0, at=None, keep=None):
         self.patience = patience
         self.said, self.folder = tempfile.TemporaryFile(), tempfile.TemporaryDirectory()
         self.path = path or f"{self.folder.name}/index.db"
         words = [program, "serve", "--db", self.path, "--listen", f"127.0.0.1:{port}", "--requests", str(requests)]
         words += [] if at is None else ["--at", str(at)]
+        words += [] if keep is None else ["--keep-recent", str(keep)]
         super().__init__(words, stdout=subprocess.PIPE, stderr=self.said, env={**os.environ, **more})
 
     def __enter__(self):

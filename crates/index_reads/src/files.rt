@@ -91,7 +91,7 @@ pub fn has_release<S: Alter>(
 {
     let rows = look(
         conn,
-        "SELECT rowid FROM files WHERE live = 1 AND name = ?1 AND rel = ?2",
+        "SELECT rowid FROM files WHERE live = 1 AND name = ?1 AND rel = ?2 LIMIT 1",
         params![name.text(), release.text()],
     )?;
     Ok(has_row(rows.as_slice()))

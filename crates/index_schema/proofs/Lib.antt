@@ -38,7 +38,6 @@ pub mod DeleteYank
 pub mod DeleteCase
 pub mod DeleteBody
 pub mod DeleteName
-pub mod DeleteBodies
 pub mod UpdateFiles
 pub mod UpdateVersion
 pub mod SelectVersion
@@ -47,6 +46,7 @@ pub mod BearerLemmas
 pub mod SelectBearer
 pub mod SelectName
 pub mod SelectFile
+pub mod SelectNamed
 pub mod SelectRelease
 pub mod SelectBody
 pub mod SelectYank

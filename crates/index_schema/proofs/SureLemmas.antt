@@ -1,10 +1,10 @@
 -- Why a query fails that the database refuses for no reason of its own.
-use Rattle.std.proofs.Common.{◌≡◌, ◌⊎◌, inl, inr, ℕ, true, false, List, [], ◌∷◌, append-nil, Option, None, Some, Result, Ok, Err, IsSome, refl, sym, ap, subst, ◌∙◌, true≢false, arith}
+use Rattle.std.proofs.Common.{◌≡◌, ◌⊎◌, inl, inr, ℕ, true, false, List, [], append-nil, Option, None, Some, Ok, IsSome, sym, ap, subst, ◌∙◌, true≢false}
 use Rattle.sqlite_value.specs.Order.{Row}
 use Rattle.sqlite_value.specs.declared.keys.Key.{Key}
 use Rattle.sqlite_trees.specs.declared.error.StoreError.{StoreError}
 use Rattle.sqlite_sql.specs.Term.{Term}
-use Rattle.sqlite_sql.specs.Query.{Join, left, end}
+use Rattle.sqlite_sql.specs.Query.{left, end}
 use Rattle.sqlite_schema.specs.declared.command.Command.TheVariants.{Select}
 use Rattle.sqlite_schema.specs.declared.command.Returning.{Returning}
 use Rattle.sqlite_resolve.specs.declared.compiled.Compiled.{Compiled}
@@ -13,10 +13,10 @@ use Rattle.sqlite.specs.declared.error.Error.{Error}
 use Rattle.sqlite.specs.Clock.{timed}
 use Rattle.sqlite.specs.Effect.{Database, RefusesToRead}
 use Rattle.sqlite.specs.Listing.{understood, reads_listing, IsSourceOf}
-use Rattle.sqlite.specs.State.{State, IsStatement, IsNotRun, IsUnchanged, FailsToQuery, FailsToShow, HasCause, store_error}
+use Rattle.sqlite.specs.State.{State, IsNotRun, FailsToQuery, FailsToShow, HasCause, store_error}
 use Rattle.index_schema.specs.Schema.{index_schema}
 use Rattle.index_schema.specs.Sure.{IsReadable, IsSureAs, IsSure}
-use Rattle.index_schema.proofs.QueryShapes.{plan, from_with, from_one}
+use Rattle.index_schema.proofs.QueryShapes.{plan, from_with, from_one, first_from}
 
 -- a query over one table
 pub readable_one : (tree : ℕ) (tests project : List Term) (order : List (Term × Key)) (names : List (List ℕ)) (params : Row)
@@ -26,6 +26,15 @@ readable_one tree tests project order names params accepted db is limit e (inl w
 readable_one tree tests project order names params accepted db is limit e (inr (inl (_, inl none))) = absurd none
 readable_one tree tests project order names params accepted db is limit e (inr (inl (_, inr none))) = absurd none.4
 readable_one tree tests project order names params accepted db is limit e (inr (inr stopped)) = stopped.1
+
+-- a query of one row of a table
+pub readable_first : (tree : ℕ) (tests project : List Term) (names : List (List ℕ)) (params : Row)
+    → accepts_program index_schema [] (first_from tree tests project) params ≡ true → IsReadable (Select (plan (first_from tree tests project)) names) params
+readable_first tree tests project names params accepted db is limit e (inl wrong) =
+    absurd (true≢false (sym accepted ∙ subst (λ s. accepts_program s [] (first_from tree tests project) params ≡ false) is wrong.1))
+readable_first tree tests project names params accepted db is limit e (inr (inl (_, inl none))) = absurd none
+readable_first tree tests project names params accepted db is limit e (inr (inl (_, inr none))) = absurd none.4
+readable_first tree tests project names params accepted db is limit e (inr (inr stopped)) = stopped.1
 
 -- a query over one table and what is found in another for each row
 pub readable_left : (tree other : ℕ) (on tests project : List Term) (order : List (Term × Key)) (names : List (List ℕ)) (params : Row)

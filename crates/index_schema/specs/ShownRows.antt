@@ -29,3 +29,7 @@ file_row_shown r = record {
 -- a user, and nothing else
 abbrev pub user_shown : Row → Bytes
 user_shown r = bytes (column r 0)
+
+-- a file, and nothing else
+abbrev pub file_shown : Row → Bytes
+file_shown r = bytes (column r 0)

@@ -69,10 +69,6 @@ delete_case_text = codes "DELETE FROM cases WHERE name = ?1"
 abbrev pub delete_body_text : List ℕ
 delete_body_text = codes "DELETE FROM blobs WHERE file = ?1"
 
--- the bytes of all files of a name
-abbrev pub delete_bodies_text : List ℕ
-delete_bodies_text = codes "DELETE FROM blobs WHERE EXISTS (SELECT 1 FROM files WHERE files.file = blobs.file AND files.name = ?1)"
-
 -- ---- rows that change
 
 -- all files of a name are deleted
@@ -105,9 +101,13 @@ select_name_text = codes "SELECT rowid, * FROM names WHERE name = ?1"
 abbrev pub select_file_text : List ℕ
 select_file_text = codes "SELECT rowid, * FROM files WHERE file = ?1"
 
--- the undeleted files of a release
+-- the files of a name, the deleted ones too
+abbrev pub select_named_text : List ℕ
+select_named_text = codes "SELECT file FROM files WHERE name = ?1"
+
+-- an undeleted file of a release, where there is one
 abbrev pub select_release_text : List ℕ
-select_release_text = codes "SELECT rowid FROM files WHERE live = 1 AND name = ?1 AND rel = ?2"
+select_release_text = codes "SELECT rowid FROM files WHERE live = 1 AND name = ?1 AND rel = ?2 LIMIT 1"
 
 -- the bytes of a file
 abbrev pub select_body_text : List ℕ

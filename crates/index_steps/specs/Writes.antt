@@ -1,5 +1,6 @@
 -- What each statement makes of the tables.
-use Rattle.std.specs.Prelude.{ℤ, pos, [], ◌∷◌, Bool, if◌then◌else◌, not, Option}
+use Rattle.std.specs.Prelude.{◌≡◌, ℤ, pos, List, [], ◌∷◌, Bool, if◌then◌else◌, not, Option}
+use Rattle.std.specs.List.{list_any}
 use Rattle.std.specs.FinMap.{insert, remove, retain_keys}
 use Rattle.index_retention.specs.declared.attempts.CaseKind.{CaseKind}
 use Rattle.index_retention.specs.declared.attempts.CaseKind.TheVariants.{Continue, Reuse}
@@ -8,14 +9,13 @@ use Rattle.sqlite_value.specs.Order.{Row}
 use Rattle.sqlite.specs.Values.{or_null}
 use Rattle.index_rules.specs.declared.records.UserRecord.{UserRecord}
 use Rattle.index_rules.specs.declared.records.NameRecord.{NameRecord}
-use Rattle.index_rules.specs.declared.records.NameRecord.TheVariants.{Held, Prohibited}
 use Rattle.index_rules.specs.declared.records.FileRecord.{FileRecord}
 use Rattle.index_rules.specs.declared.records.CaseRecord.{CaseRecord}
-use Rattle.index_rules.specs.Maps.{Bytes, change_values}
-use Rattle.index_rules.specs.Projects.{Project}
+use Rattle.index_rules.specs.Maps.{Bytes, Map, same, change_values}
 use Rattle.index_rules.specs.Tables.{Tables}
 use Rattle.index_rules.specs.Effect.{without_name, as_deleted_of, is_file_of}
 use Rattle.index_schema.specs.Records.{number_in, number_if_any, name_by}
+use Rattle.index_schema.specs.ShownRows.{file_shown}
 
 -- ---- a record at its key, in place of the one that is there
 
@@ -68,6 +68,18 @@ deletes_body file T = record T { bodies = remove T.bodies file }
 -- the bytes of all files of a name
 abbrev pub deletes_bodies : Bytes → Tables → Tables
 deletes_bodies name T = record T { bodies = retain_keys T.bodies (λ file. not (is_file_of T.files name file)) }
+
+-- the rows show the files of a name, each of them, in any order
+abbrev pub AreFilesOf : Bytes → Tables → List Row → Type 0
+AreFilesOf name T rows = (file : Bytes) → list_any (λ r. same file (file_shown r)) rows ≡ is_file_of T.files name file
+
+-- the bytes of the files that these rows show
+abbrev pub removes : List Row → Map Bytes → Map Bytes
+removes [] bodies = bodies
+removes (r ∷ rows) bodies = removes rows (remove bodies (file_shown r))
+
+abbrev pub deletes_shown : List Row → Tables → Tables
+deletes_shown rows T = record T { bodies = removes rows T.bodies }
 
 -- ---- records that stay, and are changed
 

@@ -3,7 +3,7 @@
 ghost use Rattle.std.specs.Prelude.{◌≡◌};
 ghost use Rattle.index_steps.specs.Inside.{MakesIfOk, Keeps, LeavesNothing, WasOpenIfOk};
 ghost use Rattle.index_rules.specs.Effect.{without_record};
-ghost use Rattle.index_steps.specs.Writes.{deletes_owners, deletes_owner, deletes_yanks, deletes_yank, deletes_case, deletes_body, deletes_bodies, marks_files};
+ghost use Rattle.index_steps.specs.Writes.{deletes_owners, deletes_owner, deletes_yanks, deletes_yank, deletes_case, deletes_body, marks_files};
 
 use sqlite::{Alter, Error, Transaction, params};
 
@@ -109,22 +109,6 @@ pub fn delete_body<S: Alter>(tx: &mut Transaction<'_, S>, file: &str) -> Result<
     ensures survives { LeavesNothing S.Store tx.old.conn.now tx.new.conn.now }
 {
     tx.execute("DELETE FROM blobs WHERE file = ?1", params![file])?;
-    Ok(())
-}
-
-/// No bytes are kept of the files of the name.
-pub fn delete_bodies<S: Alter>(tx: &mut Transaction<'_, S>, name: &str) -> Result<(), Error>
-    ensures same_reference { tx.new.conn.ghost_name ≡ tx.old.conn.ghost_name }
-    ensures made { MakesIfOk S.Store (deletes_bodies name.now)
-        tx.old.conn.now tx.new.conn.now result }
-    ensures kept { Keeps S.Store tx.old.conn.now tx.new.conn.now }
-    ensures opened { WasOpenIfOk S.Store tx.old.conn.now tx.new.conn.now result }
-    ensures survives { LeavesNothing S.Store tx.old.conn.now tx.new.conn.now }
-{
-    tx.execute(
-        "DELETE FROM blobs WHERE EXISTS (SELECT 1 FROM files WHERE files.file = blobs.file AND files.name = ?1)",
-        params![name],
-    )?;
     Ok(())
 }
 

@@ -7,7 +7,7 @@ use Rattle.index_reads.proofs.FindLemmas.{shown_with, at_exit, sure_with}
 use Rattle.index_reads.proofs.files.has_release.Goals as goal
 
 pub look-requires-clause-plain : goal.look-requires-clause-plain
-look-requires-clause-plain g c = statement.shown.is_plain
+look-requires-clause-plain g c = statement.is_plain
 
 pub returns-clause-found : goal.returns-clause-found
 returns-clause-found g c clean =

@@ -1,0 +1,30 @@
+use Rattle.std.proofs.Common.{◌≡◌, ◌∷◌, drop, ◌+◌, rules, arith, ◌∙◌, subst}
+use Rattle.std.proofs.Math.Seq.{drop-cons}
+use Rattle.sqlite.specs.Held.{state}
+use Rattle.sqlite.proofs.StateLemmas.{survives_then}
+use Rattle.sqlite_value.specs.Order.{Row}
+use Rattle.index_schema.specs.Index.{version_in}
+use Rattle.index_schema.specs.Records.{tables_in}
+use Rattle.index_schema.specs.RecordRows.{AreRecords}
+use Rattle.index_schema.specs.ShownRows.{file_shown}
+use Rattle.index_steps.specs.Inside.{IsReady}
+use Rattle.index_steps.specs.Writes.{deletes_body, deletes_shown}
+use Rattle.index_steps.proofs.InTurn.{keeps_then, one_more}
+use Rattle.index_steps.proofs.bodies.delete_each.Goals as goal
+
+pub loop-row-preserved : goal.loop-row-preserved
+loop-row-preserved g c =
+    let first = state g.S.Store c.args.tx.now.conn.now in
+    let mid = state g.S.Store c.loop-row.tx.conn.now in
+    let last = state g.S.Store c.delete_shown.new.tx.conn.now in
+    let before = c.loop-row.invariant in
+    let did = c.delete_shown.ensures in
+    record {
+      same = did.same_reference ∙ before.same;
+      made = λ clean ready.
+          let was = before.made (omega (arith, did.survives.clean)) ready in
+          let split : drop c.loop-row.row-index c.args.rows.now ≡ c.row-item.result ∷ drop (c.loop-row.row-index + 1) c.args.rows.now = search (rules, drop-cons) in
+          one_more (λ (r : Row). deletes_body (file_shown r)) deletes_shown first mid last c.row-item.result (drop (c.loop-row.row-index + 1) c.args.rows.now) c.args.rows.now (subst (λ rest. IsReady mid × (deletes_shown rest (tables_in mid.now.trees) ≡ deletes_shown c.args.rows.now (tables_in first.now.trees)) × (mid.committed ≡ first.committed) × (version_in mid.now.trees ≡ version_in first.now.trees) × (AreRecords first.now → AreRecords mid.now)) split was) (c.in_ok-delete_shown.ensures.made clean was.0);
+      kept = λ clean. keeps_then first mid last (before.kept (omega (arith, did.survives.clean))) (did.kept clean);
+      survives = survives_then first mid last _ _ _ (λ _ db none. none) (λ _ db none. none) before.survives did.survives;
+    }

@@ -1,0 +1,20 @@
+use Rattle.std.proofs.Common.{◌≡◌, drop}
+use Rattle.sqlite.specs.Held.{state}
+use Rattle.sqlite.specs.State.{HasCleanDisk, KeepsCommit, Survives}
+use Rattle.index_schema.specs.Index.{version_in}
+use Rattle.index_schema.specs.Records.{tables_in}
+use Rattle.index_schema.specs.RecordRows.{AreRecords}
+use Rattle.index_steps.specs.Inside.{IsReady}
+use Rattle.index_steps.specs.Writes.{deletes_shown}
+use Rattle.index_steps.proofs.bodies.delete_each.Given as goal
+
+abbrev pub invariant-loop-row : goal.invariant-loop-row
+invariant-loop-row g l =
+    let first = state g.S.Store l.fn.tx.conn.now in
+    let now = state g.S.Store l.tx.conn.now in
+    record {
+      same : l.tx.conn.ghost_name ≡ l.fn.tx.conn.ghost_name;
+      made : HasCleanDisk now → IsReady first → IsReady now × (deletes_shown (drop l.row-index l.rows) (tables_in now.now.trees) ≡ deletes_shown l.rows (tables_in first.now.trees)) × (now.committed ≡ first.committed) × (version_in now.now.trees ≡ version_in first.now.trees) × (AreRecords first.now → AreRecords now.now);
+      kept : HasCleanDisk now → KeepsCommit first now;
+      survives : Survives first now (λ _. ⊥);
+    }

@@ -1,0 +1,37 @@
+"""How the figures of bench are told: each on a line, with the goal that it has, and the load beside it."""
+import os
+import statistics
+
+ROUNDS = 5
+
+
+def line(name, *parts):
+    print(f"{name:<13} {'   '.join(parts)}", flush=True)
+
+
+def goal(value, least=None, most=None):
+    """A goal, and whether this value meets it."""
+    is_met = value >= least if most is None else value <= most
+    wanted = f"at least {least:,}" if most is None else f"at most {most:,}"
+    return f"goal: {wanted}, {'met' if is_met else 'MISSED'}"
+
+
+def load():
+    return f"load {os.getloadavg()[0]:.1f}"
+
+
+def median(measure, *words):
+    """The median of ROUNDS measurements, each of which takes its number after these words."""
+    return statistics.median(measure(*words, number) for number in range(ROUNDS))
+
+
+def memory_of(process, row):
+    """A row of the memory that a process takes, as VmHWM for the most that was resident, in KiB."""
+    with open(f"/proc/{process.pid}/status") as kept:
+        return next(int(line.split()[1]) for line in kept if line.startswith(f"{row}:"))
+
+
+def accepted(reply):
+    """Ends the measurement where a request was not accepted."""
+    if reply[0] not in (200, 201) or reply[2] != b'{"answer":"accepted"}':
+        raise SystemExit(f"bench: the index answered {reply[0]} {reply[2]!r}")
