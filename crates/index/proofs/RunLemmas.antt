@@ -1,24 +1,34 @@
 -- From the states of a connection to the files that it was opened on and closed to.
-use Rattle.std.proofs.Common.{◌≡◌, ◌∙◌, sym, ap, subst, inl, inr, ℕ, Option, Some}
+use Rattle.std.proofs.Common.{◌≡◌, ◌⊎◌, ◌↔◌, ◌∙◌, false, sym, ap, subst, inl, inr, ℕ, Option, Some, Result, Ok, Err, IfOk, arith}
+use Rattle.std.proofs.lemmas.Bool.{cases_Bool}
 use Rattle.std.proofs.Math.Logic.{∥∥₁_elim}
 use Rattle.sqlite.specs.Closing.{HoldsAlone, IsCopied}
 use Rattle.sqlite.specs.declared.FileStore.{FileStore}
 use Rattle.sqlite.specs.Effect.{Database}
-use Rattle.sqlite.specs.Files.{AreFoundIn, HoldsDatabase, IsOpened, file_state, image_of}
+use Rattle.sqlite.specs.Files.{AreFoundIn, HoldsDatabase, IsClosed, IsOpened, file_state, image_of, over_files}
 use Rattle.sqlite.specs.Held.{Held}
 use Rattle.sqlite.specs.Recovery.{Image}
+use Rattle.sqlite.specs.Schema.{Schema}
 use Rattle.sqlite.specs.Start.{FindsIn}
 use Rattle.sqlite.specs.State.{HasCleanDisk, State}
 use Rattle.sqlite.specs.Tree.{Trees}
 use Rattle.sqlite_disk.specs.declared.Disk.{Ghosts}
 use Rattle.sqlite_disk.specs.declared.Files.{Files}
 use Rattle.sqlite_trees.specs.Props.{Trees-set}
+use Rattle.sqlite_trees.specs.View.{IsClean}
+use Rattle.index_adopt.specs.Names.{has_any_of}
+use Rattle.index_rules.specs.declared.open.OpenFault.TheVariants.{BadFirstUser, NotEmpty, OutOfMemory}
+use Rattle.index_rules.specs.FirstTables.{IsBadFirstUser}
+use Rattle.index_rules.specs.Maps.{Bytes}
 use Rattle.index_rules.specs.Tables.{Tables}
 use Rattle.index_schema.specs.Index.{version_in}
 use Rattle.index_schema.specs.Records.{tables_in}
+use Rattle.index_schema.specs.Schema.{index_schema}
 use Rattle.index_tables.specs.Adopted.{IsCommitted, IsCurrent, IsFound}
 use Rattle.index_tables.specs.Kept.{IsWorking}
-use Rattle.index.specs.Runs.{Holds, Keeps, Leaves, Ran, Worked}
+use Rattle.index_tables.specs.Opened.{IsRefusedAs, IsTaken}
+use Rattle.index_tables.specs.declared.opening.Unopened.{Unopened}
+use Rattle.index.specs.Runs.{Began, Created, Holds, HoldsOnly, Interrupted, Keeps, Leaves, LeavesAsWas, Ran, Refused, Worked}
 
 -- an index of today is found as it is, and never as one of version 1
 same_found : (db other : Database) (T found : Tables) → IsCurrent db T → IsFound other found → other.trees ≡ db.trees → found ≡ T
@@ -31,8 +41,17 @@ keeps_of image db T current held = record {
   db = db;
   current = current;
   held = held;
-  next = λ found holds. same_found db holds.db T found current holds.found (∥∥₁_elim held.both (Trees-set _ _) (holds.alone _));
+  next = λ found holds. same_found db holds.db T found current holds.found (∥∥₁_elim held.both (Trees-set _ _) (holds.only.alone _));
 }
+
+-- where a new index was made, no table had the name of one of its own
+pub free_of : {S A : Type 0} (user token : Bytes) (schema : Schema) (result : Result A (Unopened S)) → (IsRefusedAs BadFirstUser result ↔ IsBadFirstUser user token)
+    → (IsTaken user token schema → IsRefusedAs NotEmpty result ⊎ IsRefusedAs OutOfMemory result) → IfOk result (λ _. has_any_of schema index_schema.tables ≡ false)
+free_of user token schema (Ok made) bad taken = elim (cases_Bool (has_any_of schema index_schema.tables)) [
+  | inl any ↦ absurd (elim (taken ((λ is. bad.1 is), any)) [ inl none ↦ none | inr none ↦ none ])
+  | inr free ↦ free
+]
+free_of user token schema (Err refused) bad taken = tt
 
 module _ {D : Type 0} {g : Ghosts D} where
   -- a connection whose files were copied on a clean disk was working
@@ -47,13 +66,14 @@ module _ {D : Type 0} {g : Ghosts D} where
       keeps_of image db T committed.current (subst (λ (d : Database). HoldsAlone image d.trees) same alone) in
       record { seen = held _ copied.seen; crash = λ image may. held image (copied.left image may) }
 
-  holds_of : (start : Image) (first : Held (FileStore D g)) (T : Tables) → IsOpened first → FindsIn start (file_state first) → IsFound (file_state first).now T → Holds start T
-  holds_of start first T opened finds found = record {
-    db = (file_state first).now;
-    found = found;
+  only_of : (start : Image) (first : Held (FileStore D g)) → IsOpened first → FindsIn start (file_state first) → HoldsOnly start (file_state first).now
+  only_of start first opened finds = record {
     read = subst (λ (d : Database). AreFoundIn start d.trees) (sym opened.0.clean) finds.reads;
     alone = λ other holds. ap (λ (d : Database). d.trees) opened.0.clean ∙ finds.holds other holds;
   }
+
+  holds_of : (start : Image) (first : Held (FileStore D g)) (T : Tables) → IsOpened first → FindsIn start (file_state first) → IsFound (file_state first).now T → Holds start T
+  holds_of start first T opened finds found = record { db = (file_state first).now; found = found; only = only_of start first opened finds }
 
   -- work between an opening and a close
   pub ran_by : (Does : Tables → Tables → Type 0) (start : Image) (first last : Held (FileStore D g)) (files : Files D) → IsOpened first → FindsIn start (file_state first)
@@ -65,3 +85,33 @@ module _ {D : Type 0} {g : Ghosts D} where
     did = worked.did;
     left = leaves_of last files worked.after copied worked.committed;
   }
+
+  -- work between an opening and a close that failed
+  pub interrupted_by : (Left : Tables → Tables → Type 0) (start : Image) (first last : Held (FileStore D g)) (store : FileStore D g) → IsOpened first → FindsIn start (file_state first)
+      → Began Left (file_state first).now (file_state last).may_leave → IsClosed last store → Interrupted Left start (over_files.recovers store)
+  interrupted_by Left start first last store opened finds began closed = record {
+    before = began.before;
+    held = holds_of start first began.before opened finds began.found;
+    left = λ db may. began.left db (closed.quiet.outcomes db may);
+  }
+
+  pub created_by : (T : Tables) (start : Image) (first last : Held (FileStore D g)) (files : Files D) → IsOpened first → FindsIn start (file_state first)
+      → has_any_of (file_state first).now.schema index_schema.tables ≡ false → IsCommitted (file_state last) T → IsCopied last files → Created g T start files
+  created_by T start first last files opened finds free committed copied = record {
+    db = (file_state first).now;
+    only = only_of start first opened finds;
+    free = free;
+    left = leaves_of last files T copied committed;
+  }
+
+  pub refused_by : (Made : Database → Trees → Type 0) (start : Image) (first last : Held (FileStore D g)) → IsOpened first → FindsIn start (file_state first)
+      → LeavesAsWas Made (file_state first) (file_state last) → Refused Made start (file_state last).may_leave
+  refused_by Made start first last opened finds leaves = record {
+    db = (file_state first).now;
+    only = only_of start first opened finds;
+    left = leaves opened.0.is_open opened.0.clean;
+  }
+
+  -- a disk that is clean as a close fails was so before it
+  pub clean_before : (last : Held (FileStore D g)) (store : FileStore D g) → IsClosed last store → IsClean (over_files.view store) → HasCleanDisk (file_state last)
+  clean_before last store closed clean = omega (arith, closed.quiet.clean, clean)

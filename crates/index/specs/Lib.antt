@@ -1,3 +1,2 @@
 pub mod Printed
 pub mod Runs
-pub mod Works

@@ -1,5 +1,6 @@
--- What a run of the program finds in a database file and its log, and what it leaves there.
-use Rattle.std.specs.Prelude.{◌≡◌}
+-- A run of the program: what it finds in a database file and its log, what each kind of work makes of the tables, and what
+-- is left in the files, at the end of the run and by a crash.
+use Rattle.std.specs.Prelude.{◌≡◌, ◌⊎◌, ◌≤◌, ℕ, false, IsTrue, List, Option, Result, Ok, Err, IfOk}
 use Rattle.sqlite.specs.Closing.{HoldsAlone}
 use Rattle.sqlite.specs.Effect.{Database}
 use Rattle.sqlite.specs.Files.{AreFoundIn, HoldsDatabase, image_of}
@@ -9,15 +10,42 @@ use Rattle.sqlite.specs.Tree.{Trees}
 use Rattle.sqlite.specs.WalFiles.{outcomes}
 use Rattle.sqlite_disk.specs.declared.Disk.{Ghosts}
 use Rattle.sqlite_disk.specs.declared.Files.{Files}
+use Rattle.index_adopt.specs.Names.{has_any_of}
+use Rattle.index_cli.specs.declared.end.LineEnd.{LineEnd}
+use Rattle.index_cli.specs.Ends.{Ends}
+use Rattle.index_cli.specs.Serving.{Serves, ServesCalls, ServesHistory}
+use Rattle.index_cli.specs.Telling.{TellsLines}
+use Rattle.index_cli.specs.TellsCalls.{TellsCalls}
+use Rattle.index_cli.specs.TellsHistory.{TellsHistory}
+use Rattle.index_desk.specs.Checks.{wrong_charges_in}
+use Rattle.index_desk.specs.Crashes.{LeavesAll, LeavesAllOf}
+use Rattle.index_desk.specs.declared.desk.report.ReportFault.{ReportFault}
+use Rattle.index_desk.specs.Reports.{Reports, report_in}
+use Rattle.index_desk.specs.Rules.{by_tables}
+use Rattle.index_rules.specs.History.{History}
+use Rattle.index_rules.specs.Legal.{IsLegal}
+use Rattle.index_rules.specs.StandsFor.{StandsFor}
 use Rattle.index_rules.specs.Tables.{Tables}
+use Rattle.index_schema.specs.FirstVersion.{IsFirstVersion, without_bans}
+use Rattle.index_schema.specs.Records.{tables_in}
+use Rattle.index_schema.specs.Schema.{index_schema}
 use Rattle.index_tables.specs.Adopted.{IsCommitted, IsCurrent, IsFound}
+use Rattle.index_tables.specs.Kept.{AreCurrent}
+use Rattle.index.specs.declared.end.End.{End}
+use Rattle.index.specs.declared.end.End.TheVariants as end
 
--- the two files recover to an index with these tables, and hold no other database
+-- ---- two files
+
+-- they recover to this database, and hold no other
+pub record HoldsOnly (image : Image) (db : Database) : Type 0 where
+  pub read : AreFoundIn image db.trees
+  pub alone : (other : Trees) → HoldsDatabase image other → db.trees ≡ other
+
+-- they hold an index with these tables, of this version or of version 1
 pub record Holds (image : Image) (T : Tables) : Type 0 where
   pub db : Database
   pub found : IsFound db T
-  pub read : AreFoundIn image db.trees
-  pub alone : (other : Trees) → HoldsDatabase image other → db.trees ≡ other
+  pub only : HoldsOnly image db
 
 -- they hold an index of today with these tables, which a next run finds, and so does the database file with no log
 pub record Keeps (image : Image) (T : Tables) : Type 0 where
@@ -31,6 +59,46 @@ pub record Leaves {D : Type 0} (g : Ghosts D) (files : Files D) (T : Tables) : T
   pub seen : Keeps (image_of g files) T
   pub crash : (image : Image) → outcomes g files.log files.db image → Keeps image T
 
+-- ---- a run
+
+-- they held an index with some tables, work was done on them, and they hold an index with what it made of them
+pub record Ran {D : Type 0} (g : Ghosts D) (Does : Tables → Tables → Type 0) (start : Image) (files : Files D) : Type 0 where
+  pub before : Tables
+  pub after : Tables
+  pub held : Holds start before
+  pub did : Does before after
+  pub left : Leaves g files after
+
+-- of the databases that an open after a crash may find, each has tables of this kind. One that is no index of today would
+-- have any tables at all
+abbrev pub LeavesOnly : (Trees → Type 0) → (Tables → Type 0) → Type 0
+LeavesOnly may_leave Are = (db : Trees) → may_leave db → (T : Tables) → (AreCurrent db → T ≡ tables_in db) → Are T
+
+-- they held an index with some tables, and a crash leaves what it may leave of the work on them
+pub record Interrupted (Left : Tables → Tables → Type 0) (start : Image) (may_leave : Trees → Type 0) : Type 0 where
+  pub before : Tables
+  pub held : Holds start before
+  pub left : LeavesOnly may_leave (Left before)
+
+-- they held nothing of an index, and hold a new one with these tables
+pub record Created {D : Type 0} (g : Ghosts D) (T : Tables) (start : Image) (files : Files D) : Type 0 where
+  pub db : Database
+  pub only : HoldsOnly start db
+  pub free : has_any_of db.schema index_schema.tables ≡ false
+  pub left : Leaves g files T
+
+-- they held a database that was refused: a crash leaves it as it was, or what was made of it as a whole
+pub record Refused (Made : Database → Trees → Type 0) (start : Image) (may_leave : Trees → Type 0) : Type 0 where
+  pub db : Database
+  pub only : HoldsOnly start db
+  pub left : (found : Trees) → may_leave found → (found ≡ db.trees) ⊎ Made db found
+
+-- it was of version 1, and was brought to that of today
+abbrev pub IsRaised : Database → Trees → Type 0
+IsRaised was db = IsFirstVersion was × AreCurrent db × (tables_in db ≡ without_bans (tables_in was.trees))
+
+-- ---- the same of a connection, before its files are known
+
 -- an index with some tables was found in a database, work was done on them, and what it made of them is committed
 pub record Worked (Does : Tables → Tables → Type 0) (was : Database) (now : State) : Type 0 where
   pub before : Tables
@@ -39,10 +107,65 @@ pub record Worked (Does : Tables → Tables → Type 0) (was : Database) (now : 
   pub did : Does before after
   pub committed : IsCommitted now after
 
--- the files held an index with some tables, work was done on them, and the files hold an index with what it made of them
-pub record Ran {D : Type 0} (g : Ghosts D) (Does : Tables → Tables → Type 0) (start : Image) (files : Files D) : Type 0 where
+-- an index with some tables was found in a database, and a crash leaves what it may leave of the work on them
+pub record Began (Left : Tables → Tables → Type 0) (was : Database) (may_leave : Trees → Type 0) : Type 0 where
   pub before : Tables
-  pub after : Tables
-  pub held : Holds start before
-  pub did : Does before after
-  pub left : Leaves g files after
+  pub found : IsFound was before
+  pub left : LeavesOnly may_leave (Left before)
+
+-- of an open database, all of which was committed, a crash leaves what was there, or what was made of it
+abbrev pub LeavesAsWas : (Database → Trees → Type 0) → State → State → Type 0
+LeavesAsWas Made was now =
+    IsTrue was.is_open → was.now ≡ was.committed → (db : Trees) → now.may_leave db → (db ≡ was.now.trees) ⊎ Made was.now db
+
+-- ---- what each kind of work makes of the tables
+
+-- the end of a run over lines, as an end of the program
+abbrev pub end_of : Result ℕ LineEnd → Result ℕ End
+end_of (Ok count) = Ok count
+end_of (Err early) = Err (end.Lines early)
+
+-- the lines of what a reader had were answered up to this end: by the tables, and by each legal history for which they
+-- stood, so that the tables after it stand for the history with the calls that were accepted
+pub record AnswersLines (given left had has : Option (List ℕ)) (T T' : Tables) (result : Result ℕ End) : Type 0 where
+  pub ended : Result ℕ LineEnd
+  pub is : result ≡ end_of ended
+  pub tables : Ends (TellsLines by_tables T) T' given left had has ended
+  pub history : (h : History) → IsLegal h → StandsFor T h → Ends (TellsHistory h) T' given left had has ended
+
+-- these tables may be left by the lines that were answered up to this end: what comes of the accepted calls, or of these
+-- and one to which a fault was answered since the last of them
+pub record LeavesLines (given left had has : Option (List ℕ)) (T T' : Tables) (result : Result ℕ End) : Type 0 where
+  pub ended : Result ℕ LineEnd
+  pub is : result ≡ end_of ended
+  pub tables : Ends (TellsCalls (LeavesAll T)) T' given left had has ended
+  pub history : (h : History) → IsLegal h → StandsFor T h → Ends (TellsCalls (LeavesAllOf h)) T' given left had has ended
+
+-- the report was written, or a front of it, and no table changed
+pub record WritesReport (had has : Option (List ℕ)) (T T' : Tables) : Type 0 where
+  pub ended : Result (Unit {0}) ReportFault
+  pub reports : Reports (report_in T) had has ended
+  pub unchanged : T' ≡ T
+
+-- the wrong charges were counted, and no table changed
+pub record CountsWrong (T T' : Tables) (result : Result ℕ End) : Type 0 where
+  pub count : IfOk result (λ count. count ≡ wrong_charges_in T)
+  pub unchanged : T' ≡ T
+
+-- all of so many connections, or some of them where the work ended early
+abbrev pub IsUpTo : ℕ → Result ℕ End → ℕ → Type 0
+IsUpTo requests (Ok done) count = count ≡ requests
+IsUpTo requests (Err early) count = count ≤ requests
+
+-- connections were answered, one after the other: by the tables, and by each legal history for which they stood, so that
+-- the tables after it stand for the history with the calls that were accepted
+pub record AnswersConnections (at : Option ℕ) (requests : ℕ) (T T' : Tables) (result : Result ℕ End) : Type 0 where
+  pub tables : (count : ℕ) × IsUpTo requests result count × Serves by_tables at count T T'
+  pub history : (h : History) → IsLegal h → StandsFor T h
+      → (count : ℕ) × IsUpTo requests result count × ServesHistory h at count T'
+
+-- these tables may be left by the connections that were answered: the same of their calls
+pub record LeavesConnections (at : Option ℕ) (requests : ℕ) (T T' : Tables) (result : Result ℕ End) : Type 0 where
+  pub tables : (count : ℕ) × IsUpTo requests result count × ServesCalls (LeavesAll T) at count T'
+  pub history : (h : History) → IsLegal h → StandsFor T h
+      → (count : ℕ) × IsUpTo requests result count × ServesCalls (LeavesAllOf h) at count T'

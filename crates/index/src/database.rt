@@ -1,21 +1,24 @@
 //! The index in a database of SQLite: opened, made or adopted, and closed.
-ghost use Rattle.std.specs.Prelude.{◌≡◌, false, not, ℕ, Result, Ok, Some, IfOk, IsErrOf, IsTrue};
+ghost use Rattle.std.specs.Prelude.{◌≡◌, false, not, ℕ, Result, Some, IfOk, IfErr, IfSome, IsErrOf, IsTrue};
 ghost use Rattle.sqlite.specs.Closing.{IsCopied};
-ghost use Rattle.sqlite.specs.Files.{file_state, IsOpened};
+ghost use Rattle.sqlite.specs.Files.{file_state, over_files, IsClosed, IsOpened};
 ghost use Rattle.sqlite.specs.Held.{state};
 ghost use Rattle.sqlite.specs.Recovery.{Image};
 ghost use Rattle.sqlite.specs.Start.{FindsIn};
 ghost use Rattle.sqlite.specs.State.{HasCleanDisk};
 ghost use Rattle.sqlite.specs.WalFiles.{image_at};
 ghost use Rattle.sqlite.specs.WalReads.{AreClean};
+ghost use Rattle.sqlite_trees.specs.View.{IsClean};
+ghost use Rattle.index_adopt.specs.Names.{has_any_of};
 ghost use Rattle.index_digest.specs.Digest.{is_digest_text, read_digest};
 ghost use Rattle.index_rules.specs.Facts.{HasOneBearer};
 ghost use Rattle.index_rules.specs.FirstTables.{first_tables};
 ghost use Rattle.index_rules.specs.Tables.{Tables};
+ghost use Rattle.index_schema.specs.Schema.{index_schema};
 ghost use Rattle.index_tables.specs.Adopted.{IsCommitted};
 ghost use Rattle.index_tables.specs.Kept.{IsWorking};
 ghost use Rattle.index.specs.declared.end.End.{End as EndData};
-ghost use Rattle.index.specs.Runs.{Leaves, Ran, Worked};
+ghost use Rattle.index.specs.Runs.{Began, Created, Interrupted, IsRaised, LeavesAsWas, Ran, Refused, Worked};
 
 use crate::end::End;
 use index_desk::{Desk, Keeper};
@@ -26,10 +29,19 @@ use index_tables::{SqlBooks, Unopened};
 use sqlite::{Alter, Connection, FileFrom, FileStore, Files, Start};
 use sqlite_disk::Disk;
 
+/// What comes of closing: the files, or the fault for which the log was not copied, and the store that has it.
+pub type Closed<D> = Result<Files<D>, (End, FileStore<D>)>;
+
+/// Why nothing was done; and the database, where it was opened and no index was found in it.
+pub type Unused<D> = (End, Option<Unopened<FileStore<D>>>);
+
 /// Work at a desk over the tables of a database, whatever its store is.
 pub trait Work {
     /// What it does: itself before and after, the tables before and after, and its end.
     ghost does: { Self → Self → Tables → Tables → Result ℕ EndData → Type 0 };
+
+    /// What a crash may leave as it ends: itself before and after, the tables before and those that are left, and its end.
+    ghost leaves: { Self → Self → Tables → Tables → Result ℕ EndData → Type 0 };
 
     /// How many bytes of files and pages the books may keep at hand for it.
     fn keep_recent(&self) -> usize;
@@ -38,7 +50,11 @@ pub trait Work {
     fn run<B: Keeper>(&mut self, rt: &HostRuntime, desk: &mut Desk<B>) -> Result<u64, End>
         ensures done { B.IsHonest desk.new → HasOneBearer (B.tables desk.old) →
             does self.old self.new (B.tables desk.old) (B.tables desk.new) result }
-        ensures honest { B.IsHonest desk.new → B.IsHonest desk.old };
+        ensures crash { B.IsHonest desk.old → B.IsClean desk.new →
+            HasOneBearer (B.tables desk.old) → (T : Tables) → B.may_leave desk.new T →
+            leaves self.old self.new (B.tables desk.old) T result }
+        ensures honest { B.IsHonest desk.new → B.IsHonest desk.old }
+        ensures clean { B.IsClean desk.new → B.IsClean desk.old };
 }
 
 /// Opens a database file, which is locked from here on, or makes an empty one. `S` says what it and its log held.
@@ -75,9 +91,11 @@ pub fn create<S: Start>(
 ) -> Result<Files<FileFrom<S>>, End>
     ensures malformed { IsTrue (not (is_digest_text token.now))
         → IsErrOf result (End.Open OpenFault.BadFirstUser) }
+
+    // The files held nothing of an index, and hold the new one.
     ensures created { IfOk result (λ files. let g = ⟦<FileFrom<S> as Disk>⟧ in
         AreClean g files.log files.db → (digest : _) × (read_digest token.now ≡ Some digest)
-        × Leaves g files (first_tables user.now digest)) }
+        × Created g (first_tables user.now digest) (image_at S.Start) files) }
 {
     let Some(token) = Digest256::read_hex(token.as_bytes()) else {
         return Err(End::Open(OpenFault::BadFirstUser));
@@ -86,21 +104,34 @@ pub fn create<S: Start>(
     create_and_close(rt, conn, user, token)
 }
 
-/// Does work on the index in a file, and closes the files. The end of the work comes beside them.
+/// Does work on the index in a file, and closes the files. The end of the work comes beside what came of closing.
 ///
-/// `NotAnIndex`, `OtherVersion`, `OutOfMemory`, or `Store`; also the end of the work, where the files can't be closed.
+/// `NotAnIndex`, `OtherVersion`, `OutOfMemory`, or `Store`.
 pub fn work_on<S: Start, W: Work>(
     rt: &HostRuntime,
     path: &str,
     start: S,
     work: &mut W,
-) -> Result<(Files<FileFrom<S>>, Result<u64, End>), End>
-    ensures ran { IfOk result (λ done. let g = ⟦<FileFrom<S> as Disk>⟧ in
-        AreClean g done.0.log done.0.db →
-        Ran g (λ T T'. W.does work.old work.new T T' done.1) (image_at S.Start) done.0) }
+) -> Result<(Closed<FileFrom<S>>, Result<u64, End>), Unused<FileFrom<S>>>
+    // The files held an index, and hold what the work made of it.
+    ensures ran { IfOk result (λ done. IfOk done.0 (λ files.
+        let g = ⟦<FileFrom<S> as Disk>⟧ in AreClean g files.log files.db →
+        Ran g (λ T T'. W.does work.old work.new T T' done.1) (image_at S.Start) files)) }
+
+    // Where the log was not copied, a crash leaves what it may leave of the work.
+    ensures interrupted { IfOk result (λ done. IfErr done.0 (λ e. IsClean (over_files.view e.1) →
+        Interrupted (λ T T'. W.leaves work.old work.new T T' done.1)
+        (image_at S.Start) (over_files.recovers e.1))) }
+
+    // A database that is refused is as it was.
+    ensures refused { IfErr result (λ e. IfSome e.1 (λ left.
+        HasCleanDisk (file_state left.conn) →
+        Refused IsRaised (image_at S.Start) (file_state left.conn).may_leave)) }
 {
-    let conn = open(rt, path, start)?;
-    work_and_close(rt, conn, work)
+    match open(rt, path, start) {
+        Ok(conn) => work_and_close(rt, conn, work),
+        Err(end) => Err((end, None)),
+    }
 }
 
 /// Makes a new index in an empty database, whatever disk its files are on, and closes these.
@@ -111,11 +142,19 @@ fn create_and_close<D: Disk + Drop>(
     token: Digest256,
 ) -> Result<Files<D>, End>
     requires outside { conn.in_transaction ≡ false }
-    ensures created { IfOk result (λ files. AreClean D.Disk files.log files.db
-        → Leaves D.Disk files (first_tables user.now token)) }
+    ensures created { IfOk result (λ files. AreClean D.Disk files.log files.db →
+        (start : Image) →
+        (HasCleanDisk (file_state conn) → IsOpened conn × FindsIn start (file_state conn)) →
+        Created D.Disk (first_tables user.now token) start files) }
 {
     let conn = create_in(rt, conn, user, token)?;
-    close(conn)
+    match close(conn) {
+        Ok(files) => Ok(files),
+        Err((fault, store)) => {
+            drop(store.close());
+            Err(fault)
+        }
+    }
 }
 
 /// Does work on the index that is there, whatever disk its files are on, and closes these.
@@ -123,24 +162,29 @@ fn work_and_close<D: Disk + Drop, W: Work>(
     rt: &HostRuntime,
     conn: Connection<FileStore<D>>,
     work: &mut W,
-) -> Result<(Files<D>, Result<u64, End>), End>
+) -> Result<(Closed<D>, Result<u64, End>), Unused<D>>
     requires outside { conn.in_transaction ≡ false }
-    ensures ran { IfOk result (λ done. AreClean D.Disk done.0.log done.0.db →
-        (start : Image) → (HasCleanDisk (file_state conn) → IsOpened conn
-        × FindsIn start (file_state conn)) →
-        Ran D.Disk (λ T T'. W.does work.old work.new T T' done.1) start done.0) }
+    ensures ran { IfOk result (λ done. IfOk done.0 (λ files.
+        AreClean D.Disk files.log files.db → (start : Image) →
+        (HasCleanDisk (file_state conn) → IsOpened conn × FindsIn start (file_state conn)) →
+        Ran D.Disk (λ T T'. W.does work.old work.new T T' done.1) start files)) }
+    ensures interrupted { IfOk result (λ done. IfErr done.0 (λ e.
+        IsClean (over_files.view e.1) → (start : Image) →
+        (HasCleanDisk (file_state conn) → IsOpened conn × FindsIn start (file_state conn)) →
+        Interrupted (λ T T'. W.leaves work.old work.new T T' done.1) start
+        (over_files.recovers e.1))) }
+    ensures refused { IfErr result (λ e. IfSome e.1 (λ left.
+        HasCleanDisk (file_state left.conn) → (start : Image) →
+        (HasCleanDisk (file_state conn) → IsOpened conn × FindsIn start (file_state conn)) →
+        Refused IsRaised start (file_state left.conn).may_leave)) }
 {
-    let (conn, end) = work_in(rt, conn, work)?;
-    match close(conn) {
-        Ok(files) => Ok((files, end)),
-        Err(fault) => {
-            end?;
-            Err(fault)
-        }
+    match work_in(rt, conn, work) {
+        Ok((conn, end)) => Ok((close(conn), end)),
+        Err(left) => Err((End::Open(left.why), Some(left))),
     }
 }
 
-/// Makes a new index in an empty database.
+/// Makes a new index in an empty database. Where none is made, the database is left as it is.
 fn create_in<S: Alter + Drop>(
     rt: &HostRuntime,
     conn: Connection<S>,
@@ -148,38 +192,15 @@ fn create_in<S: Alter + Drop>(
     token: Digest256,
 ) -> Result<Connection<S>, End>
     requires outside { conn.in_transaction ≡ false }
-    ensures created { IfOk result (λ conn. IsWorking (state S.Store conn)
-        → IsCommitted (state S.Store conn) (first_tables user.now token)) }
-{
-    let made = SqlBooks::create(rt.alloc(), conn, user.as_bytes(), token);
-    Ok(opened(made)?.into_connection())
-}
-
-/// Does work on the index that is there, and gives the connection back with the end of the work.
-fn work_in<S: Alter + Drop, W: Work>(
-    rt: &HostRuntime,
-    conn: Connection<S>,
-    work: &mut W,
-) -> Result<(Connection<S>, Result<u64, End>), End>
-    requires outside { conn.in_transaction ≡ false }
-    ensures worked { IfOk result (λ done. IsWorking (state S.Store done.0)
-        → Worked (λ T T'. W.does work.old work.new T T' done.1)
-        (state S.Store conn).now (state S.Store done.0)) }
-    ensures working { IfOk result (λ done. IsWorking (state S.Store done.0)
+    ensures created { IfOk result (λ made. IsWorking (state S.Store made)
+        → IsCommitted (state S.Store made) (first_tables user.now token)) }
+    ensures free { IfOk result (λ _.
+        has_any_of (state S.Store conn).now.schema index_schema.tables ≡ false) }
+    ensures working { IfOk result (λ made. IsWorking (state S.Store made)
         → IsWorking (state S.Store conn)) }
 {
-    let books = opened(SqlBooks::adopt(rt.alloc(), conn))?;
-    let mut desk = Desk::new(Recent::new(rt.alloc(), books, work.keep_recent()));
-    let end = work.run(rt, &mut desk);
-    Ok((desk.into_books().into_books().into_connection(), end))
-}
-
-/// The books that were opened. Where none were, the database is left as it is.
-fn opened<S: Alter + Drop>(books: Result<SqlBooks<S>, Unopened<S>>) -> Result<SqlBooks<S>, End>
-    ensures same { IfOk result (λ opened. books ≡ Ok opened) }
-{
-    match books {
-        Ok(books) => Ok(books),
+    match SqlBooks::create(rt.alloc(), conn, user.as_bytes(), token) {
+        Ok(books) => Ok(books.into_connection()),
         Err(Unopened { why, conn }) => {
             drop(conn);
             Err(End::Open(why))
@@ -187,18 +208,72 @@ fn opened<S: Alter + Drop>(books: Result<SqlBooks<S>, Unopened<S>>) -> Result<Sq
     }
 }
 
+/// Does work on the index that is there, and gives the connection back with the end of the work.
+fn work_in<S: Alter + Drop, W: Work>(
+    rt: &HostRuntime,
+    conn: Connection<S>,
+    work: &mut W,
+) -> Result<(Connection<S>, Result<u64, End>), Unopened<S>>
+    requires outside { conn.in_transaction ≡ false }
+    ensures worked { IfOk result (λ done. IsWorking (state S.Store done.0)
+        → Worked (λ T T'. W.does work.old work.new T T' done.1)
+        (state S.Store conn).now (state S.Store done.0)) }
+    ensures began { IfOk result (λ done. HasCleanDisk (state S.Store done.0)
+        → IsTrue (state S.Store conn).is_open
+        → Began (λ T T'. W.leaves work.old work.new T T' done.1)
+        (state S.Store conn).now (state S.Store done.0).may_leave) }
+    ensures working { IfOk result (λ done. IsWorking (state S.Store done.0)
+        → IsWorking (state S.Store conn)) }
+    ensures clean { IfOk result (λ done. HasCleanDisk (state S.Store done.0)
+        → HasCleanDisk (state S.Store conn)) }
+    ensures refused { IfErr result (λ left. HasCleanDisk (state S.Store left.conn)
+        → LeavesAsWas IsRaised (state S.Store conn) (state S.Store left.conn)) }
+    ensures clean_refused { IfErr result (λ left. HasCleanDisk (state S.Store left.conn)
+        → HasCleanDisk (state S.Store conn)) }
+{
+    match SqlBooks::adopt(rt.alloc(), conn) {
+        Ok(books) => {
+            let mut desk = Desk::new(Recent::new(rt.alloc(), books, work.keep_recent()));
+            let end = work.run(rt, &mut desk);
+            Ok((desk.into_books().into_books().into_connection(), end))
+        }
+        Err(left) => Err(left),
+    }
+}
+
 /// Closes the database: the log of the last changes is copied into the file.
 ///
-/// `OutOfMemory` or `Store` where the copy fails. The changes are kept then too, by the log.
-fn close<D: Disk + Drop>(conn: Connection<FileStore<D>>) -> Result<Files<D>, End>
+/// `OutOfMemory` or `Store` where the copy fails. The changes are kept then too, by the log, which the store has.
+fn close<D: Disk + Drop>(conn: Connection<FileStore<D>>) -> Closed<D>
     ensures copied { IfOk result (λ files. AreClean D.Disk files.log files.db
         → IsCopied conn files) }
+    ensures kept { IfErr result (λ e. IsClosed conn e.1) }
 {
     match conn.close_files() {
         Ok(files) => Ok(files),
-        Err((error, store)) => {
+        Err((error, store)) => Err((End::from(error), store)),
+    }
+}
+
+/// Lets the files go. The fault is the one for which the log was not copied.
+pub fn let_go<D: Disk + Drop>(closed: Closed<D>) -> Result<(), End> {
+    match closed {
+        Ok(files) => {
+            drop(files);
+            Ok(())
+        }
+        Err((fault, store)) => {
             drop(store.close());
-            Err(End::from(error))
+            Err(fault)
         }
     }
+}
+
+/// Why nothing was done. The database is let go as it is.
+pub fn why<D: Disk + Drop>(unused: Unused<D>) -> End {
+    let (end, left) = unused;
+    if let Some(Unopened { why: _, conn }) = left {
+        drop(conn);
+    }
+    end
 }

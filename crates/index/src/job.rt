@@ -62,9 +62,15 @@ fn work_on<S: Start, W: Work>(
     start: S,
     work: &mut W,
 ) -> Result<u64, End> {
-    let (files, end) = database::work_on(rt, db, start, work)?;
-    drop(files);
-    end
+    match database::work_on(rt, db, start, work) {
+        Ok((closed, end)) => {
+            let closed = database::let_go(closed);
+            let count = end?;
+            closed?;
+            Ok(count)
+        }
+        Err(unused) => Err(database::why(unused)),
+    }
 }
 
 /// Does work on tables in memory whose one user is `office`, of the office, with the token `office`.
@@ -85,9 +91,13 @@ struct Lines<R, K> {
 }
 
 impl<R: Source, K: Sink> Work for Lines<R, K> {
-    ghost use Rattle.index.specs.Works.{AnswersLines};
+    ghost use Rattle.index.specs.Runs.{AnswersLines, LeavesLines};
 
     ghost does = { λ old new. AnswersLines
+        (R.remaining old.source) (R.remaining new.source)
+        (K.contents old.sink) (K.contents new.sink) };
+
+    ghost leaves = { λ old new. LeavesLines
         (R.remaining old.source) (R.remaining new.source)
         (K.contents old.sink) (K.contents new.sink) };
 
@@ -137,9 +147,11 @@ struct Serving<'a> {
 }
 
 impl Work for Serving<'_> {
-    ghost use Rattle.index.specs.Works.{AnswersConnections};
+    ghost use Rattle.index.specs.Runs.{AnswersConnections, LeavesConnections};
 
     ghost does = { λ old _. AnswersConnections old.at old.requests };
+
+    ghost leaves = { λ old _. LeavesConnections old.at old.requests };
 
     fn keep_recent(&self) -> usize {
         self.keep_recent
@@ -189,10 +201,13 @@ struct Reporting<K> {
 }
 
 impl<K: Sink> Work for Reporting<K> {
-    ghost use Rattle.index.specs.Works.{WritesReport};
+    ghost use Rattle.std.specs.Prelude.{◌≡◌};
+    ghost use Rattle.index.specs.Runs.{WritesReport};
 
     ghost does = { λ old new T T' _.
         WritesReport (K.contents old.sink) (K.contents new.sink) T T' };
+
+    ghost leaves = { λ _ _ T T' _. T' ≡ T };
 
     fn keep_recent(&self) -> usize {
         0
@@ -218,9 +233,12 @@ pub fn check<S: Start>(rt: &HostRuntime, db: &str, start: S) -> Result<ExitCode,
 struct Checking;
 
 impl Work for Checking {
-    ghost use Rattle.index.specs.Works.{CountsWrong};
+    ghost use Rattle.std.specs.Prelude.{◌≡◌};
+    ghost use Rattle.index.specs.Runs.{CountsWrong};
 
     ghost does = { λ _ _. CountsWrong };
+
+    ghost leaves = { λ _ _ T T' _. T' ≡ T };
 
     fn keep_recent(&self) -> usize {
         0

@@ -1,38 +1,70 @@
-use Rattle.std.proofs.Common.{◌≡◌, ◌∙◌, ap, rules, subst, sym}
-use Rattle.std.proofs.lemmas.Result.{IfOk-at_ok}
+use Rattle.std.proofs.Common.{◌≡◌, ◌∙◌, ap, inl, inr, rules, subst, sym}
+use Rattle.sqlite.specs.Effect.{Database}
 use Rattle.sqlite.specs.Held.{state}
+use Rattle.sqlite.specs.State.{HasCleanDisk}
 use Rattle.index_reads.specs.Held.{tables_of}
 use Rattle.index_rules.specs.Facts.{HasOneBearer}
 use Rattle.index_tables.specs.Adopted.{IsCommitted, IsFound}
-use Rattle.index_tables.specs.Kept.{IsHonest, IsWorking, Kept}
+use Rattle.index_tables.specs.Kept.{IsHonest, IsWorking, Kept, Leaves}
 use Rattle.index.proofs.database.work_in.Goals as goal
 
-pub returns-clause-worked : goal.returns-clause-worked
-returns-clause-worked g c = λ working.
-    let opened = c.in_ok-books.ensures.same in
-    let begun : c.new-desk.result.books ≡ c.in_ok-books.books = search rules in
-    let ended : c.into_books-2.result ≡ c.run-end.new.desk.books = search rules in
+pub returns-in-Ok-clause-worked : goal.returns-in-Ok-clause-worked
+returns-in-Ok-clause-worked g c = λ working.
+    let begun : c.new-desk.result.books ≡ c.in-Ok.books = search rules in
+    let ended : c.into_books-in-Ok.result ≡ c.run-end.new.desk.books = search rules in
     let honest = c.into_connection.ensures.honest working in
     let after = subst (λ held. IsHonest (state g.S.Store held)) (c.into_connection.ensures.same ∙ ap (λ (b : Kept _). b.conn) ended) honest in
     let before = subst (λ (b : Kept _). IsHonest (state g.S.Store b.conn)) begun (c.run-end.ensures.honest after) in
     let was : IsWorking _ = record { clean = before.clean; is_open = before.is_open } in
-    let found = IfOk-at_ok _ opened c.adopt.ensures.found was in
-    let one = IfOk-at_ok _ opened c.adopt.ensures.one_bearer was in
     record {
       before = tables_of g.S.Store c.new-desk.result.books.conn;
       after = tables_of g.S.Store c.run-end.new.desk.books.conn;
-      found = subst (λ (b : Kept _). IsFound (state g.S.Store c.args.conn).now (tables_of g.S.Store b.conn)) (sym begun) found;
-      did = c.run-end.ensures.done after (subst (λ (b : Kept _). HasOneBearer (tables_of g.S.Store b.conn)) (sym begun) one);
+      found = subst (λ (b : Kept _). IsFound (state g.S.Store c.args.conn).now (tables_of g.S.Store b.conn)) (sym begun) (c.in-Ok.ensures.found was);
+      did = c.run-end.ensures.done after (subst (λ (b : Kept _). HasOneBearer (tables_of g.S.Store b.conn)) (sym begun) (c.in-Ok.ensures.one_bearer was));
       committed = subst (λ (b : Kept _). IsCommitted (state g.S.Store c.into_connection.result) (tables_of g.S.Store b.conn)) ended (c.into_connection.ensures.committed honest);
     }
 
-pub returns-clause-working : goal.returns-clause-working
-returns-clause-working g c = λ working.
-    let opened = c.in_ok-books.ensures.same in
-    let begun : c.new-desk.result.books ≡ c.in_ok-books.books = search rules in
-    let ended : c.into_books-2.result ≡ c.run-end.new.desk.books = search rules in
+pub returns-in-Ok-clause-began : goal.returns-in-Ok-clause-began
+returns-in-Ok-clause-began g c = λ clean is_open.
+    let begun : c.new-desk.result.books ≡ c.in-Ok.books = search rules in
+    let ended : c.into_books-in-Ok.result ≡ c.run-end.new.desk.books = search rules in
+    let same = c.into_connection.ensures.same ∙ ap (λ (b : Kept _). b.conn) ended in
+    let after = subst (λ held. HasCleanDisk (state g.S.Store held)) same clean in
+    let before = subst (λ (b : Kept _). HasCleanDisk (state g.S.Store b.conn)) begun (c.run-end.ensures.clean after) in
+    let was : IsWorking _ = record { clean = c.in-Ok.ensures.clean before; is_open = is_open } in
+    let honest = c.in-Ok.ensures.lasts was before in
+    let working : IsWorking _ = record { clean = honest.clean; is_open = honest.is_open } in
+    let honest_then = subst (λ (b : Kept _). IsHonest (state g.S.Store b.conn)) (sym begun) honest in
+    let one = subst (λ (b : Kept _). HasOneBearer (tables_of g.S.Store b.conn)) (sym begun) (c.in-Ok.ensures.one_bearer working) in
+    record {
+      before = tables_of g.S.Store c.new-desk.result.books.conn;
+      found = subst (λ (b : Kept _). IsFound (state g.S.Store c.args.conn).now (tables_of g.S.Store b.conn)) (sym begun) (c.in-Ok.ensures.found working);
+      left = λ db may T is.
+          c.run-end.ensures.crash honest_then after one T
+          (subst (λ held. Leaves (state g.S.Store held) T) same (clean, (db, may, is)));
+    }
+
+pub returns-in-Ok-clause-working : goal.returns-in-Ok-clause-working
+returns-in-Ok-clause-working g c = λ working.
+    let begun : c.new-desk.result.books ≡ c.in-Ok.books = search rules in
+    let ended : c.into_books-in-Ok.result ≡ c.run-end.new.desk.books = search rules in
     let honest = c.into_connection.ensures.honest working in
     let after = subst (λ held. IsHonest (state g.S.Store held)) (c.into_connection.ensures.same ∙ ap (λ (b : Kept _). b.conn) ended) honest in
     let before = subst (λ (b : Kept _). IsHonest (state g.S.Store b.conn)) begun (c.run-end.ensures.honest after) in
     let was : IsWorking _ = record { clean = before.clean; is_open = before.is_open } in
-    IfOk-at_ok _ opened c.adopt.ensures.honest was
+    c.in-Ok.ensures.honest was
+
+pub returns-in-Ok-clause-clean : goal.returns-in-Ok-clause-clean
+returns-in-Ok-clause-clean g c = λ clean.
+    let begun : c.new-desk.result.books ≡ c.in-Ok.books = search rules in
+    let ended : c.into_books-in-Ok.result ≡ c.run-end.new.desk.books = search rules in
+    let after = subst (λ held. HasCleanDisk (state g.S.Store held)) (c.into_connection.ensures.same ∙ ap (λ (b : Kept _). b.conn) ended) clean in
+    c.in-Ok.ensures.clean (subst (λ (b : Kept _). HasCleanDisk (state g.S.Store b.conn)) begun (c.run-end.ensures.clean after))
+
+pub returns-in-Err-clause-refused : goal.returns-in-Err-clause-refused
+returns-in-Err-clause-refused g c = λ clean is_open settled db may.
+    let was : IsWorking _ = record { clean = c.in-Err.ensures.clean_refused clean; is_open = is_open } in
+    elim (c.in-Err.ensures.crash_refused was clean db may) [
+      | inl left ↦ inl (g.met.S.Store.settled c.args.conn.store db is_open left ∙ ap (λ (d : Database). d.trees) (sym settled))
+      | inr raised ↦ inr raised
+    ]
