@@ -86,6 +86,56 @@ fn ends_where_a_read_fails(rt: HostRuntime) {
     fail_read(&rt, new_books(&rt));
 }
 
+/// Six lines: the office adds two users, each of whom claims a name that is then held.
+const LINES: &str =
+    r#"{"at":1,"token":"office","do":"add_user","user":"ann","office":false,"token_sha256":"ba7816bf8f01cfea414140de5dae2223b00361a396177a9cb410ff61f20015ad"}
+{"at":1,"token":"office","do":"add_user","user":"bob","office":false,"token_sha256":"2cf24dba5fb0a30e26e83b2ac5b9e29e1b161e5c1fa7425e73043362938b9824"}
+{"at":2,"token":"abc","do":"claim","name":"Frob._-Nest"}
+{"at":3,"token":"abc","do":"claim","name":"frob-nest"}
+{"at":4,"token":"hello","do":"claim","name":"FROB.NEST"}
+{"do":"standing","name":"frob_nest"}
+"#;
+
+const ANSWERS: &str = r#"{"answer":"accepted"}
+{"answer":"accepted"}
+{"answer":"accepted"}
+{"answer":"already"}
+{"answer":"refused","code":19,"name":"NameHeld"}
+{"case":null,"charge":0,"name":"frob-nest","owners":["ann"],"quota":1073741824,"shown":"Frob._-Nest","state":"held"}
+"#;
+
+/// How many lines are whole.
+fn whole_lines(front: &[u8]) -> usize {
+    let mut count = 0usize;
+    for byte in front {
+        if *byte == b'\n' {
+            count = count.saturating_add(1);
+        }
+    }
+    count
+}
+
+/// A read fails behind this front of the lines: those that came whole are answered, and no other is.
+fn fail_behind<B: Books + Drop>(rt: &(impl Abort + AllocGlobal), books: B, front: &[u8]) {
+    let mut answers = String::new(rt.alloc());
+    for answer in ANSWERS.lines().take(whole_lines(front)) {
+        answers.push_str(answer).expect(rt, answer);
+        answers.push('\n').expect(rt, answer);
+    }
+    let mut desk = Desk::new(books);
+    let reader = FailingReader { rest: front };
+    let ended = Err(LineEnd::ReadFault);
+    assert_run(rt, &mut desk, reader, ended, answers.as_str());
+}
+
+#[test]
+fn each_read_of_lines_fails_in_turn(rt: HostRuntime) {
+    let lines = LINES.as_bytes();
+    for count in 0..lines.len() {
+        fail_behind(&rt, new_books(&rt), &lines[..count]);
+    }
+}
+
 /// A writer takes these bytes of the first answer.
 fn cut<B: Books>(rt: &(impl Abort + AllocGlobal), desk: &mut Desk<B>, taken: &str, fails: bool) {
     let mut writer = FullWriter {

@@ -109,11 +109,12 @@ pub(super) enum BooksCall {
     WalkFiles,
 }
 
-/// Books of which one call fails. No contract knows what they hold.
+/// Books of which one call fails, after so many that didn't. No contract knows what they hold.
 pub(super) struct FailingBooks<B: Books + Drop> {
     pub(super) books: B,
     pub(super) failing: BooksCall,
     pub(super) fault: Fault,
+    pub(super) after: u32,
 }
 
 impl<B: Books + Drop> Drop for FailingBooks<B> {
@@ -122,17 +123,31 @@ impl<B: Books + Drop> Drop for FailingBooks<B> {
             books: _books,
             failing: _failing,
             fault: _fault,
+            after: _after,
         } = self;
     }
 }
 
 impl<B: Books + Drop> FailingBooks<B> {
+    /// Whether this call fails now.
+    fn fails(&mut self, call: BooksCall) -> bool {
+        if self.failing != call {
+            return false;
+        }
+        if self.after == 0 {
+            return true;
+        }
+        self.after -= 1;
+        false
+    }
+
     /// The books, of which no call fails.
     pub(super) fn into_books(self) -> B {
         let FailingBooks {
             books,
             failing: _failing,
             fault: _fault,
+            after: _after,
         } = self;
         books
     }
@@ -162,14 +177,14 @@ impl<B: Books + Drop> Books for FailingBooks<B> {
     ghost failures = { λ _. last_count };
 
     fn view(&mut self, alloc: Global, keys: &Keys) -> Result<View, Fault> {
-        if self.failing == BooksCall::View {
+        if self.fails(BooksCall::View) {
             return Err(self.fault);
         }
         self.books.view(alloc, keys)
     }
 
     fn write(&mut self, alloc: Global, change: Change) -> Result<(), Fault> {
-        if self.failing == BooksCall::Write {
+        if self.fails(BooksCall::Write) {
             drop(change);
             return Err(self.fault);
         }
@@ -177,35 +192,35 @@ impl<B: Books + Drop> Books for FailingBooks<B> {
     }
 
     fn owners_of(&mut self, alloc: Global, name: &NormalName) -> Result<Owners, Fault> {
-        if self.failing == BooksCall::OwnersOf {
+        if self.fails(BooksCall::OwnersOf) {
             return Err(self.fault);
         }
         self.books.owners_of(alloc, name)
     }
 
     fn bytes_of(&mut self, alloc: Global, file: &FileName) -> Result<Option<Sealed>, Fault> {
-        if self.failing == BooksCall::BytesOf {
+        if self.fails(BooksCall::BytesOf) {
             return Err(self.fault);
         }
         self.books.bytes_of(alloc, file)
     }
 
     fn names(&mut self, alloc: Global) -> Result<Vec<NameRow>, Fault> {
-        if self.failing == BooksCall::Names {
+        if self.fails(BooksCall::Names) {
             return Err(self.fault);
         }
         self.books.names(alloc)
     }
 
     fn files_of(&mut self, alloc: Global, name: &NormalName) -> Result<Vec<FileRow>, Fault> {
-        if self.failing == BooksCall::FilesOf {
+        if self.fails(BooksCall::FilesOf) {
             return Err(self.fault);
         }
         self.books.files_of(alloc, name)
     }
 
     fn walk_held<K: NameTaker>(&mut self, alloc: Global, taker: &mut K) -> Result<(), WalkEnd> {
-        if self.failing == BooksCall::WalkHeld {
+        if self.fails(BooksCall::WalkHeld) {
             return Err(WalkEnd::from(self.fault));
         }
         self.books.walk_held(alloc, taker)
@@ -217,7 +232,7 @@ impl<B: Books + Drop> Books for FailingBooks<B> {
         name: &NormalName,
         taker: &mut K,
     ) -> Result<(), WalkEnd> {
-        if self.failing == BooksCall::WalkFiles {
+        if self.fails(BooksCall::WalkFiles) {
             return Err(WalkEnd::from(self.fault));
         }
         self.books.walk_files(alloc, name, taker)

@@ -26,6 +26,7 @@ fn failing_desk<B: Books + Drop>(
         books: desk.into_books(),
         failing: call,
         fault,
+        after: 0,
     })
 }
 
