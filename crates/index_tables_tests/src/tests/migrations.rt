@@ -1,4 +1,4 @@
-//! Tables of version 1 are adopted.
+//! Tables that SQL made are adopted, those of version 1 and those of version 2.
 use super::{
     ACCEPTED, CHARGED, FILE_NAME_TAKEN, OTHER_UPLOAD, STANDING, UNCHARGED, UPLOAD, VERSION, adopt,
     assert_adopted, assert_number, connection_of, desk_over, new_database, refused, run,
@@ -89,4 +89,28 @@ fn tables_that_are_not_there_are_missed(rt: HostRuntime) {
     assert_refused(&rt, new_database(&rt), no_bans, OpenFault::NotAnIndex, 2);
     let third = "UPDATE meta SET version = 3";
     assert_refused(&rt, new_database(&rt), third, OpenFault::OtherVersion, 3);
+}
+
+/// What version 2 has beside the tables of version 1.
+const BANS: &str = "
+CREATE TABLE bans (file TEXT NOT NULL PRIMARY KEY REFERENCES files (file)) STRICT";
+
+/// They are of version 2, and the file is banned.
+const BANNED_FILE: &str = "
+UPDATE meta SET version = 2;
+INSERT INTO bans VALUES ('frob-1.0.tar.gz')";
+
+/// A file that is banned is not uploaded again.
+const FILE_BANNED: &str = r#"{"answer":"refused","code":25,"name":"FileBanned"}"#;
+
+fn adopt_second_version<S: Alter + Drop>(rt: &(impl Abort + AllocGlobal), conn: Connection<S>) {
+    let mut conn = with_first_version(rt, conn);
+    run(rt, &mut conn, BANS);
+    run(rt, &mut conn, BANNED_FILE);
+    assert_adopted(rt, conn, &[[STANDING, UNCHARGED], [UPLOAD, FILE_BANNED]]);
+}
+
+#[test]
+fn tables_of_the_second_version_are_adopted(rt: HostRuntime) {
+    adopt_second_version(&rt, new_database(&rt));
 }

@@ -114,6 +114,20 @@ fn other_tables_are_no_index(rt: HostRuntime) {
     );
 }
 
+/// Tables `meta` that other programs keep.
+const OTHER_META: &[&str] = &[
+    "CREATE TABLE meta (key TEXT PRIMARY KEY, value TEXT); INSERT INTO meta VALUES ('version', '1')",
+    "CREATE TABLE meta (id INTEGER PRIMARY KEY, version INTEGER)",
+];
+
+#[test]
+fn the_meta_of_another_program_is_no_index(rt: HostRuntime) {
+    for sql in OTHER_META {
+        let query = "SELECT count(*) FROM sqlite_schema WHERE type = 'table'";
+        assert_not_adopted(&rt, new_database(&rt), sql, OpenFault::NotAnIndex, query, 1);
+    }
+}
+
 #[test]
 fn another_row_of_meta_is_refused(rt: HostRuntime) {
     let kind = "UPDATE meta SET kind = 'index'";
@@ -122,6 +136,8 @@ fn another_row_of_meta_is_refused(rt: HostRuntime) {
     assert_changed(&rt, new_database(&rt), third, OpenFault::OtherVersion, 3);
     let ninth = "UPDATE meta SET version = 9";
     assert_changed(&rt, new_database(&rt), ninth, OpenFault::OtherVersion, 9);
+    let below = "UPDATE meta SET version = -1";
+    assert_changed(&rt, new_database(&rt), below, OpenFault::OtherVersion, -1);
 }
 
 /// Tables by the names of those of an index, of which one is not as an index has it.
@@ -152,4 +168,26 @@ fn make_beside<S: Alter + Drop>(rt: &(impl Abort + AllocGlobal), conn: Connectio
 #[test]
 fn an_index_is_made_in_an_empty_database_alone(rt: HostRuntime) {
     make_beside(&rt, new_database(&rt));
+}
+
+/// No index is made beside what is there, which is no table of an index.
+fn assert_among_others<S: Alter + Drop>(
+    rt: &(impl Abort + AllocGlobal),
+    conn: Connection<S>,
+    sql: &str,
+) {
+    let mut conn = conn;
+    run(rt, &mut conn, sql);
+    let conn = refused(rt, create(rt, conn), OpenFault::Store);
+    let mut conn = refused(rt, adopt(rt, conn), OpenFault::NotAnIndex);
+    assert_number(rt, &mut conn, COUNT, 1);
+    drop(conn);
+}
+
+#[test]
+fn no_index_is_made_among_other_tables(rt: HostRuntime) {
+    let table = "CREATE TABLE note (id INTEGER PRIMARY KEY) STRICT";
+    assert_among_others(&rt, new_database(&rt), table);
+    let view = "CREATE VIEW note AS SELECT 1";
+    assert_among_others(&rt, new_database(&rt), view);
 }

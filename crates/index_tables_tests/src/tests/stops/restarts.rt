@@ -1,11 +1,13 @@
 //! An index whose files are closed and opened again.
 use super::super::{
-    ACCEPTED, ALREADY, CHARGED, CLAIM, DELETE, FILE, FROB, STANDING, assert_adopted, create,
-    refused,
+    ACCEPTED, ALREADY, CHARGED, CLAIM, DELETE, FILE, FROB, STANDING, adopt, assert_adopted, create,
+    refused, run,
 };
-use super::files::closed;
+use super::files::{closed, new_files};
 use super::{files_after, reopened};
+use index_digest::Digest256;
 use index_rules::OpenFault;
+use index_tables::SqlBooks;
 use sqlite::{Alter, Connection};
 use std::alloc::AllocGlobal;
 use std::process::Abort;
@@ -32,4 +34,39 @@ fn files_hold_one_index(rt: HostRuntime) {
     let files = files_after(&rt, &[FROB, FILE]);
     let files = closed(assert_made(&rt, reopened(&rt, files)));
     assert_adopted(&rt, reopened(&rt, files), &[[STANDING, CHARGED]]);
+}
+
+/// Files with nothing in them hold no index, and none is made for a user who has no user id.
+fn assert_no_office<S: Alter + Drop>(
+    rt: &(impl Abort + AllocGlobal),
+    conn: Connection<S>,
+) -> Connection<S> {
+    let conn = refused(rt, adopt(rt, conn), OpenFault::NotAnIndex);
+    assert!(rt; conn.is_autocommit());
+    let books = SqlBooks::create(rt.alloc(), conn, b"Office", Digest256::of(b"office"));
+    refused(rt, books, OpenFault::BadFirstUser)
+}
+
+#[test]
+fn files_with_nothing_in_them_hold_no_index(rt: HostRuntime) {
+    let files = closed(assert_no_office(&rt, reopened(&rt, new_files(&rt))));
+    drop(assert_no_office(&rt, reopened(&rt, files)));
+}
+
+/// The index tells version 9.
+fn with_version_9<S: Alter + Drop>(rt: &impl Abort, conn: Connection<S>) -> Connection<S> {
+    let mut conn = conn;
+    run(rt, &mut conn, "UPDATE meta SET version = 9");
+    conn
+}
+
+fn assert_other_version<S: Alter + Drop>(rt: &(impl Abort + AllocGlobal), conn: Connection<S>) {
+    drop(refused(rt, adopt(rt, conn), OpenFault::OtherVersion));
+}
+
+#[test]
+fn another_version_is_found_again(rt: HostRuntime) {
+    let files = files_after(&rt, &[FROB, FILE]);
+    let files = closed(with_version_9(&rt, reopened(&rt, files)));
+    assert_other_version(&rt, reopened(&rt, files));
 }
