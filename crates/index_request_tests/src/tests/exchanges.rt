@@ -68,6 +68,7 @@ macro_rules! json_reply {
     };
 }
 
+mod bans;
 mod fakes;
 mod faults;
 mod files;

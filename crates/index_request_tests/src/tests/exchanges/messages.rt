@@ -70,6 +70,18 @@ const FAULTY: &[[&str; 2]] = &[
     ],
     [post!("abc", "2", "{}"), BAD_BODY],
     [post!("abc", "2", "{}{}"), BAD_BODY],
+    [
+        post!(
+            "abc",
+            "49",
+            r#"{"at":1,"token":"abc","do":"claim","name":"frob"}"#
+        ),
+        BAD_BODY,
+    ],
+    [
+        post!("abc", "31", r#"{"do":"standing","name":"frob"}"#),
+        BAD_BODY,
+    ],
 ];
 
 /// None of them changed anything.

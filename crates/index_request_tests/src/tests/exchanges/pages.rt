@@ -27,7 +27,11 @@ fn a_page_of_no_names(rt: HostRuntime) {
 }
 
 /// The reply has 168 bytes, of which the body has 59.
-const NAMES: &[[&str; 2]] = &[[ROOT_IN_JSON, NAMES_IN_JSON]];
+const NAMES: &[[&str; 2]] = &[[ROOT_IN_JSON, NAMES_IN_JSON], [TWO_FIELDS, NAMES_IN_JSON]];
+
+/// The values of two `Accept` fields are one list (RFC 9110, section 5.3).
+const TWO_FIELDS: &str =
+    look!("GET /simple/" "Accept: text/html;q=0.5" "Accept: application/vnd.pypi.simple.v1+json");
 
 const NAMES_IN_JSON: &str =
     "HTTP/1.1 200 OK\r\nContent-Type: application/vnd.pypi.simple.v1+json\r\nContent-Length: 59\r\nConnection: close\r\n\r\n{\"meta\":{\"api-version\":\"1.1\"},\"projects\":[{\"name\":\"frob\"}]}";
@@ -83,6 +87,15 @@ const WAYS: &[[&str; 2]] = &[
         look!("GET /simple"),
         "HTTP/1.1 301 Moved Permanently\r\nLocation: /simple/\r\nContent-Length: 0\r\nConnection: close\r\n\r\n",
     ],
+    [
+        look!("HEAD /simple/Frob"),
+        reply!(
+            "301 Moved Permanently",
+            ["Location: /simple/frob/"],
+            "0",
+            ""
+        ),
+    ],
     [look!("GET /simple/-/"), NO_PROJECT],
 ];
 
@@ -102,6 +115,10 @@ const NO_TYPE: &[[&str; 2]] = &[
     [look!("GET /simple/nest/" "Accept: */*;q=0"), NO_PROJECT],
     [look!("GET /simple/frob/" "Accept: */*;q=0"), NOT_ACCEPTABLE],
     [look!("GET /simple/" "Accept: */*;q=0"), NOT_ACCEPTABLE],
+    [
+        look!("HEAD /simple/" "Accept: */*;q=0"),
+        json_reply!("406 Not Acceptable", "43", ""),
+    ],
 ];
 
 #[test]

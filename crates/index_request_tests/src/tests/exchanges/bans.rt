@@ -1,0 +1,65 @@
+//! Banned files: what is left of them for those who ask.
+use super::{
+    ACCEPTED, ALREADY, BYTES, CHARGED, FILE, FROB, GET, NO_FILE, PUT, USERS, assert_exchanges,
+};
+
+const PAGE: &str = look!("GET /simple/frob/" "Accept: application/vnd.pypi.simple.v1+json");
+
+/// The file and its page are asked for. What is kept of them at hand goes with the ban.
+const ASKED: &[[&str; 2]] = &[
+    [GET, BYTES],
+    [
+        PAGE,
+        reply!(
+            "200 OK",
+            ["Content-Type: application/vnd.pypi.simple.v1+json"],
+            "236",
+            r#"{"files":[{"filename":"frob-1.0.tar.gz","hashes":{"sha256":"ba7816bf8f01cfea414140de5dae2223b00361a396177a9cb410ff61f20015ad"},"size":3,"url":"/files/frob/frob-1.0.tar.gz"}],"meta":{"api-version":"1.1"},"name":"frob","versions":["1.0"]}"#
+        ),
+    ],
+    CHARGED,
+];
+
+/// The office bans the file. Its bytes are gone, the page does not list it, and nobody can upload it again.
+const BANNED: &[[&str; 2]] = &[
+    [BAN, ACCEPTED],
+    [GET, NO_FILE],
+    [look!("HEAD /files/frob/frob-1.0.tar.gz"), NO_FILE_HEAD],
+    [PAGE, NO_FILES],
+    [look!("GET /names/frob"), UNCHARGED],
+    [PUT, FILE_BANNED],
+    [BAN, ALREADY],
+    [GET, NO_FILE],
+];
+
+const BAN: &str = post!(
+    "office",
+    "42",
+    r#"{"do":"ban_file","file":"frob-1.0.tar.gz"}"#
+);
+
+const NO_FILE_HEAD: &str = json_reply!("404 Not Found", "46", "");
+
+const NO_FILES: &str = reply!(
+    "200 OK",
+    ["Content-Type: application/vnd.pypi.simple.v1+json"],
+    "69",
+    r#"{"files":[],"meta":{"api-version":"1.1"},"name":"frob","versions":[]}"#
+);
+
+const UNCHARGED: &str = json_reply!(
+    "200 OK",
+    "104",
+    r#"{"case":null,"charge":0,"name":"frob","owners":["ann"],"quota":1073741824,"shown":"frob","state":"held"}"#
+);
+
+const FILE_BANNED: &str = json_reply!(
+    "403 Forbidden",
+    "50",
+    r#"{"answer":"refused","code":25,"name":"FileBanned"}"#
+);
+
+#[test]
+fn a_banned_file_is_gone(rt: HostRuntime) {
+    assert_exchanges(&rt, &[USERS, FROB, FILE, ASKED, BANNED]);
+}
