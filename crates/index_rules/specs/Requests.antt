@@ -1,5 +1,5 @@
 -- The readable parts of a request.
-use Rattle.std.specs.Prelude.{◌⊎◌, Bool, true, false, Option, Some, None, IsSome, option_map}
+use Rattle.std.specs.Prelude.{◌≡◌, ◌⊎◌, Bool, true, false, Option, Some, None, IsSome, option_map, Result, IfOk, IfErr}
 use Rattle.index_names.specs.Project.{read_name}
 use Rattle.index_names.specs.FileName.{read_file_name, project_of}
 use Rattle.index_names.specs.Release.{read_release}
@@ -94,6 +94,11 @@ keys_of call = keys_of_request (Some call.token) call.request
 abbrev pub HasReadableKey : Request → Type 0
 HasReadableKey request =
     IsSome (user_key request) ⊎ IsSome (name_key request) ⊎ IsSome (file_key request) ⊎ IsSome (release_key request)
+
+-- what is looked up for a request was read, or memory ran out over what can be read of it
+pub record ReadsKeys {E : Type 0} (caller : Option Bytes) (request : Request) (result : Result Keys E) : Type 0 where
+  pub keys : IfOk result (λ keys. keys ≡ keys_of_request caller request)
+  pub readable : IfErr result (λ _. HasReadableKey request)
 
 -- a name alone
 abbrev pub keys_of_name : Bytes → Keys

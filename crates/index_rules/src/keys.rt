@@ -2,7 +2,7 @@
 ghost use Rattle.std.specs.Prelude.{◌≡◌, IfOk, IfErr, IsSome, option_map};
 ghost use Rattle.index_names.specs.FileName.{project_of};
 ghost use Rattle.index_rules.specs.declared.call.Request.TheVariants.{AddOwner, Claim, Delete, SetToken, Unyank};
-ghost use Rattle.index_rules.specs.Requests.{HasReadableKey, keys_of_request, keys_of, keys_of_name};
+ghost use Rattle.index_rules.specs.Requests.{HasReadableKey, ReadsKeys, keys_of, keys_of_name};
 
 use crate::answer::Fault;
 use crate::bytes::Bytes;
@@ -103,8 +103,7 @@ fn user_keys(
     user: &Bytes,
     token: &Bytes,
 ) -> Result<Keys, AllocError>
-    ensures keys { IfOk result (λ keys. keys ≡ keys_of_request caller (SetToken user.now token.now)) }
-    ensures readable { IfErr result (λ _. HasReadableKey (SetToken user.now token.now)) }
+    ensures { ReadsKeys caller (SetToken user.now token.now) result }
 {
     Ok(Keys {
         caller,
@@ -118,8 +117,7 @@ fn user_keys(
 
 /// The name that a call speaks of.
 fn name_keys(alloc: Global, caller: Option<Digest256>, name: &Bytes) -> Result<Keys, AllocError>
-    ensures keys { IfOk result (λ keys. keys ≡ keys_of_request caller (Claim name.now)) }
-    ensures readable { IfErr result (λ _. HasReadableKey (Claim name.now)) }
+    ensures { ReadsKeys caller (Claim name.now) result }
 {
     Ok(Keys {
         caller,
@@ -138,8 +136,7 @@ fn owner_keys(
     name: &Bytes,
     user: &Bytes,
 ) -> Result<Keys, AllocError>
-    ensures keys { IfOk result (λ keys. keys ≡ keys_of_request caller (AddOwner name.now user.now)) }
-    ensures readable { IfErr result (λ _. HasReadableKey (AddOwner name.now user.now)) }
+    ensures { ReadsKeys caller (AddOwner name.now user.now) result }
 {
     Ok(Keys {
         caller,
@@ -158,8 +155,7 @@ fn release_keys(
     name: &Bytes,
     release: &Bytes,
 ) -> Result<Keys, AllocError>
-    ensures keys { IfOk result (λ keys. keys ≡ keys_of_request caller (Unyank name.now release.now)) }
-    ensures readable { IfErr result (λ _. HasReadableKey (Unyank name.now release.now)) }
+    ensures { ReadsKeys caller (Unyank name.now release.now) result }
 {
     Ok(Keys {
         caller,
@@ -173,8 +169,7 @@ fn release_keys(
 
 /// The file and the project that its name decides.
 fn file_keys(alloc: Global, caller: Option<Digest256>, file: &Bytes) -> Result<Keys, AllocError>
-    ensures keys { IfOk result (λ keys. keys ≡ keys_of_request caller (Delete file.now)) }
-    ensures readable { IfErr result (λ _. HasReadableKey (Delete file.now)) }
+    ensures { ReadsKeys caller (Delete file.now) result }
 {
     let file = readable_file(alloc, file)?;
     let name = project_of_file(&file)?;
