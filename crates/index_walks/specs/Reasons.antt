@@ -12,4 +12,5 @@ use Rattle.index_schema.specs.RecordRows.{AreRecords}
 -- or since they are more than it counts
 abbrev pub EndsForReason : {S A R : Type 0} → Ghosts S → Held S → Held S → List R → Result A WalkEnd → Type 0
 EndsForReason g old new rows result =
-    HasCleanDisk (state g new) → AreRecords (state g old).now → IfErr result (λ end. end ≡ Store → HasReason (state g old) (state g new) ⊎ (2 ^ 64 - 1 ≤ length rows))
+    HasCleanDisk (state g new) → AreRecords (state g old).now
+    → IfErr result (λ end. end ≡ Store → HasReason (state g old) (state g new) ⊎ (2 ^ 64 - 1 ≤ length rows))

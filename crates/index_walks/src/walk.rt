@@ -5,10 +5,9 @@ ghost use Rattle.sqlite.specs.State.{HasCleanDisk};
 ghost use Rattle.index_looks.specs.Looks.{IsKept, Looks};
 ghost use Rattle.index_rules.specs.declared.rows.FileRow.{FileRow as FileRowData};
 ghost use Rattle.index_rules.specs.declared.rows.NameRow.{NameRow as NameRowData};
-ghost use Rattle.index_rules.specs.TableRows.{file_rows_in, held_rows_in};
 ghost use Rattle.index_rules.specs.Walks.{Walks, has_fault};
-ghost use Rattle.index_schema.specs.Records.{tables_in};
 ghost use Rattle.index_walks.specs.Reasons.{EndsForReason};
+ghost use Rattle.index_walks.specs.WalkedRows.{file_rows_of, held_rows_of};
 
 use crate::hand::{Files, Names};
 use crate::rows::walk;
@@ -21,8 +20,8 @@ use std::alloc::Global;
 ///
 /// # Errors
 /// `Stopped` exactly where the taker answered `false`. `OutOfMemory` for want of memory, and `Store` where the store
-/// fails, a row is no name, or there are 18,446,744,073,709,551,615 of them or more. Whatever the store does, the taker is given some rows in this way, and nothing else is
-/// done to it.
+/// fails, a row is no name, or there are 18,446,744,073,709,551,615 of them or more. Whatever the store does, the taker
+/// is given some rows in this way, and nothing else is done to it.
 pub fn walk_held<S: Alter, K: NameTaker>(
     alloc: Global,
     conn: &mut Connection<S>,
@@ -31,12 +30,12 @@ pub fn walk_held<S: Alter, K: NameTaker>(
     requires outside { conn.old.in_transaction ≡ false }
     requires kept { IsKept S.Store conn.old }
     ensures walked { HasCleanDisk (state S.Store conn.new) →
-        let rows = held_rows_in (tables_in (state S.Store conn.old).now.trees) in
+        let rows = held_rows_of S.Store conn.old in
         Walks K.takes K.stops rows taker.old taker.new result }
     ensures given { (rows : List NameRowData) ×
         Walks K.takes K.stops rows taker.old taker.new result }
     ensures looks { Looks S.Store conn.old conn.new (not (has_fault result)) }
-    ensures reason { let rows = held_rows_in (tables_in (state S.Store conn.old).now.trees) in
+    ensures reason { let rows = held_rows_of S.Store conn.old in
         EndsForReason S.Store conn.old conn.new rows result }
 {
     walk::<S, K, Names>(
@@ -53,8 +52,8 @@ pub fn walk_held<S: Alter, K: NameTaker>(
 ///
 /// # Errors
 /// `Stopped` exactly where the taker answered `false`. `OutOfMemory` for want of memory, and `Store` where the store
-/// fails, a row is no file, or there are 18,446,744,073,709,551,615 of them or more. Whatever the store does, the taker is given some rows in this way, and nothing else is
-/// done to it.
+/// fails, a row is no file, or there are 18,446,744,073,709,551,615 of them or more. Whatever the store does, the taker
+/// is given some rows in this way, and nothing else is done to it.
 pub fn walk_files<S: Alter, K: FileTaker>(
     alloc: Global,
     conn: &mut Connection<S>,
@@ -64,12 +63,12 @@ pub fn walk_files<S: Alter, K: FileTaker>(
     requires outside { conn.old.in_transaction ≡ false }
     requires kept { IsKept S.Store conn.old }
     ensures walked { HasCleanDisk (state S.Store conn.new) →
-        let rows = file_rows_in (tables_in (state S.Store conn.old).now.trees) name.now in
+        let rows = file_rows_of S.Store conn.old name.now in
         Walks K.takes K.stops rows taker.old taker.new result }
     ensures given { (rows : List FileRowData) ×
         Walks K.takes K.stops rows taker.old taker.new result }
     ensures looks { Looks S.Store conn.old conn.new (not (has_fault result)) }
-    ensures reason { let rows = file_rows_in (tables_in (state S.Store conn.old).now.trees) name.now in
+    ensures reason { let rows = file_rows_of S.Store conn.old name.now in
         EndsForReason S.Store conn.old conn.new rows result }
 {
     walk::<S, K, Files>(
