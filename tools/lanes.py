@@ -63,7 +63,10 @@ def is_fresh(rt, crate, known, of_ci):
 
 def libraries_of_ci(rt, crates):
     """Returns the names of the libraries that stand as `rt ci` keeps them on this machine for these sources, over
-    libraries below that do so too. An earlier run may have made them, so their times tell nothing."""
+    libraries below that do so too. An earlier run may have made them, so their times tell nothing. Some revisions of
+    the kit keep nothing: then there are none."""
+    if not hasattr(rt, "Kept"):
+        return set()
     rt.Crate.allowed, found = rt.handles_of(ROOT), set()
     kept = rt.Kept(crates)
     for it in crates:
