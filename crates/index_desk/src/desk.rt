@@ -67,6 +67,13 @@ impl<B> Desk<B> {
 }
 
 impl<B: Books> Desk<B> {
+    /// How many calls of the books answered a fault, up to 18,446,744,073,709,551,615.
+    pub fn failure_count(&self) -> u64
+        ensures { result ≡ B.failures self.now }
+    {
+        self.books.failure_count()
+    }
+
     /// Takes one call. After a refusal, an `Already` or a fault the tables are what they were.
     pub fn apply(&mut self, alloc: Global, call: Call) -> Answer
         // The answer is the verdict on the tables as they are, or a fault.

@@ -148,6 +148,10 @@ impl Books for PlainBooks {
 
     ghost failures = { failures_of };
 
+    fn failure_count(&self) -> u64 {
+        self.failures
+    }
+
     fn view(&mut self, alloc: Global, keys: &Keys) -> Result<View, Fault>
         ensures found { IfOk result (Sees (tables_of self.old) keys.now) }
         ensures unchanged { tables_of self.new ≡ tables_of self.old }

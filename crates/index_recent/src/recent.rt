@@ -94,6 +94,10 @@ impl<B: Books> Books for Recent<B> {
 
     ghost failures = { λ recent. B.failures recent.books };
 
+    fn failure_count(&self) -> u64 {
+        self.books.failure_count()
+    }
+
     fn view(&mut self, alloc: Global, keys: &Keys) -> Result<View, Fault> {
         self.books.view(alloc, keys)
     }

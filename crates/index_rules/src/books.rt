@@ -38,6 +38,10 @@ pub trait Books {
     /// How many calls answered a fault, up to 18,446,744,073,709,551,615.
     ghost failures: { Self → ℕ };
 
+    /// How many calls answered a fault, up to 18,446,744,073,709,551,615.
+    fn failure_count(&self) -> u64
+        ensures { result ≡ failures self.now };
+
     /// The records that the keys name. It changes no table.
     fn view(&mut self, alloc: Global, keys: &Keys) -> Result<View, Fault>
         ensures found { IsHonest self.new → IfOk result (Sees (tables self.old) keys.now) }

@@ -44,6 +44,10 @@ impl<S: Alter> Books for SqlBooks<S> {
 
     ghost failures = { λ books. books.failures };
 
+    fn failure_count(&self) -> u64 {
+        self.failures
+    }
+
     fn view(&mut self, alloc: Global, keys: &Keys) -> Result<View, Fault>
         ensures found { IsHonest (state S.Store self.new.conn)
             → IfOk result (Sees (tables_of S.Store self.old.conn) keys.now) }

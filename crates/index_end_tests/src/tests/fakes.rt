@@ -176,6 +176,10 @@ impl<B: Books + Drop> Books for FailingBooks<B> {
 
     ghost failures = { λ _. last_count };
 
+    fn failure_count(&self) -> u64 {
+        u64::MAX
+    }
+
     fn view(&mut self, alloc: Global, keys: &Keys) -> Result<View, Fault> {
         if self.fails(BooksCall::View) {
             return Err(self.fault);
