@@ -70,6 +70,14 @@ module _ {S : Type 0} (is_honest is_clean : S → Type 0) (tables : S → Tables
     are_given = (is_given, serves.are_given);
   }
 
+  -- a look after them
+  pub serves_look : (first now new : S) (T U : Tables) (given : Option ℕ) (count : ℕ) → LeavesTables is_honest is_clean tables may_leave now new
+      → ServesCalls (by_taken is_honest is_clean tables may_leave first now) given count T
+      → ServesCalls (by_taken is_honest is_clean tables may_leave first new) given count U
+  serves_look first now new T U given count looked =
+      ServesCalls-map (by_taken is_honest is_clean tables may_leave first now) (by_taken is_honest is_clean tables may_leave first new) given count T U
+      (λ calls answers taken. taken_look is_honest is_clean tables may_leave first now new calls answers looked taken)
+
 -- ---- by a history for which the tables stood
 
 module _ (h : History) (legal : IsLegal h) (S : Tables) (stands : StandsFor S h) (T : Tables) where

@@ -15,3 +15,4 @@ line_end_text OutOfMemory = codes "OutOfMemory"
 abbrev pub serve_end_text : ServeEnd → List ℕ
 serve_end_text serve_end.ReadFault = codes "ReadFault"
 serve_end_text serve_end.Clock = codes "Clock"
+serve_end_text serve_end.Store = codes "Store"

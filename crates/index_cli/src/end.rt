@@ -36,6 +36,8 @@ pub enum ServeEnd {
     ReadFault,
     /// The clock can't be read, or stands before 1970.
     Clock,
+    /// A fault has shut the store.
+    Store,
 }
 
 impl fmt::Display for ServeEnd {
@@ -48,6 +50,7 @@ impl fmt::Display for ServeEnd {
         f.write_str(match self {
             ServeEnd::ReadFault => "ReadFault",
             ServeEnd::Clock => "Clock",
+            ServeEnd::Store => "Store",
         })
     }
 }

@@ -1,5 +1,5 @@
 //! Connections from a listener, one after the other.
-ghost use Rattle.std.specs.Prelude.{◌≡◌, ℕ, IfErr, IfOk, IfSome};
+ghost use Rattle.std.specs.Prelude.{◌≡◌, ◌<◌, true, ℕ, Err, IfErr, IfOk, IfSome};
 ghost use Rattle.index_rules.specs.Facts.{HasOneBearer};
 ghost use Rattle.index_rules.specs.History.{History};
 ghost use Rattle.index_rules.specs.Legal.{IsLegal};
@@ -17,19 +17,29 @@ use index_desk::{Desk, Keeper};
 use index_http::{IoEnd, answer_one};
 use index_io::{Input, Output, Sink, Source};
 use index_message::Site;
+use index_names::normal;
+use index_rules::Fault;
 use std::alloc::Global;
 use std::fmt::Display;
 use std::io::{BufWriter, Write};
 use std::net::{TcpListener, TcpStream};
-use std::time::SystemTime;
+use std::time::{Duration, SystemTime};
+use std::{io, thread};
 
 /// How many bytes of a reply are gathered before they are sent: room for most pages.
 const GATHERED_BYTES: usize = 65_536;
 
+/// How often it is tried to accept a connection, and how many milliseconds are waited after each try.
+const ACCEPT_TRIES: u32 = 100;
+
+const ACCEPT_PAUSE: u64 = 10;
+
 /// Answers one message of each of so many connections, one connection after the other, at a moment in Unix seconds or at
 /// that of the clock. Why one of them ended early is named on standard error, and the next is served.
 ///
-/// `ReadFault` where a connection can't be accepted, and `Clock` where the clock can't be read or stands before 1970.
+/// `ReadFault` where no connection can be accepted for a second, `Clock` where the clock can't be read or stands before
+/// 1970, and `Store` where a fault has shut the store and more connections are to come: no further request of them could
+/// be answered, and a new opening goes on from what was committed.
 pub fn serve_connections<B: Keeper>(
     rt: &HostRuntime,
     listener: &TcpListener,
@@ -68,17 +78,54 @@ pub fn serve_connections<B: Keeper>(
         IsSound (B.tables desk.old) → IsSound (B.tables desk.new) }
     ensures honest { B.IsHonest desk.new → B.IsHonest desk.old }
     ensures clean { B.IsClean desk.new → B.IsClean desk.old }
+
+    // It ends so only where the store answered a fault.
+    ensures store { result ≡ Err ServeEnd.Store → 0 < B.failures desk.new }
 {
+    let mut was_shut = false;
     for _count in 0..requests {
-        let Ok((stream, _)) = listener.accept() else {
+        if was_shut {
+            return Err(ServeEnd::Store);
+        }
+        let Ok(stream) = next_connection(rt, listener) else {
             return Err(ServeEnd::ReadFault);
         };
         let moment = moment_of(rt, at)?;
+        let failures = desk.failure_count();
         if let Err(end) = answer_stream(rt, site, &stream, desk, moment) {
             tell(rt, end);
         }
+        was_shut = is_shut(rt.alloc(), desk, failures);
     }
     Ok(())
+}
+
+/// The next connection. Where none can be accepted it is tried again for a while, since the reason may pass: a client who
+/// is gone already, or as many open files as the system gives.
+fn next_connection(rt: &HostRuntime, listener: &TcpListener) -> io::Result<TcpStream> {
+    for _try in 1..ACCEPT_TRIES {
+        if let Ok((stream, _)) = listener.accept() {
+            return Ok(stream);
+        }
+        thread::sleep(rt, Duration::from_millis(ACCEPT_PAUSE));
+    }
+    let (stream, _) = listener.accept()?;
+    Ok(stream)
+}
+
+/// Whether a fault has shut the store: one was answered since there were so many, and a look is answered by one too.
+fn is_shut<B: Keeper>(alloc: Global, desk: &mut Desk<B>, failures: u64) -> bool
+    ensures leaves { LeavesTables B.IsHonest B.IsClean B.tables B.may_leave desk.old desk.new }
+    ensures store { result ≡ true → 0 < B.failures desk.new }
+{
+    let now = desk.failure_count();
+    if now == failures && now != u64::MAX {
+        return false;
+    }
+    let Ok(name) = normal(alloc, b"x") else {
+        return false;
+    };
+    matches!(desk.is_held(alloc, &name), Err(Fault::Store))
 }
 
 /// The moment that is given, or else that of the clock.

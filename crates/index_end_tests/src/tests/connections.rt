@@ -1,9 +1,11 @@
 //! Connections on loopback, each of which gets the reply to its message.
+use super::fakes::{BooksCall, FailingBooks};
 use super::{desk_with_users, new_books};
-use index_cli::serve_connections;
-use index_desk::Keeper;
+use index_cli::{ServeEnd, serve_connections};
+use index_desk::{Desk, Keeper};
 use index_message::Site;
 use index_recent::Recent;
+use index_rules::{Books, Fault};
 use std::alloc::AllocGlobal;
 use std::io::{Read, Write};
 use std::net::{Ipv4Addr, Net, SocketAddr, TcpListener, TcpStream};
@@ -18,6 +20,11 @@ const CLAIM: &str = concat!(
 const ACCEPTED: &str = concat!(
     "HTTP/1.1 200 OK\r\nContent-Type: application/json\r\nContent-Length: 21\r\nConnection: close\r\n\r\n",
     r#"{"answer":"accepted"}"#
+);
+
+const STORE: &str = concat!(
+    "HTTP/1.1 500 Internal Server Error\r\nContent-Type: application/json\r\nContent-Length: 33\r\nConnection: close\r\n\r\n",
+    r#"{"answer":"fault","name":"Store"}"#
 );
 
 /// A look at a name that nobody claimed.
@@ -72,4 +79,54 @@ fn connections_are_answered_in_turn(rt: HostRuntime) {
     let listener = TcpListener::bind(&rt, loopback).expect(&rt, "a port");
     let books = Recent::new(rt.alloc(), new_books(&rt), 0);
     assert_served(&rt, &rt, &listener, books);
+}
+
+/// A store that answers by `Store` alone ends the run with the connection in hand. One whose writes alone fail so does not.
+fn assert_ends<B: Keeper + Drop>(
+    rt: &(impl Abort + AllocGlobal + Net<Stream = TcpStream>),
+    host: &HostRuntime,
+    listener: &TcpListener,
+    books: B,
+    wanted: Result<(), ServeEnd>,
+) {
+    let site = Site::new(rt.alloc()).expect(rt, "routes");
+    let mut desk = Desk::new(books);
+    let address = listener.local_addr().expect(rt, "its address");
+    let ann = client(rt, address, CLAIM);
+    let other = client(rt, address, LOOK);
+    let ended = serve_connections(host, listener, 2, Some(2), &site, &mut desk);
+    assert!(rt; ended == wanted);
+    assert_replied(rt, ann, STORE);
+    drop(other);
+}
+
+/// Books over those with users, of which each call of a kind ends in `Store`.
+fn failing<B: Books + Drop>(
+    rt: &(impl Abort + AllocGlobal),
+    books: B,
+    failing: BooksCall,
+) -> Recent<FailingBooks<B>> {
+    let failing = FailingBooks {
+        books: desk_with_users(rt, books).into_books(),
+        failing,
+        fault: Fault::Store,
+        after: 0,
+    };
+    Recent::new(rt.alloc(), failing, 0)
+}
+
+#[test]
+fn a_store_that_is_shut_ends_the_run(rt: HostRuntime) {
+    let loopback = SocketAddr::from((Ipv4Addr::LOCALHOST, 0));
+    let listener = TcpListener::bind(&rt, loopback).expect(&rt, "a port");
+    let shut = failing(&rt, new_books(&rt), BooksCall::View);
+    assert_ends(&rt, &rt, &listener, shut, Err(ServeEnd::Store));
+}
+
+#[test]
+fn writes_that_fail_do_not_end_the_run(rt: HostRuntime) {
+    let loopback = SocketAddr::from((Ipv4Addr::LOCALHOST, 0));
+    let listener = TcpListener::bind(&rt, loopback).expect(&rt, "a port");
+    let full = failing(&rt, new_books(&rt), BooksCall::Write);
+    assert_ends(&rt, &rt, &listener, full, Ok(()));
 }

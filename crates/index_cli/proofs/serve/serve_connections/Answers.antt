@@ -2,27 +2,29 @@ use Rattle.std.proofs.Common.{◌≡◌, ◌<◌, ℕ, ◌∷◌, Result, Err, a
 use Rattle.index_rules.proofs.StandsOn.{sound_when_legal}
 use Rattle.index_cli.specs.declared.end.ServeEnd.{ServeEnd}
 use Rattle.index_cli.specs.Serving.{IsCount}
-use Rattle.index_cli.proofs.Crashes.{serves_crash, serves_crash_history, serves_push}
+use Rattle.index_cli.proofs.Crashes.{serves_crash, serves_crash_history, serves_look, serves_push}
 use Rattle.index_cli.proofs.serve.serve_connections.Goals as goal
 
+-- a connection is answered, and then a look is made, which changes no table
 pub loop-count-preserved : goal.loop-count-preserved
 loop-count-preserved g c =
+    let B = g.B.Books in
     let invariant = c.loop-count.invariant in
+    let looked = c.is_shut-was_shut.ensures.leaves in
+    let mid = λ (honest : B.IsHonest c.is_shut-was_shut.new.desk). c.answer_stream.ensures.honest (looked.honest honest) in
     record {
       tables = λ honest one.
-          let honest_then = c.answer_stream.ensures.honest honest in
-          let before = invariant.tables honest_then one in
-          record {
+          let before = invariant.tables (mid honest) one in
+          rw (looked.unchanged honest) (record {
             moments = c.in_ok-moment.moment ∷ before.moments;
-            answered = (_, before.answered, c.answer_stream.ensures.tables honest (invariant.one_bearer honest_then one));
+            answered = (_, before.answered, c.answer_stream.ensures.tables (looked.honest honest) (invariant.one_bearer (mid honest) one));
             counted = omega (arith, before.counted);
             are_given = (c.in_ok-moment.ensures.given, before.are_given);
-          };
+          });
       history = λ honest h legal stands.
-          let honest_then = c.answer_stream.ensures.honest honest in
-          let before = invariant.history honest_then h legal stands in
-          let it = c.answer_stream.ensures.history honest before.later before.legal before.stands in
-          record {
+          let before = invariant.history (mid honest) h legal stands in
+          let it = c.answer_stream.ensures.history (looked.honest honest) before.later before.legal before.stands in
+          rw (looked.unchanged honest) (record {
             later = it.later;
             serves = record {
               moments = c.in_ok-moment.moment ∷ before.serves.moments;
@@ -32,16 +34,17 @@ loop-count-preserved g c =
             };
             legal = it.legal;
             stands = it.stands;
-          };
+          });
       called =
-          let B = g.B.Books in
-          serves_push B.IsHonest B.IsClean B.tables B.may_leave _ _ _ _ _ _ _ _ c.in_ok-moment.ensures.given c.answer_stream.ensures.asks invariant.called;
+          serves_look B.IsHonest B.IsClean B.tables B.may_leave _ _ _ (B.tables c.answer_stream.new.desk) _ _ _ looked
+          (serves_push B.IsHonest B.IsClean B.tables B.may_leave _ _ _ _ _ _ _ _ c.in_ok-moment.ensures.given c.answer_stream.ensures.asks invariant.called);
       one_bearer = λ honest one.
-          c.answer_stream.ensures.one_bearer honest (invariant.one_bearer (c.answer_stream.ensures.honest honest) one);
+          rw (looked.unchanged honest) (c.answer_stream.ensures.one_bearer (looked.honest honest) (invariant.one_bearer (mid honest) one));
       sound = λ honest sound.
-          c.answer_stream.ensures.sound honest (invariant.sound (c.answer_stream.ensures.honest honest) sound);
-      honest = λ honest. invariant.honest (c.answer_stream.ensures.honest honest);
-      clean = λ clean. invariant.clean (c.answer_stream.ensures.clean clean);
+          rw (looked.unchanged honest) (c.answer_stream.ensures.sound (looked.honest honest) (invariant.sound (mid honest) sound));
+      honest = λ honest. invariant.honest (mid honest);
+      clean = λ clean. invariant.clean (c.answer_stream.ensures.clean (looked.clean clean));
+      shut = c.is_shut-was_shut.ensures.store;
     }
 
 -- ---- what a crash leaves
@@ -59,6 +62,17 @@ returns-in_default-clause-crash g c = λ honest clean one T left.
 pub returns-in_default-clause-crash_history : goal.returns-in_default-clause-crash_history
 returns-in_default-clause-crash_history g c = λ honest clean h legal stands T left.
     let it = returns-in_default-clause-crash g c honest clean (sound_when_legal h legal _ stands).one_bearer T left in
+    (it.0, it.1, serves_crash_history h legal _ stands T _ _ it.2)
+
+pub returns-then-was_shut-clause-crash : goal.returns-then-was_shut-clause-crash
+returns-then-was_shut-clause-crash g c = λ honest clean one T left.
+    let B = g.B.Books in
+    let less : c.loop-count._count < c.args.requests = search rules in
+    (c.loop-count._count, less, serves_crash B.IsHonest B.IsClean B.tables B.may_leave _ _ honest clean one T left _ _ _ c.loop-count.invariant.called)
+
+pub returns-then-was_shut-clause-crash_history : goal.returns-then-was_shut-clause-crash_history
+returns-then-was_shut-clause-crash_history g c = λ honest clean h legal stands T left.
+    let it = returns-then-was_shut-clause-crash g c honest clean (sound_when_legal h legal _ stands).one_bearer T left in
     (it.0, it.1, serves_crash_history h legal _ stands T _ _ it.2)
 
 pub returns-in_err-moment-clause-crash : goal.returns-in_err-moment-clause-crash

@@ -1,4 +1,4 @@
-use Rattle.std.proofs.Common.{ℕ}
+use Rattle.std.proofs.Common.{◌≡◌, ◌<◌, ℕ, true}
 use Rattle.index_rules.specs.Facts.{HasOneBearer}
 use Rattle.index_rules.specs.History.{History}
 use Rattle.index_rules.specs.Legal.{IsLegal}
@@ -23,4 +23,5 @@ invariant-loop-count g l =
       sound : honest → IsSound before → IsSound now;
       honest : honest → g.B.Books.IsHonest l.fn.desk;
       clean : g.B.Books.IsClean l.desk → g.B.Books.IsClean l.fn.desk;
+      shut : l.was_shut ≡ true → 0 < g.B.Books.failures l.desk;
     }

@@ -1,0 +1,82 @@
+"""A server whose database a failed sync has shut, and one that can't accept a connection for a moment."""
+import os
+import subprocess
+
+from failing import Failing, Fault
+from serving import Index, make_index
+
+OFFICE = {"X_Index_Token": "office"}
+ACCEPTED, ALREADY = b'{"answer":"accepted"}', b'{"answer":"already"}'
+STORE = b'{"answer":"fault","name":"Store"}'
+
+
+def claim(index, name):
+    """The status and the body of the reply to a claim."""
+    status, _, body = index.ask("POST", "/requests", b'{"do":"claim","name":"%s"}' % name, **OFFICE)
+    return status, body
+
+
+def is_held(index, name):
+    status, _, body = index.ask("GET", f"/names/{name}")
+    return status == 200 and b'"state":"held"' in body
+
+
+def end_of(index):
+    """The status that the server ends with by itself, or None where it goes on."""
+    try:
+        return index.process.wait(timeout=10)
+    except subprocess.TimeoutExpired:
+        return None
+
+
+def syncs_before(program, path, failing, under):
+    """How many syncs a server makes before its second claim."""
+    with Index(program, 2, path, more=failing.setting(under)) as index:
+        claim(index, b"a")
+        return failing.counted()["fdatasync"]
+
+
+def try_shut(program, folder, told):
+    """A sync fails once: the claim in hand is answered by Store, and the server ends with status 1. The next one has what
+    was acknowledged, and takes the claim again."""
+    under = f"{folder}/shut"
+    os.mkdir(under)
+    failing = Failing(folder)
+    before = syncs_before(program, make_index(program, f"{under}/first.db"), failing, under)
+    for later in range(2):
+        path = make_index(program, f"{under}/index{later}.db")
+        fault = Fault("fdatasync", before + 1 + later, "EIO", False)
+        with Index(program, 10, path, more=failing.setting(under, fault)) as index:
+            told(f"{fault}: the claim before", claim(index, b"a") == (200, ACCEPTED))
+            seen = claim(index, b"b")
+            told(f"{fault}: the claim in hand", seen == (500, STORE), seen)
+            status = end_of(index)
+            told(f"{fault}: its end", status == 1 and index.errors().startswith(b"index: Store\n"), (status, index.errors()))
+        with Index(program, 10, path) as index:
+            told(f"{fault}: what was acknowledged", is_held(index, "a"))
+            seen = claim(index, b"b")
+            told(f"{fault}: asked again", seen in ((200, ACCEPTED), (200, ALREADY)), seen)
+            told(f"{fault}: then it is there", is_held(index, "b"))
+
+
+def before_and_after_a_claim(index):
+    """What three clients are told, or why one of them is told nothing."""
+    try:
+        return [is_held(index, "a"), claim(index, b"a"), is_held(index, "a")]
+    except OSError as error:
+        return error
+
+
+def try_accepting(program, folder, told):
+    """A connection that can't be accepted is tried again, and no client sees it."""
+    under = f"{folder}/accepting"
+    os.mkdir(under)
+    failing = Failing(folder)
+    for how in ("EMFILE", "ENFILE", "ECONNABORTED"):
+        fault = Fault("accept", 2, how, False)
+        with Index(program, 3, f"{under}/{how}.db", more=failing.setting(under, fault)) as index:
+            seen = before_and_after_a_claim(index)
+            told(f"{fault}: the clients", seen == [False, (200, ACCEPTED), True], seen)
+            status = end_of(index)
+            told(f"{fault}: its end", (status, index.errors()) == (0, b""), (status, index.errors()))
+        told(f"{fault}: it was met", failing.counted()["failed"] == 1)
