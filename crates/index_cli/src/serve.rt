@@ -1,5 +1,5 @@
 //! Connections from a listener, one after the other.
-ghost use Rattle.std.specs.Prelude.{◌≡◌, ◌<◌, true, ℕ, Err, IfErr, IfOk, IfSome};
+ghost use Rattle.std.specs.Prelude.{◌≡◌, ◌<◌, true, ℕ, Err, None, IfErr, IfOk, IfSome, IsOk, IsSome};
 ghost use Rattle.index_rules.specs.Facts.{HasOneBearer};
 ghost use Rattle.index_rules.specs.History.{History};
 ghost use Rattle.index_rules.specs.Legal.{IsLegal};
@@ -79,7 +79,8 @@ pub fn serve_connections<B: Keeper>(
     ensures honest { B.IsHonest desk.new → B.IsHonest desk.old }
     ensures clean { B.IsClean desk.new → B.IsClean desk.old }
 
-    // It ends so only where the store answered a fault.
+    // It ends by the clock only where no moment is given, and as `Store` only where the store answered a fault.
+    ensures clock { result ≡ Err ServeEnd.Clock → at ≡ None }
     ensures store { result ≡ Err ServeEnd.Store → 0 < B.failures desk.new }
 {
     let mut was_shut = false;
@@ -131,6 +132,7 @@ fn is_shut<B: Keeper>(alloc: Global, desk: &mut Desk<B>, failures: u64) -> bool
 /// The moment that is given, or else that of the clock.
 fn moment_of(rt: &HostRuntime, at: Option<u64>) -> Result<u64, ServeEnd>
     ensures given { IfOk result (λ moment. IfSome at (λ given. moment ≡ given)) }
+    ensures always { IsSome at → IsOk result }
     ensures clock { IfErr result (λ end. end ≡ ServeEnd.Clock) }
 {
     match at {
