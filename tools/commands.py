@@ -145,6 +145,9 @@ def try_install(place):
     os.remove(f"{root}/usr/local/bin/uncache")
     ends("install over another's file", run(words), 1, f"OTHER   {edited}", "nothing was done")
     told("it did nothing", not os.path.exists(f"{root}/usr/local/bin/uncache"))
+    if shutil.which("systemctl"):
+        # links to what --remove takes away
+        run(["systemctl", f"--root={root}", "enable", "index.service", "index-backup.timer", "index-health.timer"])
     ends("install --remove", run([*words, "--remove"]), 1, f"LEFT    {edited}")
     left = sorted(os.path.join(at, it)[len(root):] for at, _, inside in os.walk(root) for it in inside)
     told("another's file is all that is left", left == ["/etc/nginx/conf.d/packages.conf"], left)
