@@ -122,14 +122,15 @@ def end_at_signals(ending):
 
 class Task:
     """A call, which gets how many jobs it may use, with the names of the tasks that it waits for, its weight
-    beside other tasks, the memory that it takes with one job, in bytes, and the most jobs that it may use."""
+    beside other tasks, the memory that it takes with one job, in bytes, the most jobs that it may use, and the part of
+    the memory that each job after the first takes."""
 
-    def __init__(self, name, waits, weight, memory, call, most_jobs=MOST_JOBS):
+    def __init__(self, name, waits, weight, memory, call, most_jobs=MOST_JOBS, of_a_job=OF_A_JOB):
         self.name, self.waits, self.weight, self.memory = name, waits, weight, memory
-        self.call, self.most_jobs, self.jobs = call, most_jobs, 0
+        self.call, self.most_jobs, self.of_a_job, self.jobs = call, most_jobs, of_a_job, 0
 
     def memory_with(self, jobs):
-        return self.memory * (1 + OF_A_JOB * (jobs - 1))
+        return self.memory * (1 + self.of_a_job * (jobs - 1))
 
     def run(self, ended):
         """Hands over what the call gives, or how it ended otherwise."""

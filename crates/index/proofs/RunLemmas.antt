@@ -1,21 +1,29 @@
 -- From the states of a connection to the files that it was opened on and closed to.
-use Rattle.std.proofs.Common.{◌≡◌, ◌⊎◌, ◌↔◌, ◌∙◌, false, sym, ap, subst, inl, inr, ℕ, Option, Some, Result, Ok, Err, IfOk, arith}
+use Rattle.std.proofs.Common.{◌≡◌, ◌⊎◌, ◌↔◌, ◌∙◌, Bool, List, [], ◌∷◌, false, sym, ap, subst, subst₂, if◌then◌else◌, inl, inr, ℕ, Option, Some, Result, Ok, Err, IfOk, IsTrue, true≢false, arith}
 use Rattle.std.proofs.lemmas.Bool.{cases_Bool}
 use Rattle.std.proofs.Math.Logic.{∥∥₁_elim}
 use Rattle.sqlite.specs.Closing.{HoldsAlone, IsCopied}
 use Rattle.sqlite.specs.declared.FileStore.{FileStore}
+use Rattle.sqlite.specs.declared.file.Leftover.{Leftover}
+use Rattle.sqlite.specs.declared.file.Leftover.TheVariants as leftover
 use Rattle.sqlite.specs.Effect.{Database}
-use Rattle.sqlite.specs.Files.{AreFoundIn, HoldsDatabase, IsClosed, IsOpened, file_state, image_of, over_files}
+use Rattle.sqlite.specs.Files.{AreFoundIn, HoldsDatabase, IsClosed, IsNothing, IsOpened, LeavesFiles, file_state, image_of, over_files}
 use Rattle.sqlite.specs.Held.{Held}
 use Rattle.sqlite.specs.Recovery.{Image}
 use Rattle.sqlite.specs.Schema.{Schema}
 use Rattle.sqlite.specs.Start.{FindsIn}
+use Rattle.sqlite.specs.WalFiles.{outcomes}
 use Rattle.sqlite.specs.State.{HasCleanDisk, State}
 use Rattle.sqlite.specs.Tree.{Trees}
 use Rattle.sqlite_disk.specs.declared.Disk.{Ghosts}
 use Rattle.sqlite_disk.specs.declared.Files.{Files}
+use Rattle.sqlite_disk.specs.Events.{Event, replay, settled}
+use Rattle.sqlite_disk.specs.History.{MayLeave}
+use Rattle.sqlite_pool.specs.Stored.{StandsAs}
+use Rattle.sqlite_store.specs.Unopened.{state_of}
 use Rattle.sqlite_trees.specs.Props.{Trees-set}
-use Rattle.sqlite_trees.specs.View.{IsClean}
+use Rattle.sqlite_trees.proofs.Doubt.{no_doubt}
+use Rattle.sqlite_trees.specs.View.{IsClean, doubt}
 use Rattle.index_adopt.specs.Names.{has_any_of}
 use Rattle.index_rules.specs.declared.open.OpenFault.TheVariants.{BadFirstUser, NotEmpty, OutOfMemory}
 use Rattle.index_rules.specs.FirstTables.{IsBadFirstUser}
@@ -28,7 +36,7 @@ use Rattle.index_tables.specs.Adopted.{IsCommitted, IsCurrent, IsFound}
 use Rattle.index_tables.specs.Kept.{IsWorking}
 use Rattle.index_tables.specs.Opened.{IsRefusedAs, IsTaken}
 use Rattle.index_tables.specs.declared.opening.Unopened.{Unopened}
-use Rattle.index.specs.Runs.{Began, Created, Holds, HoldsOnly, Interrupted, Keeps, Leaves, LeavesAsWas, Ran, Refused, Worked}
+use Rattle.index.specs.Runs.{Began, Created, Holds, HoldsOnly, Interrupted, Keeps, Leaves, LeavesAsWas, LeavesShut, Ran, Refused, Worked}
 
 -- an index of today is found as it is, and never as one of version 1
 same_found : (db other : Database) (T found : Tables) → IsCurrent db T → IsFound other found → other.trees ≡ db.trees → found ≡ T
@@ -52,6 +60,22 @@ free_of user token schema (Ok made) bad taken = elim (cases_Bool (has_any_of sch
   | inr free ↦ free
 ]
 free_of user token schema (Err refused) bad taken = tt
+
+-- a store is clean as long as it is open
+pub clean_if_open : (clean is_open : Bool) → (clean ≡ false → is_open ≡ false) → IsTrue is_open → doubt clean ≡ 0
+clean_if_open clean is_open shut is =
+    elim (cases_Bool clean) [ inl holds ↦ no_doubt clean holds | inr falls ↦ absurd (true≢false (sym is ∙ shut falls)) ]
+
+-- what a crash leaves of the log or the database file after these calls, where these are what the two held
+abbrev LeavesFile : Bool → List ℕ → List ℕ → Bool → List Event → List ℕ → Type 0
+LeavesFile mixes log db is_log history bytes =
+    let m = replay (if is_log then log else db) history in MayLeave mixes m.seen m.synced m.steps bytes
+
+-- where it was settled, and nothing has happened since, that is what it held
+pub settled_leaves : (mixes : Bool) (log db : List ℕ) (is_log which : Bool) (key : ℕ) (history : List Event) (bytes : List ℕ) → is_log ≡ which → history ≡ settled key ∷ []
+    → LeavesFile mixes log db is_log history bytes → bytes ≡ (if which then log else db)
+settled_leaves mixes log db is_log which key history bytes is fresh may =
+    elim (subst₂ (λ (b : Bool) (h : List Event). LeavesFile mixes log db b h bytes) is fresh may) [ inl same ↦ same | inr same ↦ same ]
 
 module _ {D : Type 0} {g : Ghosts D} where
   -- a connection whose files were copied on a clean disk was working
@@ -105,7 +129,7 @@ module _ {D : Type 0} {g : Ghosts D} where
   }
 
   pub refused_by : (Made : Database → Trees → Type 0) (start : Image) (first last : Held (FileStore D g)) → IsOpened first → FindsIn start (file_state first)
-      → LeavesAsWas Made (file_state first) (file_state last) → Refused Made start (file_state last).may_leave
+      → LeavesAsWas Made (file_state first) (file_state last) → Refused Made start (file_state last)
   refused_by Made start first last opened finds leaves = record {
     db = (file_state first).now;
     only = only_of start first opened finds;
@@ -115,3 +139,25 @@ module _ {D : Type 0} {g : Ghosts D} where
   -- a disk that is clean as a close fails was so before it
   pub clean_before : (last : Held (FileStore D g)) (store : FileStore D g) → IsClosed last store → IsClean (over_files.view store) → HasCleanDisk (file_state last)
   clean_before last store closed clean = omega (arith, closed.quiet.clean, clean)
+
+  -- an opening that fails, over files that nothing had happened to
+  pub shut_by : (start : Image) (files : Files D) (left : Leftover D g) → image_of g files ≡ start → ((image : Image) → outcomes g files.log files.db image → image ≡ start)
+      → LeavesFiles files left → LeavesShut start left
+  shut_by start files (leftover.Files now) same still leaves = λ image may. still image (leaves image may)
+  shut_by start files (leftover.Unopened now) same still leaves = λ image may. elim leaves [
+    | inl new ↦ elim (new.1 image may) [ inl old ↦ inl (still image old) | inr begun ↦ inr (inl (subst IsNothing same new.0, begun)) ]
+    | inr there ↦
+        let kept = there.4 image may in
+        let something : ¬ IsNothing start = λ nothing. there.0 (subst IsNothing (sym same) nothing) in
+        elim kept.same [
+          | inl old ↦ inl (still image old)
+          | inr stands ↦ inr (inr (
+            something,
+            (λ nothing. kept.something (λ old. something (subst IsNothing (still image old) nothing)) nothing),
+            subst (λ i. StandsAs (state_of now).page_size i image) same stands,
+          ))
+        ]
+  ]
+  shut_by start files (leftover.Store now) same still leaves = λ found may.
+      let is = leaves found may in
+      (subst (λ i. AreFoundIn i found) same is.0, λ db holds. is.1 db (subst (λ i. HoldsDatabase i db) (sym same) holds))

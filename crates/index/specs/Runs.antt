@@ -3,13 +3,18 @@
 use Rattle.std.specs.Prelude.{◌≡◌, ◌⊎◌, ◌≤◌, ℕ, false, IsTrue, List, Option, Result, Ok, Err, IfOk}
 use Rattle.sqlite.specs.Closing.{HoldsAlone}
 use Rattle.sqlite.specs.Effect.{Database}
-use Rattle.sqlite.specs.Files.{AreFoundIn, HoldsDatabase, image_of}
+use Rattle.sqlite.specs.FileStore.{recovers}
+use Rattle.sqlite.specs.Files.{AreFoundIn, HoldsDatabase, IsCleanLeft, IsEmpty, IsNothing, file_state, image_of}
+use Rattle.sqlite.specs.declared.file.Leftover.{Leftover}
+use Rattle.sqlite.specs.declared.file.Leftover.TheVariants as leftover
 use Rattle.sqlite.specs.Recovery.{Image}
-use Rattle.sqlite.specs.State.{State}
+use Rattle.sqlite.specs.State.{HasCleanDisk, State}
 use Rattle.sqlite.specs.Tree.{Trees}
 use Rattle.sqlite.specs.WalFiles.{outcomes}
 use Rattle.sqlite_disk.specs.declared.Disk.{Ghosts}
 use Rattle.sqlite_disk.specs.declared.Files.{Files}
+use Rattle.sqlite_pool.specs.Stored.{StandsAs}
+use Rattle.sqlite_store.specs.Unopened.{state_of}
 use Rattle.index_adopt.specs.Names.{has_any_of}
 use Rattle.index_cli.specs.declared.end.LineEnd.{LineEnd}
 use Rattle.index_cli.specs.Ends.{Ends}
@@ -31,6 +36,8 @@ use Rattle.index_schema.specs.Records.{tables_in}
 use Rattle.index_schema.specs.Schema.{index_schema}
 use Rattle.index_tables.specs.Adopted.{IsCommitted, IsCurrent, IsFound}
 use Rattle.index_tables.specs.Kept.{AreCurrent}
+use Rattle.index.specs.declared.database.Left.{Left}
+use Rattle.index.specs.declared.database.Left.TheVariants as unused
 use Rattle.index.specs.declared.end.End.{End}
 use Rattle.index.specs.declared.end.End.TheVariants as end
 
@@ -87,15 +94,48 @@ pub record Created {D : Type 0} (g : Ghosts D) (T : Tables) (start : Image) (fil
   pub free : has_any_of db.schema index_schema.tables ≡ false
   pub left : Leaves g files T
 
--- they held a database that was refused: a crash leaves it as it was, or what was made of it as a whole
-pub record Refused (Made : Database → Trees → Type 0) (start : Image) (may_leave : Trees → Type 0) : Type 0 where
+-- ---- a run that is refused
+
+-- they held a database that was refused: a crash leaves it as it was, or, where a fault has shut the connection, what was
+-- made of it as a whole
+pub record Refused (Made : Database → Trees → Type 0) (start : Image) (now : State) : Type 0 where
   pub db : Database
   pub only : HoldsOnly start db
-  pub left : (found : Trees) → may_leave found → (found ≡ db.trees) ⊎ Made db found
+  pub left : (found : Trees) → now.may_leave found → (found ≡ db.trees) ⊎ ((now.is_open ≡ false) × Made db found)
 
 -- it was of version 1, and was brought to that of today
 abbrev pub IsRaised : Database → Trees → Type 0
 IsRaised was db = IsFirstVersion was × AreCurrent db × (tables_in db ≡ without_bans (tables_in was.trees))
+
+-- nothing was made of it
+abbrev pub MakesNothing : Database → Trees → Type 0
+MakesNothing was db = ⊥
+
+-- no index was found in their database
+abbrev pub IsUnfound : Image → State → Type 0
+IsUnfound start now = HasCleanDisk now → Refused IsRaised start now
+
+-- no index was made in their database, and no fault has shut the connection to it
+abbrev pub IsUnmade : Image → State → Type 0
+IsUnmade start now = IsTrue now.is_open → Refused MakesNothing start now
+
+module _ {D : Type 0} {g : Ghosts D} where
+  -- A crash leaves this of two files that can't be opened as a database. Before a write it is what they held. Where there
+  -- was no database, there is still none, or an empty one. Where there was one, its pages are those that it had. Once the
+  -- pages were read, an open finds what they held.
+  abbrev pub LeavesShut : Image → Leftover D g → Type 0
+  LeavesShut start (leftover.Files now) = (image : Image) → outcomes g now.log now.db image → image ≡ start
+  LeavesShut start (leftover.Unopened now) =
+      (image : Image) → (state_of now).may_leave image
+      → (image ≡ start) ⊎ ((IsNothing start × (IsNothing image ⊎ ∥ ((db : Trees) × HoldsDatabase image db × IsEmpty db) ∥₁))
+      ⊎ ((¬ IsNothing start) × (¬ IsNothing image) × StandsAs (state_of now).page_size start image))
+  LeavesShut start (leftover.Store now) =
+      (found : Trees) → recovers now found → AreFoundIn start found × ((db : Trees) → HoldsDatabase start db → found ≡ db)
+
+  -- a crash leaves this of two files on which nothing was done
+  abbrev pub LeavesUnused : (Image → State → Type 0) → Image → Left D g → Type 0
+  LeavesUnused IsRefused start (unused.Shut left) = IsCleanLeft left → LeavesShut start left
+  LeavesUnused IsRefused start (unused.Refused left) = IsRefused start (file_state left.conn)
 
 -- ---- the same of a connection, before its files are known
 
@@ -113,10 +153,11 @@ pub record Began (Left : Tables → Tables → Type 0) (was : Database) (may_lea
   pub found : IsFound was before
   pub left : LeavesOnly may_leave (Left before)
 
--- of an open database, all of which was committed, a crash leaves what was there, or what was made of it
+-- of an open database, all of which was committed, a crash leaves what was there, or, where a fault has shut it, what was
+-- made of it
 abbrev pub LeavesAsWas : (Database → Trees → Type 0) → State → State → Type 0
 LeavesAsWas Made was now =
-    IsTrue was.is_open → was.now ≡ was.committed → (db : Trees) → now.may_leave db → (db ≡ was.now.trees) ⊎ Made was.now db
+    IsTrue was.is_open → was.now ≡ was.committed → (db : Trees) → now.may_leave db → (db ≡ was.now.trees) ⊎ ((now.is_open ≡ false) × Made was.now db)
 
 -- ---- what each kind of work makes of the tables
 

@@ -1,7 +1,7 @@
 //! The index in a database of SQLite: opened, made or adopted, and closed.
-ghost use Rattle.std.specs.Prelude.{◌≡◌, false, not, ℕ, Result, Some, IfOk, IfErr, IfSome, IsErrOf, IsTrue};
+ghost use Rattle.std.specs.Prelude.{◌≡◌, false, not, ℕ, Result, None, Some, IfOk, IfErr, IfSome, IsErrOf, IsTrue};
 ghost use Rattle.sqlite.specs.Closing.{IsCopied};
-ghost use Rattle.sqlite.specs.Files.{file_state, over_files, IsClosed, IsOpened};
+ghost use Rattle.sqlite.specs.Files.{file_state, over_files, IsCleanLeft, IsClosed, IsOpened};
 ghost use Rattle.sqlite.specs.Held.{state};
 ghost use Rattle.sqlite.specs.Recovery.{Image};
 ghost use Rattle.sqlite.specs.Start.{FindsIn};
@@ -18,7 +18,7 @@ ghost use Rattle.index_schema.specs.Schema.{index_schema};
 ghost use Rattle.index_tables.specs.Adopted.{IsCommitted};
 ghost use Rattle.index_tables.specs.Kept.{IsWorking};
 ghost use Rattle.index.specs.declared.end.End.{End as EndData};
-ghost use Rattle.index.specs.Runs.{Began, Created, Interrupted, IsRaised, LeavesAsWas, Ran, Refused, Worked};
+ghost use Rattle.index.specs.Runs.{Began, Created, Interrupted, IsRaised, IsUnfound, IsUnmade, LeavesAsWas, LeavesShut, LeavesUnused, MakesNothing, Ran, Worked};
 
 use crate::end::End;
 use index_desk::{Desk, Keeper};
@@ -26,14 +26,22 @@ use index_digest::Digest256;
 use index_recent::Recent;
 use index_rules::OpenFault;
 use index_tables::{SqlBooks, Unopened};
-use sqlite::{Alter, Connection, FileFrom, FileStore, Files, Start};
+use sqlite::{Alter, Connection, FileFrom, FileStore, Files, Leftover, Start};
 use sqlite_disk::Disk;
 
 /// What comes of closing: the files, or the fault for which the log was not copied, and the store that has it.
 pub type Closed<D> = Result<Files<D>, (End, FileStore<D>)>;
 
-/// Why nothing was done; and the database, where it was opened and no index was found in it.
-pub type Unused<D> = (End, Option<Unopened<FileStore<D>>>);
+/// Why nothing was done, and what is left of the files, where they were opened.
+pub type Unused<D> = (End, Option<Left<D>>);
+
+/// What is left of two files on which nothing was done.
+pub enum Left<D: Disk> {
+    /// They can't be opened as a database.
+    Shut(Leftover<D>),
+    /// Their database was refused.
+    Refused(Unopened<FileStore<D>>),
+}
 
 /// Work at a desk over the tables of a database, whatever its store is.
 pub trait Work {
@@ -64,18 +72,17 @@ fn open<S: Start>(
     rt: &HostRuntime,
     path: &str,
     start: S,
-) -> Result<Connection<FileStore<FileFrom<S>>>, End>
+) -> Result<Connection<FileStore<FileFrom<S>>>, (End, Option<Leftover<FileFrom<S>>>)>
     ensures mode { IfOk result (λ conn. conn.in_transaction ≡ false) }
     ensures opened { IfOk result (λ conn. HasCleanDisk (file_state conn) → IsOpened conn) }
     ensures found { IfOk result (λ conn. HasCleanDisk (file_state conn)
         → FindsIn (image_at S.Start) (file_state conn)) }
+    ensures shut { IfErr result (λ e. IfSome e.1 (λ left.
+        IsCleanLeft left → LeavesShut (image_at S.Start) left)) }
 {
     match Connection::open_from(rt, path, false, start) {
         Ok(conn) => Ok(conn),
-        Err((error, left)) => {
-            drop(left);
-            Err(End::from(error))
-        }
+        Err((error, left)) => Err((End::from(error), left)),
     }
 }
 
@@ -88,20 +95,26 @@ pub fn create<S: Start>(
     start: S,
     user: &str,
     token: &str,
-) -> Result<Files<FileFrom<S>>, End>
+) -> Result<Files<FileFrom<S>>, Unused<FileFrom<S>>>
     ensures malformed { IsTrue (not (is_digest_text token.now))
-        → IsErrOf result (End.Open OpenFault.BadFirstUser) }
+        → IsErrOf result (End.Open OpenFault.BadFirstUser, None) }
 
     // The files held nothing of an index, and hold the new one.
     ensures created { IfOk result (λ files. let g = ⟦<FileFrom<S> as Disk>⟧ in
         AreClean g files.log files.db → (digest : _) × (read_digest token.now ≡ Some digest)
         × Created g (first_tables user.now digest) (image_at S.Start) files) }
+
+    // What is refused is as it was.
+    ensures refused { IfErr result (λ e. IfSome e.1 (LeavesUnused IsUnmade (image_at S.Start))) }
 {
     let Some(token) = Digest256::read_hex(token.as_bytes()) else {
-        return Err(End::Open(OpenFault::BadFirstUser));
+        return Err((End::Open(OpenFault::BadFirstUser), None));
     };
-    let conn = open(rt, path, start)?;
-    create_and_close(rt, conn, user, token)
+    match open(rt, path, start) {
+        Ok(conn) => create_and_close(rt, conn, user, token),
+        Err((end, Some(left))) => Err((end, Some(Left::Shut(left)))),
+        Err((end, None)) => Err((end, None)),
+    }
 }
 
 /// Does work on the index in a file, and closes the files. The end of the work comes beside what came of closing.
@@ -123,14 +136,13 @@ pub fn work_on<S: Start, W: Work>(
         Interrupted (λ T T'. W.leaves work.old work.new T T' done.1)
         (image_at S.Start) (over_files.recovers e.1))) }
 
-    // A database that is refused is as it was.
-    ensures refused { IfErr result (λ e. IfSome e.1 (λ left.
-        HasCleanDisk (file_state left.conn) →
-        Refused IsRaised (image_at S.Start) (file_state left.conn).may_leave)) }
+    // What is refused is as it was, or an index of version 1 became one of today.
+    ensures refused { IfErr result (λ e. IfSome e.1 (LeavesUnused IsUnfound (image_at S.Start))) }
 {
     match open(rt, path, start) {
         Ok(conn) => work_and_close(rt, conn, work),
-        Err(end) => Err((end, None)),
+        Err((end, Some(left))) => Err((end, Some(Left::Shut(left)))),
+        Err((end, None)) => Err((end, None)),
     }
 }
 
@@ -140,20 +152,25 @@ fn create_and_close<D: Disk + Drop>(
     conn: Connection<FileStore<D>>,
     user: &str,
     token: Digest256,
-) -> Result<Files<D>, End>
+) -> Result<Files<D>, Unused<D>>
     requires outside { conn.in_transaction ≡ false }
     ensures created { IfOk result (λ files. AreClean D.Disk files.log files.db →
         (start : Image) →
         (HasCleanDisk (file_state conn) → IsOpened conn × FindsIn start (file_state conn)) →
         Created D.Disk (first_tables user.now token) start files) }
+    ensures refused { IfErr result (λ e. IfSome e.1 (λ left. (start : Image) →
+        (HasCleanDisk (file_state conn) → IsOpened conn × FindsIn start (file_state conn)) →
+        LeavesUnused IsUnmade start left)) }
 {
-    let conn = create_in(rt, conn, user, token)?;
-    match close(conn) {
-        Ok(files) => Ok(files),
-        Err((fault, store)) => {
-            drop(store.close());
-            Err(fault)
-        }
+    match create_in(rt, conn, user, token) {
+        Ok(conn) => match close(conn) {
+            Ok(files) => Ok(files),
+            Err((fault, store)) => {
+                drop(store.close());
+                Err((fault, None))
+            }
+        },
+        Err(left) => Err((End::Open(left.why), Some(Left::Refused(left)))),
     }
 }
 
@@ -173,14 +190,13 @@ fn work_and_close<D: Disk + Drop, W: Work>(
         (HasCleanDisk (file_state conn) → IsOpened conn × FindsIn start (file_state conn)) →
         Interrupted (λ T T'. W.leaves work.old work.new T T' done.1) start
         (over_files.recovers e.1))) }
-    ensures refused { IfErr result (λ e. IfSome e.1 (λ left.
-        HasCleanDisk (file_state left.conn) → (start : Image) →
+    ensures refused { IfErr result (λ e. IfSome e.1 (λ left. (start : Image) →
         (HasCleanDisk (file_state conn) → IsOpened conn × FindsIn start (file_state conn)) →
-        Refused IsRaised start (file_state left.conn).may_leave)) }
+        LeavesUnused IsUnfound start left)) }
 {
     match work_in(rt, conn, work) {
         Ok((conn, end)) => Ok((close(conn), end)),
-        Err(left) => Err((End::Open(left.why), Some(left))),
+        Err(left) => Err((End::Open(left.why), Some(Left::Refused(left)))),
     }
 }
 
@@ -190,7 +206,7 @@ fn create_in<S: Alter + Drop>(
     conn: Connection<S>,
     user: &str,
     token: Digest256,
-) -> Result<Connection<S>, End>
+) -> Result<Connection<S>, Unopened<S>>
     requires outside { conn.in_transaction ≡ false }
     ensures created { IfOk result (λ made. IsWorking (state S.Store made)
         → IsCommitted (state S.Store made) (first_tables user.now token)) }
@@ -198,13 +214,14 @@ fn create_in<S: Alter + Drop>(
         has_any_of (state S.Store conn).now.schema index_schema.tables ≡ false) }
     ensures working { IfOk result (λ made. IsWorking (state S.Store made)
         → IsWorking (state S.Store conn)) }
+    ensures refused { IfErr result (λ left. IsTrue (state S.Store left.conn).is_open
+        → LeavesAsWas MakesNothing (state S.Store conn) (state S.Store left.conn)) }
+    ensures clean_refused { IfErr result (λ left. IsTrue (state S.Store left.conn).is_open
+        → HasCleanDisk (state S.Store conn)) }
 {
     match SqlBooks::create(rt.alloc(), conn, user.as_bytes(), token) {
         Ok(books) => Ok(books.into_connection()),
-        Err(Unopened { why, conn }) => {
-            drop(conn);
-            Err(End::Open(why))
-        }
+        Err(refused) => Err(refused),
     }
 }
 
@@ -269,11 +286,13 @@ pub fn let_go<D: Disk + Drop>(closed: Closed<D>) -> Result<(), End> {
     }
 }
 
-/// Why nothing was done. The database is let go as it is.
+/// Why nothing was done. The files are let go as they are.
 pub fn why<D: Disk + Drop>(unused: Unused<D>) -> End {
     let (end, left) = unused;
-    if let Some(Unopened { why: _, conn }) = left {
-        drop(conn);
+    match left {
+        Some(Left::Shut(left)) => drop(left),
+        Some(Left::Refused(Unopened { why: _, conn })) => drop(conn),
+        None => {}
     }
     end
 }

@@ -31,8 +31,10 @@ pub fn init<S: Start>(
     user: &str,
     token: &str,
 ) -> Result<ExitCode, End> {
-    let files = database::create(rt, db, start, user, token)?;
-    drop(files);
+    match database::create(rt, db, start, user, token) {
+        Ok(files) => drop(files),
+        Err(unused) => return Err(database::why(unused)),
+    }
     match println!(rt; "created") {
         Ok(()) => Ok(ExitCode::SUCCESS),
         Err(_) => Err(End::WriteFault),

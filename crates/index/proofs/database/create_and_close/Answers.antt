@@ -1,11 +1,16 @@
-use Rattle.index.proofs.RunLemmas.{created_by, working_of}
+use Rattle.index.specs.Runs.{MakesNothing}
+use Rattle.index.proofs.RunLemmas.{created_by, refused_by, working_of}
 use Rattle.index.proofs.database.create_and_close.Goals as goal
 
-pub returns-in-Ok : goal.returns-in-Ok
-returns-in-Ok g c = record {
-  created = λ clean start first.
-      let copied = c.in-Ok.ensures.copied clean in
-      let working = working_of c.in_ok-conn.conn c.in-Ok.files copied in
-      let opening = first (c.in_ok-conn.ensures.working working).clean in
-      created_by _ start c.args.conn c.in_ok-conn.conn c.in-Ok.files opening.0 opening.1 c.in_ok-conn.ensures.free (c.in_ok-conn.ensures.created working) copied;
-}
+pub returns-in-Ok-close-clause-created : goal.returns-in-Ok-close-clause-created
+returns-in-Ok-close-clause-created g c = λ clean start first.
+    let made = c.in-Ok in
+    let copied = c.in-Ok-close.ensures.copied clean in
+    let working = working_of made.conn c.in-Ok-close.files copied in
+    let opening = first (made.ensures.working working).clean in
+    created_by _ start c.args.conn made.conn c.in-Ok-close.files opening.0 opening.1 made.ensures.free (made.ensures.created working) copied
+
+pub returns-in-Err-clause-refused : goal.returns-in-Err-clause-refused
+returns-in-Err-clause-refused g c = λ start first is_open.
+    let opening = first (c.in-Err.ensures.clean_refused is_open) in
+    refused_by MakesNothing start c.args.conn c.in-Err.left.conn opening.0 opening.1 (c.in-Err.ensures.refused is_open)

@@ -23,6 +23,6 @@ returns-in-Ok-clause-interrupted g c =
     c.close.ensures.kept
 
 pub returns-in-Err-clause-refused : goal.returns-in-Err-clause-refused
-returns-in-Err-clause-refused g c = λ clean start first.
+returns-in-Err-clause-refused g c = λ start first clean.
     let opening = first (c.in-Err.ensures.clean_refused clean) in
     refused_by IsRaised start c.args.conn c.in-Err.left.conn opening.0 opening.1 (c.in-Err.ensures.refused clean)

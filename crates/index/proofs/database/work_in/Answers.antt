@@ -1,4 +1,5 @@
 use Rattle.std.proofs.Common.{◌≡◌, ◌∙◌, ap, inl, inr, rules, subst, sym}
+use Rattle.std.proofs.lemmas.Bool.{cases_Bool}
 use Rattle.sqlite.specs.Effect.{Database}
 use Rattle.sqlite.specs.Held.{state}
 use Rattle.sqlite.specs.State.{HasCleanDisk}
@@ -64,7 +65,11 @@ returns-in-Ok-clause-clean g c = λ clean.
 pub returns-in-Err-clause-refused : goal.returns-in-Err-clause-refused
 returns-in-Err-clause-refused g c = λ clean is_open settled db may.
     let was : IsWorking _ = record { clean = c.in-Err.ensures.clean_refused clean; is_open = is_open } in
-    elim (c.in-Err.ensures.crash_refused was clean db may) [
-      | inl left ↦ inl (g.met.S.Store.settled c.args.conn.store db is_open left ∙ ap (λ (d : Database). d.trees) (sym settled))
-      | inr raised ↦ inr raised
+    let last = c.in-Err.left.conn in
+    elim (cases_Bool (state g.S.Store last).is_open) [
+      | inl still ↦ inl (g.met.S.Store.settled last.store db still may ∙ ap (λ (d : Database). d.trees) ((c.in-Err.ensures.refused clean).committed_is still ∙ sym settled))
+      | inr shut ↦ elim (c.in-Err.ensures.crash_refused was clean db may) [
+        | inl left ↦ inl (g.met.S.Store.settled c.args.conn.store db is_open left ∙ ap (λ (d : Database). d.trees) (sym settled))
+        | inr raised ↦ inr (shut, raised)
+      ]
     ]

@@ -11,6 +11,6 @@ returns-in-Ok g c = record {
       IfErr-weaker done.0 _ _ (λ e interrupted clean. interrupted clean _ (λ first. (c.in-Ok.ensures.opened first, c.in-Ok.ensures.found first))) interrupted)
       c.work_and_close.ensures.interrupted;
   refused = IfErr-weaker c.work_and_close.result _ _ (λ e refused.
-      IfSome_then e.1 refused (λ left refused clean. refused clean _ (λ first. (c.in-Ok.ensures.opened first, c.in-Ok.ensures.found first))))
+      IfSome_then e.1 refused (λ left refused. refused _ (λ first. (c.in-Ok.ensures.opened first, c.in-Ok.ensures.found first))))
       c.work_and_close.ensures.refused;
 }
