@@ -2,5 +2,6 @@ pub mod Cuts
 pub mod Calls
 pub mod Progress
 pub mod RunEnds
+pub mod CauseLemmas
 pub mod Histories
 pub mod Crashes

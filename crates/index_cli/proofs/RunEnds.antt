@@ -37,7 +37,7 @@ module _ (tells tells' : Telling) (T T' : Tables) (f : (lines : List (List ℕ))
     counted = e.counted;
   }
 
-  before_map : (a b w0 w1 : Option (List ℕ)) → TellsBefore tells T a b w0 w1 → TellsBefore tells' T' a b w0 w1
+  pub before_map : (a b w0 w1 : Option (List ℕ)) → TellsBefore tells T a b w0 w1 → TellsBefore tells' T' a b w0 w1
   before_map a b w0 w1 e = record {
     input = e.input;
     done = e.done;

@@ -5,5 +5,6 @@ pub mod TellsHistory
 pub mod TellsCalls
 pub mod Replies
 pub mod Ends
+pub mod Causes
 pub mod Serving
 pub mod Printed

@@ -9,6 +9,7 @@ ghost use Rattle.index_rules.specs.Legal.{IsLegal};
 ghost use Rattle.index_rules.specs.Tables.{Tables};
 ghost use Rattle.index_desk.specs.Crashes.{LeavesAll, LeavesAllOf};
 ghost use Rattle.index_desk.specs.Rules.{by_tables};
+ghost use Rattle.index_cli.specs.Causes.{HaveFailed, TellsFaults};
 ghost use Rattle.index_cli.specs.Ends.{Ends};
 ghost use Rattle.index_cli.specs.Lines.{Charges};
 ghost use Rattle.index_cli.specs.Telling.{TellsLines};
@@ -65,6 +66,12 @@ pub fn apply_lines<S: Source, K: Sink, B: Books>(
         → (h : History) → IsLegal h → StandsFor (B.tables desk.old) h
         → (T : Tables) → B.may_leave desk.new T
         → Ends (TellsCalls (LeavesAllOf h)) T
+        (S.remaining source.old) (S.remaining source.new)
+        (K.contents sink.old) (K.contents sink.new) result }
+
+    // Each fault of the store that a line tells has a call of the store that failed.
+    ensures store { (faults : ℕ) × HaveFailed faults (B.failures desk.old) (B.failures desk.new)
+        × Ends (TellsFaults faults) (B.tables desk.new)
         (S.remaining source.old) (S.remaining source.new)
         (K.contents sink.old) (K.contents sink.new) result }
 

@@ -7,6 +7,7 @@ ghost use Rattle.index_desk.specs.Rules.{by_tables};
 ghost use Rattle.index_http.specs.Asks.{Takes};
 ghost use Rattle.index_http.specs.Shows.{LeavesTables};
 ghost use Rattle.index_json.specs.Line.{line_of};
+ghost use Rattle.index_cli.specs.Causes.{HasCauses};
 ghost use Rattle.index_cli.specs.Replies.{reply_text, TellsKept};
 ghost use Rattle.index_cli.specs.Telling.{TellsAsked, TellsStanding};
 ghost use Rattle.index_cli.specs.TellsCalls.{AsksKept, AsksOf};
@@ -55,6 +56,8 @@ pub fn reply_to<B: Books>(
         (Takes B.IsHonest B.IsClean B.tables B.may_leave desk.old desk.new)) }
     ensures leaves { OnErr result
         (LeavesTables B.IsHonest B.IsClean B.tables B.may_leave desk.old desk.new) }
+    ensures store { IfOk result (λ reply.
+        HasCauses (reply_text reply) (B.failures desk.old) (B.failures desk.new)) }
     ensures kept { OnErr result (B.failures desk.new ≡ B.failures desk.old) }
     ensures memory { IfErr result (λ end. end ≡ LineEnd.OutOfMemory) }
     ensures one_bearer { B.IsHonest desk.new
@@ -80,6 +83,8 @@ fn reply_to_read<B: Books>(alloc: Global, desk: &mut Desk<B>, line: &[u8]) -> Re
         (Takes B.IsHonest B.IsClean B.tables B.may_leave desk.old desk.new)) }
     ensures leaves { OnErr result
         (LeavesTables B.IsHonest B.IsClean B.tables B.may_leave desk.old desk.new) }
+    ensures store { IfOk result (λ reply.
+        HasCauses (reply_text reply) (B.failures desk.old) (B.failures desk.new)) }
     ensures kept { OnErr result (B.failures desk.new ≡ B.failures desk.old) }
     ensures memory { IfErr result (λ end. end ≡ LineEnd.OutOfMemory) }
     ensures one_bearer { B.IsHonest desk.new
@@ -108,6 +113,8 @@ fn standing_reply<B: Books>(
     ensures reply { B.IsHonest desk.new → IfOk result (λ reply.
         TellsStanding by_tables (B.tables desk.old) (read_name name.now) (reply_text reply)) }
     ensures leaves { LeavesTables B.IsHonest B.IsClean B.tables B.may_leave desk.old desk.new }
+    ensures store { IfOk result (λ reply.
+        HasCauses (reply_text reply) (B.failures desk.old) (B.failures desk.new)) }
     ensures kept { OnErr result (B.failures desk.new ≡ B.failures desk.old) }
     ensures memory { IfErr result (λ end. end ≡ LineEnd.OutOfMemory) }
 {
@@ -127,6 +134,8 @@ fn known_reply<B: Books>(
     ensures reply { B.IsHonest desk.new → IfOk result (λ reply.
         TellsStanding by_tables (B.tables desk.old) (Some name.now) (reply_text reply)) }
     ensures leaves { LeavesTables B.IsHonest B.IsClean B.tables B.may_leave desk.old desk.new }
+    ensures store { IfOk result (λ reply.
+        HasCauses (reply_text reply) (B.failures desk.old) (B.failures desk.new)) }
     ensures kept { OnErr result (B.failures desk.new ≡ B.failures desk.old) }
     ensures memory { IfErr result (λ end. end ≡ LineEnd.OutOfMemory) }
 {

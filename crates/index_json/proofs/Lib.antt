@@ -1,1 +1,4 @@
 pub mod OnLiterals
+mod RequestsFound
+mod RequestsRead
+pub mod Asked

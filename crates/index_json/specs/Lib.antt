@@ -1,4 +1,5 @@
 pub mod Json
+pub mod Keys
 pub mod Object
 pub mod Reading
 pub mod Requests

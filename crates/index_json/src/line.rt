@@ -2,6 +2,7 @@
 ghost use Rattle.std.specs.Prelude.{◌≡◌, IfOk, IfErr};
 ghost use Rattle.serde_json.specs.View.{view};
 ghost use Rattle.index_json.specs.Json.{json_of};
+ghost use Rattle.index_json.specs.Keys.{SaysLine, SaysRequest};
 ghost use Rattle.index_json.specs.Line.{call_row, line_of, line_row, row_of_word};
 ghost use Rattle.index_json.specs.Object.{object_of};
 ghost use Rattle.index_json.specs.Reading.{Reads, ReadsTo, read_whole};
@@ -27,6 +28,8 @@ pub enum Line {
 /// `None` is a line that asks nothing. The one fault is `OutOfMemory`.
 #[tactic(auto, unfolding(crate::specs::Line::line_of))]
 pub fn read_line(alloc: Global, line: &[u8]) -> Result<Option<Line>, Fault>
+    // Just the line whose keys the object has, or nothing where it has those of no line.
+    ensures keys { IfOk result (SaysLine line.now) }
     ensures line { IfOk result (λ read. read ≡ line_of line.now) }
     ensures memory { IfErr result (λ fault. fault ≡ Fault.OutOfMemory) }
 {
@@ -41,6 +44,8 @@ pub fn read_line(alloc: Global, line: &[u8]) -> Result<Option<Line>, Fault>
 /// The one fault is `OutOfMemory`.
 #[tactic(auto, unfolding(crate::specs::Requests::request_of))]
 pub fn read_request(alloc: Global, bytes: &[u8]) -> Result<Option<Request>, Fault>
+    // Just the request whose keys the object has, or nothing where it has those of no request.
+    ensures keys { IfOk result (SaysRequest bytes.now) }
     ensures request { IfOk result (λ read. read ≡ request_of bytes.now) }
     ensures memory { IfErr result (λ fault. fault ≡ Fault.OutOfMemory) }
 {

@@ -1,10 +1,11 @@
 //! What the words of a command line ask for.
 ghost use Rattle.std.specs.Prelude.{◌≡◌, ◌≤◌, ◌<◌, ◌^◌, ℕ, [], Option, Some, true};
 ghost use Rattle.std.specs.Prelude.{codes, map, option_map, string_bytes, IfErr, IfOk, IfSome, IsOk, IsSome};
-ghost use Rattle.clap.specs.Words.{fault_of, first_of, found_of, kind_of, rows_of, subcommand_of};
+ghost use Rattle.clap.specs.Words.{fault_of, first_of, found_of, rows_of, subcommand_of};
 ghost use Rattle.clap.specs.Words.{subcommand_rows_of, takes};
 ghost use Rattle.index_words.specs.Program.{index_app};
 ghost use Rattle.index_words.specs.Jobs.{HasNumberOrNone, IsJob, IsNumber};
+ghost use Rattle.index_words.specs.Refusals.{IsRefusal};
 
 use crate::command;
 use clap::error::ErrorKind;
@@ -72,10 +73,9 @@ impl From<AllocError> for WordsEnd {
 }
 
 impl From<Error> for WordsEnd {
-    ghost use Rattle.clap.specs.declared.error.ErrorKind.TheVariants.{OutOfMemory as NoMemory};
-    ghost use Rattle.index_words.specs.declared.job.WordsEnd.TheVariants.{OutOfMemory};
+    ghost use Rattle.index_words.specs.Refusals.{IsEndOf};
 
-    ghost from_gives = { λ error end. kind_of error ≡ NoMemory → end ≡ OutOfMemory };
+    ghost from_gives = { IsEndOf };
 
     fn from(error: Error) -> WordsEnd {
         if error.kind() == ErrorKind::OutOfMemory {
@@ -96,8 +96,9 @@ pub fn read_words<'a>(alloc: Global, words: &'a [String]) -> Result<Job<'a>, Wor
         takes index_app said ≡ true → (job : Job) → IsJob (subcommand_of index_app said) job
         → IfErr result (λ end. end ≡ WordsEnd.OutOfMemory) }
 
-    // A job is read only where clap finds no fault in the words.
+    // A job is read only where clap finds no fault in the words, and a refusal has the kind of one that it finds.
     ensures taken { IsOk result → fault_of index_app (map string_bytes words.now) ≡ [] }
+    ensures why { IfErr result (IsRefusal (map string_bytes words.now)) }
 {
     let mut command = command::index(alloc)?;
     let matches = command.try_get_matches_from_mut(words)?;

@@ -1,11 +1,30 @@
-use Rattle.std.proofs.Common.{◌≡◌, ◌≢◌, ◌∙◌, Ok, Err, arith, rules}
+use Rattle.std.proofs.Common.{◌≡◌, ◌≢◌, ◌∙◌, ◌+◌, inl, refl, Ok, Err, arith, rules}
 use Rattle.index_rules.proofs.StandsOn.{sound_when_legal}
 use Rattle.index_cli.specs.declared.end.LineEnd.TheVariants.{ReadFault, WriteFault}
+use Rattle.index_cli.proofs.Calls.{taken_none}
+use Rattle.index_cli.proofs.CauseLemmas.{HaveFailed-push, faults_before, faults_push, none_failed}
 use Rattle.index_cli.proofs.Crashes.{lines_crash, lines_crash_history, lines_history, taken_push}
 use Rattle.index_cli.proofs.Cuts.{Charges-trans, TakesPart-none}
-use Rattle.index_cli.proofs.Progress.{Progress-during, Progress-part, Progress-push, Progress-taken, Progress-whole, lines_push}
+use Rattle.index_cli.proofs.Progress.{Progress-during, Progress-none, Progress-part, Progress-push, Progress-taken, Progress-whole, lines_push}
 use Rattle.index_cli.proofs.RunEnds.{Ends-before, failed_or_spent}
 use Rattle.index_cli.proofs.apply.apply_lines.Goals as goal
+
+-- ---- before the first line
+
+pub loop-count-init : goal.loop-count-init
+loop-count-init g c = record {
+  progress = search rules;
+  called = Progress-none _ _ _ _ (refl, taken_none _ _ _ _ _ (g.met.B.Books.settled _));
+  faults = (0, none_failed _ _ (inl refl), Progress-none _ _ _ _ (refl, refl));
+  charged = search rules;
+  spent = search rules;
+  reads = search rules;
+  writes = search rules;
+  one_bearer = search rules;
+  sound = search rules;
+  honest = search rules;
+  clean = search rules;
+}
 
 -- ---- no line was read
 
@@ -45,6 +64,17 @@ pub returns-in_err-size-clause-limit : goal.returns-in_err-size-clause-limit
 returns-in_err-size-clause-limit g c =
     (c.next_line.new.left, Charges-trans _ _ _ _ _ _ c.loop-count.invariant.charged c.next_line.ensures.charged)
 
+pub returns-in_err-size-clause-store : goal.returns-in_err-size-clause-store
+returns-in_err-size-clause-store g c =
+    let is : c.from_residual.result ≡ Err c.in_err-size.field-0.0 = search rules in
+    let other : c.from_residual.result ≢ Err WriteFault = search rules in
+    let told = c.loop-count.invariant.faults in (
+      told.0,
+      told.1,
+      Ends-before _ _ _ _ _ _ c.from_residual.result c.in_err-size.field-0.0 is other
+          (Progress-part _ _ _ _ _ _ _ _ told.2 c.in_err-size.ensures.part),
+    )
+
 -- ---- there was none
 
 pub returns-in_default-clause-tables : goal.returns-in_default-clause-tables
@@ -68,6 +98,12 @@ pub returns-in_default-clause-crash_history : goal.returns-in_default-clause-cra
 returns-in_default-clause-crash_history g c = λ honest clean h legal stands T left.
     lines_crash_history h legal _ stands T _ _ _ _ (Ok _)
     (returns-in_default-clause-crash g c honest clean (sound_when_legal h legal _ stands).one_bearer T left)
+
+pub returns-in_default-clause-store : goal.returns-in_default-clause-store
+returns-in_default-clause-store g c =
+    let end = rw c.in_default.is at c.in_ok-size.ensures.line in
+    let told = c.loop-count.invariant.faults in
+    (told.0, told.1, Progress-whole _ _ _ _ _ _ _ _ told.2 end.0 end.1)
 
 -- ---- memory ran out for a reply
 
@@ -99,6 +135,17 @@ pub returns-in_err-reply-clause-crash_history : goal.returns-in_err-reply-clause
 returns-in_err-reply-clause-crash_history g c = λ honest clean h legal stands T left.
     lines_crash_history h legal _ stands T _ _ _ _ _
     (returns-in_err-reply-clause-crash g c honest clean (sound_when_legal h legal _ stands).one_bearer T left)
+
+pub returns-in_err-reply-clause-store : goal.returns-in_err-reply-clause-store
+returns-in_err-reply-clause-store g c =
+    let is : c.from_residual-in_err-reply.result ≡ Err c.in_err-reply.field-0.0 = search rules in
+    let other : c.from_residual-in_err-reply.result ≢ Err WriteFault = search rules in
+    let told = c.loop-count.invariant.faults in (
+      told.0,
+      rw c.in_err-reply.ensures.kept told.1,
+      Ends-before _ _ _ _ _ _ c.from_residual-in_err-reply.result c.in_err-reply.field-0.0 is other
+          (faults_before _ _ _ _ _ _ _ (Progress-taken _ _ _ _ _ _ _ _ c.in-Some.size _ told.2 (rw c.in-Some.is at c.in_ok-size.ensures.line))),
+    )
 
 pub returns-in_err-reply-clause-limit : goal.returns-in_err-reply-clause-limit
 returns-in_err-reply-clause-limit g c =
@@ -135,6 +182,19 @@ returns-in_default-told-clause-crash_history g c = λ honest clean h legal stand
     lines_crash_history h legal _ stands T _ _ _ _ (Err WriteFault)
     (returns-in_default-told-clause-crash g c honest clean (sound_when_legal h legal _ stands).one_bearer T left)
 
+pub returns-in_default-told-clause-store : goal.returns-in_default-told-clause-store
+returns-in_default-told-clause-store g c =
+    let front = rw c.as_bytes.ensures at c.in_default-told.ensures.front in
+    let told = c.loop-count.invariant.faults in
+    let causes = c.in_ok-reply.ensures.store in (
+      told.0 + causes.0,
+      HaveFailed-push told.0 causes.0 _ _ _ told.1 causes.2,
+      Progress-during _ _ _ _ _ _ _ _ _ _ _ c.in-Some.size _ _ _ told.2
+          (rw c.in-Some.is at c.in_ok-size.ensures.line)
+          (faults_push told.0 causes.0 _ (g.B.Books.tables c.loop-count.desk) (g.B.Books.tables c.reply_to.new.desk) _ _ causes.1)
+          front.0 front.1,
+    )
+
 pub returns-in_default-told-clause-write_fault : goal.returns-in_default-told-clause-write_fault
 returns-in_default-told-clause-write_fault g c = λ _. rw c.loop-count.invariant.writes at c.in_default-told.ensures.failed
 
@@ -166,6 +226,14 @@ loop-count-preserved g c =
           (rw c.in-Some.is at c.in_ok-size.ensures.line)
           (taken_push B.IsHonest B.IsClean B.tables B.may_leave _ _ _ _ _ _ _ _ (rw c.as_slice.ensures.value at c.in_ok-reply.ensures.asks))
           (rw c.as_bytes.ensures at c.in-Ok.ensures.whole);
+      faults = let causes = c.in_ok-reply.ensures.store in (
+        invariant.faults.0 + causes.0,
+        HaveFailed-push invariant.faults.0 causes.0 _ _ _ invariant.faults.1 causes.2,
+        Progress-push _ _ _ _ _ _ _ _ _ _ _ c.in-Some.size _ _ invariant.faults.2
+            (rw c.in-Some.is at c.in_ok-size.ensures.line)
+            (faults_push invariant.faults.0 causes.0 _ (B.tables c.loop-count.desk) (B.tables c.reply_to.new.desk) _ _ causes.1)
+            (rw c.as_bytes.ensures at c.in-Ok.ensures.whole),
+      );
       charged = Charges-trans _ _ _ _ _ _ invariant.charged c.next_line.ensures.charged;
       spent = let less = rw c.in-Some.is at c.in_ok-size.ensures.left in omega (arith, less.1, invariant.spent);
       reads = c.in_ok-size.ensures.kept (search rules) ∙ invariant.reads;
@@ -198,3 +266,8 @@ pub returns-clause-crash_history : goal.returns-clause-crash_history
 returns-clause-crash_history g c = λ honest clean h legal stands T left.
     lines_crash_history h legal _ stands T _ _ _ _ (Err ReadFault)
     (returns-clause-crash g c honest clean (sound_when_legal h legal _ stands).one_bearer T left)
+
+pub returns-clause-store : goal.returns-clause-store
+returns-clause-store g c =
+    let told = c.loop-count.invariant.faults in
+    (told.0, told.1, Progress-part _ _ _ _ _ _ _ _ told.2 (TakesPart-none _))

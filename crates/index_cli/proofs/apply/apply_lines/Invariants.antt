@@ -1,8 +1,9 @@
-use Rattle.std.proofs.Common.{◌≡◌, ◌≤◌, ◌+◌}
+use Rattle.std.proofs.Common.{◌≡◌, ◌≤◌, ◌+◌, ℕ}
 use Rattle.index_rules.specs.Facts.{HasOneBearer}
 use Rattle.index_rules.specs.Sound.{IsSound}
 use Rattle.index_cli.specs.declared.apply.TheConstants.{MOST_BYTES}
 use Rattle.index_desk.specs.Rules.{by_tables}
+use Rattle.index_cli.specs.Causes.{HaveFailed, TellsFaults}
 use Rattle.index_cli.specs.Lines.{Charges}
 use Rattle.index_cli.specs.Telling.{TellsLines}
 use Rattle.index_cli.specs.TellsCalls.{TellsCalls}
@@ -22,6 +23,8 @@ invariant-loop-count g l =
           → Progress (TellsLines by_tables before) now given left (g.K.Sink.contents l.fn.sink) (g.K.Sink.contents l.sink) l.count;
       called : Progress (TellsCalls (by_taken g.B.Books.IsHonest g.B.Books.IsClean g.B.Books.tables g.B.Books.may_leave l.fn.desk l.desk)) now
           given left (g.K.Sink.contents l.fn.sink) (g.K.Sink.contents l.sink) l.count;
+      faults : (faults : ℕ) × HaveFailed faults (g.B.Books.failures l.fn.desk) (g.B.Books.failures l.desk)
+          × Progress (TellsFaults faults) now given left (g.K.Sink.contents l.fn.sink) (g.K.Sink.contents l.sink) l.count;
       charged : Charges MOST_BYTES l.left given left;
       spent : l.left + l.count ≤ MOST_BYTES;
       reads : g.S.Source.failures l.source ≡ g.S.Source.failures l.fn.source;

@@ -1,19 +1,28 @@
-use Rattle.std.proofs.Common.{◌≡◌, refl, [], List, true, Result, Ok, Err, IfErr, IsErrAnd, map, string_bytes, subst, sym}
+use Rattle.std.proofs.Common.{◌≡◌, refl, inl, inr, [], List, true, Result, Ok, Err, IfErr, IsErrAnd, map, string_bytes, subst, sym}
 use Rattle.clap.proofs.OnLiterals.{clap_on_literals}
-use Rattle.clap.specs.Words.{App, Text, app_of, fault_of, is_simple_and_free, kind_of, takes}
+use Rattle.clap.specs.Words.{App, HasKind, IsAmong, Text, app_of, fault_of, is_simple_and_free, kind_of, takes}
 use Rattle.clap.specs.declared.error.Error.{Error}
 use Rattle.clap.specs.declared.error.ErrorKind.TheVariants.{OutOfMemory as NoMemory}
 use Rattle.index_words.specs.declared.job.Job.{Job}
 use Rattle.index_words.specs.declared.job.WordsEnd.{WordsEnd}
-use Rattle.index_words.specs.declared.job.WordsEnd.TheVariants.{OutOfMemory}
+use Rattle.index_words.specs.declared.job.WordsEnd.TheVariants.{Clap, OutOfMemory}
 use Rattle.index_words.specs.Program.{index_app}
+use Rattle.index_words.specs.Refusals.{IsEndOf, IsRefusal}
 use Rattle.index_words.proofs.job.read_words.Goals as goal
 
--- the end that an error of this kind becomes
-out_of_memory : (r : Result Job WordsEnd) (error : Error) → kind_of error ≡ NoMemory → IsErrAnd r (λ end. kind_of error ≡ NoMemory → end ≡ OutOfMemory)
-    → IfErr r (λ end. end ≡ OutOfMemory)
-out_of_memory (Ok job) error kind gives = absurd gives
-out_of_memory (Err end) error kind gives = gives kind
+-- ---- the end that an error becomes
+
+out_of_memory : (r : Result Job WordsEnd) (error : Error) → kind_of error ≡ NoMemory → IsErrAnd r (IsEndOf error) → IfErr r (λ end. end ≡ OutOfMemory)
+out_of_memory (Ok job) error kind ends = absurd ends
+out_of_memory (Err OutOfMemory) error kind ends = refl
+out_of_memory (Err (Clap told)) error kind ends = absurd (ends.1 kind)
+
+refusal : (words : List Text) (r : Result Job WordsEnd) (error : Error) → HasKind (fault_of index_app words) error → IsErrAnd r (IsEndOf error) → IfErr r (IsRefusal words)
+refusal words (Ok job) error kinds ends = absurd ends
+refusal words (Err OutOfMemory) error kinds ends = tt
+refusal words (Err (Clap told)) error (inl memory) ends = absurd (ends.1 memory)
+refusal words (Err (Clap told)) error (inr among) ends =
+    inl (subst (λ (e : Error). IsAmong (kind_of e) (fault_of index_app words)) (sym ends.0) among)
 
 of_same : (a b : App) (words : List Text) (P : Type 0) → a ≡ b → (takes a words ≡ true → P) → takes b words ≡ true → P
 of_same a b words P same passes taken = passes (subst (λ (x : App). takes x words ≡ true) (sym same) taken)
@@ -37,3 +46,14 @@ no_fault a b words same is holds =
 pub returns-in-Some-clause-taken : goal.returns-in-Some-clause-taken
 returns-in-Some-clause-taken c = λ _.
     no_fault (app_of c.in_ok-command.command) index_app (map string_bytes c.args.words.now) c.in_ok-command.ensures.app simple c.in_ok-matches.ensures.kinds
+
+-- the kind of an error of the command that was built
+has_kind : (a b : App) (words : List Text) (error : Error) → a ≡ b → is_simple_and_free b ≡ true → (is_simple_and_free a ≡ true → HasKind (fault_of a words) error) → HasKind (fault_of b words) error
+has_kind a b words error same is holds =
+    subst (λ (x : App). HasKind (fault_of x words) error) same (holds (subst (λ (x : App). is_simple_and_free x ≡ true) (sym same) is))
+
+pub returns-in_err-matches-clause-why : goal.returns-in_err-matches-clause-why
+returns-in_err-matches-clause-why c =
+    refusal (map string_bytes c.args.words.now) _ c.in_err-matches.field-0.0
+    (has_kind (app_of c.in_ok-command.command) index_app (map string_bytes c.args.words.now) c.in_err-matches.field-0.0 c.in_ok-command.ensures.app simple c.in_err-matches.ensures.kinds)
+    c.from_residual-in_err-matches.ensures.1

@@ -1,0 +1,92 @@
+-- Each fault of the store that is told has a call that failed.
+use Rattle.std.proofs.Common.{◌≡◌, ◌∙◌, ◌+◌, ℕ, inl, inr, refl, sym, ap, List, [], ◌∷◌, ◌++◌, Option, append_assoc, append-nil, arith}
+use Rattle.std.proofs.lemmas.Bool.{cases_lt}
+use Rattle.index_io.specs.Counts.{FailsAtMostOnce, HasFailed, last_count}
+use Rattle.index_rules.specs.declared.answer.Answer.{Answer}
+use Rattle.index_rules.specs.declared.answer.Answer.TheVariants as answer
+use Rattle.index_rules.specs.declared.answer.Fault.{Fault}
+use Rattle.index_rules.specs.declared.answer.Fault.TheVariants.{OutOfMemory, Store}
+use Rattle.index_rules.specs.Tables.{Tables}
+use Rattle.index_desk.specs.declared.standing.Standing.{Standing}
+use Rattle.index_json.specs.AnswerText.{answer_text_of}
+use Rattle.index_json.specs.StandingText.{standing_text_of}
+use Rattle.index_cli.specs.Causes.{HasCauses, HaveFailed, store_faults, TellsEach, TellsFault, TellsFaults}
+use Rattle.index_cli.specs.Ends.{TellsBefore}
+use Rattle.index_cli.specs.Lines.{line_feed}
+use Rattle.index_cli.proofs.Progress.{Pushes}
+use Rattle.index_cli.proofs.RunEnds.{before_map}
+
+-- ---- counts
+
+-- a call failed at most: the count does not fall
+pub none_failed : (f0 f1 : ℕ) → FailsAtMostOnce f0 f1 → HaveFailed 0 f0 f1
+none_failed f0 f1 (inl same) = inl (omega (arith, same))
+none_failed f0 f1 (inr next) = elim (cases_lt last_count (f0 + 1)) [
+  | inl far ↦ inr (omega (arith, next, far))
+  | inr near ↦ inl (omega (arith, next, near))
+]
+
+pub one_failed : (f0 f1 : ℕ) → HasFailed f0 f1 → HaveFailed 1 f0 f1
+one_failed f0 f1 (inl more) = inl (omega (arith, more))
+one_failed f0 f1 (inr last) = inr (omega (arith, last))
+
+-- an answer is as many faults of the store as calls failed
+pub answer_failed : (a : Answer) (f0 f1 : ℕ) → FailsAtMostOnce f0 f1 → (a ≡ answer.Fault Store → HasFailed f0 f1) → HaveFailed (store_faults a) f0 f1
+answer_failed (answer.Fault Store) f0 f1 once store = one_failed f0 f1 (store refl)
+answer_failed (answer.Fault OutOfMemory) f0 f1 once store = none_failed f0 f1 once
+answer_failed (answer.Refused refusal) f0 f1 once store = none_failed f0 f1 once
+answer_failed answer.Already f0 f1 once store = none_failed f0 f1 once
+answer_failed answer.Accepted f0 f1 once store = none_failed f0 f1 once
+
+-- faults one after the other
+pub HaveFailed-push : (n m f0 f1 f2 : ℕ) → HaveFailed n f0 f1 → HaveFailed m f1 f2 → HaveFailed (n + m) f0 f2
+HaveFailed-push n m f0 f1 f2 (inl more) (inl then) = inl (omega (arith, more, then))
+HaveFailed-push n m f0 f1 f2 (inr last) (inl then) = inr (omega (arith, last, then))
+HaveFailed-push n m f0 f1 f2 before (inr last) = inr last
+
+-- ---- texts
+
+-- the text of an answer
+pub answer_causes : (a : Answer) (text : List ℕ) (f0 f1 : ℕ) → text ≡ answer_text_of a → FailsAtMostOnce f0 f1 → (a ≡ answer.Fault Store → HasFailed f0 f1) → HasCauses text f0 f1
+answer_causes a text f0 f1 is once store = (store_faults a, inl (a, is, refl), answer_failed a f0 f1 once store)
+
+-- lines and one more
+TellsEach-push : (n m : ℕ) (done : List (List ℕ)) (text line first : List ℕ)
+    → TellsEach n done text → TellsFault first m → TellsEach (n + m) (done ++ line ∷ []) (text ++ (first ++ line_feed ∷ []))
+TellsEach-push n m [] text line first told tells = (
+  first,
+  [],
+  m,
+  0,
+  tells,
+  (refl, refl),
+  omega (arith, told.1),
+  ap (λ l. l ++ (first ++ line_feed ∷ [])) told.0 ∙ sym (append-nil (first ++ line_feed ∷ [])),
+)
+TellsEach-push n m (before ∷ done) text line first (earlier, more, one, others, tells_before, rest, count, is) tells = (
+  earlier,
+  more ++ (first ++ line_feed ∷ []),
+  one,
+  others + m,
+  tells_before,
+  TellsEach-push others m done more line first rest tells,
+  omega (arith, count),
+  ap (λ l. l ++ (first ++ line_feed ∷ [])) is ∙ append_assoc (earlier ++ line_feed ∷ []) more (first ++ line_feed ∷ []),
+)
+
+pub faults_push : (n m size : ℕ) (T U : Tables) (kept first : List ℕ) → TellsFault first m
+    → Pushes (TellsFaults n) (TellsFaults (n + m)) T U size kept first
+faults_push n m size T U kept first tells done text line sized front told = TellsEach-push n m done text line first told tells
+
+-- lines before the one in hand, whatever the tables
+pub faults_before : (n : ℕ) (T U : Tables) (a b w0 w1 : Option (List ℕ)) → TellsBefore (TellsFaults n) T a b w0 w1 → TellsBefore (TellsFaults n) U a b w0 w1
+faults_before n T U a b w0 w1 before = before_map (TellsFaults n) (TellsFaults n) T U (λ lines text told. told) a b w0 w1 before
+
+-- the text of a fault
+pub fault_causes : (fault : Fault) (text : List ℕ) (f0 f1 : ℕ) → text ≡ answer_text_of (answer.Fault fault) → FailsAtMostOnce f0 f1 → (fault ≡ Store → HasFailed f0 f1) → HasCauses text f0 f1
+fault_causes Store text f0 f1 is once store = (1, inl (answer.Fault Store, is, refl), one_failed f0 f1 (store refl))
+fault_causes OutOfMemory text f0 f1 is once store = (0, inl (answer.Fault OutOfMemory, is, refl), none_failed f0 f1 once)
+
+-- the text of a standing
+pub standing_causes : (standing : Standing) (text : List ℕ) (f0 f1 : ℕ) → text ≡ standing_text_of standing → FailsAtMostOnce f0 f1 → HasCauses text f0 f1
+standing_causes standing text f0 f1 is once = (0, inr (inl (standing, is, refl)), none_failed f0 f1 once)
