@@ -1,8 +1,6 @@
 //! Changes of retention cases alone.
-ghost use Rattle.std.specs.Prelude.{◌≡◌};
-ghost use Rattle.index_commits.specs.Changed.{all_of};
 ghost use Rattle.index_rules.specs.declared.change.Change.{Change};
-ghost use Rattle.index_rules.specs.Effect.{means};
+ghost use Rattle.index_changes.specs.Asked.{AreStepsOf};
 
 use crate::steps::Steps;
 use index_commits::{Deletion, Put, Step};
@@ -11,14 +9,14 @@ use index_rules::CaseRecord;
 
 /// The name has this open case.
 pub(crate) fn set_case<'a>(name: &'a NormalName, case: &'a CaseRecord) -> Steps<'a>
-    ensures { all_of result ≡ means (Change.OpenCase name.now case.now) }
+    ensures { AreStepsOf (Change.OpenCase name.now case.now) result }
 {
     Steps::first(Step::Put(Put::Case(name, case)))
 }
 
 /// The name's case ends.
 pub(crate) fn end_case<'a>(name: &'a NormalName) -> Steps<'a>
-    ensures { all_of result ≡ means (Change.CloseCase name.now) }
+    ensures { AreStepsOf (Change.CloseCase name.now) result }
 {
     Steps::first(Step::Delete(Deletion::Case(name.text())))
 }

@@ -1,11 +1,14 @@
 //! A change of the tables in one transaction.
-ghost use Rattle.std.specs.Prelude.{◌≡◌, false, IsTrue, OnOk, OnErr};
+ghost use Rattle.std.specs.Prelude.{◌≡◌, false, IfErr, IsTrue, OnOk, OnErr};
 ghost use Rattle.sqlite.specs.Held.{state};
 ghost use Rattle.sqlite.specs.State.{HasCleanDisk};
 ghost use Rattle.index_rules.specs.Effect.{means};
 ghost use Rattle.index_schema.specs.Index.{IsIndex, as_told};
+ghost use Rattle.index_schema.specs.RecordRows.{AreRecords};
 ghost use Rattle.index_steps.specs.Inside.{LeavesNothing};
-ghost use Rattle.index_commits.specs.Changed.{all_of, IsMade, IsUndone, LeavesAll};
+ghost use Rattle.index_commits.specs.Asked.{FailsForRefusal};
+ghost use Rattle.index_commits.specs.Changed.{IsMade, IsUndone, LeavesAll};
+ghost use Rattle.index_changes.specs.Asked.{AreStepsOf, asks_of};
 
 use crate::cases::{end_case, set_case};
 use crate::files::file_steps;
@@ -42,6 +45,10 @@ pub fn make_change<S: Alter>(conn: &mut Connection<S>, change: &Change) -> Resul
         → LeavesAll (means change.now) as_told (state S.Store conn.old) (state S.Store conn.new) }
     ensures shut { (state S.Store conn.old).is_open ≡ false
         → LeavesNothing S.Store conn.old conn.new }
+    ensures reason { HasCleanDisk (state S.Store conn.new)
+        → (IsTrue (state S.Store conn.old).is_open → IsIndex (state S.Store conn.old).now)
+        → AreRecords (state S.Store conn.old).now → IfErr result (FailsForRefusal
+        (asks_of change.now) (state S.Store conn.old) (state S.Store conn.new)) }
 {
     let steps = steps_of(change);
     commit_steps(conn, steps.as_slice())
@@ -49,7 +56,7 @@ pub fn make_change<S: Alter>(conn: &mut Connection<S>, change: &Change) -> Resul
 
 /// The steps that make the change. A row is put before those that refer to it.
 fn steps_of(change: &Change) -> Steps<'_>
-    ensures { all_of result ≡ means change.now }
+    ensures { AreStepsOf change.now result }
 {
     match change {
         Change::AddUser { user, record } | Change::SetToken { user, record } => {

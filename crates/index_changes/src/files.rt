@@ -1,9 +1,8 @@
 //! Changes of files.
 ghost use Rattle.std.specs.Prelude.{◌≡◌, true};
-ghost use Rattle.index_commits.specs.Changed.{all_of};
 ghost use Rattle.index_rules.specs.declared.change.Change.TheVariants.{Upload, Delete, BanFile};
-ghost use Rattle.index_rules.specs.Effect.{means};
 ghost use Rattle.index_changes.specs.Subjects.{is_of_file};
+ghost use Rattle.index_changes.specs.Asked.{AreStepsOf};
 
 use crate::steps::Steps;
 use index_commits::{Deletion, Put, Step};
@@ -14,7 +13,7 @@ use index_rules::{Change, FileRecord, Project};
 /// The steps of a change of a file.
 pub(crate) fn file_steps(change: &Change) -> Steps<'_>
     requires { is_of_file change.now ≡ true }
-    ensures { all_of result ≡ means change.now }
+    ensures { AreStepsOf change.now result }
 {
     match change {
         Change::Upload {
@@ -48,8 +47,7 @@ fn upload<'a>(
     known: &'a FileRecord,
     body: &'a Sealed,
 ) -> Steps<'a>
-    ensures { all_of result
-        ≡ means (Upload name.now project.now file.now known.now body.now) }
+    ensures { AreStepsOf (Upload name.now project.now file.now known.now body.now) result }
 {
     Steps::first(Step::Put(Put::Held(name, project)))
         .then(Step::Put(Put::File(file, known)))
@@ -64,7 +62,7 @@ fn delete<'a>(
     file: &'a FileName,
     known: &'a FileRecord,
 ) -> Steps<'a>
-    ensures { all_of result ≡ means (Delete name.now project.now file.now known.now) }
+    ensures { AreStepsOf (Delete name.now project.now file.now known.now) result }
 {
     Steps::first(Step::Put(Put::Held(name, project)))
         .then(Step::Put(Put::File(file, known)))
@@ -79,7 +77,7 @@ fn ban<'a>(
     file: &'a FileName,
     known: &'a FileRecord,
 ) -> Steps<'a>
-    ensures { all_of result ≡ means (BanFile name.now project.now file.now known.now) }
+    ensures { AreStepsOf (BanFile name.now project.now file.now known.now) result }
 {
     let put_file = Step::Put(Put::File(file, known));
     let steps = match project {

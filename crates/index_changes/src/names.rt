@@ -1,8 +1,6 @@
 //! Changes of a name and its record.
-ghost use Rattle.std.specs.Prelude.{◌≡◌};
-ghost use Rattle.index_commits.specs.Changed.{all_of};
 ghost use Rattle.index_rules.specs.declared.change.Change.{Change};
-ghost use Rattle.index_rules.specs.Effect.{means};
+ghost use Rattle.index_changes.specs.Asked.{AreStepsOf};
 
 use crate::steps::Steps;
 use index_commits::{Deletion, Put, Step};
@@ -11,14 +9,14 @@ use index_rules::{Project, UserId};
 
 /// The name is held, with this record.
 pub(crate) fn set_project<'a>(name: &'a NormalName, project: &'a Project) -> Steps<'a>
-    ensures { all_of result ≡ means (Change.SetQuota name.now project.now) }
+    ensures { AreStepsOf (Change.SetQuota name.now project.now) result }
 {
     Steps::first(Step::Put(Put::Held(name, project)))
 }
 
 /// The name is held, with this record and no owner but this one. What there was of an earlier claim goes first.
 pub(crate) fn claim<'a>(name: &'a NormalName, project: &'a Project, owner: &'a UserId) -> Steps<'a>
-    ensures { all_of result ≡ means (Change.Claim name.now project.now owner.now) }
+    ensures { AreStepsOf (Change.Claim name.now project.now owner.now) result }
 {
     let text = name.text();
     Steps::first(Step::Delete(Deletion::Owners(text)))
@@ -30,14 +28,14 @@ pub(crate) fn claim<'a>(name: &'a NormalName, project: &'a Project, owner: &'a U
 
 /// The name is free. Its owners, its yanks and its case go with its row.
 pub(crate) fn free<'a>(name: &'a NormalName) -> Steps<'a>
-    ensures { all_of result ≡ means (Change.Relinquish name.now) }
+    ensures { AreStepsOf (Change.Relinquish name.now) result }
 {
     Steps::first(Step::Delete(Deletion::Name(name.text())))
 }
 
 /// The name is prohibited, and its files are deleted. Its owners, its yanks and its case go with the row that it had.
 pub(crate) fn prohibit<'a>(name: &'a NormalName) -> Steps<'a>
-    ensures { all_of result ≡ means (Change.Prohibit name.now) }
+    ensures { AreStepsOf (Change.Prohibit name.now) result }
 {
     let text = name.text();
     Steps::first(Step::Delete(Deletion::Bodies(text)))

@@ -1,9 +1,11 @@
 //! A change of the tables in one transaction.
-ghost use Rattle.std.specs.Prelude.{◌≡◌, ◌<◌, false, length, IsTrue, OnOk, OnErr};
+ghost use Rattle.std.specs.Prelude.{◌≡◌, ◌<◌, false, length, IfErr, IsTrue, OnOk, OnErr};
 ghost use Rattle.sqlite.specs.Held.{state};
 ghost use Rattle.sqlite.specs.State.{HasCleanDisk};
 ghost use Rattle.index_schema.specs.Index.{IsIndex, as_told};
+ghost use Rattle.index_schema.specs.RecordRows.{AreRecords};
 ghost use Rattle.index_steps.specs.Inside.{LeavesNothing};
+ghost use Rattle.index_commits.specs.Asked.{FailsForRefusal, asks_by};
 ghost use Rattle.index_commits.specs.Changed.{all_of, IsMade, IsUndone, LeavesAll};
 
 use crate::step::{Step, take_steps};
@@ -32,6 +34,10 @@ pub fn commit_steps<S: Alter>(conn: &mut Connection<S>, steps: &[Step<'_>]) -> R
         → LeavesAll (all_of steps.now) as_told (state S.Store conn.old) (state S.Store conn.new) }
     ensures shut { 0 < length steps.now → (state S.Store conn.old).is_open ≡ false
         → LeavesNothing S.Store conn.old conn.new }
+    ensures reason { HasCleanDisk (state S.Store conn.new)
+        → (IsTrue (state S.Store conn.old).is_open → IsIndex (state S.Store conn.old).now)
+        → AreRecords (state S.Store conn.old).now → IfErr result
+        (FailsForRefusal (asks_by steps.now) (state S.Store conn.old) (state S.Store conn.new)) }
 {
     let mut tx = conn.transaction();
     take_steps(&mut tx, steps)?;

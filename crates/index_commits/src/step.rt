@@ -1,6 +1,8 @@
 //! One step of a change.
 ghost use Rattle.std.specs.Prelude.{◌≡◌, ◌<◌, length};
 ghost use Rattle.index_steps.specs.Inside.{MakesIfOk, Keeps, LeavesNothing, WasOpenIfOk};
+ghost use Rattle.index_steps.specs.Asks.{AnswersAll, CanAsk, GoesAs, GoesByAsk};
+ghost use Rattle.index_commits.specs.Asked.{asks_by, deletion_ask, put_ask, step_ask};
 ghost use Rattle.index_commits.specs.Changed.{put_by, deletion_by, step_by, all_of};
 
 use index_names::{FileName, NormalName, Release};
@@ -72,6 +74,7 @@ fn take_put<S: Alter>(tx: &mut Transaction<'_, S>, put: Put<'_>) -> Result<(), E
     ensures kept { Keeps S.Store tx.old.conn.now tx.new.conn.now }
     ensures opened { WasOpenIfOk S.Store tx.old.conn.now tx.new.conn.now result }
     ensures survives { LeavesNothing S.Store tx.old.conn.now tx.new.conn.now }
+    ensures asked { GoesByAsk S.Store (put_ask put.entry) tx.old.conn.now tx.new.conn.now result }
 {
     match put {
         Put::User(user, account) => put_user(tx, user, account),
@@ -94,6 +97,8 @@ fn take_deletion<S: Alter>(tx: &mut Transaction<'_, S>, deletion: Deletion<'_>) 
     ensures kept { Keeps S.Store tx.old.conn.now tx.new.conn.now }
     ensures opened { WasOpenIfOk S.Store tx.old.conn.now tx.new.conn.now result }
     ensures survives { LeavesNothing S.Store tx.old.conn.now tx.new.conn.now }
+    ensures asked { GoesByAsk S.Store (deletion_ask deletion.entry)
+        tx.old.conn.now tx.new.conn.now result }
 {
     match deletion {
         Deletion::Name(name) => delete_name(tx, name),
@@ -114,6 +119,7 @@ fn take_step<S: Alter>(tx: &mut Transaction<'_, S>, step: &Step<'_>) -> Result<(
     ensures kept { Keeps S.Store tx.old.conn.now tx.new.conn.now }
     ensures opened { WasOpenIfOk S.Store tx.old.conn.now tx.new.conn.now result }
     ensures survives { LeavesNothing S.Store tx.old.conn.now tx.new.conn.now }
+    ensures asked { GoesByAsk S.Store (step_ask step.now) tx.old.conn.now tx.new.conn.now result }
 {
     match *step {
         Step::Put(put) => take_put(tx, put),
@@ -130,6 +136,8 @@ pub fn take_steps<S: Alter>(tx: &mut Transaction<'_, S>, steps: &[Step<'_>]) -> 
     ensures opened { 0 < length steps.now →
         WasOpenIfOk S.Store tx.old.conn.now tx.new.conn.now result }
     ensures survives { LeavesNothing S.Store tx.old.conn.now tx.new.conn.now }
+    ensures asked { GoesAs S.Store CanAsk (AnswersAll (asks_by steps.now))
+        tx.old.conn.now tx.new.conn.now result }
 {
     for step in steps {
         take_step(tx, step)?;

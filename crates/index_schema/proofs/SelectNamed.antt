@@ -1,6 +1,6 @@
 -- SELECT file FROM files by name: the files of the name, the deleted ones too.
-use Rattle.std.proofs.Common.{◌≡◌, Bool, true, false, ◌&&◌, ◌||◌, cond, List, [], ◌∷◌, codes, filter, map, refl, sym, ap, ap₂, ◌∙◌}
-use Rattle.std.specs.List.{list_all, list_any}
+use Rattle.std.proofs.Common.{◌≡◌, arith, IsPermutation, Bool, true, false, ◌&&◌, ◌||◌, cond, List, [], ◌∷◌, codes, filter, map, refl, sym, ap, ap₂, ◌∙◌}
+use Rattle.std.specs.List.{AllByRecursion, list_all, list_any}
 use Rattle.std.proofs.lemmas.Cmp.{nat_list_cmp_total}
 use Rattle.std.proofs.lemmas.List.Sorted.{list_any-IsPermutation}
 use Rattle.std.proofs.lemmas.Map.Lookups.{exact_bytes}
@@ -26,7 +26,9 @@ use Rattle.index_schema.specs.StatementTexts.{select_named_text}
 use Rattle.index_schema.proofs.QueryShapes.{is_param}
 use Rattle.index_schema.proofs.KeyLemmas.{IsText, texts, text_test}
 use Rattle.index_schema.proofs.TableLemmas.{same-turned, files_keyed}
-use Rattle.index_schema.proofs.LookupLemmas.{Selects}
+use Rattle.index_schema.proofs.LookupLemmas.{Selects, shown_all}
+use Rattle.index_schema.specs.Sure.{IsSure}
+use Rattle.index_schema.proofs.SureLemmas.{readable_one}
 use Rattle.index_schema.proofs.WriteLemmas.{answered}
 
 abbrev tests : List Term
@@ -35,6 +37,10 @@ tests = is_param 2 0 ∷ []
 shown : Selects (files_at 8) select_named_text tests (col 1 1 ∷ [])
 unfolding understood everything
 shown = record { names = codes "file" ∷ []; compiled = refl; is_plain = (refl, refl); unlisted = refl }
+
+pub sure : (name : Bytes) → IsSure select_named_text (Text name ∷ [])
+unfolding understood everything IsSure
+sure name = ((omega arith, refl, refl, refl, readable_one 8 tests (col 1 1 ∷ []) [] (codes "file" ∷ []) (Text name ∷ []) refl), refl)
 
 pub is_plain : IsPlain (understood index_schema select_named_text)
 is_plain = shown.is_plain
@@ -67,14 +73,27 @@ module _ (name : Bytes) where
   tested : (r : Row) → IsText 2 r → list_all (holds (params ∷ r ∷ [])) tests ≡ owns r
   tested r is = last_term (text_test params 2 0 r name refl is ∙ same-turned (bytes (column r 2)) name)
 
+  found_named : (old new : State) (rows : List Row) → IsIndex old.now → Shown select_named_text params old new rows
+      → (found : List Row) × IsPermutation (filter owns (old.now.trees 8)) found × (rows ≡ map (λ r. eval_all (col 1 1 ∷ []) (params ∷ r ∷ [])) found)
+  found_named old new rows h ran =
+      let rs = old.now.trees 8 in
+      let answer = reads_as select_named_text params old new index_schema h.schema _ shown.compiled shown.is_plain shown.unlisted rows ran in
+      let names = texts 4 (files_at 8) refl old.now h refl 1 _ refl refl refl refl in
+      answered 4 (files_at 8) refl (λ db. refl) params tests (col 1 1 ∷ []) owns old.now.trees rows (all_weaker (IsText 2) (λ r. list_all (holds (params ∷ r ∷ [])) tests ≡ owns r) tested rs names) (answer.answer Null)
+
+  -- what is known of the file in each row of the table is known of those that are shown
+  pub records : (P Q : Row → Type 0) → ((r : Row) → P r → Q (column r 1 ∷ [])) → (old new : State) (rows : List Row) → IsIndex old.now → Shown select_named_text params old new rows
+      → AllByRecursion P (old.now.trees 8) → AllByRecursion Q rows
+  records P Q keeps old new rows h ran all =
+      let found = found_named old new rows h ran in
+      shown_all P Q (λ r. eval_all (col 1 1 ∷ []) (params ∷ r ∷ [])) keeps owns (old.now.trees 8) found.0 rows found.1 found.2 all
+
   -- a file is in a row that is shown just where its record has the name
   pub selects : (old new : State) (rows : List Row) → IsIndex old.now → Shown select_named_text params old new rows
       → (file : Bytes) → list_any (λ r. same file (file_shown r)) rows ≡ is_file_of (tables_in old.now.trees).files name file
   selects old new rows h ran file =
       let rs = old.now.trees 8 in
-      let answer = reads_as select_named_text params old new index_schema h.schema _ shown.compiled shown.is_plain shown.unlisted rows ran in
-      let names = texts 4 (files_at 8) refl old.now h refl 1 _ refl refl refl refl in
-      let found = answered 4 (files_at 8) refl (λ db. refl) params tests (col 1 1 ∷ []) owns old.now.trees rows (all_weaker (IsText 2) (λ r. list_all (holds (params ∷ r ∷ [])) tests ≡ owns r) tested rs names) (answer.answer Null) in
+      let found = found_named old new rows h ran in
       ap (list_any (λ r. same file (file_shown r))) found.2
       ∙ list_any-map (λ r. same file (file_shown r)) (λ r. eval_all (col 1 1 ∷ []) (params ∷ r ∷ [])) found.0
       ∙ sym (list_any-IsPermutation (λ r. same file (text_key r)) (filter owns rs) found.0 found.1)

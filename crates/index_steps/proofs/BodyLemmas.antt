@@ -1,10 +1,20 @@
 -- The bytes of the files that rows show.
-use Rattle.std.proofs.Common.{◌≡◌, Bool, true, false, cond, not, ◌||◌, List, [], ◌∷◌, Option, None, refl, sym, ap, ◌∙◌}
+use Rattle.std.proofs.Common.{◌≡◌, ◌≢◌, ◌<◌, length, IsSome, IsUtf8, subst, true≢false, Bool, true, false, cond, not, ◌||◌, List, [], ◌∷◌, Option, None, refl, sym, ap, ◌∙◌}
 use Rattle.std.specs.List.{list_any}
 use Rattle.std.specs.FinMap.{get, remove, same_map}
 use Rattle.std.proofs.lemmas.Cmp.{nat_list_cmp_total}
 use Rattle.std.proofs.lemmas.Map.Lookups.{exact_bytes}
-use Rattle.sqlite_value.specs.Order.{Row}
+use Rattle.sqlite_value.specs.declared.value.Value.{Value}
+use Rattle.sqlite_value.specs.declared.value.Value.TheVariants.{Text}
+use Rattle.sqlite_value.specs.Order.{Row, column}
+use Rattle.sqlite.specs.declared.error.Error.{Error}
+use Rattle.sqlite.specs.declared.error.Error.TheVariants.{SqliteFailure}
+use Rattle.sqlite.specs.declared.error.ErrorCode.TheVariants.{OutOfMemory}
+use Rattle.index_looks.specs.Faults.{fault_by}
+use Rattle.index_names.proofs.NameLemmas.{read_file_name-no_text}
+use Rattle.index_rules.specs.declared.answer.Fault.TheVariants as fault
+use Rattle.index_schema.specs.RecordRows.{IsFileText}
+use Rattle.index_steps.specs.Asks.{ShowsFile}
 use Rattle.index_rules.specs.Effect.{is_file_of}
 use Rattle.index_rules.specs.Maps.{Bytes, Map, same}
 use Rattle.index_rules.specs.Tables.{Tables}
@@ -37,3 +47,12 @@ bodies_gone name T rows are = λ i. record T { bodies = gone i }
     gone = same_map nat_list_cmp_total exact_bytes _ _ (λ file.
         get-removes rows T.bodies file ∙ ap (λ b. cond b None (get T.bodies file)) (are file)
         ∙ turned (is_file_of T.files name file) (get T.bodies file) ∙ sym (get-kept T.bodies (λ q. not (is_file_of T.files name q)) file))
+
+-- the name of a file is read from its row
+never_unread_at : (v : Value) → IsFileText v → ((t : Bytes) × (v ≡ Text t) × IsUtf8 t → ⊥) → ⊥
+never_unread_at (Text file) is unread = true≢false (sym (subst IsSome (read_file_name-no_text file (λ utf8. unread (file, refl, utf8))) is))
+never_unread_at _ is unread = is
+
+pub never_unread : (r : Row) → ShowsFile r → (e : Error) → fault_by e ≡ fault.Store → (e ≢ SqliteFailure OutOfMemory → 0 < length r → (t : Bytes) × (column r 0 ≡ Text t) × IsUtf8 t → ⊥) → ⊥
+never_unread r shows e store unread =
+    never_unread_at (column r 0) shows.1 (unread (λ memory. absurd (let f = subst (λ x. fault_by x ≡ fault.Store) memory store in cc)) shows.0)

@@ -25,6 +25,7 @@ use Rattle.index_schema.specs.StatementTexts.{put_user_text, put_file_text, put_
 use Rattle.index_schema.proofs.PutUser as user_row
 use Rattle.index_schema.proofs.PutFile as file_row
 use Rattle.index_schema.proofs.PutCase as case_row
+use Rattle.index_steps.specs.Statements.{name_cells}
 use Rattle.index_steps.specs.Writes.{puts_user, puts_file, puts_case, name_of, row_of_name, flag, kind_number}
 
 flag_again : (b : Bool) → (number_in (Int (flag b)) == 1) ≡ b
@@ -157,3 +158,9 @@ prohibited_fits name id = inr (refl, record { shown = refl; quota = refl; charge
 -- a held name's row has its project
 pub held_again : (project : Project) → name_of (pos 1) project.shown (pos project.quota) (pos project.charge) (pos project.undeleted) (option_map pos project.last_upload) ≡ Held project
 held_again project = rw (number_again project.last_upload) refl
+
+-- the cells of a held name, by the columns that a call has
+pub held_cells : (name : Bytes) (project : Project) (shown : Bytes) (quota charge undeleted : ℤ) (last : Option ℤ) → shown ≡ project.shown → quota ≡ pos project.quota → charge ≡ pos project.charge → undeleted ≡ pos project.undeleted
+    → last ≡ option_map pos project.last_upload
+    → name_cells name (pos 1) shown quota charge undeleted last ≡ name_cells name (pos 1) project.shown (pos project.quota) (pos project.charge) (pos project.undeleted) (option_map pos project.last_upload)
+held_cells name project shown quota charge undeleted last s q c u l = rw (s, q, c, u, l) refl

@@ -1,5 +1,5 @@
 -- A query inside a transaction.
-use Rattle.std.proofs.Common.{◌≡◌, ℕ, List, Option, Some, None, inl, inr, sym, ap, subst, ◌∙◌, ◌⊎◌}
+use Rattle.std.proofs.Common.{◌≡◌, IsSome, true≢false, ℕ, List, Option, Some, None, inl, inr, sym, ap, subst, ◌∙◌, ◌⊎◌}
 use Rattle.sqlite_value.specs.Order.{Row}
 use Rattle.sqlite_schema.specs.declared.command.Returning.{Returning}
 use Rattle.sqlite.specs.declared.error.Error.{Error}
@@ -13,6 +13,11 @@ use Rattle.index_looks.proofs.PlainLemmas.{plain_anywhere}
 use Rattle.index_schema.specs.Schema.{index_schema}
 use Rattle.index_schema.specs.Index.{IsIndex, as_told, version_in}
 use Rattle.index_schema.specs.Records.{tables_in}
+use Rattle.index_schema.specs.Sure.{IsSure}
+use Rattle.index_schema.proofs.SureLemmas.{fails_for}
+use Rattle.sqlite.specs.Rows.{Gives}
+use Rattle.index_steps.specs.Asks.{CanAsk, FailsAs}
+use Rattle.index_steps.proofs.AskLemmas.{by_cause}
 use Rattle.index_schema.specs.RecordRows.{AreRecords}
 use Rattle.index_steps.specs.Inside.{IsReady, Makes}
 
@@ -70,3 +75,12 @@ makes_as change other first last same made = record {
   version = made.version;
   records = made.records;
 }
+
+-- a sure query fails with the disk alone
+pub query_goes : (sql : List ℕ) (cells params : Row) (old new : State) (e : Error) → params ≡ cells → IsSure sql cells → CanAsk old → FailsToQuery sql params old new e ⊎ IsTooLate sql params old new e → FailsAs (Gives old.now) old new e
+query_goes sql cells params old new e given sure can (inr late) store = absurd (true≢false (sym can.ready.inside ∙ late.3))
+query_goes sql cells params old new e given sure can (inl fails) store =
+    elim (fails_for sql params old new e can.ready.index.schema (subst (IsSure sql) (sym given) sure) fails) [
+      | inl failed ↦ elim (by_cause old new ⊥ e can.ready.is_open store failed.0 failed.1 failed.2) [ inl fault ↦ inl fault | inr none ↦ absurd none ]
+      | inr limited ↦ absurd (true≢false (sym (subst IsSome can.unlimited limited)))
+    ]

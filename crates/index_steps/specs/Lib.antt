@@ -1,2 +1,4 @@
 pub mod Writes
 pub mod Inside
+pub mod Asks
+pub mod Statements

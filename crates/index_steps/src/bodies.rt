@@ -1,12 +1,16 @@
 //! The statements that take out the bytes of all files of a name: one that asks for the files, and for each of them one
 //! that finds its bytes by their key. So a name costs no look at the files of others.
 ghost use Rattle.std.specs.Prelude.{◌≡◌, IfOk};
+ghost use Rattle.std.specs.List.{AllByRecursion};
 ghost use Rattle.sqlite.specs.Held.{state};
+ghost use Rattle.sqlite.specs.Rows.{Gives};
 ghost use Rattle.sqlite.specs.State.{HasCleanDisk};
 ghost use Rattle.index_schema.specs.Records.{tables_in};
 ghost use Rattle.index_schema.specs.ShownRows.{file_shown};
+ghost use Rattle.index_steps.specs.Asks.{AnswersEach, CanAsk, GoesAs, GoesByAsk, ShowsFile};
 ghost use Rattle.index_steps.specs.Inside.{IsReady, MakesIfOk, Keeps, LeavesNothing, WasOpenIfOk};
 ghost use Rattle.index_steps.specs.Writes.{AreFilesOf, deletes_bodies, deletes_body, deletes_shown};
+ghost use Rattle.index_steps.specs.Statements.{delete_bodies_ask, delete_body_ask};
 
 use crate::delete::delete_body;
 use sqlite::{Alter, Error, Row, Transaction, params};
@@ -19,6 +23,8 @@ pub fn delete_bodies<S: Alter>(tx: &mut Transaction<'_, S>, name: &str) -> Resul
     ensures kept { Keeps S.Store tx.old.conn.now tx.new.conn.now }
     ensures opened { WasOpenIfOk S.Store tx.old.conn.now tx.new.conn.now result }
     ensures survives { LeavesNothing S.Store tx.old.conn.now tx.new.conn.now }
+    ensures asked { GoesByAsk S.Store (delete_bodies_ask name.now)
+        tx.old.conn.now tx.new.conn.now result }
 {
     let rows = files_named(tx, name)?;
     delete_each(tx, rows.as_slice())?;
@@ -35,6 +41,9 @@ fn files_named<S: Alter>(tx: &mut Transaction<'_, S>, name: &str) -> Result<Vec<
     ensures kept { Keeps S.Store tx.old.conn.now tx.new.conn.now }
     ensures opened { WasOpenIfOk S.Store tx.old.conn.now tx.new.conn.now result }
     ensures survives { LeavesNothing S.Store tx.old.conn.now tx.new.conn.now }
+    ensures shown { HasCleanDisk (state S.Store tx.new.conn.now) → IfOk result (λ rows.
+        CanAsk (state S.Store tx.old.conn.now) → AllByRecursion ShowsFile rows.items) }
+    ensures asked { GoesAs S.Store CanAsk Gives tx.old.conn.now tx.new.conn.now result }
 {
     match tx.query_all("SELECT file FROM files WHERE name = ?1", params![name]) {
         Ok(rows) => Ok(rows),
@@ -49,6 +58,8 @@ fn delete_each<S: Alter>(tx: &mut Transaction<'_, S>, rows: &[Row]) -> Result<()
         tx.old.conn.now tx.new.conn.now result }
     ensures kept { Keeps S.Store tx.old.conn.now tx.new.conn.now }
     ensures survives { LeavesNothing S.Store tx.old.conn.now tx.new.conn.now }
+    ensures asked { AllByRecursion ShowsFile rows.now → GoesAs S.Store CanAsk
+        (AnswersEach rows.now) tx.old.conn.now tx.new.conn.now result }
 {
     for row in rows {
         delete_shown(tx, row)?;
@@ -63,6 +74,8 @@ fn delete_shown<S: Alter>(tx: &mut Transaction<'_, S>, row: &Row) -> Result<(), 
         tx.old.conn.now tx.new.conn.now result }
     ensures kept { Keeps S.Store tx.old.conn.now tx.new.conn.now }
     ensures survives { LeavesNothing S.Store tx.old.conn.now tx.new.conn.now }
+    ensures asked { ShowsFile row.now → GoesByAsk S.Store (delete_body_ask (file_shown row.now))
+        tx.old.conn.now tx.new.conn.now result }
 {
     let file: String = row.get(0)?;
     delete_body(tx, file.as_str())?;

@@ -1,8 +1,11 @@
 //! The statement that puts an open case.
-ghost use Rattle.std.specs.Prelude.{◌≡◌, pos, IfOk, OnOk, option_map};
+ghost use Rattle.std.specs.Prelude.{◌≡◌, pos, IfErr, IfOk, OnOk, option_map};
+ghost use Rattle.sqlite.specs.declared.error.Error.TheVariants.{IntegralValueOutOfRange};
 ghost use Rattle.index_retention.specs.Attempts.{IsTally};
+ghost use Rattle.index_steps.specs.Asks.{GoesByAsk, HasTooMuch};
 ghost use Rattle.index_steps.specs.Inside.{MakesIfOk, Keeps, LeavesNothing, WasOpenIfOk};
 ghost use Rattle.index_steps.specs.Writes.{puts_case, kind_number};
+ghost use Rattle.index_steps.specs.Statements.{case_numbers, put_case_ask};
 
 use crate::number::{whole, whole_if_any};
 use index_names::NormalName;
@@ -35,6 +38,8 @@ pub fn put_case<S: Alter>(
     ensures kept { Keeps S.Store tx.old.conn.now tx.new.conn.now }
     ensures opened { WasOpenIfOk S.Store tx.old.conn.now tx.new.conn.now result }
     ensures survives { LeavesNothing S.Store tx.old.conn.now tx.new.conn.now }
+    ensures asked { GoesByAsk S.Store (put_case_ask name.now case.now)
+        tx.old.conn.now tx.new.conn.now result }
 {
     let numbers = numbers_of(case)?;
     tx.execute(
@@ -72,6 +77,8 @@ fn numbers_of(case: &CaseRecord) -> Result<CaseNumbers, Error>
     }) }
     ensures tally { OnOk result
         (IsTally case.now.state.attempts case.now.state.sent case.now.state.first) }
+    ensures too_much { IfErr result (λ error. (error ≡ IntegralValueOutOfRange 0)
+        × HasTooMuch (case_numbers case.now)) }
 {
     let state = &case.state;
     let opened = whole(case.opened)?;

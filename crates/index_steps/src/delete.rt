@@ -1,9 +1,11 @@
 //! Statements that take rows out, and the one that marks files as deleted. Where there is no such row, that is no
 //! error.
 ghost use Rattle.std.specs.Prelude.{◌≡◌};
+ghost use Rattle.index_steps.specs.Asks.{GoesByAsk};
 ghost use Rattle.index_steps.specs.Inside.{MakesIfOk, Keeps, LeavesNothing, WasOpenIfOk};
 ghost use Rattle.index_rules.specs.Effect.{without_record};
 ghost use Rattle.index_steps.specs.Writes.{deletes_owners, deletes_owner, deletes_yanks, deletes_yank, deletes_case, deletes_body, marks_files};
+ghost use Rattle.index_steps.specs.Statements.{delete_body_ask, delete_case_ask, delete_name_ask, delete_owner_ask, delete_owners_ask, delete_yank_ask, delete_yanks_ask, mark_files_ask};
 
 use sqlite::{Alter, Error, Transaction, params};
 
@@ -15,6 +17,8 @@ pub fn delete_name<S: Alter>(tx: &mut Transaction<'_, S>, name: &str) -> Result<
     ensures kept { Keeps S.Store tx.old.conn.now tx.new.conn.now }
     ensures opened { WasOpenIfOk S.Store tx.old.conn.now tx.new.conn.now result }
     ensures survives { LeavesNothing S.Store tx.old.conn.now tx.new.conn.now }
+    ensures asked { GoesByAsk S.Store (delete_name_ask name.now)
+        tx.old.conn.now tx.new.conn.now result }
 {
     tx.execute("DELETE FROM names WHERE name = ?1", params![name])?;
     Ok(())
@@ -28,6 +32,8 @@ pub fn delete_owners<S: Alter>(tx: &mut Transaction<'_, S>, name: &str) -> Resul
     ensures kept { Keeps S.Store tx.old.conn.now tx.new.conn.now }
     ensures opened { WasOpenIfOk S.Store tx.old.conn.now tx.new.conn.now result }
     ensures survives { LeavesNothing S.Store tx.old.conn.now tx.new.conn.now }
+    ensures asked { GoesByAsk S.Store (delete_owners_ask name.now)
+        tx.old.conn.now tx.new.conn.now result }
 {
     tx.execute("DELETE FROM owners WHERE name = ?1", params![name])?;
     Ok(())
@@ -45,6 +51,8 @@ pub fn delete_owner<S: Alter>(
     ensures kept { Keeps S.Store tx.old.conn.now tx.new.conn.now }
     ensures opened { WasOpenIfOk S.Store tx.old.conn.now tx.new.conn.now result }
     ensures survives { LeavesNothing S.Store tx.old.conn.now tx.new.conn.now }
+    ensures asked { GoesByAsk S.Store (delete_owner_ask name.now user.now)
+        tx.old.conn.now tx.new.conn.now result }
 {
     tx.execute(
         "DELETE FROM owners WHERE name = ?1 AND user = ?2",
@@ -61,6 +69,8 @@ pub fn delete_yanks<S: Alter>(tx: &mut Transaction<'_, S>, name: &str) -> Result
     ensures kept { Keeps S.Store tx.old.conn.now tx.new.conn.now }
     ensures opened { WasOpenIfOk S.Store tx.old.conn.now tx.new.conn.now result }
     ensures survives { LeavesNothing S.Store tx.old.conn.now tx.new.conn.now }
+    ensures asked { GoesByAsk S.Store (delete_yanks_ask name.now)
+        tx.old.conn.now tx.new.conn.now result }
 {
     tx.execute("DELETE FROM yanks WHERE name = ?1", params![name])?;
     Ok(())
@@ -78,6 +88,8 @@ pub fn delete_yank<S: Alter>(
     ensures kept { Keeps S.Store tx.old.conn.now tx.new.conn.now }
     ensures opened { WasOpenIfOk S.Store tx.old.conn.now tx.new.conn.now result }
     ensures survives { LeavesNothing S.Store tx.old.conn.now tx.new.conn.now }
+    ensures asked { GoesByAsk S.Store (delete_yank_ask name.now release.now)
+        tx.old.conn.now tx.new.conn.now result }
 {
     tx.execute(
         "DELETE FROM yanks WHERE name = ?1 AND rel = ?2",
@@ -94,6 +106,8 @@ pub fn delete_case<S: Alter>(tx: &mut Transaction<'_, S>, name: &str) -> Result<
     ensures kept { Keeps S.Store tx.old.conn.now tx.new.conn.now }
     ensures opened { WasOpenIfOk S.Store tx.old.conn.now tx.new.conn.now result }
     ensures survives { LeavesNothing S.Store tx.old.conn.now tx.new.conn.now }
+    ensures asked { GoesByAsk S.Store (delete_case_ask name.now)
+        tx.old.conn.now tx.new.conn.now result }
 {
     tx.execute("DELETE FROM cases WHERE name = ?1", params![name])?;
     Ok(())
@@ -107,6 +121,8 @@ pub fn delete_body<S: Alter>(tx: &mut Transaction<'_, S>, file: &str) -> Result<
     ensures kept { Keeps S.Store tx.old.conn.now tx.new.conn.now }
     ensures opened { WasOpenIfOk S.Store tx.old.conn.now tx.new.conn.now result }
     ensures survives { LeavesNothing S.Store tx.old.conn.now tx.new.conn.now }
+    ensures asked { GoesByAsk S.Store (delete_body_ask file.now)
+        tx.old.conn.now tx.new.conn.now result }
 {
     tx.execute("DELETE FROM blobs WHERE file = ?1", params![file])?;
     Ok(())
@@ -119,6 +135,8 @@ pub fn mark_files<S: Alter>(tx: &mut Transaction<'_, S>, name: &str) -> Result<(
     ensures kept { Keeps S.Store tx.old.conn.now tx.new.conn.now }
     ensures opened { WasOpenIfOk S.Store tx.old.conn.now tx.new.conn.now result }
     ensures survives { LeavesNothing S.Store tx.old.conn.now tx.new.conn.now }
+    ensures asked { GoesByAsk S.Store (mark_files_ask name.now)
+        tx.old.conn.now tx.new.conn.now result }
 {
     tx.execute("UPDATE files SET live = 0 WHERE name = ?1", params![name])?;
     Ok(())

@@ -2,9 +2,12 @@
 //! hold, that is an error, and nothing is written.
 ghost use Rattle.std.specs.Prelude.{◌≡◌, ℤ};
 ghost use Rattle.index_schema.specs.RecordRows.{IsNameRow};
+ghost use Rattle.index_schema.specs.StatementTexts.{put_name_text};
+ghost use Rattle.index_steps.specs.Asks.{Answers, CanAsk, GoesAs, GoesByAsk};
 ghost use Rattle.index_steps.specs.Inside.{MakesIfOk, Keeps, LeavesNothing, WasOpenIfOk};
 ghost use Rattle.index_rules.specs.declared.records.NameRecord.TheVariants.{Held, Prohibited};
 ghost use Rattle.index_steps.specs.Writes.{puts_user, puts_name, name_of, row_of_name, puts_owner, puts_file, puts_body, puts_yank, puts_ban};
+ghost use Rattle.index_steps.specs.Statements.{hold_name_ask, name_cells, prohibit_name_ask, put_ban_ask, put_body_ask, put_file_ask, put_owner_ask, put_user_ask, put_yank_ask};
 
 use crate::number::{whole, whole_if_any};
 use index_names::{FileName, NormalName, Release};
@@ -23,6 +26,8 @@ pub fn put_user<S: Alter>(
     ensures kept { Keeps S.Store tx.old.conn.now tx.new.conn.now }
     ensures opened { WasOpenIfOk S.Store tx.old.conn.now tx.new.conn.now result }
     ensures survives { LeavesNothing S.Store tx.old.conn.now tx.new.conn.now }
+    ensures asked { GoesByAsk S.Store (put_user_ask user.now account.now)
+        tx.old.conn.now tx.new.conn.now result }
 {
     let token = account.token.to_bytes();
     tx.execute(
@@ -44,6 +49,8 @@ pub fn hold_name<S: Alter>(
     ensures kept { Keeps S.Store tx.old.conn.now tx.new.conn.now }
     ensures opened { WasOpenIfOk S.Store tx.old.conn.now tx.new.conn.now result }
     ensures survives { LeavesNothing S.Store tx.old.conn.now tx.new.conn.now }
+    ensures asked { GoesByAsk S.Store (hold_name_ask name.now project.now)
+        tx.old.conn.now tx.new.conn.now result }
 {
     let quota = whole(project.quota())?;
     let charge = whole(project.charge())?;
@@ -70,6 +77,8 @@ pub fn prohibit_name<S: Alter>(tx: &mut Transaction<'_, S>, name: &NormalName) -
     ensures kept { Keeps S.Store tx.old.conn.now tx.new.conn.now }
     ensures opened { WasOpenIfOk S.Store tx.old.conn.now tx.new.conn.now result }
     ensures survives { LeavesNothing S.Store tx.old.conn.now tx.new.conn.now }
+    ensures asked { GoesByAsk S.Store (prohibit_name_ask name.now)
+        tx.old.conn.now tx.new.conn.now result }
 {
     put_name(tx, name, 2, "", 0, 0, 0, None)?;
     Ok(())
@@ -95,6 +104,9 @@ fn put_name<S: Alter>(
     ensures kept { Keeps S.Store tx.old.conn.now tx.new.conn.now }
     ensures opened { WasOpenIfOk S.Store tx.old.conn.now tx.new.conn.now result }
     ensures survives { LeavesNothing S.Store tx.old.conn.now tx.new.conn.now }
+    ensures asked { GoesAs S.Store CanAsk (Answers put_name_text
+        (name_cells name.now standing shown.now quota charge undeleted last))
+        tx.old.conn.now tx.new.conn.now result }
 {
     tx.execute(
         "INSERT INTO names (name, state, shown, quota, charged, live, last_upload) VALUES (?1, ?2, ?3, ?4, ?5, ?6, ?7) ON CONFLICT (name) DO UPDATE SET state = excluded.state, shown = excluded.shown, quota = excluded.quota, charged = excluded.charged, live = excluded.live, last_upload = excluded.last_upload",
@@ -115,6 +127,8 @@ pub fn put_owner<S: Alter>(
     ensures kept { Keeps S.Store tx.old.conn.now tx.new.conn.now }
     ensures opened { WasOpenIfOk S.Store tx.old.conn.now tx.new.conn.now result }
     ensures survives { LeavesNothing S.Store tx.old.conn.now tx.new.conn.now }
+    ensures asked { GoesByAsk S.Store (put_owner_ask name.now user.now)
+        tx.old.conn.now tx.new.conn.now result }
 {
     tx.execute(
         "INSERT INTO owners (name, user) VALUES (?1, ?2) ON CONFLICT (name, user) DO UPDATE SET user = excluded.user",
@@ -135,6 +149,8 @@ pub fn put_file<S: Alter>(
     ensures kept { Keeps S.Store tx.old.conn.now tx.new.conn.now }
     ensures opened { WasOpenIfOk S.Store tx.old.conn.now tx.new.conn.now result }
     ensures survives { LeavesNothing S.Store tx.old.conn.now tx.new.conn.now }
+    ensures asked { GoesByAsk S.Store (put_file_ask file.now known.now)
+        tx.old.conn.now tx.new.conn.now result }
 {
     let size = whole(known.size)?;
     let digest = known.digest.to_bytes();
@@ -165,6 +181,8 @@ pub fn put_body<S: Alter>(
     ensures kept { Keeps S.Store tx.old.conn.now tx.new.conn.now }
     ensures opened { WasOpenIfOk S.Store tx.old.conn.now tx.new.conn.now result }
     ensures survives { LeavesNothing S.Store tx.old.conn.now tx.new.conn.now }
+    ensures asked { GoesByAsk S.Store (put_body_ask file.now body.now)
+        tx.old.conn.now tx.new.conn.now result }
 {
     tx.execute(
         "INSERT INTO blobs (file, body) VALUES (?1, ?2) ON CONFLICT (file) DO UPDATE SET body = excluded.body",
@@ -186,6 +204,8 @@ pub fn put_yank<S: Alter>(
     ensures kept { Keeps S.Store tx.old.conn.now tx.new.conn.now }
     ensures opened { WasOpenIfOk S.Store tx.old.conn.now tx.new.conn.now result }
     ensures survives { LeavesNothing S.Store tx.old.conn.now tx.new.conn.now }
+    ensures asked { GoesByAsk S.Store (put_yank_ask name.now release.now reason.now)
+        tx.old.conn.now tx.new.conn.now result }
 {
     tx.execute(
         "INSERT INTO yanks (name, rel, reason) VALUES (?1, ?2, ?3) ON CONFLICT (name, rel) DO UPDATE SET reason = excluded.reason",
@@ -201,6 +221,8 @@ pub fn put_ban<S: Alter>(tx: &mut Transaction<'_, S>, file: &FileName) -> Result
     ensures kept { Keeps S.Store tx.old.conn.now tx.new.conn.now }
     ensures opened { WasOpenIfOk S.Store tx.old.conn.now tx.new.conn.now result }
     ensures survives { LeavesNothing S.Store tx.old.conn.now tx.new.conn.now }
+    ensures asked { GoesByAsk S.Store (put_ban_ask file.now)
+        tx.old.conn.now tx.new.conn.now result }
 {
     tx.execute(
         "INSERT INTO bans (file) VALUES (?1) ON CONFLICT (file) DO UPDATE SET file = excluded.file",

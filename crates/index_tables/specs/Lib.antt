@@ -4,3 +4,4 @@ pub mod LooksUp
 pub mod Opened
 pub mod Adopted
 pub mod Reopened
+pub mod Written

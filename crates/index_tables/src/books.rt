@@ -14,6 +14,7 @@ ghost use Rattle.index_rules.specs.Tables.{Tables, owners_in};
 ghost use Rattle.index_rules.specs.Walks.{Walks, has_fault};
 ghost use Rattle.index_schema.specs.RecordRows.{AreRecords};
 ghost use Rattle.index_tables.specs.LooksUp.{LooksUp, WalksUp};
+ghost use Rattle.index_tables.specs.Written.{FailsToWrite};
 ghost use Rattle.index_walks.specs.Reasons.{EndsForReason};
 
 use crate::tables::{SqlBooks, counted};
@@ -81,6 +82,7 @@ impl<S: Alter> Books for SqlBooks<S> {
         ensures records { IsHonest (state S.Store self.new.conn)
             → AreRecords (state S.Store self.old.conn).now
             → AreRecords (state S.Store self.new.conn).now }
+        ensures reason { FailsToWrite S.Store change self.old.conn self.new.conn result }
     {
         let made = make_change(&mut self.conn, &change);
         drop(change);

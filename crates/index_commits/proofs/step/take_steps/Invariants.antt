@@ -1,10 +1,14 @@
 use Rattle.std.proofs.Common.{◌≡◌, ◌<◌, IsTrue, drop}
+use Rattle.sqlite.specs.Effect.{Database}
 use Rattle.sqlite.specs.Held.{state}
+use Rattle.sqlite.specs.Rows.{Outcome}
 use Rattle.sqlite.specs.State.{HasCleanDisk, KeepsCommit, Survives}
 use Rattle.index_steps.specs.Inside.{IsReady}
 use Rattle.index_schema.specs.Index.{version_in}
 use Rattle.index_schema.specs.Records.{tables_in}
 use Rattle.index_schema.specs.RecordRows.{AreRecords}
+use Rattle.index_steps.specs.Asks.{AnswersAll, CanAsk}
+use Rattle.index_commits.specs.Asked.{asks_by}
 use Rattle.index_commits.specs.Changed.{all_of}
 use Rattle.index_commits.proofs.step.take_steps.Given as goal
 
@@ -18,4 +22,5 @@ invariant-loop-step g l =
       kept : HasCleanDisk now → KeepsCommit first now;
       opened : 0 < l.step-index → HasCleanDisk now → IsTrue first.is_open;
       survives : Survives first now (λ _. ⊥);
+      asked : HasCleanDisk now → CanAsk first → (out : Outcome Database) → AnswersAll (asks_by (drop l.step-index l.steps)) now.now out → AnswersAll (asks_by l.steps) first.now out;
     }

@@ -1,9 +1,14 @@
-use Rattle.std.proofs.Common.{pos, option_map, IsUtf8, rules, subst}
+use Rattle.std.proofs.Common.{inl, inr, Some, pos, option_map, IsUtf8, rules, subst, ℕ, Ok, Err, refl}
 use Rattle.index_schema.specs.StatementTexts.{put_case_text}
 use Rattle.index_schema.proofs.PutCase as statement
+use Rattle.sqlite.specs.declared.error.Error.TheVariants.{IntegralValueOutOfRange}
+use Rattle.sqlite.specs.Held.{state}
+use Rattle.index_steps.specs.Statements.{case_cells, case_numbers}
 use Rattle.index_steps.specs.Writes.{flag, kind_number}
 use Rattle.index_steps.proofs.PutRecords.{case_put, case_fits}
 use Rattle.index_steps.proofs.StepLemmas.{makes, keeps_by}
+use Rattle.index_steps.proofs.AskLemmas.{at_exit, fits, step_goes}
+use Rattle.index_steps.proofs.SureWrites.{put_case_sure}
 use Rattle.index_steps.proofs.cases.put_case.Goals as goal
 
 pub returns-clause-made : goal.returns-clause-made
@@ -19,3 +24,22 @@ returns-clause-made g c clean ready =
 pub returns-in_err-execute-clause-kept : goal.returns-in_err-execute-clause-kept
 returns-in_err-execute-clause-kept g c clean =
     keeps_by g.S.Store c.args.tx.now.conn.now c.execute.new.self.conn.now _ _ _ (λ out. (c.execute.ensures.ended out).1) (c.execute.ensures.runs clean)
+
+pub returns-clause-asked : goal.returns-clause-asked
+returns-clause-asked g c clean can =
+    let old = c.args.tx.now.conn.now in
+    let new = c.execute.new.self.conn.now in
+    fits (case_numbers c.args.case.now) put_case_text (case_cells c.args.name.now c.args.case.now) (case_cells c.args.name.now c.args.case.now) (state g.S.Store old) (state g.S.Store new) (Ok c.in_ok-execute.field-0) refl
+    (step_goes g.S.Store put_case_text (case_cells c.args.name.now c.args.case.now) _ put_case_sure old new (Ok c.in_ok-execute.field-0) can.ready can.unlimited (c.in_ok-execute.ensures.runs clean) (search rules))
+
+pub returns-in_err-execute-clause-asked : goal.returns-in_err-execute-clause-asked
+returns-in_err-execute-clause-asked g c clean can =
+    let old = c.args.tx.now.conn.now in
+    let new = c.execute.new.self.conn.now in
+    at_exit c.from_residual-in_err-execute.result c.in_err-execute.field-0.0 _ _ c.from_residual-in_err-execute.ensures.1
+    (fits {A = ℕ} (case_numbers c.args.case.now) put_case_text (case_cells c.args.name.now c.args.case.now) (case_cells c.args.name.now c.args.case.now) (state g.S.Store old) (state g.S.Store new) (Err c.in_err-execute.field-0.0) refl
+    (step_goes g.S.Store put_case_text (case_cells c.args.name.now c.args.case.now) _ put_case_sure old new (Err c.in_err-execute.field-0.0) can.ready can.unlimited (c.in_err-execute.ensures.runs clean) (search rules)))
+
+pub returns-in_err-numbers-clause-asked : goal.returns-in_err-numbers-clause-asked
+returns-in_err-numbers-clause-asked g c clean can =
+    at_exit c.from_residual.result c.in_err-numbers.field-0.0 _ _ c.from_residual.ensures.1 (λ store. inr (Some (IntegralValueOutOfRange 0), inl (c.in_err-numbers.ensures.too_much.1, refl)))

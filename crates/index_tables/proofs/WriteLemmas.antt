@@ -1,0 +1,19 @@
+-- What a write answers.
+use Rattle.std.proofs.Common.{◌≡◌, ◌⊎◌, Result, Ok, Err, IfErr, is_ok, sym, ◌∙◌, true≢false}
+use Rattle.sqlite_trees.specs.declared.store.Store.{Ghosts}
+use Rattle.sqlite.specs.declared.error.Error.{Error}
+use Rattle.sqlite.specs.Held.{Held, state}
+use Rattle.index_commits.specs.Asked.{AreRefused, FailsForRefusal}
+use Rattle.index_looks.specs.Faults.{fault_by}
+use Rattle.index_looks.specs.Reasons.{HasReason}
+use Rattle.index_rules.specs.declared.answer.Fault.{Fault}
+use Rattle.index_rules.specs.declared.answer.Fault.TheVariants as fault
+use Rattle.index_rules.specs.declared.change.Change.{Change}
+use Rattle.index_changes.specs.Asked.{asks_of}
+
+-- an error that is told as a fault has the reason of the error
+pub told_reason : {A S : Type 0} (g : Ghosts S) (change : Change) (old new : Held S) (made : Result A Error) (told : Result A Fault) → is_ok told ≡ is_ok made → IfErr made (λ error. told ≡ Err (fault_by error))
+    → IfErr made (FailsForRefusal (asks_of change) (state g old) (state g new)) → IfErr told (λ it. it ≡ fault.Store → HasReason (state g old) (state g new) ⊎ AreRefused (asks_of change) (state g old).now)
+told_reason g change old new made (Ok done) ok says reason = tt
+told_reason g change old new (Ok done) (Err it) ok says reason = absurd (true≢false (sym ok))
+told_reason g change old new (Err e) (Err it) ok says reason = λ store. let same : it ≡ fault_by e = cc in reason (sym same ∙ store)
