@@ -1,14 +1,14 @@
 //! An index in files of which one stops: at its first call, at its second, and so on until a run ends without a stop.
 use super::new_index;
-use files::{
-    Database, File, Which, closed, crashed, have_stopped, killed, new_files, opened, stopping,
-};
+use crashes::Left;
+use files::{Database, File, Which, closed, have_stopped, new_files, opened, stopping};
 use index_rules::OpenFault;
 use sqlite::{Alter, Connection, Files};
 use std::alloc::AllocGlobal;
 use std::process::Abort;
 
 mod changes;
+mod crashes;
 mod files;
 mod openings;
 mod restarts;
@@ -60,31 +60,42 @@ fn stop_each(
     which: Which,
 ) -> u64 {
     let mut faults: u64 = 0;
+    let mut before = None;
     for calls in 0..ENOUGH {
-        match stop_after(rt, stopping(rt, files, which, calls), trial) {
-            Some(Told::Fault) => faults = faults.saturating_add(1),
-            Some(_) => {}
-            None => return faults,
+        let (left, has_stopped) = stop_after(rt, stopping(rt, files, which, calls), trial);
+        let told = left.told;
+        if told == Told::Fault {
+            faults = faults.saturating_add(1);
+        }
+        if !is_again(&before, &left) {
+            assert_each_crash(rt, &left, trial);
+        }
+        before = Some(left);
+        if !has_stopped {
+            assert_eq!(rt; told, Told::Done);
+            return faults;
         }
     }
     panic!(rt; "no run ended without a stop")
 }
 
-/// Works on files, and looks at what they are left with. Gives what was told, where one of them has stopped.
+/// Whether the run before left the same.
+fn is_again(before: &Option<Left>, left: &Left) -> bool {
+    match before {
+        Some(before) => *before == *left,
+        None => false,
+    }
+}
+
+/// Works on files. Gives what it leaves, and whether one of them has stopped.
 fn stop_after(
     rt: &(impl Abort + AllocGlobal),
     files: Files<File>,
     trial: &impl Trial,
-) -> Option<Told> {
-    let (told, mut left) = run(rt, files, trial);
-    let stopped = have_stopped(&mut left);
-    assert_left(rt, killed(rt, &left), trial, told);
-    assert_left(rt, crashed(left), trial, told);
-    if stopped {
-        return Some(told);
-    }
-    assert_eq!(rt; told, Told::Done);
-    None
+) -> (Left, bool) {
+    let (told, mut files) = run(rt, files, trial);
+    let has_stopped = have_stopped(&mut files);
+    (Left::new(rt, told, files), has_stopped)
 }
 
 /// Opens the files, works on them and closes them, as far as they go.
@@ -102,14 +113,14 @@ fn run(
     }
 }
 
-/// What a stop left is opened again, and is whole.
-fn assert_left(
-    rt: &(impl Abort + AllocGlobal),
-    files: Files<File>,
-    trial: &impl Trial,
-    told: Told,
-) {
-    trial.assert_whole(rt, reopened(rt, files), told);
+/// Whatever a crash makes of what a stop left, it is opened again, and is whole.
+fn assert_each_crash(rt: &(impl Abort + AllocGlobal), left: &Left, trial: &impl Trial) {
+    for of_log in left.outcomes_of_log() {
+        for of_database in left.outcomes_of_database() {
+            let conn = reopened(rt, left.files(rt, *of_log, *of_database));
+            trial.assert_whole(rt, conn, left.told);
+        }
+    }
 }
 
 /// A connection to the database in files that don't stop.

@@ -1,6 +1,6 @@
 //! A database file and its log in memory, each of which may stop after so many calls.
 use sqlite::{Connection, FileStore, Files, Options};
-use sqlite_disk::{Crash, Disk, Fuse, Memory};
+use sqlite_disk::{Disk, Fuse, Memory};
 use std::alloc::AllocGlobal;
 use std::process::Abort;
 
@@ -17,7 +17,7 @@ pub(super) enum Which {
 }
 
 /// A file with these bytes, all of them synced, that stops after so many calls.
-fn file(rt: &(impl Abort + AllocGlobal), bytes: &[u8], calls: u64) -> File {
+pub(super) fn file(rt: &(impl Abort + AllocGlobal), bytes: &[u8], calls: u64) -> File {
     let mut memory = Memory::new(rt.alloc());
     memory.write_at(0, bytes).expect(rt, "room");
     memory.sync().expect(rt, "room");
@@ -56,18 +56,6 @@ pub(super) fn stopping(
         Which::Log => copies(rt, files, calls, u64::MAX),
         Which::Database => copies(rt, files, u64::MAX, calls),
     }
-}
-
-/// What a program that ends leaves: all that it wrote.
-pub(super) fn killed(rt: &(impl Abort + AllocGlobal), files: &Files<File>) -> Files<File> {
-    copies(rt, files, u64::MAX, u64::MAX)
-}
-
-/// What a machine that stops leaves: nothing that was not synced.
-pub(super) fn crashed(mut files: Files<File>) -> Files<File> {
-    files.log.crash();
-    files.db.crash();
-    files
 }
 
 /// One of the files makes no more calls.
