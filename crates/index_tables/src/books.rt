@@ -60,6 +60,7 @@ impl<S: Alter> Books for SqlBooks<S> {
         seen
     }
 
+    #[tactic(auto, using(crate::proofs::WriteLemmas::told_reason))]
     fn write(&mut self, _alloc: Global, change: Change) -> Result<(), Fault>
         ensures written { IsHonest (state S.Store self.new.conn) → OnOk result
             (tables_of S.Store self.new.conn ≡ means change (tables_of S.Store self.old.conn)) }
