@@ -227,7 +227,7 @@ class Refusing:
                 break
             self.count += 1
             yield f"{name}, allocation {number} refused", ended
-        self.told(f"{name}: allocations were refused", number > 1, number)
+        self.told(f"{name}: allocations were refused", number > 1 or self.is_over(), number)
 
     def apply(self, new):
         """The stored run, in memory and on a database."""
