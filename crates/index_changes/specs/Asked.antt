@@ -1,5 +1,5 @@
 -- What each change asks of SQL.
-use Rattle.std.specs.Prelude.{◌≡◌, List, [], ◌∷◌, Option, None, Some}
+use Rattle.std.specs.Prelude.{◌≡◌, List, [], ◌∷◌, Option, None, Some, if◌then◌else◌}
 use Rattle.index_commits.specs.Asked.{asks_by}
 use Rattle.index_commits.specs.Changed.{all_of}
 use Rattle.index_commits.specs.declared.step.Step.{Step}
@@ -24,7 +24,8 @@ asks_of (change.SetQuota name project) = hold_name_ask name project ∷ []
 asks_of (change.Claim name project owner) = delete_owners_ask name ∷ delete_yanks_ask name ∷ delete_case_ask name ∷ hold_name_ask name project ∷ put_owner_ask name owner ∷ []
 asks_of (change.AddOwner name user) = put_owner_ask name user ∷ delete_case_ask name ∷ []
 asks_of (change.RemoveOwner name user) = delete_owner_ask name user ∷ delete_case_ask name ∷ []
-asks_of (change.Upload name project file known body) = hold_name_ask name project ∷ put_file_ask file known ∷ put_body_ask file body ∷ delete_case_ask name ∷ []
+asks_of (change.Upload name project file known body ends_case) =
+    hold_name_ask name project ∷ put_file_ask file known ∷ put_body_ask file body ∷ (if ends_case then delete_case_ask name ∷ [] else [])
 asks_of (change.Delete name project file known) = hold_name_ask name project ∷ put_file_ask file known ∷ delete_body_ask file ∷ delete_case_ask name ∷ []
 asks_of (change.BanFile name project file known) = hold_if_any name project (put_file_ask file known ∷ delete_body_ask file ∷ put_ban_ask file ∷ [])
 asks_of (change.Yank name release reason) = put_yank_ask name release reason ∷ delete_case_ask name ∷ []

@@ -5,7 +5,7 @@ use Rattle.index_rules.specs.declared.change.Change.TheVariants.{Upload, Delete,
 
 -- a change of a file
 abbrev pub is_of_file : Change → Bool
-is_of_file (Upload name project file known body) = true
+is_of_file (Upload name project file known body ends_case) = true
 is_of_file (Delete name project file known) = true
 is_of_file (BanFile name project file known) = true
 is_of_file change = false

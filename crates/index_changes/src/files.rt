@@ -22,7 +22,8 @@ pub(crate) fn file_steps(change: &Change) -> Steps<'_>
             file,
             record,
             body,
-        } => upload(name, project, file, record, body),
+            ends_case,
+        } => upload(name, project, file, record, body, *ends_case),
         Change::Delete {
             name,
             project,
@@ -39,20 +40,26 @@ pub(crate) fn file_steps(change: &Change) -> Steps<'_>
     }
 }
 
-/// The name and the file have these records, and the bytes are kept.
+/// The name and the file have these records, and the bytes are kept. The name's case ends where `ends_case`.
 fn upload<'a>(
     name: &'a NormalName,
     project: &'a Project,
     file: &'a FileName,
     known: &'a FileRecord,
     body: &'a Sealed,
+    ends_case: bool,
 ) -> Steps<'a>
-    ensures { AreStepsOf (Upload name.now project.now file.now known.now body.now) result }
+    ensures { let change = Upload name.now project.now file.now known.now body.now ends_case in
+        AreStepsOf change result }
 {
-    Steps::first(Step::Put(Put::Held(name, project)))
+    let steps = Steps::first(Step::Put(Put::Held(name, project)))
         .then(Step::Put(Put::File(file, known)))
-        .then(Step::Put(Put::Body(file, body.bytes())))
-        .then(Step::Delete(Deletion::Case(name.text())))
+        .then(Step::Put(Put::Body(file, body.bytes())));
+    if ends_case {
+        steps.then(Step::Delete(Deletion::Case(name.text())))
+    } else {
+        steps
+    }
 }
 
 /// The name and the file have these records, and the bytes go.

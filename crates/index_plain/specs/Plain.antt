@@ -32,7 +32,7 @@ failures_of b = b.failures
 
 -- a change of a release: of its files, or of its yank
 abbrev pub is_of_release : Change → Bool
-is_of_release (Upload name project file known body) = true
+is_of_release (Upload name project file known body ends_case) = true
 is_of_release (Delete name project file known) = true
 is_of_release (BanFile name project file known) = true
 is_of_release (Yank name release reason) = true

@@ -1,6 +1,8 @@
 -- What each key of a map finds after one entry is put, after one is taken away, and after each value is changed.
-use Rattle.std.proofs.Common.{◌≡◌, false, cond, inl, inr, refl, sym, ap, ◌∙◌, subst, Option, Some, None, option_map}
-use Rattle.std.specs.FinMap.{get, insert, remove}
+use Rattle.std.proofs.Common.{◌≡◌, false, cond, inl, inr, refl, sym, ap, ◌∙◌, subst, Option, Some, None, is_some, option_map, option_and_then}
+use Rattle.std.specs.FinMap.{get, insert, remove, same_map}
+use Rattle.std.proofs.lemmas.Cmp.{nat_list_cmp_total}
+use Rattle.std.proofs.lemmas.Map.Lookups.{exact_bytes}
 use Rattle.std.proofs.lemmas.Bool.{false≢true, cases_Bool}
 use Rattle.index_rules.specs.Maps.{Bytes, Map, same, change_values}
 use Rattle.index_rules.proofs.KeyLemmas.{same-refl, same-sym, cases_same, get-put, get-without, get-change_values}
@@ -38,6 +40,14 @@ module _ {X : Type 0} (m : Map X) (k : Bytes) where
     | inl e ↦ subst (λ x. P x (get (remove m k) x)) (sym e) (subst (P k) (sym get-without_here) here)
     | inr other ↦ subst (P q) (sym (get-without_other q other)) (others q other)
   ]
+
+-- to take away what is not there changes nothing, so it is enough to take away what was found
+pub without_found : {X : Type 0} (m : Map X) (read : Option Bytes) (k : Bytes) → read ≡ Some k → cond (is_some (option_and_then (get m) read)) (remove m k) m ≡ remove m k
+without_found {X = X} m read k reads = ap (λ r. cond (is_some (option_and_then (get m) r)) (remove m k) m) reads ∙ by (get m k) refl
+  where
+    by : (found : Option X) → get m k ≡ found → cond (is_some found) (remove m k) m ≡ remove m k
+    by None none = same_map nat_list_cmp_total exact_bytes _ _ (λ q. sym (each_without m k (λ q found. found ≡ get m q) (sym none) (λ q _. refl) q))
+    by (Some v) there = refl
 
 -- what holds of each changed value holds of each that is found
 pub each_changed : {X : Type 0} (change : X → X) (m : Map X) (P : Bytes → X → Type 0) → ((q : Bytes) (v : X) → get m q ≡ Some v → P q (change v))

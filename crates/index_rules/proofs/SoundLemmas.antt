@@ -29,6 +29,7 @@ use Rattle.index_rules.specs.Runs.{Answers, Runs, tables_after}
 use Rattle.index_rules.specs.Sound.{IsSound, undeleted_count_in}
 use Rattle.index_rules.proofs.OwnerLists.{same-is}
 use Rattle.index_rules.proofs.PastReading.{read_itself}
+use Rattle.index_rules.proofs.PutLemmas.{without_found}
 use Rattle.index_rules.proofs.Accepted.{accepted, some_there, and_not}
 use Rattle.index_rules.proofs.SoundUsers.{IsSound-user, not_taken}
 use Rattle.index_rules.proofs.SoundNames.{IsSound-project, IsSound-claim, undeleted_in-free}
@@ -136,13 +137,15 @@ module _ (T : Tables) (sound : IsSound T) (at : ℕ) (token : Bytes) where
       let held : held_project f.name ≡ Some (the_project f) = project_there _ (all.not_refused NoProject refl) in
       let within : exceeds_quota (length body) f.name ≡ false = sym (λ i. not (all.not_already i) && exceeds_quota (length body) f.name) ∙ (all.not_refused OverQuota refl) in
       let fits : (the_project f).charge + length body ≤ (the_project f).quota = ltb-false _ _ (sym (ap (λ o. option_map_or (λ project. nat_lt project.quota (project.charge + length body)) o false) held) ∙ within) in
-      IsSound-upload at (closed (project_of file) T) (IsSound-closed T sound (project_of file)) file
+      let ended = without_found T.cases (option_map project_of (read_file file)) (project_of file) (ap (option_map project_of) reads) in
+      subst IsSound (λ i. record (tables_with_call T (of (Upload file digest body requires))) { cases = sym ended i })
+      (IsSound-upload at (closed (project_of file) T) (IsSound-closed T sound (project_of file)) file
       (record { project = project_of file; release = release_of file; digest = or_empty (read_digest digest); size = length body; requires_python = requires; is_undeleted = true })
       body (the_project f) refl (sym (ap is_undeleted file_is) ∙ all.not_already) (sym (ap held_project name_is) ∙ held)
       (record { is_file_name = file_spelled file (all.not_refused BadFileName refl); project = refl; release = refl })
       (record { size = refl; digest = digest_is (read_digest digest) body (all.not_refused BadDigest refl) (all.not_refused DigestMismatch refl) })
       fits
-      (sym (ap (λ o. option_map_or (is_banned_in T) o false) reads) ∙ all.not_refused FileBanned refl)
+      (sym (ap (λ o. option_map_or (is_banned_in T) o false) reads) ∙ all.not_refused FileBanned refl))
 
   deleted_one : (file : Bytes) → verdict_now T (of (Delete file)) ≡ Accept → IsSound (tables_with_call T (of (Delete file)))
   deleted_one file accepts =

@@ -24,7 +24,7 @@ use Rattle.index_rules.specs.History.{History, more, is_read_as}
 use Rattle.index_rules.specs.PastCases.{Case, case_after, with_attempt}
 use Rattle.index_rules.specs.StandsFor.{name_after, case_record_after, record_of_case}
 use Rattle.index_rules.proofs.SoundLemmas.{no_project_at}
-use Rattle.index_rules.proofs.PutLemmas.{each_put, each_without}
+use Rattle.index_rules.proofs.PutLemmas.{each_put, each_without, without_found}
 use Rattle.index_rules.proofs.Accepted.{accepted, and_not}
 use Rattle.index_rules.proofs.PastReading.{read_key, read_itself, at_key, at_other}
 
@@ -92,7 +92,9 @@ module _ (T : Tables) (h : History) (sound : IsSound T) (names : (name : Bytes) 
   step_of_cases (RemoveOwner name user) accepts = ended_by (read_name name) ((accepted (of (RemoveOwner name user)) (facts_in T (of (RemoveOwner name user))) accepts).not_refused BadName refl)
   step_of_cases (Upload file digest body requires) accepts =
       let all = accepted (of (Upload file digest body requires)) (facts_in T (of (Upload file digest body requires))) accepts in
-      ended (option_map project_of (read_file file)) (project_of file) (ap (option_map project_of) (read_itself file (all.not_refused BadFileName refl)))
+      let read : Option Bytes = option_map project_of (read_file file) in
+      let reads : read ≡ Some (project_of file) = ap (option_map project_of) (read_itself file (all.not_refused BadFileName refl)) in
+      λ q. ap (λ cases. get cases q) (without_found T.cases read (project_of file) reads) ∙ ended read (project_of file) reads q
   step_of_cases (Delete file) accepts =
       let all = accepted (of (Delete file)) (facts_in T (of (Delete file))) accepts in
       ended (option_map project_of (read_file file)) (project_of file) (ap (option_map project_of) (read_itself file (all.not_refused BadFileName refl)))

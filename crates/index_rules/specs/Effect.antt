@@ -1,5 +1,5 @@
 -- What an accepted call writes, and what a change means for the tables.
-use Rattle.std.specs.Prelude.{ℕ, ◌+◌, ◌-◌, max, Bool, true, false, not, if◌then◌else◌, [], Option, Some, None, unwrap_or, option_map, length}
+use Rattle.std.specs.Prelude.{ℕ, ◌+◌, ◌-◌, max, Bool, true, false, not, if◌then◌else◌, [], Option, Some, None, is_some, unwrap_or, option_map, length}
 use Rattle.std.specs.Option.{option_map_or}
 use Rattle.std.specs.FinMap.{get, insert, remove, retain_keys}
 use Rattle.index_digest.specs.Digest.{read_digest, sha256}
@@ -106,9 +106,9 @@ abbrev pub new_file : Bytes → Bytes → Bytes → Bytes → FileRecord
 new_file digest file body requires =
     record { project = project_of file; release = release_of file; digest = digest; size = length body; requires_python = requires; is_undeleted = true }
 
--- the change by the upload of a file to a project that has it in its charge
-abbrev pub upload_of : Project → Bytes → Bytes → Bytes → Change
-upload_of project file body requires = change.Upload (project_of file) project file (new_file (sha256 body) file body requires) body
+-- the change by the upload of a file to a project that has it in its charge, and whether the name has a case that ends
+abbrev pub upload_of : Project → Bytes → Bytes → Bytes → Bool → Change
+upload_of project file body requires ends_case = change.Upload (project_of file) project file (new_file (sha256 body) file body requires) body ends_case
 
 -- the held name without the file that a ban deletes, where the file is undeleted; in sound tables the name of such a file
 -- is held
@@ -129,7 +129,7 @@ effect at (Claim name) facts = change.Claim (or_empty (read_name name)) (new_pro
 effect at (AddOwner name user) facts = change.AddOwner (or_empty (read_name name)) (or_empty (read_user user))
 effect at (RemoveOwner name user) facts = change.RemoveOwner (or_empty (read_name name)) (or_empty (read_user user))
 effect at (Upload file declared body requires) facts =
-    change.Upload (project_of file) (with_file at (length body) (the_project facts)) file (new_file (or_empty (read_digest declared)) file body requires) body
+    change.Upload (project_of file) (with_file at (length body) (the_project facts)) file (new_file (or_empty (read_digest declared)) file body requires) body (is_some facts.case)
 effect at (Delete file) facts = change.Delete (project_of file) (without_file (the_file facts).size (the_project facts)) file (as_deleted (the_file facts))
 effect at (BanFile file) facts = change.BanFile (project_of file) (project_left facts) file (as_deleted (the_file facts))
 effect at (Yank name release reason) facts = change.Yank (or_empty (read_name name)) (or_empty (read_release release)) reason
@@ -170,11 +170,11 @@ means (change.Claim name project owner) T = record T {
 }
 means (change.AddOwner name user) T = record T { owners = insert T.owners (name, user) tt; cases = remove T.cases name }
 means (change.RemoveOwner name user) T = record T { owners = remove T.owners (name, user); cases = remove T.cases name }
-means (change.Upload name project file known body) T = record T {
+means (change.Upload name project file known body ends_case) T = record T {
   names = insert T.names name (Held project);
   files = insert T.files file known;
   bodies = insert T.bodies file body;
-  cases = remove T.cases name;
+  cases = if ends_case then remove T.cases name else T.cases;
 }
 means (change.Delete name project file known) T = record T {
   names = insert T.names name (Held project);

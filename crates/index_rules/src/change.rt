@@ -7,7 +7,7 @@ use index_names::{FileName, NormalName, Release};
 use index_text::Text;
 
 /// What an accepted call writes, with the new records whole. All but those on users and quotas, `BanFile`, `OpenCase`
-/// and `RecordAttempt` also end the name's open case.
+/// and `RecordAttempt` also end the name's open case; `Upload` tells whether there is one to end.
 #[derive(Drop)]
 pub enum Change {
     /// The user has this record.
@@ -38,13 +38,14 @@ pub enum Change {
         name: NormalName,
         user: UserId,
     },
-    /// The name and the file have these records, and the bytes are kept.
+    /// The name and the file have these records, and the bytes are kept. The name's case ends where `ends_case`.
     Upload {
         name: NormalName,
         project: Project,
         file: FileName,
         record: FileRecord,
         body: Sealed,
+        ends_case: bool,
     },
     /// The name and the file have these records, and the bytes go.
     Delete {

@@ -12,7 +12,7 @@ use index_rules::{FileRecord, NameRecord, Project};
 use std::alloc::AllocError;
 
 impl PlainBooks {
-    /// The name and the file have these records, the bytes are kept, and the case ends.
+    /// The name and the file have these records, and the bytes are kept. The case ends where `ends_case`.
     pub(super) fn upload(
         &mut self,
         name: &NormalName,
@@ -20,8 +20,9 @@ impl PlainBooks {
         file: &FileName,
         known: FileRecord,
         body: Sealed,
+        ends_case: bool,
     ) -> Result<(), AllocError>
-        ensures written { let change = Upload name.now project file.now known body in
+        ensures written { let change = Upload name.now project file.now known body ends_case in
             OnOk result (Writes change self.old self.new) }
         ensures unchanged { OnErr result (tables_of self.new ≡ tables_of self.old) }
         ensures failures { failures_of self.new ≡ failures_of self.old }
@@ -29,7 +30,9 @@ impl PlainBooks {
         let former = table::replace(&mut self.names, name, NameRecord::Held(project))?;
         match table::put_both(&mut self.files, file, known, &mut self.bodies, file, body) {
             Ok(()) => {
-                self.end_case(name);
+                if ends_case {
+                    self.end_case(name);
+                }
                 Ok(())
             }
             Err(error) => {

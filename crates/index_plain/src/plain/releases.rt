@@ -29,7 +29,8 @@ impl PlainBooks {
                 file,
                 record,
                 body,
-            } => self.upload(&name, project, &file, record, body),
+                ends_case,
+            } => self.upload(&name, project, &file, record, body, ends_case),
             Change::Delete {
                 name,
                 project,

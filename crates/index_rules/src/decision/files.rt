@@ -1,5 +1,5 @@
 //! Requests on files.
-ghost use Rattle.std.specs.Prelude.{◌≡◌, [], Option, Some, IfOk, IsSome, IsTrue};
+ghost use Rattle.std.specs.Prelude.{◌≡◌, [], Option, Some, IfOk, IsSome, IsTrue, is_some};
 ghost use Rattle.index_rules.specs.declared.call.Request.TheVariants.{BanFile, Delete, Upload};
 ghost use Rattle.index_digest.specs.Digest.{read_digest, sha256};
 ghost use Rattle.index_names.specs.FileName.{project_of};
@@ -74,7 +74,7 @@ fn accept(
         → DecidesOnFile context.now (Upload file.now declared body requires_python.now) result }
 {
     match project_with(context, &body) {
-        Ok(Some(project)) => upload_to(context.alloc, project, file, body, requires_python),
+        Ok(Some(project)) => upload_to(context, project, file, body, requires_python),
         Ok(None) => {
             drop(body);
             Ok(Decision::Already)
@@ -120,7 +120,7 @@ fn project_with(context: &Context<'_>, body: &Sealed) -> Result<Option<Project>,
 
 /// The upload of a file to its project, whose charge has it already.
 fn upload_to(
-    alloc: Global,
+    context: &Context<'_>,
     project: Project,
     file: &Bytes,
     body: Sealed,
@@ -128,15 +128,17 @@ fn upload_to(
 ) -> Result<Decision, Stop>
     requires file { IsSome (read_file file.now) }
     requires text { IsTrue (is_text_lem requires_python.now) }
-    ensures { Decides result Accept (upload_of project file.now body requires_python.now) }
+    ensures { let ends_case = is_some context.now.view.now.case in
+        Decides result Accept (upload_of project file.now body requires_python.now ends_case) }
 {
-    match recorded(alloc, file, &body, requires_python) {
+    match recorded(context.alloc, file, &body, requires_python) {
         Ok((name, file, record)) => Ok(Decision::Change(Change::Upload {
             name,
             project,
             file,
             record,
             body,
+            ends_case: context.view.case.is_some(),
         })),
         Err(_) => {
             drop(project);

@@ -30,7 +30,7 @@ fn sealed(rt: &(impl Abort + AllocGlobal)) -> Sealed {
     Sealed::new(body, token("abc")).expect(rt, "another digest")
 }
 
-/// An upload of these bytes, under this spelling of the project.
+/// An upload of these bytes, under this spelling of the project, whose name has no case.
 pub(super) fn upload(rt: &(impl Abort + AllocGlobal), shown: &str, text: &str) -> Change {
     let file = file_name(rt, text);
     Change::Upload {
@@ -39,6 +39,7 @@ pub(super) fn upload(rt: &(impl Abort + AllocGlobal), shown: &str, text: &str) -
         record: record(rt, &file, true),
         file,
         body: sealed(rt),
+        ends_case: false,
     }
 }
 
