@@ -1,12 +1,17 @@
 //! How a database of version 1 becomes an index of today.
-ghost use Rattle.std.specs.Prelude.{◌≡◌, false, IsTrue, OnOk, OnErr};
+ghost use Rattle.std.specs.Prelude.{◌≡◌, false, IfErr, IsTrue, OnOk, OnErr};
 ghost use Rattle.sqlite.specs.Held.{state};
 ghost use Rattle.sqlite.specs.State.{HasCleanDisk};
-ghost use Rattle.index_adopt.specs.Migrated.{raised, MigratesIfOk};
+ghost use Rattle.index_adopt.specs.Migrated.{raised, asks_of_migration, IsReadyFirst, MigratesIfOk};
+ghost use Rattle.index_commits.specs.Asked.{FailsForRefusal};
 ghost use Rattle.index_commits.specs.Changed.{IsMade, IsUndone, LeavesAll};
+ghost use Rattle.index_create.specs.Asked.{text_ask, Unlimited};
 ghost use Rattle.index_schema.specs.FirstVersion.{IsFirstVersion, without_bans};
 ghost use Rattle.index_schema.specs.Index.{as_told};
-ghost use Rattle.index_steps.specs.Inside.{TellsIfOk, Keeps, LeavesNothing};
+ghost use Rattle.index_schema.specs.StatementTexts.{update_version_text};
+ghost use Rattle.index_schema.specs.TableTexts.{bans_text};
+ghost use Rattle.index_steps.specs.Asks.{AnswersAll, AnswersAsk, GoesAs};
+ghost use Rattle.index_steps.specs.Inside.{IsReady, TellsIfOk, Keeps, LeavesNothing};
 
 use sqlite::{Alter, Connection, Error, Transaction};
 
@@ -16,6 +21,8 @@ fn make_bans<S: Alter>(tx: &mut Transaction<'_, S>) -> Result<(), Error>
     ensures made { MigratesIfOk S.Store as_told tx.old.conn.now tx.new.conn.now result }
     ensures kept { Keeps S.Store tx.old.conn.now tx.new.conn.now }
     ensures survives { LeavesNothing S.Store tx.old.conn.now tx.new.conn.now }
+    ensures asked { GoesAs S.Store (Unlimited IsReadyFirst) (AnswersAsk (text_ask bans_text))
+        tx.old.conn.now tx.new.conn.now result }
 {
     tx.execute(
         "CREATE TABLE bans (file TEXT NOT NULL PRIMARY KEY REFERENCES files (file)) STRICT",
@@ -31,6 +38,8 @@ fn raise_version<S: Alter>(tx: &mut Transaction<'_, S>) -> Result<(), Error>
         tx.old.conn.now tx.new.conn.now result }
     ensures kept { Keeps S.Store tx.old.conn.now tx.new.conn.now }
     ensures survives { LeavesNothing S.Store tx.old.conn.now tx.new.conn.now }
+    ensures asked { GoesAs S.Store (Unlimited IsReady) (AnswersAsk (text_ask update_version_text))
+        tx.old.conn.now tx.new.conn.now result }
 {
     tx.execute("UPDATE meta SET version = 2 WHERE id = 1", &[])?;
     Ok(())
@@ -42,6 +51,8 @@ fn migrate_tables<S: Alter>(tx: &mut Transaction<'_, S>) -> Result<(), Error>
     ensures made { MigratesIfOk S.Store raised tx.old.conn.now tx.new.conn.now result }
     ensures kept { Keeps S.Store tx.old.conn.now tx.new.conn.now }
     ensures survives { LeavesNothing S.Store tx.old.conn.now tx.new.conn.now }
+    ensures asked { GoesAs S.Store (Unlimited IsReadyFirst) (AnswersAll asks_of_migration)
+        tx.old.conn.now tx.new.conn.now result }
 {
     make_bans(tx)?;
     raise_version(tx)?;
@@ -69,6 +80,10 @@ pub fn migrate<S: Alter>(conn: &mut Connection<S>) -> Result<(), Error>
     ensures crash { IsTrue (state S.Store conn.old).is_open
         → IsFirstVersion (state S.Store conn.old).now
         → LeavesAll without_bans raised (state S.Store conn.old) (state S.Store conn.new) }
+    ensures reason { HasCleanDisk (state S.Store conn.new)
+        → (IsTrue (state S.Store conn.old).is_open
+        → IsFirstVersion (state S.Store conn.old).now) → IfErr result
+        (FailsForRefusal asks_of_migration (state S.Store conn.old) (state S.Store conn.new)) }
 {
     let mut tx = conn.transaction();
     migrate_tables(&mut tx)?;

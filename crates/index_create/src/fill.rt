@@ -1,9 +1,13 @@
 //! What a new index holds.
-ghost use Rattle.std.specs.Prelude.{◌≡◌, false, IsTrue, OnOk, OnErr};
+ghost use Rattle.std.specs.Prelude.{◌≡◌, false, IfErr, IsTrue, OnOk, OnErr};
 ghost use Rattle.sqlite.specs.Held.{state};
 ghost use Rattle.sqlite.specs.State.{HasCleanDisk};
-ghost use Rattle.index_steps.specs.Inside.{TellsIfOk, Keeps, LeavesNothing};
+ghost use Rattle.index_schema.specs.Stages.{IsStage};
+ghost use Rattle.index_steps.specs.Asks.{AnswersAll, AnswersAsk, GoesAs};
+ghost use Rattle.index_steps.specs.Inside.{IsReady, TellsIfOk, Keeps, LeavesNothing};
+ghost use Rattle.index_commits.specs.Asked.{FailsForRefusal};
 ghost use Rattle.index_commits.specs.Changed.{IsMade, IsUndone, LeavesAll};
+ghost use Rattle.index_create.specs.Asked.{Unlimited, asks_of_new, put_version_ask};
 ghost use Rattle.index_create.specs.Created.{as_new, one_user, IsBlank, FillsIfOk};
 
 use crate::tables::make_tables;
@@ -18,6 +22,8 @@ fn put_version<S: Alter>(tx: &mut Transaction<'_, S>) -> Result<(), Error>
         tx.old.conn.now tx.new.conn.now result }
     ensures kept { Keeps S.Store tx.old.conn.now tx.new.conn.now }
     ensures survives { LeavesNothing S.Store tx.old.conn.now tx.new.conn.now }
+    ensures asked { GoesAs S.Store (Unlimited IsReady) (AnswersAsk put_version_ask)
+        tx.old.conn.now tx.new.conn.now result }
 {
     tx.execute(
         "INSERT INTO meta (id, kind, version) VALUES (1, 'python-index', 2)",
@@ -37,6 +43,9 @@ fn make_all<S: Alter>(
         tx.old.conn.now tx.new.conn.now result }
     ensures kept { Keeps S.Store tx.old.conn.now tx.new.conn.now }
     ensures survives { LeavesNothing S.Store tx.old.conn.now tx.new.conn.now }
+    ensures asked { GoesAs S.Store (Unlimited (IsStage 0))
+        (AnswersAll (asks_of_new user.now account.now))
+        tx.old.conn.now tx.new.conn.now result }
 {
     make_tables(tx)?;
     put_user(tx, user, account)?;
@@ -69,6 +78,10 @@ pub fn fill_new<S: Alter>(
     ensures crash { IsTrue (state S.Store conn.old).is_open → IsBlank (state S.Store conn.old).now
         → LeavesAll (λ _. one_user user.now account.now) as_new
         (state S.Store conn.old) (state S.Store conn.new) }
+    ensures reason { HasCleanDisk (state S.Store conn.new)
+        → (IsTrue (state S.Store conn.old).is_open → IsBlank (state S.Store conn.old).now)
+        → IfErr result (FailsForRefusal (asks_of_new user.now account.now)
+        (state S.Store conn.old) (state S.Store conn.new)) }
 {
     let mut tx = conn.transaction();
     make_all(&mut tx, user, account)?;

@@ -1,7 +1,9 @@
 //! The nine tables of an index, made one after another.
 ghost use Rattle.std.specs.Prelude.{◌≡◌, ℕ, suc, Some, slice_get};
-ghost use Rattle.index_schema.specs.Stages.{all_texts};
+ghost use Rattle.index_schema.specs.Stages.{IsStage, all_texts};
+ghost use Rattle.index_steps.specs.Asks.{AnswersAsk, GoesAs};
 ghost use Rattle.index_steps.specs.Inside.{Keeps, LeavesNothing};
+ghost use Rattle.index_create.specs.Asked.{GoesByTexts, Unlimited, text_ask};
 ghost use Rattle.index_create.specs.Created.{Advances};
 
 use sqlite::{Alter, Error, Transaction};
@@ -13,6 +15,9 @@ fn make_table<S: Alter>(tx: &mut Transaction<'_, S>, sql: &str) -> Result<(), Er
         → Advances S.Store n (suc n) tx.old.conn.now tx.new.conn.now result }
     ensures kept { Keeps S.Store tx.old.conn.now tx.new.conn.now }
     ensures survives { LeavesNothing S.Store tx.old.conn.now tx.new.conn.now }
+    ensures asked { (n : ℕ) → slice_get all_texts n ≡ Some sql.now
+        → GoesAs S.Store (Unlimited (IsStage n)) (AnswersAsk (text_ask sql.now))
+        tx.old.conn.now tx.new.conn.now result }
 {
     tx.execute(sql, &[])?;
     Ok(())
@@ -24,6 +29,7 @@ fn make_first_four<S: Alter>(tx: &mut Transaction<'_, S>) -> Result<(), Error>
     ensures made { Advances S.Store 0 4 tx.old.conn.now tx.new.conn.now result }
     ensures kept { Keeps S.Store tx.old.conn.now tx.new.conn.now }
     ensures survives { LeavesNothing S.Store tx.old.conn.now tx.new.conn.now }
+    ensures asked { GoesByTexts S.Store 0 4 tx.old.conn.now tx.new.conn.now result }
 {
     make_table(
         tx,
@@ -50,6 +56,7 @@ fn make_next_four<S: Alter>(tx: &mut Transaction<'_, S>) -> Result<(), Error>
     ensures made { Advances S.Store 4 8 tx.old.conn.now tx.new.conn.now result }
     ensures kept { Keeps S.Store tx.old.conn.now tx.new.conn.now }
     ensures survives { LeavesNothing S.Store tx.old.conn.now tx.new.conn.now }
+    ensures asked { GoesByTexts S.Store 4 8 tx.old.conn.now tx.new.conn.now result }
 {
     make_table(
         tx,
@@ -76,6 +83,7 @@ pub fn make_first_version<S: Alter>(tx: &mut Transaction<'_, S>) -> Result<(), E
     ensures made { Advances S.Store 0 8 tx.old.conn.now tx.new.conn.now result }
     ensures kept { Keeps S.Store tx.old.conn.now tx.new.conn.now }
     ensures survives { LeavesNothing S.Store tx.old.conn.now tx.new.conn.now }
+    ensures asked { GoesByTexts S.Store 0 8 tx.old.conn.now tx.new.conn.now result }
 {
     make_first_four(tx)?;
     make_next_four(tx)?;
@@ -88,6 +96,7 @@ pub fn make_tables<S: Alter>(tx: &mut Transaction<'_, S>) -> Result<(), Error>
     ensures made { Advances S.Store 0 9 tx.old.conn.now tx.new.conn.now result }
     ensures kept { Keeps S.Store tx.old.conn.now tx.new.conn.now }
     ensures survives { LeavesNothing S.Store tx.old.conn.now tx.new.conn.now }
+    ensures asked { GoesByTexts S.Store 0 9 tx.old.conn.now tx.new.conn.now result }
 {
     make_first_version(tx)?;
     make_table(

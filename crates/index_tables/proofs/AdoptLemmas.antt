@@ -1,14 +1,17 @@
 -- What is done after a look at the version.
 use Rattle.std.proofs.lemmas.Bool.{cases_Bool}
-use Rattle.std.proofs.Common.{◌≡◌, inl, inr, ◌∙◌, ap, refl, subst, sym, true, true≢false, IsTrue, ℕ, Option, Some, Result, Ok, Err, IfOk, IfErr}
+use Rattle.std.proofs.Common.{◌≡◌, inl, inr, ◌∙◌, ap, refl, subst, sym, true, true≢false, IsSome, IsTrue, ℕ, Option, Some, Result, Ok, Err, IfOk, IfErr}
 use Rattle.sqlite_trees.specs.declared.store.Store.{Ghosts}
 use Rattle.sqlite.specs.Effect.{Database}
 use Rattle.sqlite.specs.Held.{Held, state}
 use Rattle.sqlite.specs.State.{HasCleanDisk}
+use Rattle.index_commits.specs.Asked.{AreRefused}
 use Rattle.index_looks.specs.Looks.{Looks}
+use Rattle.index_looks.specs.Reasons.{HasReason}
 use Rattle.index_rules.specs.declared.open.OpenFault.{OpenFault}
 use Rattle.index_rules.specs.declared.open.OpenFault.TheVariants.{BadFirstUser, NotEmpty, NotAnIndex, OtherVersion, OutOfMemory, Store}
 use Rattle.sqlite_schema.specs.Names.{same_name}
+use Rattle.index_adopt.specs.Migrated.{asks_of_migration}
 use Rattle.index_adopt.specs.Names.{has_meta}
 use Rattle.index_adopt.specs.Versions.{begun}
 use Rattle.index_rules.specs.declared.answer.Fault.{Fault}
@@ -18,9 +21,10 @@ use Rattle.index_schema.specs.FirstVersion.{IsAnyVersion, IsFirstVersion, withou
 use Rattle.index_schema.specs.Index.{version_in}
 use Rattle.index_schema.specs.Records.{tables_in}
 use Rattle.index_schema.specs.Stays.{Stays}
+use Rattle.index_steps.proofs.GoingLemmas.{fault_since}
 use Rattle.index_tables.specs.Kept.{AreCurrent}
 use Rattle.index_tables.specs.Adopted.{FailsToOpen, IsFault, IsOurs, IsReason, LeavesMigrated, TellsVersion, refusal_in}
-use Rattle.index_tables.specs.Opened.{open_fault_by}
+use Rattle.index_tables.specs.Opened.{StoreForRefusal, open_fault_by}
 
 -- the version that such a database tells leaves the store to blame
 store_alone : (db : Database) → IsOurs db → refusal_in db.schema (version_in db.trees) ≡ Store
@@ -71,16 +75,25 @@ module _ {S : Type 0} (g : Ghosts S) where
     reason_failed fault.OutOfMemory why is fails = subst (IsReason g held new) (sym is) meta
     reason_failed fault.Store why is fails = subst (IsReason g held new) (sym is) (meta, inr (fails refl))
 
-    -- of version 1 it may be that it is not raised
-    pub reason_raised : (why : OpenFault) → (IsTrue (state g held).is_open → IsFirstVersion (state g held).now) → version_in (state g held).now.trees ≡ Some 1 → IsFault why → IsReason g held new why
-    reason_raised why first told (inl memory) = subst (IsReason g held new) (sym memory) meta
-    reason_raised why first told (inr store) = subst (IsReason g held new) (sym store) (
-      meta,
-      inr (elim (cases_Bool (state g held).is_open) [
-        | inl opened ↦ inr (inr (first opened, told))
+    -- of version 1 it may be that it is not raised, after a look at its version
+    module _ (mid : Held S) (looks : Looks g held mid true) (clean : HasCleanDisk (state g mid)) where
+      since : HasReason (state g mid) (state g new) → HasReason (state g held) (state g new)
+      since (inl fault) = inl (fault_since (state g held) (state g mid) (state g new) looks.survives.counts fault)
+      since (inr (inl shut)) = elim (cases_Bool (state g held).is_open) [
+        | inl opened ↦ absurd (true≢false (sym (looks.lasts refl clean opened) ∙ shut))
+        | inr was_shut ↦ inr (inl was_shut)
+      ]
+      since (inr (inr limit)) = inr (inr (subst IsSome looks.survives.limit limit))
+
+      refused : (IsTrue (state g held).is_open → IsFirstVersion (state g held).now) → version_in (state g held).now.trees ≡ Some 1 → AreRefused asks_of_migration (state g mid).now → FailsToOpen g held new
+      refused first told refuses = elim (cases_Bool (state g held).is_open) [
+        | inl opened ↦ inr (inr (first opened, told, subst (AreRefused asks_of_migration) (looks.same refl clean) refuses))
         | inr shut ↦ inl (inr (inl shut))
-      ]),
-    )
+      ]
+
+      pub reason_raised : (why : OpenFault) → (IsTrue (state g held).is_open → IsFirstVersion (state g held).now) → version_in (state g held).now.trees ≡ Some 1 → IsFault why → StoreForRefusal asks_of_migration (state g mid) (state g new) why → IsReason g held new why
+      reason_raised why first told (inl memory) reason = subst (IsReason g held new) (sym memory) meta
+      reason_raised why first told (inr store) reason = subst (IsReason g held new) (sym store) (meta, inr (elim (reason store) [ inl it ↦ inl (since it) | inr refuses ↦ refused first told refuses ]))
 
   module _ (a b c : Held S) (looks : Looks g a b true) (was_clean : HasCleanDisk (state g c) → HasCleanDisk (state g b)) where
     pub stays_after : (HasCleanDisk (state g c) → Stays (state g b) (state g c)) → HasCleanDisk (state g c) → Stays (state g a) (state g c)
@@ -105,6 +118,11 @@ module _ {S : Type 0} (g : Ghosts S) where
 pub both_refused : {A E : Type 0} {P Q R : E → Type 0} (r : Result A E) → ((e : E) → P e → Q e → R e) → IfErr r P → IfErr r Q → IfErr r R
 both_refused (Ok a) third p q = tt
 both_refused (Err e) third p q = third e p q
+
+-- and three a fourth
+pub all_refused : {A E : Type 0} {P Q R T : E → Type 0} (r : Result A E) → ((e : E) → P e → Q e → R e → T e) → IfErr r P → IfErr r Q → IfErr r R → IfErr r T
+all_refused (Ok a) fourth p q s = tt
+all_refused (Err e) fourth p q s = fourth e p q s
 
 -- the same of what is opened
 pub both_opened : {A E : Type 0} {P Q R : A → Type 0} (r : Result A E) → ((a : A) → P a → Q a → R a) → IfOk r P → IfOk r Q → IfOk r R

@@ -6,8 +6,10 @@ use Rattle.sqlite_schema.specs.declared.schema.Schema.{Schema}
 use Rattle.sqlite.specs.Effect.{Database}
 use Rattle.sqlite.specs.Held.{Held, state}
 use Rattle.sqlite.specs.State.{State, HasCleanDisk}
+use Rattle.index_adopt.specs.Migrated.{asks_of_migration}
 use Rattle.index_adopt.specs.Names.{has_all_of, has_meta, has_table}
 use Rattle.index_adopt.specs.Versions.{FailsToTell, Tells, begun}
+use Rattle.index_commits.specs.Asked.{AreRefused}
 use Rattle.index_looks.specs.Reasons.{HasReason}
 use Rattle.index_rules.specs.declared.open.OpenFault.{OpenFault}
 use Rattle.index_rules.specs.declared.open.OpenFault.TheVariants.{NotAnIndex, OtherVersion, OutOfMemory, Store}
@@ -82,10 +84,13 @@ refusal_in schema version = refusal_by version (has_all_of schema first_version_
 abbrev pub IsRefusal : {S : Type 0} → Ghosts S → Held S → OpenFault → Type 0
 IsRefusal g held why = (version : Option ℕ) × TellsVersion g held version × (why ≡ refusal_in (state g held).now.schema version)
 
+-- it is of version 1 and tells that, and SQL refuses a statement that makes an index of it
+abbrev pub IsNotRaised : Database → Type 0
+IsNotRaised db = IsFirstVersion db × (version_in db.trees ≡ Some 1) × AreRefused asks_of_migration db
+
 -- the store fails, the query of the version is refused, or the database is of version 1 and is not raised
 abbrev pub FailsToOpen : {S : Type 0} → Ghosts S → Held S → Held S → Type 0
-FailsToOpen g old new =
-    HasReason (state g old) (state g new) ⊎ (FailsToTell g (begun old) ⊎ (IsFirstVersion (state g old).now × (version_in (state g old).now.trees ≡ Some 1)))
+FailsToOpen g old new = HasReason (state g old) (state g new) ⊎ (FailsToTell g (begun old) ⊎ IsNotRaised (state g old).now)
 
 -- Why no index is opened on a connection, which is left as `new`. Without a table of the version it is no index, whatever
 -- the store does.

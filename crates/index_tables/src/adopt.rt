@@ -7,10 +7,11 @@ ghost use Rattle.index_rules.specs.Tables.{Tables};
 ghost use Rattle.index_schema.specs.FirstVersion.{IsFirstVersion, first_version_schema, without_bans};
 ghost use Rattle.index_schema.specs.Index.{IsIndex, version_in};
 ghost use Rattle.index_schema.specs.Stays.{Stays};
+ghost use Rattle.index_adopt.specs.Migrated.{asks_of_migration};
 ghost use Rattle.index_adopt.specs.Names.{has_meta};
 ghost use Rattle.index_reads.specs.Held.{tables_of};
 ghost use Rattle.index_tables.specs.Kept.{IsHonest, IsWorking, Leaves};
-ghost use Rattle.index_tables.specs.Opened.{IsRefusedAs};
+ghost use Rattle.index_tables.specs.Opened.{IsRefusedAs, StoreForRefusal};
 ghost use Rattle.index_tables.specs.Adopted.{IsFault, IsFound, IsOfKind, IsOurs, IsReason, LeavesMigrated, refusal_by, unlike};
 
 use crate::opening::{Unopened, open_fault_of};
@@ -277,6 +278,9 @@ fn raise<S: Alter>(conn: Connection<S>) -> Result<SqlBooks<S>, Unopened<S>>
     ensures failures { IfOk result (λ books. books.failures ≡ 0) }
     ensures fault { IfErr result (λ refused.
         (refused.why ≡ OpenFault.OutOfMemory) ⊎ (refused.why ≡ OpenFault.Store)) }
+    ensures reason { IfErr result (λ refused. HasCleanDisk (state S.Store refused.conn)
+        → StoreForRefusal asks_of_migration
+        (state S.Store conn) (state S.Store refused.conn) refused.why) }
     ensures refused { IfErr result (λ refused. HasCleanDisk (state S.Store refused.conn)
         → Stays (state S.Store conn) (state S.Store refused.conn)) }
     ensures ended { IfErr result (λ refused. refused.conn.in_transaction ≡ false) }

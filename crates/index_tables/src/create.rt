@@ -2,7 +2,7 @@
 ghost use Rattle.std.specs.Prelude.{◌≡◌, ◌≢◌, ◌⊎◌, ◌↔◌, false, IfOk, IfErr, IsTrue};
 ghost use Rattle.sqlite.specs.Held.{state};
 ghost use Rattle.sqlite.specs.State.{HasCleanDisk, IsLive};
-ghost use Rattle.index_rules.specs.FirstTables.{IsBadFirstUser, first_tables};
+ghost use Rattle.index_rules.specs.FirstTables.{IsBadFirstUser, first_record, first_tables};
 ghost use Rattle.index_rules.specs.Tables.{Tables};
 ghost use Rattle.index_rules.specs.Sound.{IsSound};
 ghost use Rattle.index_rules.specs.History.{begins};
@@ -11,10 +11,11 @@ ghost use Rattle.index_schema.specs.Stays.{Stays};
 ghost use Rattle.index_schema.specs.Schema.{index_schema, no_schema};
 ghost use Rattle.index_adopt.specs.Names.{has_any_of};
 ghost use Rattle.index_schema.specs.RecordRows.{AreRecords};
+ghost use Rattle.index_create.specs.Asked.{asks_of_new};
 ghost use Rattle.index_create.specs.Created.{one_user, IsBlank};
 ghost use Rattle.index_tables.specs.Kept.{IsHonest, IsWorking, Leaves};
 ghost use Rattle.index_reads.specs.Held.{tables_of};
-ghost use Rattle.index_tables.specs.Opened.{IsAmongOthers, IsRefusedAs, IsTaken, LeavesOr};
+ghost use Rattle.index_tables.specs.Opened.{IsAmongOthers, IsRefusedAs, IsTaken, LeavesOr, StoreForOthers};
 
 use crate::opening::{Unopened, open_fault_of};
 use crate::tables::SqlBooks;
@@ -31,7 +32,8 @@ impl<S: Alter> SqlBooks<S> {
     ///
     /// `BadFirstUser` exactly where the bytes are no user id, or the digest is that of the empty text; then `NotEmpty`
     /// exactly where there is a table by the name of one of an index; `Store` where there is anything else, or the store
-    /// fails. A refused database is as it was. A crash leaves what was there, or the whole index; once it is made, the
+    /// fails: the disk has a fault, the connection was shut, a limit is set on the steps of its queries, or SQL refuses a
+    /// statement. A refused database is as it was. A crash leaves what was there, or the whole index; once it is made, the
     /// index alone.
     pub fn create(
         alloc: Global,
@@ -51,6 +53,10 @@ impl<S: Alter> SqlBooks<S> {
             → IsWorking (state S.Store conn)) }
         ensures lasts { IfOk result (λ books. IsWorking (state S.Store conn)
             → HasCleanDisk (state S.Store books.conn) → IsHonest (state S.Store books.conn)) }
+        ensures clean { IfOk result (λ books. HasCleanDisk (state S.Store books.conn)
+            → HasCleanDisk (state S.Store conn)) }
+        ensures clean_refused { IfErr result (λ refused.
+            HasCleanDisk (state S.Store refused.conn) → HasCleanDisk (state S.Store conn)) }
         ensures records { IfOk result (λ books. IsWorking (state S.Store books.conn)
             → AreRecords (state S.Store books.conn).now) }
         ensures failures { IfOk result (λ books. books.failures ≡ 0) }
@@ -62,6 +68,9 @@ impl<S: Alter> SqlBooks<S> {
             → IsRefusedAs OpenFault.NotEmpty result ⊎ IsRefusedAs OpenFault.OutOfMemory result }
         ensures among_others { IsAmongOthers user.now token (state S.Store conn).now.schema
             → IsRefusedAs OpenFault.Store result ⊎ IsRefusedAs OpenFault.OutOfMemory result }
+        ensures reason { IfErr result (λ refused. HasCleanDisk (state S.Store refused.conn)
+            → StoreForOthers (asks_of_new user.now (first_record token))
+            (state S.Store conn) (state S.Store refused.conn) refused.why) }
         ensures refused { IfErr result (λ refused. HasCleanDisk (state S.Store refused.conn)
             → Stays (state S.Store conn) (state S.Store refused.conn)) }
         ensures ended { IfErr result (λ refused. refused.conn.in_transaction ≡ false) }
@@ -96,6 +105,10 @@ fn fill_blank<S: Alter>(
         → IsWorking (state S.Store conn)) }
     ensures lasts { IfOk result (λ books. IsWorking (state S.Store conn)
         → HasCleanDisk (state S.Store books.conn) → IsHonest (state S.Store books.conn)) }
+    ensures clean { IfOk result (λ books. HasCleanDisk (state S.Store books.conn)
+        → HasCleanDisk (state S.Store conn)) }
+    ensures clean_refused { IfErr result (λ refused.
+        HasCleanDisk (state S.Store refused.conn) → HasCleanDisk (state S.Store conn)) }
     ensures records { IfOk result (λ books. IsWorking (state S.Store books.conn)
         → AreRecords (state S.Store books.conn).now) }
     ensures failures { IfOk result (λ books. books.failures ≡ 0) }
@@ -106,6 +119,9 @@ fn fill_blank<S: Alter>(
         → IsRefusedAs OpenFault.NotEmpty result }
     ensures among_others { has_any_of (state S.Store conn).now.schema index_schema.tables ≡ false
         → (state S.Store conn).now.schema ≢ no_schema → IsRefusedAs OpenFault.Store result }
+    ensures reason { IfErr result (λ refused. HasCleanDisk (state S.Store refused.conn)
+        → StoreForOthers (asks_of_new user.now account.now)
+        (state S.Store conn) (state S.Store refused.conn) refused.why) }
     ensures refused { IfErr result (λ refused. HasCleanDisk (state S.Store refused.conn)
         → Stays (state S.Store conn) (state S.Store refused.conn)) }
     ensures ended { IfErr result (λ refused. refused.conn.in_transaction ≡ false) }

@@ -1,6 +1,6 @@
 use Rattle.std.proofs.Common.{◌≡◌, Some, rules, refl, inl, inr, ◌∙◌, subst, sym}
 use Rattle.index_schema.specs.FirstVersion.{IsFirstVersion}
-use Rattle.index_tables.proofs.AdoptLemmas.{both_opened, both_refused, migrated_after, reason_failed, reason_raised, reason_told, stays_after}
+use Rattle.index_tables.proofs.AdoptLemmas.{all_refused, both_opened, both_refused, migrated_after, reason_failed, reason_raised, reason_told, stays_after}
 use Rattle.index_tables.proofs.adopt.adopt_first_version.Goals as goal
 
 pub raise-requires-clause-first : goal.raise-requires-clause-first
@@ -36,8 +36,10 @@ returns-in-Ok-Some-eq1-clause-lasts g c =
 pub returns-in-Ok-Some-eq1-clause-reason : goal.returns-in-Ok-Some-eq1-clause-reason
 returns-in-Ok-Some-eq1-clause-reason g c =
     let told : c.in-Ok-Some-eq1.field-0 ≡ Some 1 = search rules in
-    both_refused c.raise.result (λ refused was_clean fault clean. reason_raised g.S.Store c.args.conn refused.conn c.requires.meta refused.why c.requires.first (sym (c.in-Ok-Some-eq1.ensures.found (was_clean clean)) ∙ told) fault) c.raise.ensures.clean_refused
-    c.raise.ensures.fault
+    all_refused c.raise.result
+    (λ refused was_clean fault reason clean.
+    reason_raised g.S.Store c.args.conn refused.conn c.requires.meta c.read_version.new.conn c.in-Ok-Some-eq1.ensures.looks (was_clean clean) refused.why c.requires.first (sym (c.in-Ok-Some-eq1.ensures.found (was_clean clean)) ∙ told) fault (reason clean))
+    c.raise.ensures.clean_refused c.raise.ensures.fault c.raise.ensures.reason
 
 pub returns-in-Err-clause-reason : goal.returns-in-Err-clause-reason
 returns-in-Err-clause-reason g c clean =
