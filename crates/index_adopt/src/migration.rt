@@ -8,6 +8,8 @@ ghost use Rattle.index_schema.specs.FirstVersion.{IsFirstVersion, without_bans};
 ghost use Rattle.index_schema.specs.Index.{as_told};
 ghost use Rattle.index_steps.specs.Inside.{TellsIfOk, Keeps, LeavesNothing};
 
+use index_schema::statement_texts::UPDATE_VERSION;
+use index_schema::table_texts::BANS;
 use sqlite::{Alter, Connection, Error, Transaction};
 
 /// Makes the table of the bans.
@@ -17,10 +19,7 @@ fn make_bans<S: Alter>(tx: &mut Transaction<'_, S>) -> Result<(), Error>
     ensures kept { Keeps S.Store tx.old.conn.now tx.new.conn.now }
     ensures survives { LeavesNothing S.Store tx.old.conn.now tx.new.conn.now }
 {
-    tx.execute(
-        "CREATE TABLE bans (file TEXT NOT NULL PRIMARY KEY REFERENCES files (file)) STRICT",
-        &[],
-    )?;
+    tx.execute(BANS, &[])?;
     Ok(())
 }
 
@@ -32,7 +31,7 @@ fn raise_version<S: Alter>(tx: &mut Transaction<'_, S>) -> Result<(), Error>
     ensures kept { Keeps S.Store tx.old.conn.now tx.new.conn.now }
     ensures survives { LeavesNothing S.Store tx.old.conn.now tx.new.conn.now }
 {
-    tx.execute("UPDATE meta SET version = 2 WHERE id = 1", &[])?;
+    tx.execute(UPDATE_VERSION, &[])?;
     Ok(())
 }
 

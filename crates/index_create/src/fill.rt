@@ -8,6 +8,7 @@ ghost use Rattle.index_create.specs.Created.{as_new, one_user, IsBlank, FillsIfO
 
 use crate::tables::make_tables;
 use index_rules::{UserId, UserRecord};
+use index_schema::statement_texts::PUT_VERSION;
 use index_steps::put_user;
 use sqlite::{Alter, Connection, Error, Transaction};
 
@@ -19,10 +20,7 @@ fn put_version<S: Alter>(tx: &mut Transaction<'_, S>) -> Result<(), Error>
     ensures kept { Keeps S.Store tx.old.conn.now tx.new.conn.now }
     ensures survives { LeavesNothing S.Store tx.old.conn.now tx.new.conn.now }
 {
-    tx.execute(
-        "INSERT INTO meta (id, kind, version) VALUES (1, 'python-index', 2)",
-        &[],
-    )?;
+    tx.execute(PUT_VERSION, &[])?;
     Ok(())
 }
 
