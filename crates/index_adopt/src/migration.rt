@@ -13,6 +13,8 @@ ghost use Rattle.index_schema.specs.TableTexts.{bans_text};
 ghost use Rattle.index_steps.specs.Asks.{AnswersAll, AnswersAsk, GoesAs};
 ghost use Rattle.index_steps.specs.Inside.{IsReady, TellsIfOk, Keeps, LeavesNothing};
 
+use index_schema::statement_texts::UPDATE_VERSION;
+use index_schema::table_texts::BANS;
 use sqlite::{Alter, Connection, Error, Transaction};
 
 /// Makes the table of the bans.
@@ -24,10 +26,7 @@ fn make_bans<S: Alter>(tx: &mut Transaction<'_, S>) -> Result<(), Error>
     ensures asked { GoesAs S.Store (Unlimited IsReadyFirst) (AnswersAsk (text_ask bans_text))
         tx.old.conn.now tx.new.conn.now result }
 {
-    tx.execute(
-        "CREATE TABLE bans (file TEXT NOT NULL PRIMARY KEY REFERENCES files (file)) STRICT",
-        &[],
-    )?;
+    tx.execute(BANS, &[])?;
     Ok(())
 }
 
@@ -41,7 +40,7 @@ fn raise_version<S: Alter>(tx: &mut Transaction<'_, S>) -> Result<(), Error>
     ensures asked { GoesAs S.Store (Unlimited IsReady) (AnswersAsk (text_ask update_version_text))
         tx.old.conn.now tx.new.conn.now result }
 {
-    tx.execute("UPDATE meta SET version = 2 WHERE id = 1", &[])?;
+    tx.execute(UPDATE_VERSION, &[])?;
     Ok(())
 }
 

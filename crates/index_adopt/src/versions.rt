@@ -13,6 +13,7 @@ ghost use Rattle.index_schema.specs.FirstVersion.{IsAnyVersion};
 
 use index_looks::fault_of;
 use index_rules::Fault;
+use index_schema::statement_texts::SELECT_VERSION;
 use sqlite::types::ValueRef;
 use sqlite::{Alter, Connection, Row, Transaction};
 
@@ -33,10 +34,7 @@ pub fn read_version<S: Alter>(conn: &mut Connection<S>) -> Result<Option<u64>, F
     ensures reason { HasCleanDisk (state S.Store conn.new)
         → StoreForReason S.Store conn.old conn.new result }
 {
-    match conn.query_all(
-        "SELECT version FROM meta WHERE id = 1 AND kind = 'python-index'",
-        &[],
-    ) {
+    match conn.query_all(SELECT_VERSION, &[]) {
         Ok(rows) => Ok(first_number(rows.as_slice())),
         Err(error) => Err(fault_of(error)),
     }
@@ -73,10 +71,7 @@ fn query_version<S: Alter>(tx: &mut Transaction<'_, S>) -> Result<Option<u64>, F
     ensures kept { Keeps S.Store tx.old.conn.now tx.new.conn.now }
     ensures survives { LeavesNothing S.Store tx.old.conn.now tx.new.conn.now }
 {
-    match tx.query_all(
-        "SELECT version FROM meta WHERE id = 1 AND kind = 'python-index'",
-        &[],
-    ) {
+    match tx.query_all(SELECT_VERSION, &[]) {
         Ok(rows) => Ok(first_number(rows.as_slice())),
         Err(error) => Err(fault_of(error)),
     }

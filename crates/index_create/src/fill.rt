@@ -12,6 +12,7 @@ ghost use Rattle.index_create.specs.Created.{as_new, one_user, IsBlank, FillsIfO
 
 use crate::tables::make_tables;
 use index_rules::{UserId, UserRecord};
+use index_schema::statement_texts::PUT_VERSION;
 use index_steps::put_user;
 use sqlite::{Alter, Connection, Error, Transaction};
 
@@ -25,10 +26,7 @@ fn put_version<S: Alter>(tx: &mut Transaction<'_, S>) -> Result<(), Error>
     ensures asked { GoesAs S.Store (Unlimited IsReady) (AnswersAsk put_version_ask)
         tx.old.conn.now tx.new.conn.now result }
 {
-    tx.execute(
-        "INSERT INTO meta (id, kind, version) VALUES (1, 'python-index', 2)",
-        &[],
-    )?;
+    tx.execute(PUT_VERSION, &[])?;
     Ok(())
 }
 

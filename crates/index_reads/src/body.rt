@@ -17,6 +17,7 @@ use index_looks::look;
 use index_names::FileName;
 use index_records::body;
 use index_rules::Fault;
+use index_schema::statement_texts::SELECT_BODY;
 use sqlite::{Alter, Connection, Row, params};
 use std::alloc::Global;
 
@@ -75,11 +76,7 @@ fn find_bytes<S: Alter>(
     ensures looks { Looks S.Store conn.old conn.new (is_ok result) }
     ensures reason { FailsForReason S.Store conn.old conn.new result }
 {
-    let rows = look(
-        conn,
-        "SELECT rowid, * FROM blobs WHERE file = ?1",
-        params![file.text()],
-    )?;
+    let rows = look(conn, SELECT_BODY, params![file.text()])?;
     first_body(alloc, rows.as_slice())
 }
 

@@ -12,6 +12,7 @@ use crate::shown::{first, has_row};
 use index_looks::look;
 use index_names::{FileName, NormalName, Release};
 use index_rules::{Fault, FileRecord};
+use index_schema::statement_texts::{SELECT_BAN, SELECT_FILE, SELECT_RELEASE, SELECT_YANK};
 use index_text::Text;
 use sqlite::{Alter, Connection, params};
 use std::alloc::Global;
@@ -29,11 +30,7 @@ pub fn find_file<S: Alter>(
     ensures looks { Looks S.Store conn.old conn.new (is_ok result) }
     ensures reason { FailsForReason S.Store conn.old conn.new result }
 {
-    let rows = look(
-        conn,
-        "SELECT rowid, * FROM files WHERE file = ?1",
-        params![file.text()],
-    )?;
+    let rows = look(conn, SELECT_FILE, params![file.text()])?;
     first(alloc, rows.as_slice())
 }
 
@@ -46,11 +43,7 @@ pub fn is_banned<S: Alter>(conn: &mut Connection<S>, file: &FileName) -> Result<
     ensures looks { Looks S.Store conn.old conn.new (is_ok result) }
     ensures reason { FailsForReason S.Store conn.old conn.new result }
 {
-    let rows = look(
-        conn,
-        "SELECT rowid, * FROM bans WHERE file = ?1",
-        params![file.text()],
-    )?;
+    let rows = look(conn, SELECT_BAN, params![file.text()])?;
     Ok(has_row(rows.as_slice()))
 }
 
@@ -68,11 +61,7 @@ pub fn find_yank<S: Alter>(
     ensures looks { Looks S.Store conn.old conn.new (is_ok result) }
     ensures reason { FailsForReason S.Store conn.old conn.new result }
 {
-    let rows = look(
-        conn,
-        "SELECT rowid, * FROM yanks WHERE name = ?1 AND rel = ?2",
-        params![name.text(), release.text()],
-    )?;
+    let rows = look(conn, SELECT_YANK, params![name.text(), release.text()])?;
     first(alloc, rows.as_slice())
 }
 
@@ -89,10 +78,6 @@ pub fn has_release<S: Alter>(
     ensures looks { Looks S.Store conn.old conn.new (is_ok result) }
     ensures reason { FailsForReason S.Store conn.old conn.new result }
 {
-    let rows = look(
-        conn,
-        "SELECT rowid FROM files WHERE live = 1 AND name = ?1 AND rel = ?2 LIMIT 1",
-        params![name.text(), release.text()],
-    )?;
+    let rows = look(conn, SELECT_RELEASE, params![name.text(), release.text()])?;
     Ok(has_row(rows.as_slice()))
 }

@@ -12,6 +12,7 @@ use crate::shown::each;
 use index_looks::look;
 use index_names::NormalName;
 use index_rules::{Fault, FileRow, NameRow, Owners};
+use index_schema::statement_texts::{SELECT_FILES, SELECT_NAMES, SELECT_OWNERS};
 use sqlite::{Alter, Connection, params};
 use std::alloc::Global;
 
@@ -28,11 +29,7 @@ pub fn owners_of<S: Alter>(
     ensures looks { Looks S.Store conn.old conn.new (is_ok result) }
     ensures reason { FailsForReason S.Store conn.old conn.new result }
 {
-    let rows = look(
-        conn,
-        "SELECT user FROM owners WHERE name = ?1 ORDER BY user",
-        params![name.text()],
-    )?;
+    let rows = look(conn, SELECT_OWNERS, params![name.text()])?;
     Ok(Owners::new(each(alloc, rows.as_slice())?))
 }
 
@@ -45,7 +42,7 @@ pub fn names<S: Alter>(alloc: Global, conn: &mut Connection<S>) -> Result<Vec<Na
     ensures looks { Looks S.Store conn.old conn.new (is_ok result) }
     ensures reason { FailsForReason S.Store conn.old conn.new result }
 {
-    let rows = look(conn, "SELECT rowid, * FROM names ORDER BY name", &[])?;
+    let rows = look(conn, SELECT_NAMES, &[])?;
     each(alloc, rows.as_slice())
 }
 
@@ -62,10 +59,6 @@ pub fn files_of<S: Alter>(
     ensures looks { Looks S.Store conn.old conn.new (is_ok result) }
     ensures reason { FailsForReason S.Store conn.old conn.new result }
 {
-    let rows = look(
-        conn,
-        "SELECT files.rowid, files.*, yanks.reason FROM files LEFT JOIN yanks ON yanks.name = files.name AND yanks.rel = files.rel WHERE files.live = 1 AND files.name = ?1 ORDER BY files.file",
-        params![name.text()],
-    )?;
+    let rows = look(conn, SELECT_FILES, params![name.text()])?;
     each(alloc, rows.as_slice())
 }

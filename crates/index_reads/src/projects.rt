@@ -11,6 +11,7 @@ use crate::shown::first;
 use index_looks::look;
 use index_names::NormalName;
 use index_rules::{CaseRecord, Fault, NameRecord};
+use index_schema::statement_texts::{SELECT_CASE, SELECT_NAME};
 use sqlite::{Alter, Connection, params};
 use std::alloc::Global;
 
@@ -27,11 +28,7 @@ pub fn find_name<S: Alter>(
     ensures looks { Looks S.Store conn.old conn.new (is_ok result) }
     ensures reason { FailsForReason S.Store conn.old conn.new result }
 {
-    let rows = look(
-        conn,
-        "SELECT rowid, * FROM names WHERE name = ?1",
-        params![name.text()],
-    )?;
+    let rows = look(conn, SELECT_NAME, params![name.text()])?;
     first(alloc, rows.as_slice())
 }
 
@@ -48,10 +45,6 @@ pub fn find_case<S: Alter>(
     ensures looks { Looks S.Store conn.old conn.new (is_ok result) }
     ensures reason { FailsForReason S.Store conn.old conn.new result }
 {
-    let rows = look(
-        conn,
-        "SELECT rowid, * FROM cases WHERE name = ?1",
-        params![name.text()],
-    )?;
+    let rows = look(conn, SELECT_CASE, params![name.text()])?;
     first(alloc, rows.as_slice())
 }

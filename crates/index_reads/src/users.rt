@@ -12,6 +12,7 @@ use crate::shown::first;
 use index_digest::Digest256;
 use index_looks::look;
 use index_rules::{Fault, UserId, UserRecord};
+use index_schema::statement_texts::{SELECT_BEARER, SELECT_USER};
 use sqlite::{Alter, Connection, params};
 use std::alloc::Global;
 
@@ -28,11 +29,7 @@ pub fn find_user<S: Alter>(
     ensures looks { Looks S.Store conn.old conn.new (is_ok result) }
     ensures reason { FailsForReason S.Store conn.old conn.new result }
 {
-    let rows = look(
-        conn,
-        "SELECT rowid, * FROM users WHERE user = ?1",
-        params![user.text()],
-    )?;
+    let rows = look(conn, SELECT_USER, params![user.text()])?;
     first(alloc, rows.as_slice())
 }
 
@@ -50,10 +47,6 @@ pub fn find_bearer<S: Alter>(
     ensures reason { FailsForReason S.Store conn.old conn.new result }
 {
     let digest = token.to_bytes();
-    let rows = look(
-        conn,
-        "SELECT rowid, * FROM users WHERE token = ?1",
-        params![digest.as_slice()],
-    )?;
+    let rows = look(conn, SELECT_BEARER, params![digest.as_slice()])?;
     first(alloc, rows.as_slice())
 }

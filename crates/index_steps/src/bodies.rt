@@ -13,6 +13,7 @@ ghost use Rattle.index_steps.specs.Writes.{AreFilesOf, deletes_bodies, deletes_b
 ghost use Rattle.index_steps.specs.Statements.{delete_bodies_ask, delete_body_ask};
 
 use crate::delete::delete_body;
+use index_schema::statement_texts::SELECT_NAMED;
 use sqlite::{Alter, Error, Row, Transaction, params};
 
 /// No bytes are kept of the files of the name.
@@ -45,7 +46,7 @@ fn files_named<S: Alter>(tx: &mut Transaction<'_, S>, name: &str) -> Result<Vec<
         CanAsk (state S.Store tx.old.conn.now) → AllByRecursion ShowsFile rows.items) }
     ensures asked { GoesAs S.Store CanAsk Gives tx.old.conn.now tx.new.conn.now result }
 {
-    match tx.query_all("SELECT file FROM files WHERE name = ?1", params![name]) {
+    match tx.query_all(SELECT_NAMED, params![name]) {
         Ok(rows) => Ok(rows),
         Err(error) => Err(error),
     }

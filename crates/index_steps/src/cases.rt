@@ -11,6 +11,7 @@ use crate::number::{whole, whole_if_any};
 use index_names::NormalName;
 use index_retention::CaseKind;
 use index_rules::CaseRecord;
+use index_schema::statement_texts::PUT_CASE;
 use sqlite::{Alter, Error, Transaction, params};
 
 /// What a case has beside its texts, as SQL holds it.
@@ -43,7 +44,7 @@ pub fn put_case<S: Alter>(
 {
     let numbers = numbers_of(case)?;
     tx.execute(
-        "INSERT INTO cases (name, kind, candidate, contact, work, why, opened, attempts, sent, profile, author, pages, first_sent) VALUES (?1, ?2, ?3, ?4, ?5, ?6, ?7, ?8, ?9, ?10, ?11, ?12, ?13) ON CONFLICT (name) DO UPDATE SET kind = excluded.kind, candidate = excluded.candidate, contact = excluded.contact, work = excluded.work, why = excluded.why, opened = excluded.opened, attempts = excluded.attempts, sent = excluded.sent, profile = excluded.profile, author = excluded.author, pages = excluded.pages, first_sent = excluded.first_sent",
+        PUT_CASE,
         params![
             name.text(),
             numbers.kind,

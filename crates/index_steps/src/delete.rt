@@ -7,6 +7,10 @@ ghost use Rattle.index_rules.specs.Effect.{without_record};
 ghost use Rattle.index_steps.specs.Writes.{deletes_owners, deletes_owner, deletes_yanks, deletes_yank, deletes_case, deletes_body, marks_files};
 ghost use Rattle.index_steps.specs.Statements.{delete_body_ask, delete_case_ask, delete_name_ask, delete_owner_ask, delete_owners_ask, delete_yank_ask, delete_yanks_ask, mark_files_ask};
 
+use index_schema::statement_texts::{
+    DELETE_BODY, DELETE_CASE, DELETE_NAME, DELETE_OWNER, DELETE_OWNERS, DELETE_YANK, DELETE_YANKS,
+    UPDATE_FILES,
+};
 use sqlite::{Alter, Error, Transaction, params};
 
 /// The name is free: its owners, its yanks and its case go with it.
@@ -20,7 +24,7 @@ pub fn delete_name<S: Alter>(tx: &mut Transaction<'_, S>, name: &str) -> Result<
     ensures asked { GoesByAsk S.Store (delete_name_ask name.now)
         tx.old.conn.now tx.new.conn.now result }
 {
-    tx.execute("DELETE FROM names WHERE name = ?1", params![name])?;
+    tx.execute(DELETE_NAME, params![name])?;
     Ok(())
 }
 
@@ -35,7 +39,7 @@ pub fn delete_owners<S: Alter>(tx: &mut Transaction<'_, S>, name: &str) -> Resul
     ensures asked { GoesByAsk S.Store (delete_owners_ask name.now)
         tx.old.conn.now tx.new.conn.now result }
 {
-    tx.execute("DELETE FROM owners WHERE name = ?1", params![name])?;
+    tx.execute(DELETE_OWNERS, params![name])?;
     Ok(())
 }
 
@@ -54,10 +58,7 @@ pub fn delete_owner<S: Alter>(
     ensures asked { GoesByAsk S.Store (delete_owner_ask name.now user.now)
         tx.old.conn.now tx.new.conn.now result }
 {
-    tx.execute(
-        "DELETE FROM owners WHERE name = ?1 AND user = ?2",
-        params![name, user],
-    )?;
+    tx.execute(DELETE_OWNER, params![name, user])?;
     Ok(())
 }
 
@@ -72,7 +73,7 @@ pub fn delete_yanks<S: Alter>(tx: &mut Transaction<'_, S>, name: &str) -> Result
     ensures asked { GoesByAsk S.Store (delete_yanks_ask name.now)
         tx.old.conn.now tx.new.conn.now result }
 {
-    tx.execute("DELETE FROM yanks WHERE name = ?1", params![name])?;
+    tx.execute(DELETE_YANKS, params![name])?;
     Ok(())
 }
 
@@ -91,10 +92,7 @@ pub fn delete_yank<S: Alter>(
     ensures asked { GoesByAsk S.Store (delete_yank_ask name.now release.now)
         tx.old.conn.now tx.new.conn.now result }
 {
-    tx.execute(
-        "DELETE FROM yanks WHERE name = ?1 AND rel = ?2",
-        params![name, release],
-    )?;
+    tx.execute(DELETE_YANK, params![name, release])?;
     Ok(())
 }
 
@@ -109,7 +107,7 @@ pub fn delete_case<S: Alter>(tx: &mut Transaction<'_, S>, name: &str) -> Result<
     ensures asked { GoesByAsk S.Store (delete_case_ask name.now)
         tx.old.conn.now tx.new.conn.now result }
 {
-    tx.execute("DELETE FROM cases WHERE name = ?1", params![name])?;
+    tx.execute(DELETE_CASE, params![name])?;
     Ok(())
 }
 
@@ -124,7 +122,7 @@ pub fn delete_body<S: Alter>(tx: &mut Transaction<'_, S>, file: &str) -> Result<
     ensures asked { GoesByAsk S.Store (delete_body_ask file.now)
         tx.old.conn.now tx.new.conn.now result }
 {
-    tx.execute("DELETE FROM blobs WHERE file = ?1", params![file])?;
+    tx.execute(DELETE_BODY, params![file])?;
     Ok(())
 }
 
@@ -138,6 +136,6 @@ pub fn mark_files<S: Alter>(tx: &mut Transaction<'_, S>, name: &str) -> Result<(
     ensures asked { GoesByAsk S.Store (mark_files_ask name.now)
         tx.old.conn.now tx.new.conn.now result }
 {
-    tx.execute("UPDATE files SET live = 0 WHERE name = ?1", params![name])?;
+    tx.execute(UPDATE_FILES, params![name])?;
     Ok(())
 }

@@ -12,6 +12,9 @@ ghost use Rattle.index_steps.specs.Statements.{hold_name_ask, name_cells, prohib
 use crate::number::{whole, whole_if_any};
 use index_names::{FileName, NormalName, Release};
 use index_rules::{FileRecord, Project, UserId, UserRecord};
+use index_schema::statement_texts::{
+    PUT_BAN, PUT_BODY, PUT_FILE, PUT_NAME, PUT_OWNER, PUT_USER, PUT_YANK,
+};
 use sqlite::{Alter, Error, Transaction, params};
 
 /// The user has this record.
@@ -31,7 +34,7 @@ pub fn put_user<S: Alter>(
 {
     let token = account.token.to_bytes();
     tx.execute(
-        "INSERT INTO users (user, office, token) VALUES (?1, ?2, ?3) ON CONFLICT (user) DO UPDATE SET office = excluded.office, token = excluded.token",
+        PUT_USER,
         params![user.text(), account.office, token.as_slice()],
     )?;
     Ok(())
@@ -109,7 +112,7 @@ fn put_name<S: Alter>(
         tx.old.conn.now tx.new.conn.now result }
 {
     tx.execute(
-        "INSERT INTO names (name, state, shown, quota, charged, live, last_upload) VALUES (?1, ?2, ?3, ?4, ?5, ?6, ?7) ON CONFLICT (name) DO UPDATE SET state = excluded.state, shown = excluded.shown, quota = excluded.quota, charged = excluded.charged, live = excluded.live, last_upload = excluded.last_upload",
+        PUT_NAME,
         params![name.text(), standing, shown, quota, charge, undeleted, last],
     )?;
     Ok(())
@@ -130,10 +133,7 @@ pub fn put_owner<S: Alter>(
     ensures asked { GoesByAsk S.Store (put_owner_ask name.now user.now)
         tx.old.conn.now tx.new.conn.now result }
 {
-    tx.execute(
-        "INSERT INTO owners (name, user) VALUES (?1, ?2) ON CONFLICT (name, user) DO UPDATE SET user = excluded.user",
-        params![name.text(), user.text()],
-    )?;
+    tx.execute(PUT_OWNER, params![name.text(), user.text()])?;
     Ok(())
 }
 
@@ -155,7 +155,7 @@ pub fn put_file<S: Alter>(
     let size = whole(known.size)?;
     let digest = known.digest.to_bytes();
     tx.execute(
-        "INSERT INTO files (file, name, rel, digest, size, requires, live) VALUES (?1, ?2, ?3, ?4, ?5, ?6, ?7) ON CONFLICT (file) DO UPDATE SET name = excluded.name, rel = excluded.rel, digest = excluded.digest, size = excluded.size, requires = excluded.requires, live = excluded.live",
+        PUT_FILE,
         params![
             file.text(),
             known.project.text(),
@@ -184,10 +184,7 @@ pub fn put_body<S: Alter>(
     ensures asked { GoesByAsk S.Store (put_body_ask file.now body.now)
         tx.old.conn.now tx.new.conn.now result }
 {
-    tx.execute(
-        "INSERT INTO blobs (file, body) VALUES (?1, ?2) ON CONFLICT (file) DO UPDATE SET body = excluded.body",
-        params![file.text(), body],
-    )?;
+    tx.execute(PUT_BODY, params![file.text(), body])?;
     Ok(())
 }
 
@@ -207,10 +204,7 @@ pub fn put_yank<S: Alter>(
     ensures asked { GoesByAsk S.Store (put_yank_ask name.now release.now reason.now)
         tx.old.conn.now tx.new.conn.now result }
 {
-    tx.execute(
-        "INSERT INTO yanks (name, rel, reason) VALUES (?1, ?2, ?3) ON CONFLICT (name, rel) DO UPDATE SET reason = excluded.reason",
-        params![name.text(), release.text(), reason],
-    )?;
+    tx.execute(PUT_YANK, params![name.text(), release.text(), reason])?;
     Ok(())
 }
 
@@ -224,9 +218,6 @@ pub fn put_ban<S: Alter>(tx: &mut Transaction<'_, S>, file: &FileName) -> Result
     ensures asked { GoesByAsk S.Store (put_ban_ask file.now)
         tx.old.conn.now tx.new.conn.now result }
 {
-    tx.execute(
-        "INSERT INTO bans (file) VALUES (?1) ON CONFLICT (file) DO UPDATE SET file = excluded.file",
-        params![file.text()],
-    )?;
+    tx.execute(PUT_BAN, params![file.text()])?;
     Ok(())
 }

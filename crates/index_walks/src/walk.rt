@@ -13,6 +13,7 @@ use crate::hand::{Files, Names};
 use crate::rows::walk;
 use index_names::NormalName;
 use index_rules::{FileTaker, NameTaker, WalkEnd};
+use index_schema::statement_texts::{SELECT_FILES, SELECT_HELD};
 use sqlite::{Alter, Connection, params};
 use std::alloc::Global;
 
@@ -38,13 +39,7 @@ pub fn walk_held<S: Alter, K: NameTaker>(
     ensures reason { let rows = held_rows_of S.Store conn.old in
         EndsForReason S.Store conn.old conn.new rows result }
 {
-    walk::<S, K, Names>(
-        alloc,
-        conn,
-        "SELECT rowid, * FROM names WHERE state <> 2 ORDER BY name",
-        &[],
-        taker,
-    )
+    walk::<S, K, Names>(alloc, conn, SELECT_HELD, &[], taker)
 }
 
 /// Hands the undeleted files of a name to a taker one at a time, in byte order, until it wants no more. The tables stay
@@ -71,11 +66,5 @@ pub fn walk_files<S: Alter, K: FileTaker>(
     ensures reason { let rows = file_rows_of S.Store conn.old name.now in
         EndsForReason S.Store conn.old conn.new rows result }
 {
-    walk::<S, K, Files>(
-        alloc,
-        conn,
-        "SELECT files.rowid, files.*, yanks.reason FROM files LEFT JOIN yanks ON yanks.name = files.name AND yanks.rel = files.rel WHERE files.live = 1 AND files.name = ?1 ORDER BY files.file",
-        params![name.text()],
-        taker,
-    )
+    walk::<S, K, Files>(alloc, conn, SELECT_FILES, params![name.text()], taker)
 }
