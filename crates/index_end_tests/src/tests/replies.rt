@@ -30,7 +30,7 @@ macro_rules! json_reply {
 }
 
 /// The upload of `frob-1.0.tar.gz`, the bytes `abc`, by ann.
-const UPLOAD: &str =
+pub(super) const UPLOAD: &str =
     r#"{"at":11,"token":"abc","do":"upload","file":"frob-1.0.tar.gz","sha256":"ba7816bf8f01cfea414140de5dae2223b00361a396177a9cb410ff61f20015ad","hex":"616263","requires_python":""}"#;
 
 const STANDING_OF_FROB: &str = r#"{"do":"standing","name":"frob"}"#;
@@ -38,7 +38,7 @@ const STANDING_OF_FROB: &str = r#"{"do":"standing","name":"frob"}"#;
 const FROB_HAS_A_FILE: &str =
     "{\"case\":null,\"charge\":3,\"name\":\"frob\",\"owners\":[\"ann\"],\"quota\":1073741824,\"shown\":\"frob\",\"state\":\"held\"}\n";
 
-const STORE: &str = json_reply!(
+pub(super) const STORE: &str = json_reply!(
     "500 Internal Server Error",
     "33",
     r#"{"answer":"fault","name":"Store"}"#
@@ -55,8 +55,8 @@ const OUT_OF_MEMORY: &str = json_reply!(
 
 /// A message, the calls of the tables that it makes, and the front of its reply where none fails.
 #[derive(Clone, Copy)]
-struct Route {
-    message: &'static str,
+pub(super) struct Route {
+    pub(super) message: &'static str,
     calls: &'static [BooksCall],
     front: &'static str,
 }
@@ -69,7 +69,7 @@ const IN_BYTES: &str =
 const IN_JSON: &str =
     "HTTP/1.1 200 OK\r\nContent-Type: application/json\r\nContent-Length: 104\r\n";
 
-const ROOT: Route = Route {
+pub(super) const ROOT: Route = Route {
     message: "GET /simple/ HTTP/1.1\r\n\r\n",
     calls: &[BooksCall::WalkHeld, BooksCall::HeldRow],
     front: IN_HTML,
@@ -159,7 +159,7 @@ const DELETE: Route = Route {
 const CHANGES: &[Route] = &[CLAIM_NEST, PUT, DELETE];
 
 /// How a desk ends that answers what a reader gives, to a writer.
-fn tell<R: Read + Drop, W: Write, B: Keeper>(
+pub(super) fn tell<R: Read + Drop, W: Write, B: Keeper>(
     rt: &impl AllocGlobal,
     site: &Site,
     desk: &mut Desk<B>,
@@ -400,7 +400,7 @@ const LONG: &str =
     "aaaaaaaaaabbbbbbbbbbccccccccccddddddddddeeeeeeeeeeffffffffffgggggggggghhhhhhhhhhiiiiiiiiiijjjjjjjjjjkkkkkkkkkkllllllllll";
 
 /// Claims so many names that their page is too long to be gathered: it is counted first, and then sent.
-fn claim_long_names<B: Books>(rt: &(impl Abort + AllocGlobal), desk: &mut Desk<B>) {
+pub(super) fn claim_long_names<B: Books>(rt: &(impl Abort + AllocGlobal), desk: &mut Desk<B>) {
     for number in 0..1_000u32 {
         let line = format!(in rt.alloc();
             "{{\"at\":2,\"token\":\"abc\",\"do\":\"claim\",\"name\":\"{LONG}{number}\"}}"
@@ -462,7 +462,7 @@ macro_rules! front_of_long_page {
     };
 }
 
-const HEAD_OF_LONG_PAGE: &str = front_of_long_page!();
+pub(super) const HEAD_OF_LONG_PAGE: &str = front_of_long_page!();
 
 const WITHOUT_ROWS: &str = front_of_long_page!(
     "<!DOCTYPE html>\n<html>\n<head>\n<meta charset=\"utf-8\">\n"
