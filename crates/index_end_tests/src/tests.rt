@@ -17,6 +17,7 @@ mod faults;
 mod interruptions;
 mod lines;
 mod replies;
+mod stops;
 
 /// The SHA-256 digest of `abc`, an example of FIPS 180-4.
 const OF_ABC: &str = "ba7816bf8f01cfea414140de5dae2223b00361a396177a9cb410ff61f20015ad";

@@ -1,4 +1,9 @@
 //! Readers, writers and books that fail.
+ghost use Rattle.std.specs.Prelude.{List};
+ghost use Rattle.index_rules.specs.declared.rows.FileRow.{FileRow as FileRowData};
+ghost use Rattle.index_rules.specs.declared.rows.NameRow.{NameRow as NameRowData};
+ghost use Rattle.index_rules.specs.Walks.{Walks};
+
 use index_digest::Sealed;
 use index_names::{FileName, NormalName};
 use index_rules::{
@@ -107,6 +112,34 @@ pub(super) enum BooksCall {
     FilesOf,
     WalkHeld,
     WalkFiles,
+    /// A walk over the held names, behind its first row.
+    HeldRow,
+    /// A walk over the files of a name, behind its first row.
+    FilesRow,
+}
+
+/// Hands a name to a taker, as a walk does that this fault ends then.
+fn hand_name<K: NameTaker>(taker: &mut K, row: &NameRow, fault: Fault) -> Result<(), WalkEnd>
+    ensures given { (rows : List NameRowData) ×
+        Walks K.takes K.stops rows taker.old taker.new result }
+{
+    if taker.take(row) {
+        Err(WalkEnd::from(fault))
+    } else {
+        Err(WalkEnd::Stopped)
+    }
+}
+
+/// Hands a file to a taker, as a walk does that this fault ends then.
+fn hand_file<K: FileTaker>(taker: &mut K, row: &FileRow, fault: Fault) -> Result<(), WalkEnd>
+    ensures given { (rows : List FileRowData) ×
+        Walks K.takes K.stops rows taker.old taker.new result }
+{
+    if taker.take(row) {
+        Err(WalkEnd::from(fault))
+    } else {
+        Err(WalkEnd::Stopped)
+    }
 }
 
 /// Books of which one call fails, after so many that didn't. No contract knows what they hold.
@@ -139,6 +172,35 @@ impl<B: Books + Drop> FailingBooks<B> {
         }
         self.after -= 1;
         false
+    }
+
+    /// A walk over the held names that fails behind its first row.
+    fn hand_first_name<K: NameTaker>(&mut self, alloc: Global, taker: &mut K) -> Result<(), WalkEnd>
+        ensures given { (rows : List NameRowData) ×
+            Walks K.takes K.stops rows taker.old taker.new result }
+    {
+        let rows = self.books.names(alloc)?;
+        match rows.first() {
+            Some(row) => hand_name(taker, row, self.fault),
+            None => Err(WalkEnd::from(self.fault)),
+        }
+    }
+
+    /// A walk over the files of a name that fails behind its first row.
+    fn hand_first_file<K: FileTaker>(
+        &mut self,
+        alloc: Global,
+        name: &NormalName,
+        taker: &mut K,
+    ) -> Result<(), WalkEnd>
+        ensures given { (rows : List FileRowData) ×
+            Walks K.takes K.stops rows taker.old taker.new result }
+    {
+        let rows = self.books.files_of(alloc, name)?;
+        match rows.first() {
+            Some(row) => hand_file(taker, row, self.fault),
+            None => Err(WalkEnd::from(self.fault)),
+        }
     }
 
     /// The books, of which no call fails.
@@ -227,6 +289,9 @@ impl<B: Books + Drop> Books for FailingBooks<B> {
         if self.fails(BooksCall::WalkHeld) {
             return Err(WalkEnd::from(self.fault));
         }
+        if self.fails(BooksCall::HeldRow) {
+            return self.hand_first_name(alloc, taker);
+        }
         self.books.walk_held(alloc, taker)
     }
 
@@ -238,6 +303,9 @@ impl<B: Books + Drop> Books for FailingBooks<B> {
     ) -> Result<(), WalkEnd> {
         if self.fails(BooksCall::WalkFiles) {
             return Err(WalkEnd::from(self.fault));
+        }
+        if self.fails(BooksCall::FilesRow) {
+            return self.hand_first_file(alloc, name, taker);
         }
         self.books.walk_files(alloc, name, taker)
     }

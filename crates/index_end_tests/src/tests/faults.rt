@@ -335,6 +335,22 @@ fn walks_end_by_the_fault(rt: HostRuntime) {
             Ok(()),
             Err(end),
         );
+        assert_walks(
+            &rt,
+            new_books(&rt),
+            BooksCall::HeldRow,
+            fault,
+            Err(end),
+            Ok(true),
+        );
+        assert_walks(
+            &rt,
+            new_books(&rt),
+            BooksCall::FilesRow,
+            fault,
+            Ok(()),
+            Err(end),
+        );
     }
 }
 

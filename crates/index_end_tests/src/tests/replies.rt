@@ -30,7 +30,7 @@ macro_rules! json_reply {
 }
 
 /// The upload of `frob-1.0.tar.gz`, the bytes `abc`, by ann.
-const UPLOAD: &str =
+pub(super) const UPLOAD: &str =
     r#"{"at":11,"token":"abc","do":"upload","file":"frob-1.0.tar.gz","sha256":"ba7816bf8f01cfea414140de5dae2223b00361a396177a9cb410ff61f20015ad","hex":"616263","requires_python":""}"#;
 
 const STANDING_OF_FROB: &str = r#"{"do":"standing","name":"frob"}"#;
@@ -38,7 +38,7 @@ const STANDING_OF_FROB: &str = r#"{"do":"standing","name":"frob"}"#;
 const FROB_HAS_A_FILE: &str =
     "{\"case\":null,\"charge\":3,\"name\":\"frob\",\"owners\":[\"ann\"],\"quota\":1073741824,\"shown\":\"frob\",\"state\":\"held\"}\n";
 
-const STORE: &str = json_reply!(
+pub(super) const STORE: &str = json_reply!(
     "500 Internal Server Error",
     "33",
     r#"{"answer":"fault","name":"Store"}"#
@@ -53,11 +53,11 @@ const OUT_OF_MEMORY: &str = json_reply!(
     r#"{"answer":"fault","name":"OutOfMemory"}"#
 );
 
-/// A message, the two calls of the tables that it makes, or one twice, and the front of its reply where none fails.
+/// A message, the calls of the tables that it makes, and the front of its reply where none fails.
 #[derive(Clone, Copy)]
-struct Route {
-    message: &'static str,
-    calls: [BooksCall; 2],
+pub(super) struct Route {
+    pub(super) message: &'static str,
+    calls: &'static [BooksCall],
     front: &'static str,
 }
 
@@ -69,34 +69,34 @@ const IN_BYTES: &str =
 const IN_JSON: &str =
     "HTTP/1.1 200 OK\r\nContent-Type: application/json\r\nContent-Length: 104\r\n";
 
-const ROOT: Route = Route {
+pub(super) const ROOT: Route = Route {
     message: "GET /simple/ HTTP/1.1\r\n\r\n",
-    calls: [BooksCall::WalkHeld, BooksCall::WalkHeld],
+    calls: &[BooksCall::WalkHeld, BooksCall::HeldRow],
     front: IN_HTML,
 };
 
 const PAGE: Route = Route {
     message: "GET /simple/frob/ HTTP/1.1\r\n\r\n",
-    calls: [BooksCall::View, BooksCall::WalkFiles],
+    calls: &[BooksCall::View, BooksCall::WalkFiles, BooksCall::FilesRow],
     front: IN_HTML,
 };
 
 /// Whether there is such a page is looked at before its type.
 const PAGE_OF_NO_TYPE: Route = Route {
     message: "GET /simple/frob/ HTTP/1.1\r\nAccept: */*;q=0\r\n\r\n",
-    calls: [BooksCall::View, BooksCall::View],
+    calls: &[BooksCall::View],
     front: "HTTP/1.1 406 Not Acceptable\r\n",
 };
 
 const FILE: Route = Route {
     message: "GET /files/frob/frob-1.0.tar.gz HTTP/1.1\r\n\r\n",
-    calls: [BooksCall::BytesOf, BooksCall::BytesOf],
+    calls: &[BooksCall::BytesOf],
     front: IN_BYTES,
 };
 
 const STANDING: Route = Route {
     message: "GET /names/frob HTTP/1.1\r\n\r\n",
-    calls: [BooksCall::View, BooksCall::OwnersOf],
+    calls: &[BooksCall::View, BooksCall::OwnersOf],
     front: IN_JSON,
 };
 
@@ -104,25 +104,25 @@ const LOOKS: &[Route] = &[ROOT, PAGE, PAGE_OF_NO_TYPE, FILE, STANDING];
 
 const ROOT_HEAD: Route = Route {
     message: "HEAD /simple/ HTTP/1.1\r\n\r\n",
-    calls: [BooksCall::WalkHeld, BooksCall::WalkHeld],
+    calls: &[BooksCall::WalkHeld, BooksCall::HeldRow],
     front: IN_HTML,
 };
 
 const PAGE_HEAD: Route = Route {
     message: "HEAD /simple/frob/ HTTP/1.1\r\n\r\n",
-    calls: [BooksCall::View, BooksCall::WalkFiles],
+    calls: &[BooksCall::View, BooksCall::WalkFiles, BooksCall::FilesRow],
     front: IN_HTML,
 };
 
 const FILE_HEAD: Route = Route {
     message: "HEAD /files/frob/frob-1.0.tar.gz HTTP/1.1\r\n\r\n",
-    calls: [BooksCall::BytesOf, BooksCall::BytesOf],
+    calls: &[BooksCall::BytesOf],
     front: IN_BYTES,
 };
 
 const STANDING_HEAD: Route = Route {
     message: "HEAD /names/frob HTTP/1.1\r\n\r\n",
-    calls: [BooksCall::View, BooksCall::OwnersOf],
+    calls: &[BooksCall::View, BooksCall::OwnersOf],
     front: IN_JSON,
 };
 
@@ -134,7 +134,7 @@ const CLAIM_NEST: Route = Route {
         "POST /requests HTTP/1.1\r\nX-Index-Token: hello\r\nContent-Length: 28\r\n\r\n",
         r#"{"do":"claim","name":"nest"}"#
     ),
-    calls: [BooksCall::View, BooksCall::Write],
+    calls: &[BooksCall::View, BooksCall::Write],
     front: "HTTP/1.1 200 OK\r\n",
 };
 
@@ -145,21 +145,21 @@ const PUT: Route = Route {
         "ba7816bf8f01cfea414140de5dae2223b00361a396177a9cb410ff61f20015ad",
         "\r\nContent-Length: 3\r\n\r\nabc"
     ),
-    calls: [BooksCall::View, BooksCall::Write],
+    calls: &[BooksCall::View, BooksCall::Write],
     front: "HTTP/1.1 201 Created\r\n",
 };
 
 /// She deletes the first.
 const DELETE: Route = Route {
     message: "DELETE /files/frob/frob-1.0.tar.gz HTTP/1.1\r\nX-Index-Token: abc\r\n\r\n",
-    calls: [BooksCall::View, BooksCall::Write],
+    calls: &[BooksCall::View, BooksCall::Write],
     front: "HTTP/1.1 200 OK\r\n",
 };
 
 const CHANGES: &[Route] = &[CLAIM_NEST, PUT, DELETE];
 
 /// How a desk ends that answers what a reader gives, to a writer.
-fn tell<R: Read + Drop, W: Write, B: Keeper>(
+pub(super) fn tell<R: Read + Drop, W: Write, B: Keeper>(
     rt: &impl AllocGlobal,
     site: &Site,
     desk: &mut Desk<B>,
@@ -232,12 +232,13 @@ const EACH_CALL: &[BooksCall] = &[
     BooksCall::FilesOf,
     BooksCall::WalkHeld,
     BooksCall::WalkFiles,
+    BooksCall::HeldRow,
+    BooksCall::FilesRow,
 ];
 
 /// Whether a message makes this call of the tables.
 fn makes(route: &Route, call: BooksCall) -> bool {
-    let [first, second] = route.calls;
-    first == call || second == call
+    route.calls.contains(&call)
 }
 
 /// Where this call of the tables fails, a look that makes it is answered by Store, or ends without a reply where memory
@@ -399,7 +400,7 @@ const LONG: &str =
     "aaaaaaaaaabbbbbbbbbbccccccccccddddddddddeeeeeeeeeeffffffffffgggggggggghhhhhhhhhhiiiiiiiiiijjjjjjjjjjkkkkkkkkkkllllllllll";
 
 /// Claims so many names that their page is too long to be gathered: it is counted first, and then sent.
-fn claim_long_names<B: Books>(rt: &(impl Abort + AllocGlobal), desk: &mut Desk<B>) {
+pub(super) fn claim_long_names<B: Books>(rt: &(impl Abort + AllocGlobal), desk: &mut Desk<B>) {
     for number in 0..1_000u32 {
         let line = format!(in rt.alloc();
             "{{\"at\":2,\"token\":\"abc\",\"do\":\"claim\",\"name\":\"{LONG}{number}\"}}"
@@ -409,10 +410,12 @@ fn claim_long_names<B: Books>(rt: &(impl Abort + AllocGlobal), desk: &mut Desk<B
     }
 }
 
-/// A desk over new books with a thousand long names, whose walks fail after so many that don't.
+/// A desk over new books with a thousand long names, whose walks fail after so many that don't: before their first row or
+/// behind it.
 fn desk_of_long_names<B: Books + Drop>(
     rt: &(impl Abort + AllocGlobal),
     books: B,
+    failing: BooksCall,
     fault: Fault,
     after: u32,
 ) -> Desk<Recent<FailingBooks<B>>> {
@@ -420,39 +423,68 @@ fn desk_of_long_names<B: Books + Drop>(
     claim_long_names(rt, &mut desk);
     let failing = FailingBooks {
         books: desk.into_books(),
-        failing: BooksCall::WalkHeld,
+        failing,
         fault,
         after,
     };
     Desk::new(Recent::new(rt.alloc(), failing, 0))
 }
 
-/// The reply to a look at a long page is cut behind its head where its last walk fails. How many bytes went out is told.
+/// The reply to a look at a long page is cut where its last walk fails: its head went out, and no more than this front, which
+/// ends before the row at which it failed. How many bytes went out is told.
 fn assert_cut<B: Books + Drop>(
     rt: &(impl Abort + AllocGlobal),
     site: &Site,
     books: B,
+    failing: BooksCall,
     fault: Fault,
+    front: &str,
 ) {
-    let mut desk = desk_of_long_names(rt, books, fault, 2);
+    let mut desk = desk_of_long_names(rt, books, failing, fault, 2);
     let mut told = Vec::new(rt.alloc());
     let ended = tell(rt, site, &mut desk, ROOT.message.as_bytes(), &mut told);
-    let is_front = told.as_slice().starts_with(HEAD_OF_LONG_PAGE.as_bytes());
+    let has_head = told.as_slice().starts_with(HEAD_OF_LONG_PAGE.as_bytes());
+    let is_front = front.as_bytes().starts_with(told.as_slice());
     let count = told.len();
     drop(told);
-    assert!(rt; is_front, "{fault}");
+    assert!(rt; has_head && is_front, "{fault}");
     assert!(rt; ended == Err(IoEnd::Cut(count as u64)), "{fault}");
 }
 
-/// The page has 164 bytes beside its rows, of 269 bytes each beside two numbers of one to three digits.
-const HEAD_OF_LONG_PAGE: &str =
-    "HTTP/1.1 200 OK\r\nContent-Type: text/html\r\nContent-Length: 274944\r\nConnection: close\r\n\r\n";
+/// A front of the reply with the long page: its head, and up to its rows or further. The page has 164 bytes beside its rows,
+/// of 269 bytes each beside two numbers of one to three digits.
+macro_rules! front_of_long_page {
+    ($($more:literal)*) => {
+        concat!(
+            "HTTP/1.1 200 OK\r\nContent-Type: text/html\r\nContent-Length: 274944\r\nConnection: close\r\n\r\n",
+            $($more,)*
+        )
+    };
+}
+
+pub(super) const HEAD_OF_LONG_PAGE: &str = front_of_long_page!();
+
+const WITHOUT_ROWS: &str = front_of_long_page!(
+    "<!DOCTYPE html>\n<html>\n<head>\n<meta charset=\"utf-8\">\n"
+    "<meta name=\"pypi:repository-version\" content=\"1.0\">\n"
+    "<title>Simple index</title>\n</head>\n<body>\n"
+);
+
+const WITH_A_ROW: &str = front_of_long_page!(
+    "<!DOCTYPE html>\n<html>\n<head>\n<meta charset=\"utf-8\">\n"
+    "<meta name=\"pypi:repository-version\" content=\"1.0\">\n"
+    "<title>Simple index</title>\n</head>\n<body>\n"
+    "<a href=\"/simple/aaaaaaaaaabbbbbbbbbbccccccccccddddddddddeeeeeeeeeeffffffffffgggggggggghhhhhhhhhhiiiiiiiiiijjjjjjjjjjkkkkkkkkkkllllllllll0/\">aaaaaaaaaabbbbbbbbbbccccccccccddddddddddeeeeeeeeeeffffffffffgggggggggghhhhhhhhhhiiiiiiiiiijjjjjjjjjjkkkkkkkkkkllllllllll0</a><br>\n"
+);
 
 #[test]
 fn a_long_page_is_cut(rt: HostRuntime) {
     let site = &Site::new(rt.alloc()).expect(&rt, "routes");
     for fault in [Fault::Store, Fault::OutOfMemory] {
-        assert_cut(&rt, site, new_books(&rt), fault);
+        let books = new_books(&rt);
+        assert_cut(&rt, site, books, BooksCall::WalkHeld, fault, WITHOUT_ROWS);
+        let books = new_books(&rt);
+        assert_cut(&rt, site, books, BooksCall::HeldRow, fault, WITH_A_ROW);
     }
 }
 
@@ -461,10 +493,11 @@ fn assert_not_begun<B: Books + Drop>(
     rt: &(impl Abort + AllocGlobal),
     site: &Site,
     books: B,
+    failing: BooksCall,
     fault: Fault,
     after: u32,
 ) {
-    let mut desk = desk_of_long_names(rt, books, fault, after);
+    let mut desk = desk_of_long_names(rt, books, failing, fault, after);
     let (ended, reply) = match fault {
         Fault::Store => (Ok(()), STORE),
         Fault::OutOfMemory => (Err(IoEnd::OutOfMemory), ""),
@@ -476,7 +509,9 @@ fn assert_not_begun<B: Books + Drop>(
 fn a_long_page_is_not_begun(rt: HostRuntime) {
     let site = &Site::new(rt.alloc()).expect(&rt, "routes");
     for fault in [Fault::Store, Fault::OutOfMemory] {
-        assert_not_begun(&rt, site, new_books(&rt), fault, 0);
-        assert_not_begun(&rt, site, new_books(&rt), fault, 1);
+        for failing in [BooksCall::WalkHeld, BooksCall::HeldRow] {
+            assert_not_begun(&rt, site, new_books(&rt), failing, fault, 0);
+            assert_not_begun(&rt, site, new_books(&rt), failing, fault, 1);
+        }
     }
 }

@@ -1,0 +1,77 @@
+//! A database file and its log in memory, of which one stops after so many calls.
+use sqlite::{Connection, FileStore, Files, Options};
+use sqlite_disk::{Disk, Fuse, Memory};
+use std::alloc::AllocGlobal;
+use std::process::Abort;
+
+/// A file that fails and changes nothing from some call on.
+pub(super) type File = Fuse<Memory>;
+
+pub(super) type Database = FileStore<File>;
+
+/// Which of the two files stops.
+#[derive(Clone, Copy)]
+pub(super) enum Which {
+    Log,
+    Database,
+}
+
+/// A file with these bytes, all of them synced, that stops after so many calls.
+fn file(rt: &(impl Abort + AllocGlobal), bytes: &[u8], calls: u64) -> File {
+    let mut memory = Memory::new(rt.alloc());
+    memory.write_at(0, bytes).expect(rt, "room");
+    memory.sync().expect(rt, "room");
+    Fuse::new(memory, calls)
+}
+
+/// Two empty files.
+pub(super) fn new_files(rt: &(impl Abort + AllocGlobal)) -> Files<File> {
+    Files {
+        log: file(rt, &[], u64::MAX),
+        db: file(rt, &[], u64::MAX),
+    }
+}
+
+/// Copies of two files, of which one stops after so many calls.
+pub(super) fn stopping(
+    rt: &(impl Abort + AllocGlobal),
+    files: &Files<File>,
+    which: Which,
+    calls: u64,
+) -> Files<File> {
+    let (log_calls, db_calls) = match which {
+        Which::Log => (calls, u64::MAX),
+        Which::Database => (u64::MAX, calls),
+    };
+    Files {
+        log: file(rt, files.log.inner().bytes(), log_calls),
+        db: file(rt, files.db.inner().bytes(), db_calls),
+    }
+}
+
+/// A connection to the database in these files, or the files where one of them stops. So few pages are kept in memory that a
+/// walk over a thousand names reads the file.
+pub(super) fn opened(
+    rt: &(impl Abort + AllocGlobal),
+    files: Files<File>,
+) -> Result<Connection<Database>, Files<File>> {
+    let small = Options {
+        cache_pages: 8,
+        spill_pages: 64,
+        checkpoint_frames: 1000,
+        seed: 1,
+    };
+    assert!(rt; files.may_be_used());
+    match Connection::open_files(rt.alloc(), files, small) {
+        Ok(conn) => Ok(conn),
+        Err((_error, left)) => Err(left.into_files()),
+    }
+}
+
+/// The files of a connection, into which the log is copied as far as they go.
+pub(super) fn closed(conn: Connection<Database>) -> Files<File> {
+    match conn.close_files() {
+        Ok(files) => files,
+        Err((_error, store)) => store.close(),
+    }
+}
