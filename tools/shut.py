@@ -29,6 +29,11 @@ def end_of(index):
         return None
 
 
+def shut_at(path):
+    """What stands on standard error where a failure has shut the database at this path."""
+    return f"index: Store\nindex: {path}: shut by an earlier failure of the disk\n".encode()
+
+
 def syncs_before(program, path, failing, under):
     """How many syncs a server makes before its second claim."""
     with Index(program, 2, path, more=failing.setting(under)) as index:
@@ -51,7 +56,7 @@ def try_shut(program, folder, told):
             seen = claim(index, b"b")
             told(f"{fault}: the claim in hand", seen == (500, STORE), seen)
             status = end_of(index)
-            told(f"{fault}: its end", status == 1 and index.errors().startswith(b"index: Store\n"), (status, index.errors()))
+            told(f"{fault}: its end", (status, index.errors()) == (1, shut_at(path)), (status, index.errors()))
         with Index(program, 10, path) as index:
             told(f"{fault}: what was acknowledged", is_held(index, "a"))
             seen = claim(index, b"b")

@@ -1,5 +1,5 @@
 -- From the states of a connection to the files that it was opened on and closed to.
-use Rattle.std.proofs.Common.{◌≡◌, ◌⊎◌, ◌↔◌, ◌∙◌, Bool, List, [], ◌∷◌, false, sym, ap, subst, subst₂, if◌then◌else◌, inl, inr, ℕ, Option, Some, Result, Ok, Err, IfOk, IsTrue, true≢false, arith}
+use Rattle.std.proofs.Common.{◌≡◌, ◌⊎◌, ◌↔◌, ◌∙◌, Bool, List, [], ◌∷◌, false, sym, ap, subst, subst₂, if◌then◌else◌, inl, inr, ℕ, Some, Result, Ok, Err, IfOk, IsTrue, true≢false, arith}
 use Rattle.std.proofs.lemmas.Bool.{cases_Bool}
 use Rattle.std.proofs.Math.Logic.{∥∥₁_elim}
 use Rattle.sqlite.specs.Closing.{HoldsAlone, IsCopied}
@@ -13,7 +13,7 @@ use Rattle.sqlite.specs.Recovery.{Image}
 use Rattle.sqlite.specs.Schema.{Schema}
 use Rattle.sqlite.specs.Start.{FindsIn}
 use Rattle.sqlite.specs.WalFiles.{outcomes}
-use Rattle.sqlite.specs.State.{HasCleanDisk, State}
+use Rattle.sqlite.specs.State.{HasCleanDisk}
 use Rattle.sqlite.specs.Tree.{Trees}
 use Rattle.sqlite_disk.specs.declared.Disk.{Ghosts}
 use Rattle.sqlite_disk.specs.declared.Files.{Files}

@@ -1,5 +1,6 @@
 //! The index in a database of SQLite: opened, made or adopted, and closed.
-ghost use Rattle.std.specs.Prelude.{◌≡◌, false, not, ℕ, Result, None, Some, IfOk, IfErr, IfSome, IsErrOf, IsTrue};
+ghost use Rattle.std.specs.Prelude.{◌≡◌, ◌≢◌, false, not, ℕ, Result, None, Some, IfOk, IfErr, IfSome, IsErrOf, IsTrue, string_bytes};
+ghost use Rattle.std.specs.Str.Lossy.{utf8_lossy};
 ghost use Rattle.sqlite.specs.Closing.{IsCopied};
 ghost use Rattle.sqlite.specs.Files.{file_state, over_files, IsCleanLeft, IsClosed, IsOpened};
 ghost use Rattle.sqlite.specs.Held.{state};
@@ -12,22 +13,28 @@ ghost use Rattle.sqlite_trees.specs.View.{IsClean};
 ghost use Rattle.index_adopt.specs.Names.{has_any_of};
 ghost use Rattle.index_digest.specs.Digest.{is_digest_text, read_digest};
 ghost use Rattle.index_rules.specs.Facts.{HasOneBearer};
-ghost use Rattle.index_rules.specs.FirstTables.{first_tables};
+ghost use Rattle.index_rules.specs.FirstTables.{IsBadFirstUser, first_tables};
 ghost use Rattle.index_rules.specs.Tables.{Tables};
-ghost use Rattle.index_schema.specs.Schema.{index_schema};
+ghost use Rattle.index_schema.specs.Schema.{index_schema, no_schema};
 ghost use Rattle.index_tables.specs.Adopted.{IsCommitted};
 ghost use Rattle.index_tables.specs.Kept.{IsWorking};
 ghost use Rattle.index.specs.declared.end.End.{End as EndData};
+ghost use Rattle.index.specs.Causes.{end_of_error, is_store, other_object};
 ghost use Rattle.index.specs.Runs.{Began, Created, Interrupted, IsRaised, IsUnfound, IsUnmade, LeavesAsWas, LeavesShut, LeavesUnused, MakesNothing, Ran, Worked};
 
+use crate::cause::{Cause, cause_of_calls};
 use crate::end::End;
+use crate::objects::other_object;
+use crate::path::{cause_at, is_missing};
+use index_adopt::{is_blank, is_first_version, is_ours};
 use index_desk::{Desk, Keeper};
 use index_digest::Digest256;
 use index_recent::Recent;
-use index_rules::OpenFault;
+use index_rules::{OpenFault, first_user};
 use index_tables::{SqlBooks, Unopened};
-use sqlite::{Alter, Connection, FileFrom, FileStore, Files, Leftover, Start};
+use sqlite::{Alter, Connection, Error, ErrorCode, FileFrom, FileStore, Files, Leftover, Start};
 use sqlite_disk::Disk;
+use std::alloc::Global;
 
 /// What comes of closing: the files, or the fault for which the log was not copied, and the store that has it.
 pub type Closed<D> = Result<Files<D>, (End, FileStore<D>)>;
@@ -82,13 +89,64 @@ fn open<S: Start>(
 {
     match Connection::open_from(rt, path, false, start) {
         Ok(conn) => Ok(conn),
-        Err((error, left)) => Err((End::from(error), left)),
+        Err((error, left)) => Err((unopened(rt, path, error), left)),
+    }
+}
+
+/// The end that an error is of a database that could not be opened. What is found at its path may tell the cause.
+fn unopened(rt: &HostRuntime, path: &str, error: Error) -> End
+    ensures told { error ≢ Error.SqliteFailure ErrorCode.CannotOpen → result ≡ end_of_error error }
+    ensures store { error ≡ Error.SqliteFailure ErrorCode.CannotOpen → IsTrue (is_store result) }
+{
+    match error {
+        Error::SqliteFailure(ErrorCode::CannotOpen) => End::Store(cause_at(rt, path)),
+        other => End::from(other),
+    }
+}
+
+/// Opens a database file that is there. Where there is none, none is made: `Store`.
+fn open_there<S: Start>(
+    rt: &HostRuntime,
+    path: &str,
+    start: S,
+) -> Result<Connection<FileStore<FileFrom<S>>>, (End, Option<Leftover<FileFrom<S>>>)>
+    ensures mode { IfOk result (λ conn. conn.in_transaction ≡ false) }
+    ensures opened { IfOk result (λ conn. HasCleanDisk (file_state conn) → IsOpened conn) }
+    ensures found { IfOk result (λ conn. HasCleanDisk (file_state conn)
+        → FindsIn (image_at S.Start) (file_state conn)) }
+    ensures shut { IfErr result (λ e. IfSome e.1 (λ left.
+        IsCleanLeft left → LeavesShut (image_at S.Start) left)) }
+{
+    if is_missing(rt, path) {
+        return Err((End::Store(Some(Cause::NoFile)), None));
+    }
+    open(rt, path, start)
+}
+
+/// The digest of the first user's token by its hex digits, where this user may be the first.
+fn first_token(alloc: Global, user: &str, token: &str) -> Result<Digest256, OpenFault>
+    ensures read { IfOk result (λ digest. read_digest token.now ≡ Some digest) }
+    ensures malformed { IsTrue (not (is_digest_text token.now))
+        → IsErrOf result OpenFault.BadFirstUser }
+    ensures bad_first_user { (digest : _) → read_digest token.now ≡ Some digest
+        → IsBadFirstUser user.now digest → IsErrOf result OpenFault.BadFirstUser }
+{
+    let Some(digest) = Digest256::read_hex(token.as_bytes()) else {
+        return Err(OpenFault::BadFirstUser);
+    };
+    match first_user(alloc, user.as_bytes(), digest) {
+        Ok(first) => {
+            drop(first);
+            Ok(digest)
+        }
+        Err(why) => Err(why),
     }
 }
 
 /// Makes a new index with one user, of the office, whose token has the digest of these hex digits, and closes the files.
 ///
-/// `BadFirstUser`, also where the digits are malformed, `NotEmpty`, `OutOfMemory`, or `Store`.
+/// `BadFirstUser`, also where the digits are malformed, and then no file is opened or made; `NotEmpty`, `OutOfMemory`, or
+/// `Store`.
 pub fn create<S: Start>(
     rt: &HostRuntime,
     path: &str,
@@ -97,6 +155,9 @@ pub fn create<S: Start>(
     token: &str,
 ) -> Result<Files<FileFrom<S>>, Unused<FileFrom<S>>>
     ensures malformed { IsTrue (not (is_digest_text token.now))
+        → IsErrOf result (End.Open OpenFault.BadFirstUser, None) }
+    ensures bad_first_user { (digest : _) → read_digest token.now ≡ Some digest
+        → IsBadFirstUser user.now digest
         → IsErrOf result (End.Open OpenFault.BadFirstUser, None) }
 
     // The files held nothing of an index, and hold the new one.
@@ -107,19 +168,22 @@ pub fn create<S: Start>(
     // What is refused is as it was.
     ensures refused { IfErr result (λ e. IfSome e.1 (LeavesUnused IsUnmade (image_at S.Start))) }
 {
-    let Some(token) = Digest256::read_hex(token.as_bytes()) else {
-        return Err((End::Open(OpenFault::BadFirstUser), None));
+    let token = match first_token(rt.alloc(), user, token) {
+        Ok(token) => token,
+        Err(why) => return Err((End::Open(why), None)),
     };
     match open(rt, path, start) {
         Ok(conn) => create_and_close(rt, conn, user, token),
-        Err((end, Some(left))) => Err((end, Some(Left::Shut(left)))),
-        Err((end, None)) => Err((end, None)),
+        Err((end, left)) => match left {
+            Some(left) => Err((end, Some(Left::Shut(left)))),
+            None => Err((end, None)),
+        },
     }
 }
 
 /// Does work on the index in a file, and closes the files. The end of the work comes beside what came of closing.
 ///
-/// `NotAnIndex`, `OtherVersion`, `OutOfMemory`, or `Store`.
+/// `NotAnIndex`, `OtherVersion`, `OutOfMemory`, or `Store`, also where there is no file, and none is made.
 pub fn work_on<S: Start, W: Work>(
     rt: &HostRuntime,
     path: &str,
@@ -139,10 +203,12 @@ pub fn work_on<S: Start, W: Work>(
     // What is refused is as it was, or an index of version 1 became one of today.
     ensures refused { IfErr result (λ e. IfSome e.1 (LeavesUnused IsUnfound (image_at S.Start))) }
 {
-    match open(rt, path, start) {
+    match open_there(rt, path, start) {
         Ok(conn) => work_and_close(rt, conn, work),
-        Err((end, Some(left))) => Err((end, Some(Left::Shut(left)))),
-        Err((end, None)) => Err((end, None)),
+        Err((end, left)) => match left {
+            Some(left) => Err((end, Some(Left::Shut(left)))),
+            None => Err((end, None)),
+        },
     }
 }
 
@@ -286,13 +352,58 @@ pub fn let_go<D: Disk + Drop>(closed: Closed<D>) -> Result<(), End> {
     }
 }
 
-/// Why nothing was done. The files are let go as they are.
-pub fn why<D: Disk + Drop>(unused: Unused<D>) -> End {
+/// Why nothing was done. The files are let go as they are. What they hold, and what became of the calls on them, may tell
+/// why they were refused.
+pub fn why<D: Disk + Drop>(alloc: Global, unused: Unused<D>) -> End
+    ensures store { is_store result ≡ is_store unused.0 }
+    ensures other { is_store unused.0 ≡ false → result ≡ unused.0 }
+{
     let (end, left) = unused;
     match left {
-        Some(Left::Shut(left)) => drop(left),
-        Some(Left::Refused(Unopened { why: _, conn })) => drop(conn),
-        None => {}
+        Some(Left::Refused(Unopened { why: _, conn })) => {
+            if end.is_store() {
+                return End::Store(cause_of_refused(alloc, conn));
+            }
+            drop(conn);
+            end
+        }
+        Some(Left::Shut(left)) => {
+            drop(left);
+            end
+        }
+        None => end,
     }
-    end
+}
+
+/// Why a database was refused that could be opened, where its schema tells that, or what its files met. They are let go.
+fn cause_of_refused<D: Disk + Drop>(
+    alloc: Global,
+    conn: Connection<FileStore<D>>,
+) -> Option<Cause> {
+    let cause = cause_of_schema(alloc, &conn);
+    let files = conn.into_store().close();
+    if cause.is_some() {
+        return cause;
+    }
+    cause_of_calls(files.tally(), files.may_be_used())
+}
+
+/// Why a database was refused, where its schema tells that.
+fn cause_of_schema<S: Alter>(alloc: Global, conn: &Connection<S>) -> Option<Cause>
+    ensures object { (name : _) → other_object (state S.Store conn.now).now.schema ≡ Some name
+        → IfSome result (λ cause. (text : _) × (cause ≡ Cause.Object text)
+        × (string_bytes text ≡ utf8_lossy name)) }
+    ensures blank { (state S.Store conn.now).now.schema ≡ no_schema → result ≡ None }
+{
+    match other_object(conn.schema()) {
+        Some(name) => match String::from_utf8_lossy(alloc, name) {
+            Ok(name) => Some(Cause::Object(name)),
+            Err(_) => None,
+        },
+        None if is_blank(conn) => None,
+        None => match (is_ours(alloc, conn), is_first_version(alloc, conn)) {
+            (Ok(false), Ok(false)) => Some(Cause::OtherTables),
+            _ => None,
+        },
+    }
 }

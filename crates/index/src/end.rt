@@ -1,4 +1,8 @@
 //! Why the program ends with the status 1.
+ghost use Rattle.std.specs.Prelude.{◌≡◌, option_copied};
+ghost use Rattle.index.specs.Causes.{cause_in, is_store};
+
+use crate::cause::{Cause, cause_of_error};
 use index_cli::{LineEnd, ServeEnd};
 use index_desk::ReportFault;
 use index_rules::{Fault, OpenFault};
@@ -7,7 +11,7 @@ use std::alloc::AllocError;
 use std::fmt;
 
 /// A fault that ends the program.
-#[derive(Clone, Copy, Debug, PartialEq, Eq)]
+#[derive(Debug, Drop)]
 pub enum End {
     /// There is no index to work on.
     Open(OpenFault),
@@ -18,10 +22,32 @@ pub enum End {
     /// The address can't be listened on, or is none.
     Listen,
     OutOfMemory,
-    /// The database failed.
-    Store,
+    /// The database failed, for this cause, where it is known.
+    Store(Option<Cause>),
     /// Standard output can't be written.
     WriteFault,
+}
+
+impl End {
+    /// Whether the database failed.
+    pub fn is_store(&self) -> bool
+        ensures { result ≡ is_store self.now }
+    {
+        matches!(
+            self,
+            End::Store(_) | End::Open(OpenFault::Store) | End::Connections(ServeEnd::Store)
+        )
+    }
+
+    /// Why the database failed, where that is known.
+    pub fn cause(&self) -> Option<&Cause>
+        ensures { option_copied result ≡ cause_in self.now }
+    {
+        match self {
+            End::Store(Some(cause)) => Some(cause),
+            _ => None,
+        }
+    }
 }
 
 impl fmt::Display for End {
@@ -37,7 +63,7 @@ impl fmt::Display for End {
             End::Connections(early) => early.fmt(f),
             End::Listen => f.write_str("Listen"),
             End::OutOfMemory => f.write_str("OutOfMemory"),
-            End::Store => f.write_str("Store"),
+            End::Store(_) => f.write_str("Store"),
             End::WriteFault => f.write_str("WriteFault"),
         }
     }
@@ -71,7 +97,7 @@ impl From<Fault> for End {
     fn from(fault: Fault) -> End {
         match fault {
             Fault::OutOfMemory => End::OutOfMemory,
-            Fault::Store => End::Store,
+            Fault::Store => End::Store(None),
         }
     }
 }
@@ -80,17 +106,22 @@ impl From<ReportFault> for End {
     fn from(fault: ReportFault) -> End {
         match fault {
             ReportFault::OutOfMemory => End::OutOfMemory,
-            ReportFault::Store => End::Store,
+            ReportFault::Store => End::Store(None),
             ReportFault::WriteFault(_) => End::WriteFault,
         }
     }
 }
 
 impl From<Error> for End {
+    ghost use Rattle.std.specs.Prelude.{◌≡◌};
+    ghost use Rattle.index.specs.Causes.{end_of_error};
+
+    ghost from_gives = { λ error end. end ≡ end_of_error error };
+
     fn from(error: Error) -> End {
         match error {
             Error::SqliteFailure(ErrorCode::OutOfMemory) => End::OutOfMemory,
-            _ => End::Store,
+            error => End::Store(cause_of_error(error)),
         }
     }
 }

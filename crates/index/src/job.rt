@@ -1,9 +1,10 @@
 //! The program's subcommands.
-ghost use Rattle.std.specs.Prelude.{◌≡◌, ◌↔◌, IfOk, codes};
+ghost use Rattle.std.specs.Prelude.{◌≡◌, ◌↔◌, Err, IfErr, IfOk, IsOk, IsTrue, codes, false};
 ghost use Rattle.std.specs.Process.{exit_status};
 ghost use Rattle.index_digest.specs.Digest.{sha256};
 ghost use Rattle.index_rules.specs.FirstTables.{first_tables};
 ghost use Rattle.index_rules.specs.Tables.{Tables};
+ghost use Rattle.index.specs.Causes.{is_store};
 
 use crate::database::{self, Work};
 use crate::end::End;
@@ -33,7 +34,7 @@ pub fn init<S: Start>(
 ) -> Result<ExitCode, End> {
     match database::create(rt, db, start, user, token) {
         Ok(files) => drop(files),
-        Err(unused) => return Err(database::why(unused)),
+        Err(unused) => return Err(database::why(rt.alloc(), unused)),
     }
     match println!(rt; "created") {
         Ok(()) => Ok(ExitCode::SUCCESS),
@@ -65,13 +66,25 @@ fn work_on<S: Start, W: Work>(
     work: &mut W,
 ) -> Result<u64, End> {
     match database::work_on(rt, db, start, work) {
-        Ok((closed, end)) => {
-            let closed = database::let_go(closed);
-            let count = end?;
-            closed?;
-            Ok(count)
-        }
-        Err(unused) => Err(database::why(unused)),
+        Ok((closed, end)) => ended_by(end, database::let_go(closed)),
+        Err(unused) => Err(database::why(rt.alloc(), unused)),
+    }
+}
+
+/// What came of work, where it is as well closed. A database that failed in the work tells the cause as it is closed.
+fn ended_by(end: Result<u64, End>, closed: Result<(), End>) -> Result<u64, End>
+    ensures closed { IsOk closed → result ≡ end }
+    ensures ended { IfErr end (λ e. is_store e ≡ false → result ≡ Err e) }
+    ensures unclosed { IfErr closed (λ fault. IfOk end (λ _. result ≡ Err fault)) }
+    ensures failed { IfErr end (λ e. IsTrue (is_store e)
+        → IfErr closed (λ fault. IsTrue (is_store fault) → result ≡ Err fault)) }
+{
+    let Err(fault) = closed else {
+        return end;
+    };
+    match end {
+        Err(end) if !end.is_store() || !fault.is_store() => Err(end),
+        _ => Err(fault),
     }
 }
 

@@ -1,9 +1,12 @@
 //! The program `index`: a Python package index, one command at a time.
 #![tactic(auto)]
 
+mod cause;
 mod database;
 mod end;
 mod job;
+mod objects;
+mod path;
 
 ghost use Rattle.std.specs.Prelude.{◌≡◌, IfOk, IsErr};
 ghost use Rattle.std.specs.Process.{exit_status};
@@ -18,7 +21,7 @@ use std::{env, io};
 fn main(rt: HostRuntime) -> ExitCode {
     match words(&rt) {
         Ok(words) => run(&rt, words.as_slice(), Wary),
-        Err(error) if error.kind() == ErrorKind::OutOfMemory => failed(&rt, End::OutOfMemory),
+        Err(error) if error.kind() == ErrorKind::OutOfMemory => failed(&rt, None, End::OutOfMemory),
         Err(_) => refused(&rt),
     }
 }
@@ -31,12 +34,12 @@ fn words(rt: &HostRuntime) -> io::Result<Vec<String>> {
 /// Does what the words ask for. A database that they name held what `S` says.
 fn run<S: Start>(rt: &HostRuntime, words: &[String], start: S) -> ExitCode {
     match read_words(rt.alloc(), words) {
-        Ok(asked) => ended(rt, perform(rt, asked, start)),
+        Ok(asked) => ended(rt, database_of(asked), perform(rt, asked, start)),
         Err(WordsEnd::Clap(error)) => match error.print(rt) {
-            Err(_) if !error.use_stderr() => failed(rt, End::WriteFault),
+            Err(_) if !error.use_stderr() => failed(rt, None, End::WriteFault),
             _ => ExitCode::from(error.exit_code() as u8),
         },
-        Err(WordsEnd::OutOfMemory) => failed(rt, End::OutOfMemory),
+        Err(WordsEnd::OutOfMemory) => failed(rt, None, End::OutOfMemory),
     }
 }
 
@@ -57,22 +60,36 @@ fn perform<S: Start>(rt: &HostRuntime, asked: Job<'_>, start: S) -> Result<ExitC
     }
 }
 
-/// The status of a job. A fault that ended it is named on standard error.
-fn ended(rt: &HostRuntime, end: Result<ExitCode, End>) -> ExitCode
+/// The path of the database that a job works on.
+fn database_of(asked: Job<'_>) -> Option<&str> {
+    match asked {
+        Job::Init { db, .. } | Job::Serve { db, .. } | Job::Report { db } | Job::Check { db } => {
+            Some(db)
+        }
+        Job::Apply { db } => db,
+    }
+}
+
+/// The status of a job. A fault that ended it is named on standard error, with the cause behind it that is known of the
+/// database.
+fn ended(rt: &HostRuntime, db: Option<&str>, end: Result<ExitCode, End>) -> ExitCode
     ensures ok { IfOk end (λ status. result ≡ status) }
     ensures fault { IsErr end → exit_status result ≡ 1 }
 {
     match end {
         Ok(status) => status,
-        Err(end) => failed(rt, end),
+        Err(end) => failed(rt, db, end),
     }
 }
 
-/// Names a fault on standard error, where that takes it.
-fn failed(rt: &HostRuntime, end: End) -> ExitCode
+/// Names a fault on standard error, where that takes it, and on a second line the cause that is known of the database.
+fn failed(rt: &HostRuntime, db: Option<&str>, end: End) -> ExitCode
     ensures status { exit_status result ≡ 1 }
 {
     let _ = eprintln!(rt; "index: {end}");
+    if let (Some(path), Some(cause)) = (db, end.cause()) {
+        let _ = eprintln!(rt; "index: {path}: {cause}");
+    }
     ExitCode::from(1)
 }
 

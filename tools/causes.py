@@ -1,0 +1,229 @@
+"""The causes of `index: Store`, which a second line tells with the path: each by its own words, and what is left in the folder."""
+import os
+import shutil
+import sqlite3
+import subprocess
+from contextlib import closing
+
+from failing import Failing, Fault
+from old_version import make_old_version
+from serving import OFFICE, Index, make_index, sha256
+
+NOBODY = "setpriv", "--reuid=65534", "--regid=65534", "--clear-groups"
+WORKING = "apply", "serve", "report", "check"
+ALL = (*WORKING, "init")
+NO_FILE, NO_FOLDER, NOT_MADE = "no such file", "no such folder", "no such file, and none could be made"
+NO_RIGHT, BESIDE = "no right to read and write it", "it opens, but not with the log or journal beside it"
+NO_DATABASE, OBJECT = "no database that this program can read", "an object that no index has: "
+OTHER_TABLES = "tables that are not as an index has them"
+DISK, FULL = "the disk failed", "the disk or the file is full"
+MORE = (("an index", "frob", "CREATE INDEX frob ON names (shown)"), ("statistics", "sqlite_stat1", "ANALYZE"),
+        ("a table", "notes", "CREATE TABLE notes (id INTEGER PRIMARY KEY, note TEXT)"),
+        ("a view", "held", "CREATE VIEW held AS SELECT name FROM names"),
+        ("a trigger", "late", "CREATE TRIGGER late AFTER INSERT ON users BEGIN DELETE FROM bans; END"))
+
+
+def words_of(job, path):
+    more = {"serve": ("--listen", "nowhere", "--requests", "1"), "init": OFFICE}
+    return job, "--db", path, *more.get(job, ())
+
+
+def by_sqlite(path, *statements):
+    """Runs statements on a database by another hand."""
+    with closing(sqlite3.connect(path)) as other:
+        for statement in statements:
+            other.execute(statement)
+        other.commit()
+    return path
+
+
+class Causes:
+    """Databases that fail, each in a folder of its own, which is to have no other file after the run."""
+
+    def __init__(self, program, folder, told):
+        self.program, self.folder, self.told = program, f"{folder}/causes", told
+        os.makedirs(self.folder)
+        self.failing = Failing(self.folder)
+        self.index = make_index(program, f"{self.folder}/index.db")
+
+    def new(self, name, data=None):
+        """A path of this name in a new folder, where a copy of the index is, or these bytes, or nothing."""
+        under = f"{self.folder}/{name}"
+        os.mkdir(under)
+        path = f"{under}/index.db"
+        if data is None:
+            shutil.copy(self.index, path)
+        elif data:
+            with open(path, "wb") as file:
+                file.write(data)
+        return path
+
+    def run(self, *words, by=(), more={}):
+        return subprocess.run([*by, self.program, *words], stdin=subprocess.DEVNULL, stdout=subprocess.PIPE, stderr=subprocess.PIPE,
+                              timeout=60, env={**os.environ, **more})
+
+    def ends(self, name, ended, path, cause):
+        """It ended as Store, with this cause and the path on a second line, or with none."""
+        said = f"index: Store\nindex: {path}: {cause}\n" if cause else "index: Store\n"
+        self.told(name, (ended.returncode, ended.stdout, ended.stderr) == (1, b"", said.encode()), ended)
+
+    def each(self, name, path, cause, jobs=WORKING, **how):
+        """Each of these subcommands ends so, and what is at the path stays as it was."""
+        was = bytes_at(path)
+        for job in jobs:
+            self.ends(f"{job}: {name}", self.run(*words_of(job, path), **how), path, cause)
+        self.told(f"{name}: it is as it was", bytes_at(path) == was)
+
+    def leaves(self, name, path, *files):
+        """The folder of this path has these files, and no other."""
+        seen = sorted(os.listdir(os.path.dirname(path)))
+        self.told(f"{name}: no new file", seen == sorted(files), seen)
+
+    def all(self):
+        self.paths()
+        self.files()
+        self.first_users()
+        self.objects()
+        self.users()
+        self.in_use()
+        self.disks()
+        self.rows()
+
+    def paths(self):
+        """Nothing is there, or no file."""
+        path = self.new("missing", b"")
+        self.each("no file", path, NO_FILE)
+        self.leaves("no file", path)
+        deep = f"{os.path.dirname(path)}/none/index.db"
+        self.each("no folder", deep, NO_FILE)
+        self.each("no folder", deep, NO_FOLDER, ["init"])
+        self.leaves("no folder", path)
+        os.symlink("none.db", path)
+        self.each("a link that leads nowhere", path, NO_FILE)
+        self.each("a link that leads nowhere", path, NOT_MADE, ["init"])
+        self.leaves("a link that leads nowhere", path, "index.db")
+        self.each("a folder", os.path.dirname(path), "a folder", ALL)
+        self.each("a file as a folder", f"{self.new('file')}/index.db", NO_FOLDER, ALL)
+        path = self.new("fifo", b"")
+        os.mkfifo(path)
+        self.each("a pipe", path, "no regular file", ALL)
+        self.leaves("a pipe", path, "index.db")
+        self.each("no path", ":memory:", NO_FILE)
+        self.each("no path", ":memory:", NOT_MADE, ["init"])
+        path = self.new("twice")
+        os.link(path, f"{os.path.dirname(path)}/other.db")
+        self.each("a second name", path, "a file with a second name", ALL)
+        path = self.new("log")
+        os.mkdir(f"{path}-wal")
+        self.each("a folder in place of the log", path, BESIDE, ALL)
+        path = self.new("journal")
+        with open(f"{path}-journal", "wb") as journal:
+            journal.write(b"\xd9\xd5\x05\xf9\x20\xa1\x63\xd7")
+        self.each("a journal", path, BESIDE, ALL)
+
+    def files(self):
+        """A file is there, and no database that can be read."""
+        with open(self.index, "rb") as file:
+            whole = file.read()
+        self.each("a text", self.new("text", b"This is no database.\n" * 400), NO_DATABASE, ALL)
+        for name, data, cause in damaged(whole):
+            self.each(name, self.new(name.replace(" ", "-"), data), cause, ALL)
+
+    def first_users(self):
+        """A user who can't be the first is told before a file is made."""
+        path = self.new("user", b"")
+        for name, user, digest in (("no user id", "Office", sha256(b"office")), ("the digest of no token", "office", sha256(b"")),
+                                   ("malformed digits", "office", "BA78")):
+            ended = self.run("init", "--db", path, "--user", user, "--token-sha256", digest)
+            self.told(f"init: {name}", (ended.returncode, ended.stdout, ended.stderr) == (1, b"", b"index: BadFirstUser\n"), ended)
+            self.leaves(name, path)
+
+    def objects(self):
+        """Another program changed the schema."""
+        for name, object, statement in MORE:
+            path = by_sqlite(self.new(object), statement)
+            self.each(f"{name} more", path, OBJECT + object)
+        old = by_sqlite(make_old_version(self.new("old", b"")), MORE[0][2])
+        self.each("an index more in version 1", old, OBJECT + MORE[0][1])
+        # rows that refer to a table can't be tested where a trigger is on it
+        old = by_sqlite(make_old_version(self.new("trigger", b"")), MORE[-1][2].replace("bans", "yanks"))
+        self.each("a trigger on a table that rows refer to", old, NO_DATABASE)
+        path = by_sqlite(self.new("column"), "ALTER TABLE names ADD COLUMN note TEXT")
+        self.each("a column more", path, OTHER_TABLES)
+        path = by_sqlite(self.new("other", b""), "CREATE TABLE notes (id INTEGER PRIMARY KEY, note TEXT)")
+        self.each("another's database", path, f"{OBJECT}notes", ["init"])
+
+    def users(self):
+        """Rights that another user has. Root has all, so this is tried as nobody."""
+        by = NOBODY if os.geteuid() == 0 else ()
+        if by and not shutil.which(by[0]):
+            print("setpriv is not installed, so rights were not tried")
+            return
+        shutil.copy(self.program, f"{self.folder}/program")
+        program, self.program = self.program, f"{self.folder}/program"
+        under = self.folder
+        while by and under != "/":
+            os.chmod(under, os.stat(under).st_mode | 0o055)
+            under = os.path.dirname(under)
+        path = self.new("right")
+        os.chmod(path, 0o000)
+        self.told("a file of no rights", not can_read(path, by))
+        self.each("no right", path, NO_RIGHT, ALL, by=by)
+        os.chmod(path, 0o444)
+        self.each("no right to write", path, NO_RIGHT, ALL, by=by)
+        self.leaves("no right", path, "index.db")
+        os.chmod(path, 0o666)
+        os.chmod(os.path.dirname(path), 0o555)
+        self.each("no right to make a log", path, BESIDE, ALL, by=by)
+        none = f"{os.path.dirname(path)}/none.db"
+        self.each("no right to make a file", none, NOT_MADE, ["init"], by=by)
+        self.leaves("no right to make a log", path, "index.db")
+        os.chmod(os.path.dirname(path), 0o000)
+        if by:
+            self.each("no right to the folder", path, NO_RIGHT, ALL, by=by)
+        os.chmod(os.path.dirname(path), 0o755)
+        self.program = program
+
+    def in_use(self):
+        path = self.new("use")
+        with Index(self.program, path=path):
+            self.each("a database in use", path, "in use by another program", ALL)
+
+    def disks(self):
+        """Calls of the system that fail."""
+        def fails(kind, at, how, job, cause, data=None, is_lasting=True):
+            fault = Fault(kind, at, how, is_lasting)
+            path = self.new(f"{kind}-{at}-{how}-{job}".lower(), data)
+            ended = self.run(*words_of(job, path), more=self.failing.setting(os.path.dirname(path), fault))
+            self.ends(f"{job}, {fault}", ended, path, cause)
+
+        fails("pread", 1, "EIO", "check", DISK)
+        fails("pwrite", 1, "ENOSPC", "init", FULL, b"")
+        fails("fdatasync", 1, "ENOSPC", "init", FULL, b"")
+        fails("fdatasync", 1, "EIO", "init", DISK, b"")
+
+    def rows(self):
+        """A row that is no record has no cause that is known."""
+        path = by_sqlite(self.new("row"), "INSERT INTO names VALUES ('frob', 7, 'frob', 0, 0, 0, NULL)")
+        self.each("a row that is no record", path, None, ["report", "check"])
+
+
+def damaged(whole):
+    """By name a database that is cut short or has other bytes, and the cause."""
+    yield "cut in a page", whole[:6000], "damaged"
+    yield "cut after a page", whole[:4096], "damaged"
+    yield "no head", b"\0" * 100 + whole[100:], NO_DATABASE
+    for at in (20, 100, 4096, 20480, 45056):
+        yield f"damaged at {at}", whole[:at] + bytes(64) + whole[at + 64:], "damaged"
+
+
+def bytes_at(path):
+    """The bytes of a regular file, or what else is there."""
+    if not os.path.isfile(path):
+        return os.path.lexists(path)
+    with open(path, "rb") as file:
+        return file.read()
+
+
+def can_read(path, by):
+    return subprocess.run([*by, "cat", path], stdout=subprocess.DEVNULL, stderr=subprocess.DEVNULL, timeout=10).returncode == 0
