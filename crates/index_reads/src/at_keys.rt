@@ -21,7 +21,7 @@ use sqlite::{Alter, Connection};
 use std::alloc::Global;
 
 /// Who bears the token, as the caller of a call.
-pub fn caller_at<S: Alter>(
+pub(crate) fn caller_at<S: Alter>(
     alloc: Global,
     conn: &mut Connection<S>,
     token: Option<Digest256>,
@@ -46,7 +46,7 @@ pub fn caller_at<S: Alter>(
 }
 
 /// Who bears the token.
-pub fn bearer_at<S: Alter>(
+pub(crate) fn bearer_at<S: Alter>(
     alloc: Global,
     conn: &mut Connection<S>,
     token: Option<Digest256>,
@@ -68,7 +68,7 @@ pub fn bearer_at<S: Alter>(
 }
 
 /// The record of the user.
-pub fn user_at<S: Alter>(
+pub(crate) fn user_at<S: Alter>(
     alloc: Global,
     conn: &mut Connection<S>,
     user: &Option<UserId>,
@@ -87,7 +87,7 @@ pub fn user_at<S: Alter>(
 }
 
 /// The record of the name.
-pub fn name_at<S: Alter>(
+pub(crate) fn name_at<S: Alter>(
     alloc: Global,
     conn: &mut Connection<S>,
     name: &Option<NormalName>,
@@ -106,7 +106,7 @@ pub fn name_at<S: Alter>(
 }
 
 /// The owners of the name.
-pub fn owners_at<S: Alter>(
+pub(crate) fn owners_at<S: Alter>(
     alloc: Global,
     conn: &mut Connection<S>,
     name: &Option<NormalName>,
@@ -125,7 +125,7 @@ pub fn owners_at<S: Alter>(
 }
 
 /// The open case of the name.
-pub fn case_at<S: Alter>(
+pub(crate) fn case_at<S: Alter>(
     alloc: Global,
     conn: &mut Connection<S>,
     name: &Option<NormalName>,
@@ -144,7 +144,7 @@ pub fn case_at<S: Alter>(
 }
 
 /// The record of the file.
-pub fn file_at<S: Alter>(
+pub(crate) fn file_at<S: Alter>(
     alloc: Global,
     conn: &mut Connection<S>,
     file: &Option<FileName>,
@@ -163,7 +163,10 @@ pub fn file_at<S: Alter>(
 }
 
 /// Whether the file is banned.
-pub fn ban_at<S: Alter>(conn: &mut Connection<S>, file: &Option<FileName>) -> Result<bool, Fault>
+pub(crate) fn ban_at<S: Alter>(
+    conn: &mut Connection<S>,
+    file: &Option<FileName>,
+) -> Result<bool, Fault>
     requires outside { conn.old.in_transaction ≡ false }
     requires kept { IsKept S.Store conn.old }
     ensures found { HasCleanDisk (state S.Store conn.new) → IfOk result (λ it.
@@ -178,7 +181,7 @@ pub fn ban_at<S: Alter>(conn: &mut Connection<S>, file: &Option<FileName>) -> Re
 }
 
 /// Why the release of the name is yanked, where it is.
-pub fn yank_at<S: Alter>(
+pub(crate) fn yank_at<S: Alter>(
     alloc: Global,
     conn: &mut Connection<S>,
     name: &Option<NormalName>,
@@ -198,7 +201,7 @@ pub fn yank_at<S: Alter>(
 }
 
 /// Whether the name has an undeleted file of the release.
-pub fn release_at<S: Alter>(
+pub(crate) fn release_at<S: Alter>(
     conn: &mut Connection<S>,
     name: &Option<NormalName>,
     release: &Option<Release>,

@@ -18,7 +18,7 @@ use sqlite::{Alter, Connection, params};
 use std::alloc::Global;
 
 /// The record of a file that was once accepted.
-pub fn find_file<S: Alter>(
+pub(crate) fn find_file<S: Alter>(
     alloc: Global,
     conn: &mut Connection<S>,
     file: &FileName,
@@ -35,7 +35,7 @@ pub fn find_file<S: Alter>(
 }
 
 /// Whether the file is banned.
-pub fn is_banned<S: Alter>(conn: &mut Connection<S>, file: &FileName) -> Result<bool, Fault>
+pub(crate) fn is_banned<S: Alter>(conn: &mut Connection<S>, file: &FileName) -> Result<bool, Fault>
     requires outside { conn.old.in_transaction ≡ false }
     requires kept { IsKept S.Store conn.old }
     ensures found { HasCleanDisk (state S.Store conn.new) → IfOk result (λ it.
@@ -48,7 +48,7 @@ pub fn is_banned<S: Alter>(conn: &mut Connection<S>, file: &FileName) -> Result<
 }
 
 /// Why the release is yanked, where it is.
-pub fn find_yank<S: Alter>(
+pub(crate) fn find_yank<S: Alter>(
     alloc: Global,
     conn: &mut Connection<S>,
     name: &NormalName,
@@ -66,7 +66,7 @@ pub fn find_yank<S: Alter>(
 }
 
 /// Whether the name has an undeleted file of the release.
-pub fn has_release<S: Alter>(
+pub(crate) fn has_release<S: Alter>(
     conn: &mut Connection<S>,
     name: &NormalName,
     release: &Release,

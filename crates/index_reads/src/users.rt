@@ -17,7 +17,7 @@ use sqlite::{Alter, Connection, params};
 use std::alloc::Global;
 
 /// The record of a user.
-pub fn find_user<S: Alter>(
+pub(crate) fn find_user<S: Alter>(
     alloc: Global,
     conn: &mut Connection<S>,
     user: &UserId,
@@ -34,7 +34,7 @@ pub fn find_user<S: Alter>(
 }
 
 /// Who bears the token with this digest, with the record of that user.
-pub fn find_bearer<S: Alter>(
+pub(crate) fn find_bearer<S: Alter>(
     alloc: Global,
     conn: &mut Connection<S>,
     token: Digest256,
