@@ -1,6 +1,7 @@
 -- What a crash may leave after the calls that lines or connections ask for.
 use Rattle.std.proofs.Common.{◌≡◌, ◌≤◌, ◌<◌, ℕ, refl, sym, ap, ◌∙◌, subst, List, [], ◌∷◌, ◌++◌, length, Option, Some, None, arith, append_assoc, append-nil, take_all}
 use Rattle.index_rules.specs.declared.answer.Answer.{Answer}
+use Rattle.index_rules.specs.declared.books.Books.{Ghosts}
 use Rattle.index_rules.specs.declared.call.Call.{Call}
 use Rattle.index_rules.specs.Facts.{HasOneBearer}
 use Rattle.index_rules.specs.Runs.{Runs}
@@ -8,9 +9,9 @@ use Rattle.index_rules.specs.Tables.{Tables}
 use Rattle.index_rules.proofs.OneBearer.{HasOneBearer-Runs}
 use Rattle.index_rules.proofs.RunLemmas.{Runs-push}
 use Rattle.index_desk.specs.Crashes.{LeavesAll}
+use Rattle.index_desk.specs.Looks.{LeavesTables}
 use Rattle.index_desk.proofs.CrashLemmas.{LeavesAll-push}
 use Rattle.index_http.specs.Asks.{Takes}
-use Rattle.index_http.specs.Shows.{LeavesTables}
 use Rattle.index_http.proofs.AskLemmas.{asks_map}
 use Rattle.index_json.specs.Line.{line_of}
 use Rattle.index_json.specs.declared.line.Line.{Line}
@@ -25,38 +26,38 @@ Leaving = List Call → List Answer → Tables → Type 0
 
 -- ---- calls that a desk took since it was as it was first
 
-module _ {S : Type 0} (is_honest is_clean : S → Type 0) (tables : S → Tables) (may_leave : S → Tables → Type 0) where
+module _ {S : Type 0} (g : Ghosts S) where
   -- the tables are those after them, and a crash leaves what it may
   pub record Taken (first now : S) (calls : List Call) (answers : List Answer) : Type 0 where
-    pub runs : is_honest now → HasOneBearer (tables first) → Runs (tables first) calls answers (tables now)
-    pub left : is_honest first → is_clean now → HasOneBearer (tables first) → (T : Tables) → may_leave now T → LeavesAll (tables first) calls answers T
+    pub runs : g.IsHonest now → HasOneBearer (g.tables first) → Runs (g.tables first) calls answers (g.tables now)
+    pub left : g.IsHonest first → g.IsClean now → HasOneBearer (g.tables first) → (T : Tables) → g.may_leave now T → LeavesAll (g.tables first) calls answers T
 
   -- so of calls and answers, whatever the tables
   abbrev pub by_taken : (first now : S) → Leaving
   by_taken first now calls answers T = Taken first now calls answers
 
-  pub taken_none : (first : S) → (is_honest first → (T : Tables) → may_leave first T → T ≡ tables first) → Taken first first [] []
+  pub taken_none : (first : S) → (g.IsHonest first → (T : Tables) → g.may_leave first T → T ≡ g.tables first) → Taken first first [] []
   taken_none first settled = record { runs = λ _ _. refl; left = λ honest _ _ T left. settled honest T left }
 
-  pub taken_look : (first now new : S) (calls : List Call) (answers : List Answer) → LeavesTables is_honest is_clean tables may_leave now new
+  pub taken_look : (first now new : S) (calls : List Call) (answers : List Answer) → LeavesTables g now new
       → Taken first now calls answers → Taken first new calls answers
   taken_look first now new calls answers looked taken = record {
-    runs = λ honest one. subst (λ T. Runs (tables first) calls answers T) (sym (looked.unchanged honest)) (taken.runs (looked.honest honest) one);
+    runs = λ honest one. subst (λ T. Runs (g.tables first) calls answers T) (sym (looked.unchanged honest)) (taken.runs (looked.honest honest) one);
     left = λ honest clean one T left. taken.left honest (looked.clean clean) one T (looked.crash T left);
   }
 
-  pub taken_call : (first now new : S) (calls : List Call) (answers : List Answer) (call : Call) (answer : Answer) → Takes is_honest is_clean tables may_leave now new call answer
+  pub taken_call : (first now new : S) (calls : List Call) (answers : List Answer) (call : Call) (answer : Answer) → Takes g now new call answer
       → Taken first now calls answers → Taken first new (calls ++ call ∷ []) (answers ++ answer ∷ [])
   taken_call first now new calls answers call answer took taken =
-      let before = λ (then : is_honest now) (one : HasOneBearer (tables first)).
-      HasOneBearer-Runs (tables first) one calls answers (tables now) (taken.runs then one) in
+      let before = λ (then : g.IsHonest now) (one : HasOneBearer (g.tables first)).
+      HasOneBearer-Runs (g.tables first) one calls answers (g.tables now) (taken.runs then one) in
       record {
         runs = λ honest one.
             let then = took.honest honest in
-            Runs-push (tables first) calls answers (tables now) call answer (tables new) (taken.runs then one)
+            Runs-push (g.tables first) calls answers (g.tables now) call answer (g.tables new) (taken.runs then one)
             (took.verdict honest (before then one)) (took.next honest (before then one));
         left = λ honest clean one T left.
-            LeavesAll-push (tables first) calls answers (tables now) call answer (may_leave now) (is_honest now) (is_honest new) T
+            LeavesAll-push (g.tables first) calls answers (g.tables now) call answer (g.may_leave now) (g.IsHonest now) (g.IsHonest new) T
             (λ then. taken.runs then one) (taken.left honest (took.clean clean) one) (took.lasts clean) took.honest
             (took.nothing_new T left) (λ then. took.crash then clean (before then one) T left);
       }

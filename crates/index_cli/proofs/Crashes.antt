@@ -1,16 +1,17 @@
 -- What a crash may leave of a run over lines or over connections.
 use Rattle.std.proofs.Common.{◌≡◌, ℕ, ◌+◌, List, [], ◌∷◌, Option, Result, refl, arith}
 use Rattle.std.specs.Prelude.{IfSome}
+use Rattle.index_rules.specs.declared.books.Books.{Ghosts}
 use Rattle.index_rules.specs.Facts.{HasOneBearer}
 use Rattle.index_rules.specs.History.{History}
 use Rattle.index_rules.specs.Legal.{IsLegal}
 use Rattle.index_rules.specs.StandsFor.{StandsFor}
 use Rattle.index_rules.specs.Tables.{Tables}
 use Rattle.index_desk.specs.Crashes.{LeavesAll, LeavesAllOf}
+use Rattle.index_desk.specs.Looks.{LeavesTables}
 use Rattle.index_desk.specs.Rules.{by_tables}
 use Rattle.index_desk.proofs.CrashLemmas.{LeavesAllOf-LeavesAll}
 use Rattle.index_http.specs.Asks.{Takes}
-use Rattle.index_http.specs.Shows.{LeavesTables}
 use Rattle.index_cli.specs.declared.end.LineEnd.{LineEnd}
 use Rattle.index_cli.specs.Ends.{Ends}
 use Rattle.index_cli.specs.Serving.{AsksOne, ServesCalls}
@@ -22,61 +23,61 @@ use Rattle.index_cli.proofs.Histories.{TellsHistory-TellsLines}
 use Rattle.index_cli.proofs.Progress.{Pushes}
 use Rattle.index_cli.proofs.RunEnds.{Ends-map}
 
-module _ {S : Type 0} (is_honest is_clean : S → Type 0) (tables : S → Tables) (may_leave : S → Tables → Type 0) where
+module _ {S : Type 0} (g : Ghosts S) where
   pub taken_push : (first now new : S) (T U : Tables) (size : ℕ) (kept text : List ℕ)
-      → AsksKept size kept text (LeavesTables is_honest is_clean tables may_leave now new) (Takes is_honest is_clean tables may_leave now new)
-      → Pushes (TellsCalls (by_taken is_honest is_clean tables may_leave first now)) (TellsCalls (by_taken is_honest is_clean tables may_leave first new)) T U size kept text
+      → AsksKept size kept text (LeavesTables g now new) (Takes g now new)
+      → Pushes (TellsCalls (by_taken g first now)) (TellsCalls (by_taken g first new)) T U size kept text
   taken_push first now new T U size kept text asks done told line sized front so_far =
-      TellsCalls-push (by_taken is_honest is_clean tables may_leave first now) (by_taken is_honest is_clean tables may_leave first new) T U line text
+      TellsCalls-push (by_taken g first now) (by_taken g first new) T U line text
       (λ calls answers taken.
       asks_line_map line text _ _ _ _
-      (λ looked. taken_look is_honest is_clean tables may_leave first now new calls answers looked taken)
-      (λ call answer took. taken_call is_honest is_clean tables may_leave first now new calls answers call answer took taken)
+      (λ looked. taken_look g first now new calls answers looked taken)
+      (λ call answer took. taken_call g first now new calls answers call answer took taken)
       (asks line sized front))
       done told so_far
 
-  module _ (first now : S) (honest : is_honest first) (clean : is_clean now) (one : HasOneBearer (tables first)) (T : Tables) (left : may_leave now T) where
+  module _ (first now : S) (honest : g.IsHonest first) (clean : g.IsClean now) (one : HasOneBearer (g.tables first)) (T : Tables) (left : g.may_leave now T) where
     pub lines_crash : (U : Tables) (a b w0 w1 : Option (List ℕ)) (result : Result ℕ LineEnd)
-        → Ends (TellsCalls (by_taken is_honest is_clean tables may_leave first now)) U a b w0 w1 result
-        → Ends (TellsCalls (LeavesAll (tables first))) T a b w0 w1 result
+        → Ends (TellsCalls (by_taken g first now)) U a b w0 w1 result
+        → Ends (TellsCalls (LeavesAll (g.tables first))) T a b w0 w1 result
     lines_crash U a b w0 w1 result ends =
-        Ends-map (TellsCalls (by_taken is_honest is_clean tables may_leave first now)) (TellsCalls (LeavesAll (tables first))) U T
-        (TellsCalls-map (by_taken is_honest is_clean tables may_leave first now) (LeavesAll (tables first)) U T (λ calls answers taken. taken.left honest clean one T left))
+        Ends-map (TellsCalls (by_taken g first now)) (TellsCalls (LeavesAll (g.tables first))) U T
+        (TellsCalls-map (by_taken g first now) (LeavesAll (g.tables first)) U T (λ calls answers taken. taken.left honest clean one T left))
         a b w0 w1 result ends
 
     pub serves_crash : (U : Tables) (given : Option ℕ) (count : ℕ)
-        → ServesCalls (by_taken is_honest is_clean tables may_leave first now) given count U
-        → ServesCalls (LeavesAll (tables first)) given count T
+        → ServesCalls (by_taken g first now) given count U
+        → ServesCalls (LeavesAll (g.tables first)) given count T
     serves_crash U given count serves =
-        ServesCalls-map (by_taken is_honest is_clean tables may_leave first now) (LeavesAll (tables first)) given count U T (λ calls answers taken. taken.left honest clean one T left) serves
+        ServesCalls-map (by_taken g first now) (LeavesAll (g.tables first)) given count U T (λ calls answers taken. taken.left honest clean one T left) serves
 
-  pub serves_none : (first : S) (given : Option ℕ) (U : Tables) → (is_honest first → (T : Tables) → may_leave first T → T ≡ tables first)
-      → ServesCalls (by_taken is_honest is_clean tables may_leave first first) given 0 U
+  pub serves_none : (first : S) (given : Option ℕ) (U : Tables) → (g.IsHonest first → (T : Tables) → g.may_leave first T → T ≡ g.tables first)
+      → ServesCalls (by_taken g first first) given 0 U
   serves_none first given U settled =
-      record { moments = []; asked = taken_none is_honest is_clean tables may_leave first settled; counted = refl; are_given = tt }
+      record { moments = []; asked = taken_none g first settled; counted = refl; are_given = tt }
 
   -- one more connection
   pub serves_push : (first now new : S) (T U : Tables) (given : Option ℕ) (count at : ℕ) → IfSome given (λ it. at ≡ it)
-      → AsksOne at (LeavesTables is_honest is_clean tables may_leave now new) (Takes is_honest is_clean tables may_leave now new)
-      → ServesCalls (by_taken is_honest is_clean tables may_leave first now) given count T
-      → ServesCalls (by_taken is_honest is_clean tables may_leave first new) given (count + 1) U
+      → AsksOne at (LeavesTables g now new) (Takes g now new)
+      → ServesCalls (by_taken g first now) given count T
+      → ServesCalls (by_taken g first new) given (count + 1) U
   serves_push first now new T U given count at is_given asks serves = record {
     moments = at ∷ serves.moments;
     asked = asks_push at serves.moments _ _ _ _
-        (λ calls answers taken looked. taken_look is_honest is_clean tables may_leave first now new calls answers looked taken)
-        (λ calls answers taken call answer took. taken_call is_honest is_clean tables may_leave first now new calls answers call answer took taken)
+        (λ calls answers taken looked. taken_look g first now new calls answers looked taken)
+        (λ calls answers taken call answer took. taken_call g first now new calls answers call answer took taken)
         serves.asked asks;
     counted = omega (arith, serves.counted);
     are_given = (is_given, serves.are_given);
   }
 
   -- a look after them
-  pub serves_look : (first now new : S) (T U : Tables) (given : Option ℕ) (count : ℕ) → LeavesTables is_honest is_clean tables may_leave now new
-      → ServesCalls (by_taken is_honest is_clean tables may_leave first now) given count T
-      → ServesCalls (by_taken is_honest is_clean tables may_leave first new) given count U
+  pub serves_look : (first now new : S) (T U : Tables) (given : Option ℕ) (count : ℕ) → LeavesTables g now new
+      → ServesCalls (by_taken g first now) given count T
+      → ServesCalls (by_taken g first new) given count U
   serves_look first now new T U given count looked =
-      ServesCalls-map (by_taken is_honest is_clean tables may_leave first now) (by_taken is_honest is_clean tables may_leave first new) given count T U
-      (λ calls answers taken. taken_look is_honest is_clean tables may_leave first now new calls answers looked taken)
+      ServesCalls-map (by_taken g first now) (by_taken g first new) given count T U
+      (λ calls answers taken. taken_look g first now new calls answers looked taken)
 
 -- ---- by a history for which the tables stood
 

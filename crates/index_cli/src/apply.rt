@@ -1,13 +1,13 @@
 //! Answers to the lines of an input.
-ghost use Rattle.std.specs.Prelude.{◌≡◌, ◌≢◌, ◌≤◌, ◌+◌, ◌⊎◌, ℕ, Err};
+ghost use Rattle.std.specs.Prelude.{◌≡◌, ◌≢◌, ◌⊎◌, ℕ, Err};
 ghost use Rattle.index_io.specs.Counts.{HasFailed};
 ghost use Rattle.index_rules.specs.Facts.{HasOneBearer};
-ghost use Rattle.index_rules.specs.Sound.{IsSound};
 ghost use Rattle.index_rules.specs.History.{History};
 ghost use Rattle.index_rules.specs.StandsFor.{StandsFor};
 ghost use Rattle.index_rules.specs.Legal.{IsLegal};
 ghost use Rattle.index_rules.specs.Tables.{Tables};
 ghost use Rattle.index_desk.specs.Crashes.{LeavesAll, LeavesAllOf};
+ghost use Rattle.index_desk.specs.Invariants.{KeepsInvariants};
 ghost use Rattle.index_desk.specs.Rules.{by_tables};
 ghost use Rattle.index_cli.specs.Causes.{HaveFailed, TellsFaults};
 ghost use Rattle.index_cli.specs.Ends.{Ends};
@@ -89,12 +89,7 @@ pub fn apply_lines<S: Source, K: Sink, B: Books>(
         × Charges MOST_BYTES left (S.remaining source.old) (S.remaining source.new) }
 
     // However it ends: one user at most bears a digest, and accounts that add up keep adding up.
-    ensures one_bearer { B.IsHonest desk.new
-        → HasOneBearer (B.tables desk.old) → HasOneBearer (B.tables desk.new) }
-    ensures sound { B.IsHonest desk.new
-        → IsSound (B.tables desk.old) → IsSound (B.tables desk.new) }
-    ensures honest { B.IsHonest desk.new → B.IsHonest desk.old }
-    ensures clean { B.IsClean desk.new → B.IsClean desk.old }
+    ensures keeps { KeepsInvariants B.Books desk.old desk.new }
 {
     let mut line = Vec::new(alloc);
     let mut left = MOST_BYTES;

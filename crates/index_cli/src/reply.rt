@@ -2,13 +2,12 @@
 ghost use Rattle.std.specs.Prelude.{◌≡◌, Some, IfErr, IfOk, OnErr};
 ghost use Rattle.index_names.specs.Project.{read_name};
 ghost use Rattle.index_rules.specs.Facts.{HasOneBearer};
-ghost use Rattle.index_rules.specs.Sound.{IsSound};
+ghost use Rattle.index_desk.specs.Invariants.{KeepsInvariants};
+ghost use Rattle.index_desk.specs.Looks.{LeavesTables};
 ghost use Rattle.index_desk.specs.Rules.{by_tables};
 ghost use Rattle.index_http.specs.Asks.{Takes};
-ghost use Rattle.index_http.specs.Shows.{LeavesTables};
 ghost use Rattle.index_json.specs.Line.{line_of};
-ghost use Rattle.index_cli.specs.Causes.{HasCauses};
-ghost use Rattle.index_cli.specs.Replies.{reply_text, TellsKept};
+ghost use Rattle.index_cli.specs.Replies.{reply_text, RepliesOnly, TellsKept};
 ghost use Rattle.index_cli.specs.Telling.{TellsAsked, TellsStanding};
 ghost use Rattle.index_cli.specs.TellsCalls.{AsksKept, AsksOf};
 
@@ -52,20 +51,10 @@ pub fn reply_to<B: Books>(
     ensures reply { B.IsHonest desk.new → HasOneBearer (B.tables desk.old) → IfOk result (λ reply.
         TellsKept size front.now (B.tables desk.old) (reply_text reply) (B.tables desk.new)) }
     ensures asks { IfOk result (λ reply. AsksKept size front.now (reply_text reply)
-        (LeavesTables B.IsHonest B.IsClean B.tables B.may_leave desk.old desk.new)
-        (Takes B.IsHonest B.IsClean B.tables B.may_leave desk.old desk.new)) }
-    ensures leaves { OnErr result
-        (LeavesTables B.IsHonest B.IsClean B.tables B.may_leave desk.old desk.new) }
-    ensures store { IfOk result (λ reply.
-        HasCauses (reply_text reply) (B.failures desk.old) (B.failures desk.new)) }
-    ensures kept { OnErr result (B.failures desk.new ≡ B.failures desk.old) }
-    ensures memory { IfErr result (λ end. end ≡ LineEnd.OutOfMemory) }
-    ensures one_bearer { B.IsHonest desk.new
-        → HasOneBearer (B.tables desk.old) → HasOneBearer (B.tables desk.new) }
-    ensures sound { B.IsHonest desk.new
-        → IsSound (B.tables desk.old) → IsSound (B.tables desk.new) }
-    ensures honest { B.IsHonest desk.new → B.IsHonest desk.old }
-    ensures clean { B.IsClean desk.new → B.IsClean desk.old }
+        (LeavesTables B.Books desk.old desk.new) (Takes B.Books desk.old desk.new)) }
+    ensures leaves { OnErr result (LeavesTables B.Books desk.old desk.new) }
+    ensures causes { RepliesOnly (B.failures desk.old) (B.failures desk.new) result }
+    ensures keeps { KeepsInvariants B.Books desk.old desk.new }
 {
     if size > LONGEST_LINE {
         return Ok(Reply::Fixed(bad_body()));
@@ -79,20 +68,10 @@ fn reply_to_read<B: Books>(alloc: Global, desk: &mut Desk<B>, line: &[u8]) -> Re
         TellsAsked by_tables (line_of line.now)
         (B.tables desk.old) (reply_text reply) (B.tables desk.new)) }
     ensures asks { IfOk result (λ reply. AsksOf (line_of line.now) (reply_text reply)
-        (LeavesTables B.IsHonest B.IsClean B.tables B.may_leave desk.old desk.new)
-        (Takes B.IsHonest B.IsClean B.tables B.may_leave desk.old desk.new)) }
-    ensures leaves { OnErr result
-        (LeavesTables B.IsHonest B.IsClean B.tables B.may_leave desk.old desk.new) }
-    ensures store { IfOk result (λ reply.
-        HasCauses (reply_text reply) (B.failures desk.old) (B.failures desk.new)) }
-    ensures kept { OnErr result (B.failures desk.new ≡ B.failures desk.old) }
-    ensures memory { IfErr result (λ end. end ≡ LineEnd.OutOfMemory) }
-    ensures one_bearer { B.IsHonest desk.new
-        → HasOneBearer (B.tables desk.old) → HasOneBearer (B.tables desk.new) }
-    ensures sound { B.IsHonest desk.new
-        → IsSound (B.tables desk.old) → IsSound (B.tables desk.new) }
-    ensures honest { B.IsHonest desk.new → B.IsHonest desk.old }
-    ensures clean { B.IsClean desk.new → B.IsClean desk.old }
+        (LeavesTables B.Books desk.old desk.new) (Takes B.Books desk.old desk.new)) }
+    ensures leaves { OnErr result (LeavesTables B.Books desk.old desk.new) }
+    ensures causes { RepliesOnly (B.failures desk.old) (B.failures desk.new) result }
+    ensures keeps { KeepsInvariants B.Books desk.old desk.new }
 {
     let Ok(asked) = read_line(alloc, line) else {
         return Err(LineEnd::OutOfMemory);
@@ -112,11 +91,8 @@ fn standing_reply<B: Books>(
 ) -> Result<Reply, LineEnd>
     ensures reply { B.IsHonest desk.new → IfOk result (λ reply.
         TellsStanding by_tables (B.tables desk.old) (read_name name.now) (reply_text reply)) }
-    ensures leaves { LeavesTables B.IsHonest B.IsClean B.tables B.may_leave desk.old desk.new }
-    ensures store { IfOk result (λ reply.
-        HasCauses (reply_text reply) (B.failures desk.old) (B.failures desk.new)) }
-    ensures kept { OnErr result (B.failures desk.new ≡ B.failures desk.old) }
-    ensures memory { IfErr result (λ end. end ≡ LineEnd.OutOfMemory) }
+    ensures leaves { LeavesTables B.Books desk.old desk.new }
+    ensures causes { RepliesOnly (B.failures desk.old) (B.failures desk.new) result }
 {
     match normal(alloc, name) {
         Ok(name) => known_reply(alloc, desk, &name),
@@ -133,11 +109,8 @@ fn known_reply<B: Books>(
 ) -> Result<Reply, LineEnd>
     ensures reply { B.IsHonest desk.new → IfOk result (λ reply.
         TellsStanding by_tables (B.tables desk.old) (Some name.now) (reply_text reply)) }
-    ensures leaves { LeavesTables B.IsHonest B.IsClean B.tables B.may_leave desk.old desk.new }
-    ensures store { IfOk result (λ reply.
-        HasCauses (reply_text reply) (B.failures desk.old) (B.failures desk.new)) }
-    ensures kept { OnErr result (B.failures desk.new ≡ B.failures desk.old) }
-    ensures memory { IfErr result (λ end. end ≡ LineEnd.OutOfMemory) }
+    ensures leaves { LeavesTables B.Books desk.old desk.new }
+    ensures causes { RepliesOnly (B.failures desk.old) (B.failures desk.new) result }
 {
     let standing = match desk.standing(alloc, name) {
         Ok(standing) => standing,

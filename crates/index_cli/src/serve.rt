@@ -3,13 +3,13 @@ ghost use Rattle.std.specs.Prelude.{◌≡◌, ◌<◌, true, ℕ, Err, None, If
 ghost use Rattle.index_rules.specs.Facts.{HasOneBearer};
 ghost use Rattle.index_rules.specs.History.{History};
 ghost use Rattle.index_rules.specs.Legal.{IsLegal};
-ghost use Rattle.index_rules.specs.Sound.{IsSound};
 ghost use Rattle.index_rules.specs.StandsFor.{StandsFor};
 ghost use Rattle.index_rules.specs.Tables.{Tables};
 ghost use Rattle.index_desk.specs.Crashes.{LeavesAll, LeavesAllOf};
+ghost use Rattle.index_desk.specs.Invariants.{KeepsInvariants};
+ghost use Rattle.index_desk.specs.Looks.{LeavesTables};
 ghost use Rattle.index_desk.specs.Rules.{by_tables};
 ghost use Rattle.index_http.specs.Asks.{Takes};
-ghost use Rattle.index_http.specs.Shows.{LeavesTables};
 ghost use Rattle.index_cli.specs.Serving.{AnswersOne, AsksOne, IsCount, OneHistory, Serves, ServesCalls, ServesHistory};
 
 use crate::end::ServeEnd;
@@ -72,12 +72,7 @@ pub fn serve_connections<B: Keeper>(
         × ServesCalls (LeavesAllOf h) at count T }
 
     // However it ends: one user at most bears a digest, and accounts that add up keep adding up.
-    ensures one_bearer { B.IsHonest desk.new →
-        HasOneBearer (B.tables desk.old) → HasOneBearer (B.tables desk.new) }
-    ensures sound { B.IsHonest desk.new →
-        IsSound (B.tables desk.old) → IsSound (B.tables desk.new) }
-    ensures honest { B.IsHonest desk.new → B.IsHonest desk.old }
-    ensures clean { B.IsClean desk.new → B.IsClean desk.old }
+    ensures keeps { KeepsInvariants B.Books desk.old desk.new }
 
     // It ends by the clock only where no moment is given, and as `Store` only where the store answered a fault.
     ensures clock { result ≡ Err ServeEnd.Clock → at ≡ None }
@@ -116,7 +111,7 @@ fn next_connection(rt: &HostRuntime, listener: &TcpListener) -> io::Result<TcpSt
 
 /// Whether a fault has shut the store: one was answered since there were so many, and a look is answered by one too.
 fn is_shut<B: Keeper>(alloc: Global, desk: &mut Desk<B>, failures: u64) -> bool
-    ensures leaves { LeavesTables B.IsHonest B.IsClean B.tables B.may_leave desk.old desk.new }
+    ensures leaves { LeavesTables B.Books desk.old desk.new }
     ensures store { result ≡ true → 0 < B.failures desk.new }
 {
     let now = desk.failure_count();
@@ -168,14 +163,8 @@ fn answer_stream<B: Keeper>(
         (h : History) → IsLegal h → StandsFor (B.tables desk.old) h →
         OneHistory h at (B.tables desk.new) }
     ensures asks { AsksOne at
-        (LeavesTables B.IsHonest B.IsClean B.tables B.may_leave desk.old desk.new)
-        (Takes B.IsHonest B.IsClean B.tables B.may_leave desk.old desk.new) }
-    ensures one_bearer { B.IsHonest desk.new →
-        HasOneBearer (B.tables desk.old) → HasOneBearer (B.tables desk.new) }
-    ensures sound { B.IsHonest desk.new →
-        IsSound (B.tables desk.old) → IsSound (B.tables desk.new) }
-    ensures honest { B.IsHonest desk.new → B.IsHonest desk.old }
-    ensures clean { B.IsClean desk.new → B.IsClean desk.old }
+        (LeavesTables B.Books desk.old desk.new) (Takes B.Books desk.old desk.new) }
+    ensures keeps { KeepsInvariants B.Books desk.old desk.new }
 {
     let Ok(writer) = BufWriter::with_capacity(rt.alloc(), GATHERED_BYTES, stream) else {
         return Err(IoEnd::OutOfMemory);
@@ -204,14 +193,8 @@ fn answer_message<S: Source, K: Sink, B: Keeper>(
         (h : History) → IsLegal h → StandsFor (B.tables desk.old) h →
         OneHistory h at (B.tables desk.new) }
     ensures asks { AsksOne at
-        (LeavesTables B.IsHonest B.IsClean B.tables B.may_leave desk.old desk.new)
-        (Takes B.IsHonest B.IsClean B.tables B.may_leave desk.old desk.new) }
-    ensures one_bearer { B.IsHonest desk.new →
-        HasOneBearer (B.tables desk.old) → HasOneBearer (B.tables desk.new) }
-    ensures sound { B.IsHonest desk.new →
-        IsSound (B.tables desk.old) → IsSound (B.tables desk.new) }
-    ensures honest { B.IsHonest desk.new → B.IsHonest desk.old }
-    ensures clean { B.IsClean desk.new → B.IsClean desk.old }
+        (LeavesTables B.Books desk.old desk.new) (Takes B.Books desk.old desk.new) }
+    ensures keeps { KeepsInvariants B.Books desk.old desk.new }
 {
     answer_one(alloc, site, source, sink, desk, at)
 }

@@ -2,6 +2,7 @@ pub mod Bodies
 pub mod Lists
 pub mod Standings
 pub mod Looks
+pub mod Invariants
 pub mod Crashes
 pub mod Projects
 pub mod Pages

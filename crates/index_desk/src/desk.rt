@@ -1,5 +1,5 @@
 //! Calls in order, over any books.
-ghost use Rattle.std.specs.Prelude.{◌≡◌, ◌≢◌, ◌⊎◌, [], IfOk, IfErr, OnOk, OnErr, Contains, length, vec_len, vec_capacity};
+ghost use Rattle.std.specs.Prelude.{◌≡◌, ◌≢◌, ◌⊎◌, [], IfOk, IfErr, OnErr, Contains, length, vec_capacity};
 ghost use Rattle.std.specs.FinMap.{get};
 ghost use Rattle.index_io.specs.Counts.{FailsAtMostOnce, HasFailed};
 ghost use Rattle.index_rules.specs.Runs.{Answers, Runs, tables_after, tables_after_change};
@@ -15,6 +15,7 @@ ghost use Rattle.index_rules.specs.StandsFor.{StandsFor, body_after};
 ghost use Rattle.index_rules.specs.Legal.{CarriesOn, CarriesOnAll, IsLegal};
 ghost use Rattle.index_desk.specs.Crashes.{IsWithCall, Lasts, LastsAll, Leaves, LeavesAll, LeavesAllOf};
 ghost use Rattle.index_desk.specs.Bodies.{AreBytesOf};
+ghost use Rattle.index_desk.specs.Invariants.{KeepsInvariants};
 ghost use Rattle.index_desk.specs.Looks.{Looks};
 ghost use Rattle.index_desk.specs.Standings.{IsStandingAfter, held_with, standing_in};
 
@@ -87,10 +88,7 @@ impl<B: Books> Desk<B> {
             B.tables self.new ≡ B.tables self.old }
 
         // No two users come to bear one digest, and tables whose accounts add up keep adding up.
-        ensures one_bearer { B.IsHonest self.new →
-            HasOneBearer (B.tables self.old) → HasOneBearer (B.tables self.new) }
-        ensures sound { B.IsHonest self.new →
-            IsSound (B.tables self.old) → IsSound (B.tables self.new) }
+        ensures keeps { KeepsInvariants B.Books self.old self.new }
 
         // Tables that stood for a legal history stand for it with the call, where it was accepted, and else for the same.
         ensures history { B.IsHonest self.new → (h : History) → IsLegal h →
@@ -118,8 +116,6 @@ impl<B: Books> Desk<B> {
         ensures store { result ≡ Answer.Fault Fault.Store →
             HasFailed (B.failures self.old) (B.failures self.new) }
         ensures failures { FailsAtMostOnce (B.failures self.old) (B.failures self.new) }
-        ensures honest { B.IsHonest self.new → B.IsHonest self.old }
-        ensures clean { B.IsClean self.new → B.IsClean self.old }
     {
         match consider(&mut self.books, alloc, call) {
             Ok(decision) => settle(&mut self.books, alloc, decision),
@@ -136,10 +132,7 @@ impl<B: Books> Desk<B> {
             Runs (B.tables self.old) calls.items answers.items (B.tables self.new)) }
 
         // No two users come to bear one digest, and the accounts add up as before.
-        ensures one_bearer { B.IsHonest self.new →
-            HasOneBearer (B.tables self.old) → HasOneBearer (B.tables self.new) }
-        ensures sound { B.IsHonest self.new →
-            IsSound (B.tables self.old) → IsSound (B.tables self.new) }
+        ensures keeps { KeepsInvariants B.Books self.old self.new }
 
         // Tables that stood for a legal history stand for it with exactly the accepted calls, in order.
         ensures history { B.IsHonest self.new →
@@ -169,7 +162,6 @@ impl<B: Books> Desk<B> {
             LeavesAllOf h calls.items answers.items T) }
         ensures none { OnErr result (self.new ≡ self.old) }
         ensures fault { IfErr result (λ fault. fault ≡ Fault.OutOfMemory) }
-        ensures honest { B.IsHonest self.new → B.IsHonest self.old }
     {
         let mut answers = Vec::with_capacity(alloc, calls.len())?;
         self.apply_all(alloc, calls, &mut answers);
@@ -190,6 +182,7 @@ impl<B: Books> Desk<B> {
             HasOneBearer (B.tables self.old) → (T : Tables) → B.may_leave self.new T →
             LeavesAll (B.tables self.old) calls.items answers.new.items T }
         ensures honest { B.IsHonest self.new → B.IsHonest self.old }
+        ensures clean { B.IsClean self.new → B.IsClean self.old }
     {
         for call in calls {
             let answer = self.apply(alloc, call);
@@ -204,8 +197,7 @@ impl<B: Books> Desk<B> {
         ensures history { B.IsHonest self.new →
             IfOk result (λ standing. (h : History) → StandsFor (B.tables self.old) h →
             IsStandingAfter h name.now standing) }
-        ensures look { Looks B.IsHonest B.IsClean B.tables B.failures B.may_leave
-            self.old self.new result }
+        ensures look { Looks B.Books self.old self.new result }
     {
         let mut view = seen_name(&mut self.books, alloc, name)?;
         match view.name.take() {
@@ -233,8 +225,7 @@ impl<B: Books> Desk<B> {
         // In sound tables they have the size and the digest that the file is bound to.
         ensures bound { B.IsHonest self.new → IsSound (B.tables self.old) →
             IfOk result (AreBytesOf (B.tables self.old) file.now) }
-        ensures look { Looks B.IsHonest B.IsClean B.tables B.failures B.may_leave
-            self.old self.new result }
+        ensures look { Looks B.Books self.old self.new result }
     {
         self.books.bytes_of(alloc, file)
     }
@@ -250,8 +241,7 @@ fn consider<B: Books>(
         let f = facts_in (B.tables books.old) call in
         let verdict = verdict_now (B.tables books.old) call in
         IfOk result (λ decision. Decides decision verdict (effect call.at call.request f)) }
-    ensures look { Looks B.IsHonest B.IsClean B.tables B.failures B.may_leave
-        books.old books.new result }
+    ensures look { Looks B.Books books.old books.new result }
 {
     match seen(books, alloc, &call) {
         Ok(view) => {
@@ -270,8 +260,7 @@ fn consider<B: Books>(
 fn seen<B: Books>(books: &mut B, alloc: Global, call: &Call) -> Result<View, Fault>
     ensures found { B.IsHonest books.new →
         IfOk result (Sees (B.tables books.old) (keys_of call.now)) }
-    ensures look { Looks B.IsHonest B.IsClean B.tables B.failures B.may_leave
-        books.old books.new result }
+    ensures look { Looks B.Books books.old books.new result }
 {
     let keys = call.keys(alloc)?;
     books.view(alloc, &keys)
@@ -317,8 +306,7 @@ fn seen_name<B: Books>(books: &mut B, alloc: Global, name: &NormalName) -> Resul
         IfOk result (λ view. view.name ≡ get (B.tables books.old).names name.now) }
     ensures case { B.IsHonest books.new →
         IfOk result (λ view. view.case ≡ get (B.tables books.old).cases name.now) }
-    ensures look { Looks B.IsHonest B.IsClean B.tables B.failures B.may_leave
-        books.old books.new result }
+    ensures look { Looks B.Books books.old books.new result }
 {
     let keys = Keys::of_name(name)?;
     books.view(alloc, &keys)
@@ -351,8 +339,7 @@ fn held_name<B: Books>(
     ensures held { B.IsHonest books.new →
         let owners = owners_in (B.tables books.old) name.now in
         IfOk result (λ standing. standing ≡ held_with name.now project owners case) }
-    ensures look { Looks B.IsHonest B.IsClean B.tables B.failures B.may_leave
-        books.old books.new result }
+    ensures look { Looks B.Books books.old books.new result }
 {
     let owners = books.owners_of(alloc, name)?;
     let name = name.clone()?;

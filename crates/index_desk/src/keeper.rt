@@ -29,8 +29,7 @@ pub trait Keeper: Books {
     fn keep_body(&mut self, file: FileName, body: Sealed)
         requires { Self.IsHonest self.old →
             get (Self.tables self.old).bodies file ≡ Some body }
-        ensures { Stays Self.IsHonest Self.IsClean Self.tables Self.failures Self.may_leave
-            self.old self.new };
+        ensures { Stays Self.Books self.old self.new };
 
     /// The text of a page in a type, where it is kept at hand.
     fn kept_page(&self, page: Page<'_>, served: Served) -> Option<&[u8]>
@@ -41,6 +40,5 @@ pub trait Keeper: Books {
     fn keep_page(&mut self, page: Page<'_>, served: Served, text: Vec<u8>)
         requires { Self.IsHonest self.old →
             page_in (Self.tables self.old) served page ≡ Some text.items }
-        ensures { Stays Self.IsHonest Self.IsClean Self.tables Self.failures Self.may_leave
-            self.old self.new };
+        ensures { Stays Self.Books self.old self.new };
 }

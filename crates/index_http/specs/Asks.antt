@@ -2,6 +2,7 @@
 use Rattle.std.specs.Prelude.{◌≡◌, ◌⊎◌, ℕ, true, [], Option, Some, None, Result, if◌then◌else◌}
 use Rattle.index_io.specs.Bytes.{IsInput}
 use Rattle.index_rules.specs.declared.answer.Answer.{Answer}
+use Rattle.index_rules.specs.declared.books.Books.{Ghosts}
 use Rattle.index_rules.specs.declared.call.Call.{Call}
 use Rattle.index_rules.specs.Facts.{HasOneBearer}
 use Rattle.index_rules.specs.Maps.{Bytes}
@@ -21,14 +22,14 @@ use Rattle.index_http.specs.declared.end.IoEnd.{IoEnd}
 
 -- a call was taken: the answer is the verdict or a fault, the tables are those after it, and a crash leaves what it may
 -- after this answer; of a store that was not honest it leaves nothing new
-pub record Takes {S : Type 0} (is_honest is_clean : S → Type 0) (tables : S → Tables) (may_leave : S → Tables → Type 0) (old new : S) (call : Call) (answer : Answer) : Type 0 where
-  pub verdict : is_honest new → HasOneBearer (tables old) → Answers (verdict_now (tables old) call) answer
-  pub next : is_honest new → HasOneBearer (tables old) → tables new ≡ tables_after (tables old) call answer
-  pub crash : is_honest old → is_clean new → HasOneBearer (tables old) → (T : Tables) → may_leave new T → Leaves (may_leave old) (IsWithCall (tables old) call) answer T
-  pub nothing_new : (T : Tables) → may_leave new T → may_leave old T ⊎ is_honest old
-  pub lasts : is_clean new → Lasts answer (is_honest old) (is_honest new)
-  pub honest : is_honest new → is_honest old
-  pub clean : is_clean new → is_clean old
+pub record Takes {S : Type 0} (g : Ghosts S) (old new : S) (call : Call) (answer : Answer) : Type 0 where
+  pub verdict : g.IsHonest new → HasOneBearer (g.tables old) → Answers (verdict_now (g.tables old) call) answer
+  pub next : g.IsHonest new → HasOneBearer (g.tables old) → g.tables new ≡ tables_after (g.tables old) call answer
+  pub crash : g.IsHonest old → g.IsClean new → HasOneBearer (g.tables old) → (T : Tables) → g.may_leave new T → Leaves (g.may_leave old) (IsWithCall (g.tables old) call) answer T
+  pub nothing_new : (T : Tables) → g.may_leave new T → g.may_leave old T ⊎ g.IsHonest old
+  pub lasts : g.IsClean new → Lasts answer (g.IsHonest old) (g.IsHonest new)
+  pub honest : g.IsHonest new → g.IsHonest old
+  pub clean : g.IsClean new → g.IsClean old
 
 -- the call that a message makes at a moment: none where it only reads, or where its body is no request
 abbrev pub call_in : ℕ → Message → Option Call

@@ -5,6 +5,7 @@ use Rattle.index_rules.specs.Maps.{Bytes}
 use Rattle.index_rules.specs.Tables.{Tables}
 use Rattle.index_rules.specs.declared.answer.Fault.{Fault}
 use Rattle.index_rules.specs.declared.answer.Fault.TheVariants as fault
+use Rattle.index_rules.specs.declared.books.Books.{Ghosts}
 use Rattle.index_rules.specs.declared.rows.WalkEnd.{WalkEnd}
 use Rattle.index_rules.specs.declared.rows.WalkEnd.TheVariants as walk_end
 use Rattle.index_pages.specs.Ends.{most_bytes}
@@ -51,13 +52,11 @@ sent_by (Err end) = Err (io_end_of end)
 
 -- no table changes, and a crash leaves what it could have left before; one call of the books fails
 -- at most, and none where there is no fault
-pub record KeepsTables {S : Type 0} (is_honest is_clean : S → Type 0) (tables : S → Tables)
-    (failures : S → ℕ) (may_leave : S → Tables → Type 0) (old new : S)
-    (has_fault : Bool) : Type 0 where
-  pub unchanged : is_honest new → tables new ≡ tables old
-  pub kept : has_fault ≡ false → failures new ≡ failures old
-  pub once : FailsAtMostOnce (failures old) (failures new)
-  pub honest : is_honest new → is_honest old
-  pub clean : is_clean new → is_clean old
-  pub lasts : has_fault ≡ false → is_honest old → is_clean new → is_honest new
-  pub crash : (T : Tables) → may_leave new T → may_leave old T
+pub record KeepsTables {S : Type 0} (g : Ghosts S) (old new : S) (has_fault : Bool) : Type 0 where
+  pub unchanged : g.IsHonest new → g.tables new ≡ g.tables old
+  pub kept : has_fault ≡ false → g.failures new ≡ g.failures old
+  pub once : FailsAtMostOnce (g.failures old) (g.failures new)
+  pub honest : g.IsHonest new → g.IsHonest old
+  pub clean : g.IsClean new → g.IsClean old
+  pub lasts : has_fault ≡ false → g.IsHonest old → g.IsClean new → g.IsHonest new
+  pub crash : (T : Tables) → g.may_leave new T → g.may_leave old T

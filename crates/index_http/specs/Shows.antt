@@ -2,6 +2,8 @@
 use Rattle.std.specs.Prelude.{◌≡◌, ◌⊎◌, ◌&&◌, Bool, true, false, not, Option, Result, Err}
 use Rattle.std.specs.Io.KnownBytes.{Keeps}
 use Rattle.index_io.specs.Bytes.{IsInput}
+use Rattle.index_io.specs.Counts.{HasFailed}
+use Rattle.index_io.specs.declared.sink.Sink.{Ghosts as Outs}
 use Rattle.index_message.specs.Messages.{IsMessage}
 use Rattle.index_message.specs.Requests.{Request}
 use Rattle.index_message.specs.Resources.{is_head, is_reading}
@@ -13,6 +15,7 @@ use Rattle.index_rules.specs.Maps.{Bytes}
 use Rattle.index_rules.specs.Tables.{Tables}
 use Rattle.index_rules.specs.declared.answer.Fault.{Fault}
 use Rattle.index_rules.specs.declared.answer.Fault.TheVariants.{Store, OutOfMemory as NoMemory}
+use Rattle.index_rules.specs.declared.books.Books.{Ghosts}
 use Rattle.index_http.specs.Ends.{Ends}
 use Rattle.index_http.specs.Exchanges.{store_reply}
 use Rattle.index_http.specs.Replies.{Reply, reply_text}
@@ -29,17 +32,18 @@ IsShown to_head IsReply Cause text =
 abbrev pub EndsShown : Bool → (Reply → Type 0) → Type 0 → Option Bytes → Option Bytes → Result (Unit {0}) IoEnd → Type 0
 EndsShown to_head IsReply Cause before after result = Ends (IsShown to_head IsReply Cause) (Unit {0}) before after result
 
+-- of a store that was honest, and is clean after it: a look ended so, for a reply of this kind by the tables
+abbrev pub ShowsBy : {S K : Type 0} → Ghosts S → Outs K → S → S → K → K → Bool → Result (Unit {0}) IoEnd
+    → (Tables → Reply → Type 0) → Type 0
+ShowsBy g out old new before after to_head result IsReply =
+    g.IsHonest old → g.IsClean new →
+    EndsShown to_head (IsReply (g.tables old)) (HasFailed (g.failures old) (g.failures new))
+    (out.contents before) (out.contents after) result
+
 -- a look that failed: a fault of the store is replied, and where memory ran out nothing went out
 abbrev pub EndsFault : Bool → Fault → Option Bytes → Option Bytes → Result (Unit {0}) IoEnd → Type 0
 EndsFault to_head Store before after result = SendsText (reply_text to_head store_reply) before after result
 EndsFault to_head NoMemory before after result = (result ≡ Err OutOfMemory) × Keeps before after
-
--- no table changed, the store is as honest and as clean as it was, and a crash leaves what it could have left before
-pub record LeavesTables {S : Type 0} (is_honest is_clean : S → Type 0) (tables : S → Tables) (may_leave : S → Tables → Type 0) (old new : S) : Type 0 where
-  pub unchanged : is_honest new → tables new ≡ tables old
-  pub honest : is_honest new → is_honest old
-  pub clean : is_clean new → is_clean old
-  pub crash : (T : Tables) → may_leave new T → may_leave old T
 
 -- a page
 abbrev pub is_page : Resource → Bool

@@ -1,9 +1,10 @@
 //! Requests that change something.
-ghost use Rattle.std.specs.Prelude.{◌≡◌, Err, Some, IfOk, true, false};
+ghost use Rattle.std.specs.Prelude.{◌≡◌, Err, Some, IfOk, false};
 ghost use Rattle.index_io.specs.Counts.{HasFailed};
 ghost use Rattle.index_rules.specs.Facts.{HasOneBearer};
-ghost use Rattle.index_rules.specs.Sound.{IsSound};
 ghost use Rattle.index_rules.specs.Tables.{Tables};
+ghost use Rattle.index_desk.specs.Invariants.{KeepsInvariants};
+ghost use Rattle.index_desk.specs.Looks.{LeavesTables};
 ghost use Rattle.index_desk.specs.Rules.{by_tables};
 ghost use Rattle.index_http.specs.Ends.{Ends, Stands};
 ghost use Rattle.index_http.specs.Exchanges.{Acts, asked_by as asked_by_lem, asked_of_file as asked_of_file_lem, call_of as call_of_lem};
@@ -11,7 +12,6 @@ ghost use Rattle.index_json.specs.Requests.{request_of};
 ghost use Rattle.index_message.specs.Resources.{is_head, is_put};
 ghost use Rattle.index_http.specs.Asks.{AsksFor, Takes};
 ghost use Rattle.index_http.specs.Sends.{SendsOnly, is_cut};
-ghost use Rattle.index_http.specs.Shows.{LeavesTables};
 ghost use Rattle.index_http.specs.Replies.{Reply, answer_reply as answer_reply_lem, reply_text};
 
 use crate::end::IoEnd;
@@ -48,18 +48,12 @@ pub fn act<K: Sink, B: Books>(
         let method = request.now.method in
         AsksFor call
         (λ answer. reply_text (is_head method) (answer_reply_lem (is_put method) answer))
-        (LeavesTables B.IsHonest B.IsClean B.tables B.may_leave desk.old desk.new)
-        (Takes B.IsHonest B.IsClean B.tables B.may_leave desk.old desk.new)
+        (LeavesTables B.Books desk.old desk.new) (Takes B.Books desk.old desk.new)
         (K.contents sink.old) (K.contents sink.new) result }
     ensures memory { result ≡ Err IoEnd.OutOfMemory → desk.new ≡ desk.old }
     ensures sends { SendsOnly (K.failures sink.old) (K.failures sink.new) result }
     ensures kind { is_cut result ≡ false }
-    ensures one_bearer { B.IsHonest desk.new →
-        HasOneBearer (B.tables desk.old) → HasOneBearer (B.tables desk.new) }
-    ensures sound { B.IsHonest desk.new →
-        IsSound (B.tables desk.old) → IsSound (B.tables desk.new) }
-    ensures honest { B.IsHonest desk.new → B.IsHonest desk.old }
-    ensures clean { B.IsClean desk.new → B.IsClean desk.old }
+    ensures keeps { KeepsInvariants B.Books desk.old desk.new }
 {
     let method = request.method();
     let Some(call) = call_of(alloc, at, request, body)? else {

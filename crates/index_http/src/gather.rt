@@ -23,8 +23,7 @@ pub fn gathered_root<B: Books>(
     ensures text { B.IsHonest desk.old → B.IsClean desk.new →
         let page = root_page_of served (held_rows_in (B.tables desk.old)) in
         IfOk result (λ found. IfSome found (λ text. Some page ≡ Some text.items)) }
-    ensures look { Looks B.IsHonest B.IsClean B.tables B.failures B.may_leave
-        desk.old desk.new result }
+    ensures look { Looks B.Books desk.old desk.new result }
 {
     let mut buffer = Buffer::new(alloc);
     let mut page = PageText::root(alloc, served, &mut buffer);
@@ -48,8 +47,7 @@ pub fn gathered_project<B: Books>(
         let rows = project_rows_in (B.tables desk.old) name.now in
         let page = option_map (project_page_of served name.now) rows in
         IfOk result (λ found. IfSome found (λ text. page ≡ Some text.items)) }
-    ensures look { Looks B.IsHonest B.IsClean B.tables B.failures B.may_leave
-        desk.old desk.new result }
+    ensures look { Looks B.Books desk.old desk.new result }
 {
     let mut buffer = Buffer::new(alloc);
     let mut page = PageText::project(alloc, name, served, &mut buffer);

@@ -1,22 +1,23 @@
 //! One connection: one message and its reply.
-ghost use Rattle.std.specs.Prelude.{◌≡◌, ◌≢◌, ◌⊎◌, ◌≤◌, ◌+◌, ℕ, List, length, true, false, Err};
-ghost use Rattle.std.specs.Io.KnownBytes.{Consumes};
+ghost use Rattle.std.specs.Prelude.{◌≡◌, ◌≢◌, ◌⊎◌, ◌+◌, true, false, Err};
 ghost use Rattle.index_io.specs.Counts.{HasFailed};
 ghost use Rattle.index_rules.specs.Facts.{HasOneBearer};
 ghost use Rattle.index_rules.specs.History.{History};
 ghost use Rattle.index_rules.specs.Legal.{IsLegal};
-ghost use Rattle.index_rules.specs.Sound.{IsSound};
 ghost use Rattle.index_rules.specs.StandsFor.{StandsFor};
 ghost use Rattle.index_rules.specs.Tables.{Tables};
+ghost use Rattle.index_desk.specs.Invariants.{KeepsInvariants};
+ghost use Rattle.index_desk.specs.Looks.{LeavesTables};
 ghost use Rattle.index_desk.specs.Rules.{by_tables};
 ghost use Rattle.index_message.specs.Heads.{longest_head};
 ghost use Rattle.index_message.specs.Lengths.{longest_upload};
 ghost use Rattle.index_message.specs.Messages.{EndsUnfinished};
+ghost use Rattle.index_message.specs.Reads.{TakesAtMost};
 ghost use Rattle.index_http.specs.Asks.{Asks, AsksFor, Takes, call_in, text_of_answer};
 ghost use Rattle.index_http.specs.Ends.{Ends, EndsAfter, Stands};
 ghost use Rattle.index_http.specs.Exchanges.{RepliesTo, RepliesToInput};
 ghost use Rattle.index_http.specs.Sends.{SendsOnly, is_cut, is_write_fault};
-ghost use Rattle.index_http.specs.Shows.{GivesMessage, LeavesTables, asks_page, is_look};
+ghost use Rattle.index_http.specs.Shows.{GivesMessage, asks_page, is_look};
 
 use crate::act::act;
 use crate::end::IoEnd;
@@ -70,8 +71,7 @@ pub fn answer_one<S: Source, K: Sink, B: Keeper>(
     // The desk takes one call at most, that of the message, and the reply is that to its answer. Else no table changes, and
     // a crash leaves nothing new.
     ensures asks { Asks at (S.remaining source.old)
-        (LeavesTables B.IsHonest B.IsClean B.tables B.may_leave desk.old desk.new)
-        (Takes B.IsHonest B.IsClean B.tables B.may_leave desk.old desk.new)
+        (LeavesTables B.Books desk.old desk.new) (Takes B.Books desk.old desk.new)
         (K.contents sink.old) (K.contents sink.new) result }
 
     // Where memory ran out nothing was asked of the desk, or it was a look: an answer to a call is always replied.
@@ -96,16 +96,11 @@ pub fn answer_one<S: Source, K: Sink, B: Keeper>(
     ensures cut_page { is_cut result ≡ true → GivesMessage asks_page (S.remaining source.old) }
 
     // No more is read than may be.
-    ensures limit { (taken : List ℕ) × (length taken ≤ longest_head + longest_upload)
-        × Consumes (S.remaining source.old) (S.remaining source.new) taken }
+    ensures limit { TakesAtMost (longest_head + longest_upload)
+        (S.remaining source.old) (S.remaining source.new) }
 
     // However it ends: one user at most bears a digest, and accounts that add up keep adding up.
-    ensures one_bearer { B.IsHonest desk.new →
-        HasOneBearer (B.tables desk.old) → HasOneBearer (B.tables desk.new) }
-    ensures sound { B.IsHonest desk.new →
-        IsSound (B.tables desk.old) → IsSound (B.tables desk.new) }
-    ensures honest { B.IsHonest desk.new → B.IsHonest desk.old }
-    ensures clean { B.IsClean desk.new → B.IsClean desk.old }
+    ensures keeps { KeepsInvariants B.Books desk.old desk.new }
 {
     let message = read_message(alloc, site, source)?;
     answer(alloc, sink, desk, at, message)
@@ -127,8 +122,7 @@ fn answer<K: Sink, B: Keeper>(
         × RepliesTo by_tables cause at T message text later × IsLater later) (IsLater T)
         (K.contents sink.old) (K.contents sink.new) result }
     ensures asks { AsksFor (call_in at message) (text_of_answer message)
-        (LeavesTables B.IsHonest B.IsClean B.tables B.may_leave desk.old desk.new)
-        (Takes B.IsHonest B.IsClean B.tables B.may_leave desk.old desk.new)
+        (LeavesTables B.Books desk.old desk.new) (Takes B.Books desk.old desk.new)
         (K.contents sink.old) (K.contents sink.new) result }
     ensures memory { result ≡ Err IoEnd.OutOfMemory →
         (desk.new ≡ desk.old) ⊎ (is_look message ≡ true) }
@@ -136,12 +130,7 @@ fn answer<K: Sink, B: Keeper>(
     ensures cut { B.IsHonest desk.new → is_cut result ≡ true →
         B.tables desk.new ≡ B.tables desk.old }
     ensures cut_page { is_cut result ≡ true → asks_page message ≡ true }
-    ensures one_bearer { B.IsHonest desk.new →
-        HasOneBearer (B.tables desk.old) → HasOneBearer (B.tables desk.new) }
-    ensures sound { B.IsHonest desk.new →
-        IsSound (B.tables desk.old) → IsSound (B.tables desk.new) }
-    ensures honest { B.IsHonest desk.new → B.IsHonest desk.old }
-    ensures clean { B.IsClean desk.new → B.IsClean desk.old }
+    ensures keeps { KeepsInvariants B.Books desk.old desk.new }
 {
     match message {
         Message::Faulty { fault, is_head } => send_reply(sink, is_head, message_reply(fault)),

@@ -26,8 +26,7 @@ pub fn root_length<B: Books>(
     ensures measured { B.IsHonest desk.old → B.IsClean desk.new →
         let page = root_page_of served (held_rows_in (B.tables desk.old)) in
         MeasuresPage page (B.failures desk.old) (B.failures desk.new) result }
-    ensures keeps { KeepsTables B.IsHonest B.IsClean B.tables B.failures B.may_leave
-        desk.old desk.new (is_err result) }
+    ensures keeps { KeepsTables B.Books desk.old desk.new (is_err result) }
 {
     let mut page = PageLength::root(served);
     let walked = desk.walk_root(alloc, &mut page);
@@ -46,8 +45,7 @@ pub fn root_text<K: Sink, B: Books>(
         let page = root_page_of served (held_rows_in (B.tables desk.old)) in
         SendsText page (K.contents sink.old) (K.contents sink.new) result }
     ensures sends { SendsOnly (K.failures sink.old) (K.failures sink.new) result }
-    ensures keeps { KeepsTables B.IsHonest B.IsClean B.tables B.failures B.may_leave
-        desk.old desk.new (is_cut result) }
+    ensures keeps { KeepsTables B.Books desk.old desk.new (is_cut result) }
 {
     let mut page = PageText::root(alloc, served, sink);
     let walked = desk.walk_root(alloc, &mut page);
@@ -69,8 +67,7 @@ pub fn project_length<B: Books>(
         let rows = project_rows_in (B.tables desk.old) name.now in
         let page = option_map (project_page_of served name.now) rows in
         MeasuresProject page (B.failures desk.old) (B.failures desk.new) result }
-    ensures keeps { KeepsTables B.IsHonest B.IsClean B.tables B.failures B.may_leave
-        desk.old desk.new (is_err result) }
+    ensures keeps { KeepsTables B.Books desk.old desk.new (is_err result) }
 {
     let mut page = PageLength::project(alloc, name, served);
     let walked = desk.walk_project(alloc, name, &mut page);
@@ -97,8 +94,7 @@ pub fn project_text<K: Sink, B: Books>(
         project_rows_in (B.tables desk.old) name.now ≡ None →
         Keeps (K.contents sink.old) (K.contents sink.new) × (result ≡ Err (IoEnd.Cut 0)) }
     ensures sends { SendsOnly (K.failures sink.old) (K.failures sink.new) result }
-    ensures keeps { KeepsTables B.IsHonest B.IsClean B.tables B.failures B.may_leave
-        desk.old desk.new (is_cut result) }
+    ensures keeps { KeepsTables B.Books desk.old desk.new (is_cut result) }
 {
     let mut page = PageText::project(alloc, name, served, sink);
     let walked = desk.walk_project(alloc, name, &mut page);

@@ -1,17 +1,16 @@
 //! Pages, whose head tells their length before their text is sent.
 ghost use Rattle.std.specs.Prelude.{◌≡◌, ◌≤◌, IfOk, IfSome, IsErr, None, Some, length, true, false, is_err};
-ghost use Rattle.index_io.specs.Counts.{HasFailed};
 ghost use Rattle.index_rules.specs.Maps.{Bytes as BytesData};
-ghost use Rattle.index_desk.specs.Looks.{Looks};
+ghost use Rattle.index_desk.specs.Looks.{LeavesTables, Looks};
 ghost use Rattle.index_desk.specs.Pages.{page_in};
 ghost use Rattle.index_desk.specs.Rules.{by_tables};
 ghost use Rattle.index_pages.specs.Ends.{most_bytes};
 ghost use Rattle.index_http.specs.Exchanges.{ShowsProject, ShowsRoot};
 ghost use Rattle.index_http.specs.PagePasses.{KeepsTables, MeasuresProject};
-ghost use Rattle.index_http.specs.PageShows.{ShowsWhole, behind as behind_lem, sent_behind};
+ghost use Rattle.index_http.specs.PageShows.{ShowsWhole, sent_behind};
 ghost use Rattle.index_http.specs.Replies.{page_reply, reply_text};
 ghost use Rattle.index_http.specs.Sends.{SendsOnly, SendsText, is_cut, is_write_fault};
-ghost use Rattle.index_http.specs.Shows.{EndsShown, LeavesTables};
+ghost use Rattle.index_http.specs.Shows.{ShowsBy};
 
 use crate::end::IoEnd;
 use crate::gather::{gathered_project, gathered_root};
@@ -35,13 +34,9 @@ pub fn show_root<K: Sink, B: Keeper>(
     to_head: bool,
     chosen: Option<Served>,
 ) -> Result<(), IoEnd>
-    ensures shown { B.IsHonest desk.old → B.IsClean desk.new →
-        let cause = HasFailed (B.failures desk.old) (B.failures desk.new) in
-        let T = B.tables desk.old in
-        EndsShown to_head (ShowsRoot by_tables T chosen) cause
-        (K.contents sink.old) (K.contents sink.new) result }
-    ensures leaves { LeavesTables B.IsHonest B.IsClean B.tables B.may_leave
-        desk.old desk.new }
+    ensures shown { ShowsBy B.Books K.Sink desk.old desk.new sink.old sink.new to_head result
+        (λ T. ShowsRoot by_tables T chosen) }
+    ensures leaves { LeavesTables B.Books desk.old desk.new }
     ensures sends { SendsOnly (K.failures sink.old) (K.failures sink.new) result }
     ensures cut { is_cut result ≡ true → to_head ≡ false }
 {
@@ -60,13 +55,9 @@ pub fn show_project<K: Sink, B: Keeper>(
     chosen: Option<Served>,
     name: &NormalName,
 ) -> Result<(), IoEnd>
-    ensures shown { B.IsHonest desk.old → B.IsClean desk.new →
-        let cause = HasFailed (B.failures desk.old) (B.failures desk.new) in
-        let T = B.tables desk.old in
-        EndsShown to_head (ShowsProject by_tables T name.now chosen) cause
-        (K.contents sink.old) (K.contents sink.new) result }
-    ensures leaves { LeavesTables B.IsHonest B.IsClean B.tables B.may_leave
-        desk.old desk.new }
+    ensures shown { ShowsBy B.Books K.Sink desk.old desk.new sink.old sink.new to_head result
+        (λ T. ShowsProject by_tables T name.now chosen) }
+    ensures leaves { LeavesTables B.Books desk.old desk.new }
     ensures sends { SendsOnly (K.failures sink.old) (K.failures sink.new) result }
     ensures cut { is_cut result ≡ true → to_head ≡ false }
 {
@@ -84,13 +75,9 @@ fn show_no_page<K: Sink, B: Books>(
     to_head: bool,
     name: &NormalName,
 ) -> Result<(), IoEnd>
-    ensures shown { B.IsHonest desk.old → B.IsClean desk.new →
-        let cause = HasFailed (B.failures desk.old) (B.failures desk.new) in
-        let T = B.tables desk.old in
-        EndsShown to_head (ShowsProject by_tables T name.now None) cause
-        (K.contents sink.old) (K.contents sink.new) result }
-    ensures leaves { LeavesTables B.IsHonest B.IsClean B.tables B.may_leave
-        desk.old desk.new }
+    ensures shown { ShowsBy B.Books K.Sink desk.old desk.new sink.old sink.new to_head result
+        (λ T. ShowsProject by_tables T name.now None) }
+    ensures leaves { LeavesTables B.Books desk.old desk.new }
     ensures sends { SendsOnly (K.failures sink.old) (K.failures sink.new) result }
     ensures whole { is_cut result ≡ false }
 {
@@ -110,13 +97,9 @@ fn show_page<K: Sink, B: Keeper>(
     page: Page<'_>,
     served: Served,
 ) -> Result<(), IoEnd>
-    ensures shown { B.IsHonest desk.old → B.IsClean desk.new →
-        let cause = HasFailed (B.failures desk.old) (B.failures desk.new) in
-        let T = B.tables desk.old in
-        EndsShown to_head (ShowsWhole served (page_in T served page.entry)) cause
-        (K.contents sink.old) (K.contents sink.new) result }
-    ensures leaves { LeavesTables B.IsHonest B.IsClean B.tables B.may_leave
-        desk.old desk.new }
+    ensures shown { ShowsBy B.Books K.Sink desk.old desk.new sink.old sink.new to_head result
+        (λ T. ShowsWhole served (page_in T served page.entry)) }
+    ensures leaves { LeavesTables B.Books desk.old desk.new }
     ensures sends { SendsOnly (K.failures sink.old) (K.failures sink.new) result }
     ensures cut { is_cut result ≡ true → to_head ≡ false }
 {
@@ -144,8 +127,7 @@ fn gathered_text<B: Books>(
 ) -> Result<Option<Vec<u8>>, Fault>
     ensures text { B.IsHonest desk.old → B.IsClean desk.new → IfOk result (λ found.
         IfSome found (λ text. page_in (B.tables desk.old) served page.entry ≡ Some text.items)) }
-    ensures look { Looks B.IsHonest B.IsClean B.tables B.failures B.may_leave
-        desk.old desk.new result }
+    ensures look { Looks B.Books desk.old desk.new result }
 {
     match page {
         Page::Root => gathered_root(alloc, desk, served),
@@ -162,13 +144,9 @@ fn show_in_passes<K: Sink, B: Books>(
     page: Page<'_>,
     served: Served,
 ) -> Result<(), IoEnd>
-    ensures shown { B.IsHonest desk.old → B.IsClean desk.new →
-        let cause = HasFailed (B.failures desk.old) (B.failures desk.new) in
-        let T = B.tables desk.old in
-        EndsShown to_head (ShowsWhole served (page_in T served page.entry)) cause
-        (K.contents sink.old) (K.contents sink.new) result }
-    ensures leaves { LeavesTables B.IsHonest B.IsClean B.tables B.may_leave
-        desk.old desk.new }
+    ensures shown { ShowsBy B.Books K.Sink desk.old desk.new sink.old sink.new to_head result
+        (λ T. ShowsWhole served (page_in T served page.entry)) }
+    ensures leaves { LeavesTables B.Books desk.old desk.new }
     ensures sends { SendsOnly (K.failures sink.old) (K.failures sink.new) result }
     ensures cut { is_cut result ≡ true → to_head ≡ false }
 {
@@ -189,8 +167,7 @@ fn length_of<B: Books>(
     ensures measured { B.IsHonest desk.old → B.IsClean desk.new →
         MeasuresProject (page_in (B.tables desk.old) served page.entry)
         (B.failures desk.old) (B.failures desk.new) result }
-    ensures keeps { KeepsTables B.IsHonest B.IsClean B.tables B.failures B.may_leave
-        desk.old desk.new (is_err result) }
+    ensures keeps { KeepsTables B.Books desk.old desk.new (is_err result) }
 {
     match page {
         Page::Root => Ok(Some(root_length(alloc, desk, served)?)),
@@ -213,8 +190,7 @@ fn send_page<K: Sink, B: Books>(
         size ≡ length bytes → size ≤ most_bytes →
         SendsText (reply_text to_head (page_reply served bytes))
         (K.contents sink.old) (K.contents sink.new) result }
-    ensures leaves { LeavesTables B.IsHonest B.IsClean B.tables B.may_leave
-        desk.old desk.new }
+    ensures leaves { LeavesTables B.Books desk.old desk.new }
     ensures sends { SendsOnly (K.failures sink.old) (K.failures sink.new) result }
     ensures cut { is_cut result ≡ true → to_head ≡ false }
 {
@@ -241,8 +217,7 @@ fn send_text<K: Sink, B: Books>(
         SendsText bytes (K.contents sink.old) (K.contents sink.new) result }
     ensures none { B.IsHonest desk.old → B.IsClean desk.new →
         page_in (B.tables desk.old) served page.entry ≡ None → IsErr result }
-    ensures keeps { KeepsTables B.IsHonest B.IsClean B.tables B.failures B.may_leave
-        desk.old desk.new (is_cut result) }
+    ensures keeps { KeepsTables B.Books desk.old desk.new (is_cut result) }
     ensures sends { SendsOnly (K.failures sink.old) (K.failures sink.new) result }
 {
     match page {

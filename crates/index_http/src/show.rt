@@ -1,13 +1,13 @@
 //! Looks at pages, files and standings. None changes a table.
 ghost use Rattle.std.specs.Prelude.{◌≡◌, IfErr, IfOk, IfSome, IsSome, Some, true, false, bytes_eq, is_some};
-ghost use Rattle.index_io.specs.Counts.{HasFailed};
 ghost use Rattle.index_names.specs.FileName.{read_file_name};
 ghost use Rattle.index_names.specs.Project.{read_name};
+ghost use Rattle.index_desk.specs.Looks.{LeavesTables};
 ghost use Rattle.index_desk.specs.Rules.{by_tables};
 ghost use Rattle.index_message.specs.Resources.{is_head};
 ghost use Rattle.index_http.specs.Exchanges.{IsAccepted, Shows, ShowsAt, ShowsFile, ShowsName, ShowsSpelling};
 ghost use Rattle.index_http.specs.Sends.{SendsOnly, is_cut};
-ghost use Rattle.index_http.specs.Shows.{EndsShown, LeavesTables, shows_page};
+ghost use Rattle.index_http.specs.Shows.{ShowsBy, shows_page};
 
 use crate::end::IoEnd;
 use crate::pages::{show_project, show_root};
@@ -31,14 +31,10 @@ pub fn show<K: Sink, B: Keeper>(
     desk: &mut Desk<B>,
     request: &Request,
 ) -> Result<(), IoEnd>
-    ensures shown { B.IsHonest desk.old → B.IsClean desk.new →
-        let cause = HasFailed (B.failures desk.old) (B.failures desk.new) in
-        let T = B.tables desk.old in
-        let fields = request.now.fields in
-        EndsShown (is_head request.now.method) (Shows by_tables T fields request.now.resource) cause
-        (K.contents sink.old) (K.contents sink.new) result }
-    ensures leaves { LeavesTables B.IsHonest B.IsClean B.tables B.may_leave
-        desk.old desk.new }
+    ensures shown { ShowsBy B.Books K.Sink desk.old desk.new sink.old sink.new
+        (is_head request.now.method) result
+        (λ T. Shows by_tables T request.now.fields request.now.resource) }
+    ensures leaves { LeavesTables B.Books desk.old desk.new }
     ensures sends { SendsOnly (K.failures sink.old) (K.failures sink.new) result }
     ensures cut { is_cut result ≡ true → shows_page request.now ≡ true }
 {
@@ -106,14 +102,9 @@ fn show_at<K: Sink, B: Keeper>(
     request: &Request,
     given: &Bytes,
 ) -> Result<(), IoEnd>
-    ensures shown { B.IsHonest desk.old → B.IsClean desk.new →
-        let cause = HasFailed (B.failures desk.old) (B.failures desk.new) in
-        let T = B.tables desk.old in
-        let fields = request.now.fields in
-        EndsShown to_head (ShowsAt by_tables T fields given.now (read_name given.now)) cause
-        (K.contents sink.old) (K.contents sink.new) result }
-    ensures leaves { LeavesTables B.IsHonest B.IsClean B.tables B.may_leave
-        desk.old desk.new }
+    ensures shown { ShowsBy B.Books K.Sink desk.old desk.new sink.old sink.new to_head result
+        (λ T. ShowsAt by_tables T request.now.fields given.now (read_name given.now)) }
+    ensures leaves { LeavesTables B.Books desk.old desk.new }
     ensures sends { SendsOnly (K.failures sink.old) (K.failures sink.new) result }
     ensures cut { is_cut result ≡ true → to_head ≡ false }
 {
@@ -133,15 +124,9 @@ fn show_spelling<K: Sink, B: Keeper>(
     given: &Bytes,
     name: &NormalName,
 ) -> Result<(), IoEnd>
-    ensures shown { B.IsHonest desk.old → B.IsClean desk.new →
-        let cause = HasFailed (B.failures desk.old) (B.failures desk.new) in
-        let T = B.tables desk.old in
-        let fields = request.now.fields in
-        let same = bytes_eq name.now given.now in
-        EndsShown to_head (ShowsSpelling by_tables T fields name.now same) cause
-        (K.contents sink.old) (K.contents sink.new) result }
-    ensures leaves { LeavesTables B.IsHonest B.IsClean B.tables B.may_leave
-        desk.old desk.new }
+    ensures shown { ShowsBy B.Books K.Sink desk.old desk.new sink.old sink.new to_head result
+        (λ T. ShowsSpelling by_tables T request.now.fields name.now (bytes_eq name.now given.now)) }
+    ensures leaves { LeavesTables B.Books desk.old desk.new }
     ensures sends { SendsOnly (K.failures sink.old) (K.failures sink.new) result }
     ensures cut { is_cut result ≡ true → to_head ≡ false }
 {
@@ -161,13 +146,9 @@ fn show_file<K: Sink, B: Keeper>(
     to_head: bool,
     given: &Bytes,
 ) -> Result<(), IoEnd>
-    ensures shown { B.IsHonest desk.old → B.IsClean desk.new →
-        let cause = HasFailed (B.failures desk.old) (B.failures desk.new) in
-        let T = B.tables desk.old in
-        EndsShown to_head (ShowsFile by_tables T given.now (is_some (read_file_name given.now)))
-        cause (K.contents sink.old) (K.contents sink.new) result }
-    ensures leaves { LeavesTables B.IsHonest B.IsClean B.tables B.may_leave
-        desk.old desk.new }
+    ensures shown { ShowsBy B.Books K.Sink desk.old desk.new sink.old sink.new to_head result
+        (λ T. ShowsFile by_tables T given.now (is_some (read_file_name given.now))) }
+    ensures leaves { LeavesTables B.Books desk.old desk.new }
     ensures sends { SendsOnly (K.failures sink.old) (K.failures sink.new) result }
     ensures whole { is_cut result ≡ false }
 {
@@ -196,13 +177,9 @@ fn show_name<K: Sink, B: Books>(
     to_head: bool,
     given: &Bytes,
 ) -> Result<(), IoEnd>
-    ensures shown { B.IsHonest desk.old → B.IsClean desk.new →
-        let cause = HasFailed (B.failures desk.old) (B.failures desk.new) in
-        let T = B.tables desk.old in
-        EndsShown to_head (ShowsName by_tables T (read_name given.now)) cause
-        (K.contents sink.old) (K.contents sink.new) result }
-    ensures leaves { LeavesTables B.IsHonest B.IsClean B.tables B.may_leave
-        desk.old desk.new }
+    ensures shown { ShowsBy B.Books K.Sink desk.old desk.new sink.old sink.new to_head result
+        (λ T. ShowsName by_tables T (read_name given.now)) }
+    ensures leaves { LeavesTables B.Books desk.old desk.new }
     ensures sends { SendsOnly (K.failures sink.old) (K.failures sink.new) result }
     ensures whole { is_cut result ≡ false }
 {
@@ -220,13 +197,9 @@ fn show_standing<K: Sink, B: Books>(
     to_head: bool,
     name: &NormalName,
 ) -> Result<(), IoEnd>
-    ensures shown { B.IsHonest desk.old → B.IsClean desk.new →
-        let cause = HasFailed (B.failures desk.old) (B.failures desk.new) in
-        let T = B.tables desk.old in
-        EndsShown to_head (ShowsName by_tables T (Some name.now)) cause
-        (K.contents sink.old) (K.contents sink.new) result }
-    ensures leaves { LeavesTables B.IsHonest B.IsClean B.tables B.may_leave
-        desk.old desk.new }
+    ensures shown { ShowsBy B.Books K.Sink desk.old desk.new sink.old sink.new to_head result
+        (λ T. ShowsName by_tables T (Some name.now)) }
+    ensures leaves { LeavesTables B.Books desk.old desk.new }
     ensures sends { SendsOnly (K.failures sink.old) (K.failures sink.new) result }
     ensures whole { is_cut result ≡ false }
 {

@@ -1,4 +1,5 @@
 -- One message of HTTP/1.1 (RFC 9112).
+pub mod Reads
 pub mod Heads
 pub mod Fields
 pub mod Routes

@@ -1,8 +1,8 @@
 //! The head of a request, read in whatever pieces it comes.
-ghost use Rattle.std.specs.Prelude.{◌≡◌, ◌≢◌, ◌≤◌, ◌<◌, ◌+◌, [], ◌++◌, List, ℕ, true, false, length, vec_len, None, Ok, Err, IfOk, IfSome, OnOk, unwrap_or};
+ghost use Rattle.std.specs.Prelude.{◌≡◌, ◌≤◌, ◌<◌, ◌+◌, [], ◌++◌, List, ℕ, true, false, length, vec_len, None, Ok, Err, IfOk, IfSome, OnOk, unwrap_or};
 ghost use Rattle.std.specs.Io.KnownBytes.{Consumes, IsAtEnd, Keeps};
-ghost use Rattle.index_io.specs.Counts.{HasFailed};
 ghost use Rattle.index_message.specs.Heads.{AwaitsHead, HasNoHead, IsHeadAt, Tries, longest_head, most_fields};
+ghost use Rattle.index_message.specs.Reads.{ReadsOnly, TakesAtMost};
 
 use httparse::Status;
 use httparse::spans::{HeaderSpan, RequestSpans, parse_request};
@@ -52,11 +52,8 @@ pub fn read_head<S: Source>(
         → HasNoHead (held.new.items ++ unwrap_or (S.remaining source.new) []) }
     ensures prompt { result ≡ Err ReadEnd.ReadFault → AwaitsHead held.new.items
         × Consumes (S.remaining source.old) (S.remaining source.new) held.new.items }
-    ensures read_fault { result ≡ Err ReadEnd.ReadFault
-        → HasFailed (S.failures source.old) (S.failures source.new) }
-    ensures reads { result ≢ Err ReadEnd.ReadFault → S.failures source.new ≡ S.failures source.old }
-    ensures limit { (taken : List ℕ) × (length taken ≤ longest_head)
-        × Consumes (S.remaining source.old) (S.remaining source.new) taken }
+    ensures reads { ReadsOnly (S.failures source.old) (S.failures source.new) result }
+    ensures limit { TakesAtMost longest_head (S.remaining source.old) (S.remaining source.new) }
 {
     while held.len() < LONGEST_HEAD {
         if read_more(source, held, LONGEST_HEAD)? == 0 {
@@ -97,11 +94,8 @@ pub fn read_up_to<S: Source>(
     ensures prompt { result ≡ Err ReadEnd.ReadFault
         → (more : List ℕ) × (vec_len held.old + length more < wanted)
         × Consumes (S.remaining source.old) (S.remaining source.new) more }
-    ensures read_fault { result ≡ Err ReadEnd.ReadFault
-        → HasFailed (S.failures source.old) (S.failures source.new) }
-    ensures reads { result ≢ Err ReadEnd.ReadFault → S.failures source.new ≡ S.failures source.old }
-    ensures limit { (taken : List ℕ) × (length taken ≤ wanted)
-        × Consumes (S.remaining source.old) (S.remaining source.new) taken }
+    ensures reads { ReadsOnly (S.failures source.old) (S.failures source.new) result }
+    ensures limit { TakesAtMost wanted (S.remaining source.old) (S.remaining source.new) }
 {
     while held.len() < wanted {
         if read_more(source, held, wanted)? == 0 {
@@ -121,9 +115,7 @@ fn read_more<S: Source>(source: &mut S, held: &mut Vec<u8>, most: usize) -> Resu
     ensures end { result ≡ Ok 0 → IsAtEnd (S.remaining source.new) }
     ensures kept { result ≡ Err ReadEnd.ReadFault → (held.new.items ≡ held.old.items)
         × Keeps (S.remaining source.old) (S.remaining source.new) }
-    ensures read_fault { result ≡ Err ReadEnd.ReadFault
-        → HasFailed (S.failures source.old) (S.failures source.new) }
-    ensures reads { result ≢ Err ReadEnd.ReadFault → S.failures source.new ≡ S.failures source.old }
+    ensures reads { ReadsOnly (S.failures source.old) (S.failures source.new) result }
     ensures limit { (taken : List ℕ) × (vec_len held.old + length taken ≤ most)
         × Consumes (S.remaining source.old) (S.remaining source.new) taken }
 {

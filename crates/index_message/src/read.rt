@@ -1,12 +1,12 @@
 //! One message, read from any source.
-ghost use Rattle.std.specs.Prelude.{◌≡◌, ◌≢◌, ◌≤◌, ◌<◌, ◌+◌, ◌++◌, List, ℕ, length, map, drop, Err, IfErr, IfOk, All};
+ghost use Rattle.std.specs.Prelude.{◌≡◌, ◌≤◌, ◌<◌, ◌+◌, ◌++◌, List, ℕ, length, map, drop, Err, IfErr, IfOk, All};
 ghost use Rattle.std.specs.Io.KnownBytes.{Consumes};
 ghost use Rattle.httparse.specs.Spans.{IsHeaderWithin, IsRequestWithin, IsWithin, header_bytes, span_bytes};
 ghost use Rattle.index_io.specs.Bytes.{IsInput};
-ghost use Rattle.index_io.specs.Counts.{HasFailed};
 ghost use Rattle.index_message.specs.Heads.{IsHeadAt, longest_head};
 ghost use Rattle.index_message.specs.Lengths.{longest_upload};
 ghost use Rattle.index_message.specs.Messages.{AwaitsBody, EndsUnfinished, FollowsHead, IsMessage, TakesBody, asked_by, is_head, whole_of};
+ghost use Rattle.index_message.specs.Reads.{ReadsOnly, TakesAtMost};
 ghost use Rattle.index_message.specs.declared.message.Message.TheVariants.{Faulty};
 
 use crate::fault::MessageFault;
@@ -32,11 +32,9 @@ pub fn read_message<S: Source>(
         × IsInput (S.remaining source.old) input × IsMessage input message) }
     ensures prompt { result ≡ Err ReadEnd.ReadFault
         → EndsUnfinished (S.remaining source.old) (S.remaining source.new) }
-    ensures read_fault { result ≡ Err ReadEnd.ReadFault
-        → HasFailed (S.failures source.old) (S.failures source.new) }
-    ensures reads { result ≢ Err ReadEnd.ReadFault → S.failures source.new ≡ S.failures source.old }
-    ensures limit { (taken : List ℕ) × (length taken ≤ longest_head + longest_upload)
-        × Consumes (S.remaining source.old) (S.remaining source.new) taken }
+    ensures reads { ReadsOnly (S.failures source.old) (S.failures source.new) result }
+    ensures limit { TakesAtMost (longest_head + longest_upload)
+        (S.remaining source.old) (S.remaining source.new) }
 {
     let mut bytes = Vec::new(alloc);
     let mut fields = [EMPTY_HEADER_SPAN; MOST_FIELDS];
@@ -66,11 +64,8 @@ fn read_rest<S: Source>(
         → (found : IsHeadAt bytes.items fields.now spans)
         → (more : List ℕ) × AwaitsBody found.head (drop spans.len bytes.items ++ more)
         × Consumes (S.remaining source.old) (S.remaining source.new) more }
-    ensures read_fault { result ≡ Err ReadEnd.ReadFault
-        → HasFailed (S.failures source.old) (S.failures source.new) }
-    ensures reads { result ≢ Err ReadEnd.ReadFault → S.failures source.new ≡ S.failures source.old }
-    ensures limit { (taken : List ℕ) × (length taken ≤ longest_upload)
-        × Consumes (S.remaining source.old) (S.remaining source.new) taken }
+    ensures reads { ReadsOnly (S.failures source.old) (S.failures source.new) result }
+    ensures limit { TakesAtMost longest_upload (S.remaining source.old) (S.remaining source.new) }
 {
     let head = bytes.as_slice();
     let fields = &fields[..spans.headers];
@@ -146,11 +141,8 @@ fn read_body<S: Source>(
     ensures prompt { result ≡ Err ReadEnd.ReadFault
         → (more : List ℕ) × (length front.now + length more < size)
         × Consumes (S.remaining source.old) (S.remaining source.new) more }
-    ensures read_fault { result ≡ Err ReadEnd.ReadFault
-        → HasFailed (S.failures source.old) (S.failures source.new) }
-    ensures reads { result ≢ Err ReadEnd.ReadFault → S.failures source.new ≡ S.failures source.old }
-    ensures limit { (taken : List ℕ) × (length taken ≤ size)
-        × Consumes (S.remaining source.old) (S.remaining source.new) taken }
+    ensures reads { ReadsOnly (S.failures source.old) (S.failures source.new) result }
+    ensures limit { TakesAtMost size (S.remaining source.old) (S.remaining source.new) }
 {
     let size = size as usize;
     let mut body = Vec::from_slice(alloc, front)?;

@@ -1,18 +1,25 @@
 -- A page that is written row by row, as contracts see it.
 use Rattle.std.specs.Prelude.{◌≡◌, ℕ, ◌<◌, List, ◌++◌, length, Option, Some, None, IsSome, Result, Ok, Err, option_map}
 use Rattle.std.specs.Io.KnownBytes.{Appends}
+use Rattle.index_io.specs.declared.sink.Sink.{Ghosts}
 use Rattle.index_rules.specs.Maps.{Bytes}
 use Rattle.index_rules.specs.Rows.{StoppedAt, WasGiven}
 use Rattle.index_rules.specs.declared.answer.Fault.{Fault}
 use Rattle.index_rules.specs.declared.answer.Fault.TheVariants as fault
+use Rattle.index_rules.specs.declared.rows.FileRow.{FileRow}
+use Rattle.index_rules.specs.declared.rows.NameRow.{NameRow}
+use Rattle.index_pages.specs.Parts.{project_rest, root_rest}
 use Rattle.index_pages.specs.Rest.{Rest}
 use Rattle.index_pages.specs.Ends.{SinkState, SendsRow, SendsRowFront, count_of, most_bytes, Ends, Measures}
 use Rattle.index_pages.specs.declared.end.PageEnd.{PageEnd}
 use Rattle.index_pages.specs.declared.end.PageEnd.TheVariants.{OutOfMemory, Store}
+use Rattle.index_pages.specs.declared.project.ProjectPage.{ProjectPage}
+use Rattle.index_pages.specs.declared.root.RootPage.{RootPage}
+use Rattle.index_pages.specs.declared.text.PageText.{PageText}
 
 -- a sink by what it has and how many of its writes failed
-abbrev pub sink_state : Option Bytes → ℕ → SinkState
-sink_state contents failures = record { contents = contents; failures = failures }
+abbrev pub state_of : {K : Type 0} → Ghosts K → K → SinkState
+state_of g sink = record { contents = g.contents sink; failures = g.failures sink }
 
 -- the text that is still to come, what the sink has, how much of that is the page's, and how the page ended
 pub record TextState (R : Type 0) : Type 0 where
@@ -24,6 +31,18 @@ pub record TextState (R : Type 0) : Type 0 where
 -- a page by its four parts
 abbrev pub text_state : {R : Type 0} → Rest R → SinkState → ℕ → Option PageEnd → TextState R
 text_state rest sink written end = record { rest = rest; sink = sink; written = written; end = end }
+
+-- what a page of the names still has before it, by the rows that are still to come
+abbrev pub root_left : RootPage → Bytes → Rest NameRow
+root_left page name = root_rest page.as_json page.is_started
+
+-- the same of the page of a project
+abbrev pub project_left : ProjectPage → Bytes → Rest FileRow
+project_left page project = project_rest page.as_json project page.is_started page.releases.keys
+
+-- a page, by what one of its kind still has before it
+abbrev pub page_state : {K P R X : Type 0} → Ghosts K → (P → Bytes → Rest X) → PageText K P R → TextState X
+page_state g rest page = text_state (rest page.page page.name.now) (state_of g page.sink.now) page.written page.end
 
 -- a row was taken: its text went out
 pub record TakesText {R : Type 0} (before : TextState R) (row : R) (after : TextState R) : Type 0 where

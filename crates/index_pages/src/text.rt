@@ -5,7 +5,7 @@ ghost use Rattle.index_rules.specs.declared.rows.NameRow.{NameRow as NameRowData
 ghost use Rattle.index_pages.specs.Ends.{count_of, most_bytes, Closes, SendsRow, SendsRowFront};
 ghost use Rattle.index_pages.specs.Pages.{project_page_of, root_page_of};
 ghost use Rattle.index_pages.specs.Parts.{project_rest, root_rest};
-ghost use Rattle.index_pages.specs.States.{sink_state, text_state, EndsPage, IsSteady, IsWritten, StopsPage};
+ghost use Rattle.index_pages.specs.States.{page_state, state_of, EndsPage, IsSteady, IsWritten, StopsPage};
 
 use crate::end::PageEnd;
 use crate::page::Page;
@@ -97,14 +97,8 @@ impl<'a, 'p, K: Sink, P: Page> PageText<'a, 'p, K, P, Vec<u8>> {
     /// memory.
     pub fn written(&self) -> u64
         ensures count { result ≡ self.now.written }
-        ensures front { let now = self.now.sink.now in
-            let sink = sink_state (K.contents now) (K.failures now) in
-            let rest = P.rest self.now.page self.now.name.now in
-            IsWritten (text_state rest sink self.now.written self.now.end) }
-        ensures steady { let now = self.now.sink.now in
-            let sink = sink_state (K.contents now) (K.failures now) in
-            let rest = P.rest self.now.page self.now.name.now in
-            IsSteady (text_state rest sink self.now.written self.now.end) }
+        ensures front { IsWritten (page_state K.Sink P.rest self.now) }
+        ensures steady { IsSteady (page_state K.Sink P.rest self.now) }
     {
         self.written
     }
@@ -114,14 +108,8 @@ impl<'a, 'p, K: Sink, P: Page> PageText<'a, 'p, K, P, Vec<u8>> {
     pub fn abandon(self) -> u64
         ensures count { result ≡ self.entry.written }
         ensures kept { self.exit.0.now ≡ self.entry.sink.now }
-        ensures front { let old = self.entry.sink.now in
-            let sink = sink_state (K.contents old) (K.failures old) in
-            let rest = P.rest self.entry.page self.entry.name.now in
-            IsWritten (text_state rest sink self.entry.written self.entry.end) }
-        ensures steady { let old = self.entry.sink.now in
-            let sink = sink_state (K.contents old) (K.failures old) in
-            let rest = P.rest self.entry.page self.entry.name.now in
-            IsSteady (text_state rest sink self.entry.written self.entry.end) }
+        ensures front { IsWritten (page_state K.Sink P.rest self.entry) }
+        ensures steady { IsSteady (page_state K.Sink P.rest self.entry) }
     {
         let PageText {
             sink: _sink,
@@ -140,16 +128,10 @@ impl<'a, 'p, K: Sink, P: Page> PageText<'a, 'p, K, P, Vec<u8>> {
     /// would have more than 9,223,372,036,854,775,807 bytes; `WriteFault` where a write failed or took no byte. Where a
     /// row was not taken it is the end of that row, and nothing more is written.
     pub fn finish(self) -> Result<u64, PageEnd>
-        ensures page { let old = self.entry.sink.now in
-            let sink = sink_state (K.contents old) (K.failures old) in
-            let after = sink_state (K.contents self.exit.0.now) (K.failures self.exit.0.now) in
-            let rest = P.rest self.entry.page self.entry.name.now in
-            EndsPage (text_state rest sink self.entry.written self.entry.end) after result }
-        ensures stopped { let old = self.entry.sink.now in
-            let sink = sink_state (K.contents old) (K.failures old) in
-            let after = sink_state (K.contents self.exit.0.now) (K.failures self.exit.0.now) in
-            let rest = P.rest self.entry.page self.entry.name.now in
-            StopsPage (text_state rest sink self.entry.written self.entry.end) after result }
+        ensures page { let after = state_of K.Sink self.exit.0.now in
+            EndsPage (page_state K.Sink P.rest self.entry) after result }
+        ensures stopped { let after = state_of K.Sink self.exit.0.now in
+            StopsPage (page_state K.Sink P.rest self.entry) after result }
         ensures ended { (end : _) → self.entry.end ≡ Some end
             → (result ≡ Err end) × (self.exit.0.now ≡ self.entry.sink.now) }
     {
@@ -160,11 +142,9 @@ impl<'a, 'p, K: Sink, P: Page> PageText<'a, 'p, K, P, Vec<u8>> {
     fn close(self) -> Result<u64, PageEnd>
         ensures ended { (end : _) → self.entry.end ≡ Some end
             → (result ≡ Err end) × (self.exit.0.now ≡ self.entry.sink.now) }
-        ensures closed { let old = self.entry.sink.now in
-            let sink = sink_state (K.contents old) (K.failures old) in
-            let after = sink_state (K.contents self.exit.0.now) (K.failures self.exit.0.now) in
-            let text = P.rest self.entry.page self.entry.name.now [] in
-            self.entry.end ≡ None → Closes text sink after self.entry.written result }
+        ensures closed { let text = P.rest self.entry.page self.entry.name.now [] in
+            let after = state_of K.Sink self.exit.0.now in self.entry.end ≡ None →
+            Closes text (state_of K.Sink self.entry.sink.now) after self.entry.written result }
     {
         let PageText {
             sink,
@@ -186,14 +166,12 @@ impl<'a, 'p, K: Sink, P: Page> PageText<'a, 'p, K, P, Vec<u8>> {
         ensures taken { IsTrue result → (self.old.end ≡ None) × (self.new.end ≡ None)
             × SendsRow (P.rest self.old.page self.old.name.now) row.now
             (P.rest self.new.page self.new.name.now)
-            (sink_state (K.contents self.old.sink.now) (K.failures self.old.sink.now))
-            (sink_state (K.contents self.new.sink.now) (K.failures self.new.sink.now))
+            (state_of K.Sink self.old.sink.now) (state_of K.Sink self.new.sink.now)
             self.old.written self.new.written }
         ensures stopped { result ≡ false → self.old.end ≡ None → (end : _)
             × (self.new.end ≡ Some end) × (count_of end ≡ self.new.written)
             × SendsRowFront (P.rest self.old.page self.old.name.now) row.now
-            (sink_state (K.contents self.old.sink.now) (K.failures self.old.sink.now))
-            (sink_state (K.contents self.new.sink.now) (K.failures self.new.sink.now))
+            (state_of K.Sink self.old.sink.now) (state_of K.Sink self.new.sink.now)
             self.old.written end }
         ensures ended { IsSome self.old.end → (result ≡ false) × (self.new ≡ self.old) }
     {
@@ -220,13 +198,11 @@ impl<'a, 'p, K: Sink, P: Page> PageText<'a, 'p, K, P, Vec<u8>> {
         ensures sent { IfOk result (λ written.
             SendsRow (P.rest self.old.page self.old.name.now) row.now
             (P.rest self.new.page self.new.name.now)
-            (sink_state (K.contents self.old.sink.now) (K.failures self.old.sink.now))
-            (sink_state (K.contents self.new.sink.now) (K.failures self.new.sink.now))
+            (state_of K.Sink self.old.sink.now) (state_of K.Sink self.new.sink.now)
             self.old.written written) }
         ensures stopped { IfErr result (λ end.
             SendsRowFront (P.rest self.old.page self.old.name.now) row.now
-            (sink_state (K.contents self.old.sink.now) (K.failures self.old.sink.now))
-            (sink_state (K.contents self.new.sink.now) (K.failures self.new.sink.now))
+            (state_of K.Sink self.old.sink.now) (state_of K.Sink self.new.sink.now)
             self.old.written end) }
     {
         self.room.clear();
@@ -239,26 +215,15 @@ impl<'a, 'p, K: Sink, P: Page> PageText<'a, 'p, K, P, Vec<u8>> {
 
 impl<K: Sink> NameTaker for PageText<'_, '_, K, RootPage, Vec<u8>> {
     ghost use Rattle.std.specs.Prelude.{◌≡◌};
-    ghost use Rattle.index_pages.specs.Parts.{root_rest};
-    ghost use Rattle.index_pages.specs.States.{sink_state, text_state, StopsText, TakesText};
+    ghost use Rattle.index_pages.specs.States.{page_state, root_left, StopsText, TakesText};
 
     ghost takes = { λ before row after.
         (after.sink.ghost_name ≡ before.sink.ghost_name)
-        × TakesText (text_state (root_rest before.page.as_json before.page.is_started)
-        (sink_state (K.contents before.sink.now) (K.failures before.sink.now))
-        before.written before.end) row
-        (text_state (root_rest after.page.as_json after.page.is_started)
-        (sink_state (K.contents after.sink.now) (K.failures after.sink.now))
-        after.written after.end) };
+        × TakesText (page_state K.Sink root_left before) row (page_state K.Sink root_left after) };
 
     ghost stops = { λ before row after.
         (after.sink.ghost_name ≡ before.sink.ghost_name)
-        × StopsText (text_state (root_rest before.page.as_json before.page.is_started)
-        (sink_state (K.contents before.sink.now) (K.failures before.sink.now))
-        before.written before.end) row
-        (text_state (root_rest after.page.as_json after.page.is_started)
-        (sink_state (K.contents after.sink.now) (K.failures after.sink.now))
-        after.written after.end) };
+        × StopsText (page_state K.Sink root_left before) row (page_state K.Sink root_left after) };
 
     fn take(&mut self, row: &NameRow) -> bool {
         self.take_row(row)
@@ -267,30 +232,17 @@ impl<K: Sink> NameTaker for PageText<'_, '_, K, RootPage, Vec<u8>> {
 
 impl<K: Sink> FileTaker for PageText<'_, '_, K, ProjectPage, Vec<u8>> {
     ghost use Rattle.std.specs.Prelude.{◌≡◌};
-    ghost use Rattle.index_pages.specs.Parts.{project_rest};
-    ghost use Rattle.index_pages.specs.States.{sink_state, text_state, StopsText, TakesText};
+    ghost use Rattle.index_pages.specs.States.{page_state, project_left, StopsText, TakesText};
 
     ghost takes = { λ before row after.
         (after.sink.ghost_name ≡ before.sink.ghost_name)
-        × TakesText (text_state (project_rest before.page.as_json before.name.now
-        before.page.is_started before.page.releases.keys)
-        (sink_state (K.contents before.sink.now) (K.failures before.sink.now))
-        before.written before.end) row
-        (text_state (project_rest after.page.as_json after.name.now
-        after.page.is_started after.page.releases.keys)
-        (sink_state (K.contents after.sink.now) (K.failures after.sink.now))
-        after.written after.end) };
+        × TakesText (page_state K.Sink project_left before) row
+        (page_state K.Sink project_left after) };
 
     ghost stops = { λ before row after.
         (after.sink.ghost_name ≡ before.sink.ghost_name)
-        × StopsText (text_state (project_rest before.page.as_json before.name.now
-        before.page.is_started before.page.releases.keys)
-        (sink_state (K.contents before.sink.now) (K.failures before.sink.now))
-        before.written before.end) row
-        (text_state (project_rest after.page.as_json after.name.now
-        after.page.is_started after.page.releases.keys)
-        (sink_state (K.contents after.sink.now) (K.failures after.sink.now))
-        after.written after.end) };
+        × StopsText (page_state K.Sink project_left before) row
+        (page_state K.Sink project_left after) };
 
     fn take(&mut self, row: &FileRow) -> bool {
         self.take_row(row)
@@ -308,8 +260,7 @@ pub(crate) fn total(length: u64, more: usize) -> Option<u64>
 
 /// Writes a text that follows the first bytes of a page, of which so many were written.
 fn send<K: Sink>(sink: &mut K, written: u64, text: &[u8]) -> Result<u64, PageEnd>
-    ensures { Closes text.now (sink_state (K.contents sink.old) (K.failures sink.old))
-        (sink_state (K.contents sink.new) (K.failures sink.new)) written result }
+    ensures { Closes text.now (state_of K.Sink sink.old) (state_of K.Sink sink.new) written result }
 {
     let Some(sum) = total(written, text.len()) else {
         return Err(PageEnd::Store(written));
@@ -329,8 +280,7 @@ fn send_last<K: Sink, P: Page>(
     written: u64,
 ) -> Result<u64, PageEnd>
     ensures { Closes (P.rest page.now name.now [])
-        (sink_state (K.contents sink.old) (K.failures sink.old))
-        (sink_state (K.contents sink.new) (K.failures sink.new)) written result }
+        (state_of K.Sink sink.old) (state_of K.Sink sink.new) written result }
 {
     room.clear();
     match page.append_last(name, room) {

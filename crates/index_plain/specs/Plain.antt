@@ -1,5 +1,6 @@
 -- The tables that the ordered maps hold.
-use Rattle.std.specs.Prelude.{◌≡◌, ℕ, Bool, true, false}
+use Rattle.std.specs.Prelude.{◌≡◌, ℕ, Bool, true, false, Result, OnOk, OnErr}
+use Rattle.index_io.specs.Counts.{next_count}
 use Rattle.index_rules.specs.declared.change.Change.{Change}
 use Rattle.index_rules.specs.declared.change.Change.TheVariants.{SetQuota, Claim, AddOwner, RemoveOwner, Upload, Delete, BanFile, Yank, Unyank, Relinquish, Prohibit, Allow, OpenCase, RecordAttempt, Transfer, CloseCase, AnswerCase}
 use Rattle.index_rules.specs.Maps.{bytes_cmp}
@@ -29,6 +30,17 @@ Writes change old new = tables_of new ≡ means change (tables_of old)
 -- how many calls answered a fault
 abbrev pub failures_of : PlainBooks → ℕ
 failures_of b = b.failures
+
+-- a change was made, or where memory ran out no table was changed; it is not counted here
+pub record Makes {E : Type 0} (change : Change) (old new : PlainBooks) (result : Result (Unit {0}) E) : Type 0 where
+  pub written : OnOk result (Writes change old new)
+  pub unchanged : OnErr result (tables_of new ≡ tables_of old)
+  pub failures : failures_of new ≡ failures_of old
+
+-- a look changed no table, and one that failed was counted
+pub record LooksUp (old new : PlainBooks) (succeeds : Bool) : Type 0 where
+  pub unchanged : tables_of new ≡ tables_of old
+  pub failures : failures_of new ≡ next_count (failures_of old) succeeds
 
 -- a change of a release: of its files, or of its yank
 abbrev pub is_of_release : Change → Bool

@@ -60,7 +60,7 @@ impl PlainBooks {
     ghost use Rattle.index_rules.specs.Sound.{IsSound};
     ghost use Rattle.index_rules.specs.History.{begins};
     ghost use Rattle.index_rules.specs.StandsFor.{StandsFor};
-    ghost use Rattle.index_plain.specs.Plain.{tables_of, failures_of};
+    ghost use Rattle.index_plain.specs.Plain.{LooksUp, failures_of, tables_of};
 
     /// A new index with one user, who is of the office and whose token has this SHA-256 digest.
     ///
@@ -107,8 +107,7 @@ impl PlainBooks {
     /// Counts a failure for want of memory.
     fn failed(&mut self) -> Fault
         ensures fault { result ≡ Fault.OutOfMemory }
-        ensures tables { tables_of self.new ≡ tables_of self.old }
-        ensures failures { failures_of self.new ≡ next_count (failures_of self.old) false }
+        ensures counts { LooksUp self.old self.new false }
     {
         self.failures = self.failures.saturating_add(1);
         Fault::OutOfMemory
@@ -116,9 +115,7 @@ impl PlainBooks {
 
     /// Counts a walk that a fault ended.
     fn count_walk(&mut self, ended: &Result<(), WalkEnd>)
-        ensures tables { tables_of self.new ≡ tables_of self.old }
-        ensures failures { let is_right = not (has_fault ended.now) in
-            failures_of self.new ≡ next_count (failures_of self.old) is_right }
+        ensures counts { LooksUp self.old self.new (not (has_fault ended.now)) }
     {
         match ended {
             Ok(()) | Err(WalkEnd::Stopped) => {}
@@ -136,7 +133,7 @@ impl Books for PlainBooks {
     ghost use Rattle.index_rules.specs.Facts.{Sees};
     ghost use Rattle.index_rules.specs.Effect.{means};
     ghost use Rattle.index_rules.specs.TableRows.{file_rows_in, held_rows_in, name_rows_in};
-    ghost use Rattle.index_plain.specs.Plain.{tables_of, failures_of};
+    ghost use Rattle.index_plain.specs.Plain.{LooksUp, failures_of, tables_of};
 
     ghost tables = { tables_of };
 
@@ -154,8 +151,7 @@ impl Books for PlainBooks {
 
     fn view(&mut self, alloc: Global, keys: &Keys) -> Result<View, Fault>
         ensures found { IfOk result (Sees (tables_of self.old) keys.now) }
-        ensures unchanged { tables_of self.new ≡ tables_of self.old }
-        ensures failures { failures_of self.new ≡ next_count (failures_of self.old) (is_ok result) }
+        ensures looks { LooksUp self.old self.new (is_ok result) }
         ensures memory { IfErr result (λ fault. fault ≡ Fault.OutOfMemory) }
     {
         match self.look(alloc, keys) {
@@ -178,8 +174,7 @@ impl Books for PlainBooks {
 
     fn owners_of(&mut self, alloc: Global, name: &NormalName) -> Result<Owners, Fault>
         ensures found { IfOk result (λ owners. owners ≡ owners_in (tables_of self.old) name.now) }
-        ensures unchanged { tables_of self.new ≡ tables_of self.old }
-        ensures failures { failures_of self.new ≡ next_count (failures_of self.old) (is_ok result) }
+        ensures looks { LooksUp self.old self.new (is_ok result) }
         ensures memory { IfErr result (λ fault. fault ≡ Fault.OutOfMemory) }
     {
         match self.owners_by_name(alloc, name) {
@@ -190,8 +185,7 @@ impl Books for PlainBooks {
 
     fn bytes_of(&mut self, _alloc: Global, file: &FileName) -> Result<Option<Sealed>, Fault>
         ensures found { IfOk result (λ body. body ≡ get (tables_of self.old).bodies file.now) }
-        ensures unchanged { tables_of self.new ≡ tables_of self.old }
-        ensures failures { failures_of self.new ≡ next_count (failures_of self.old) (is_ok result) }
+        ensures looks { LooksUp self.old self.new (is_ok result) }
         ensures memory { IfErr result (λ fault. fault ≡ Fault.OutOfMemory) }
     {
         match table::copy_at(&self.bodies, file) {
@@ -202,8 +196,7 @@ impl Books for PlainBooks {
 
     fn names(&mut self, alloc: Global) -> Result<Vec<NameRow>, Fault>
         ensures found { IfOk result (λ rows. rows.items ≡ name_rows_in (tables_of self.old)) }
-        ensures unchanged { tables_of self.new ≡ tables_of self.old }
-        ensures failures { failures_of self.new ≡ next_count (failures_of self.old) (is_ok result) }
+        ensures looks { LooksUp self.old self.new (is_ok result) }
         ensures memory { IfErr result (λ fault. fault ≡ Fault.OutOfMemory) }
     {
         match self.name_rows(alloc) {
@@ -215,8 +208,7 @@ impl Books for PlainBooks {
     fn files_of(&mut self, alloc: Global, name: &NormalName) -> Result<Vec<FileRow>, Fault>
         ensures found { let T = tables_of self.old in
             IfOk result (λ rows. rows.items ≡ file_rows_in T name.now) }
-        ensures unchanged { tables_of self.new ≡ tables_of self.old }
-        ensures failures { failures_of self.new ≡ next_count (failures_of self.old) (is_ok result) }
+        ensures looks { LooksUp self.old self.new (is_ok result) }
         ensures memory { IfErr result (λ fault. fault ≡ Fault.OutOfMemory) }
     {
         match self.file_rows(alloc, name) {
@@ -228,9 +220,7 @@ impl Books for PlainBooks {
     fn walk_held<K: NameTaker>(&mut self, _alloc: Global, taker: &mut K) -> Result<(), WalkEnd>
         ensures walked { let rows = held_rows_in (tables_of self.old) in
             Walks K.takes K.stops rows taker.old taker.new result }
-        ensures unchanged { tables_of self.new ≡ tables_of self.old }
-        ensures failures { let is_right = not (has_fault result) in
-            failures_of self.new ≡ next_count (failures_of self.old) is_right }
+        ensures looks { LooksUp self.old self.new (not (has_fault result)) }
         ensures memory { IfErr result (λ end. end ≢ WalkEnd.Store) }
     {
         let ended = self.hand_names(taker);
@@ -246,9 +236,7 @@ impl Books for PlainBooks {
     ) -> Result<(), WalkEnd>
         ensures walked { let rows = file_rows_in (tables_of self.old) name.now in
             Walks K.takes K.stops rows taker.old taker.new result }
-        ensures unchanged { tables_of self.new ≡ tables_of self.old }
-        ensures failures { let is_right = not (has_fault result) in
-            failures_of self.new ≡ next_count (failures_of self.old) is_right }
+        ensures looks { LooksUp self.old self.new (not (has_fault result)) }
         ensures memory { IfErr result (λ end. end ≢ WalkEnd.Store) }
     {
         let ended = self.hand_files(name, taker);

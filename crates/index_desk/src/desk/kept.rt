@@ -22,8 +22,7 @@ impl<B: Keeper> Desk<B> {
     /// Keeps the bytes of a file at hand, where there is room for them. It changes no table.
     pub fn keep_body(&mut self, file: FileName, body: Sealed)
         requires { B.IsHonest self.old → get (B.tables self.old).bodies file ≡ Some body }
-        ensures { Stays B.IsHonest B.IsClean B.tables B.failures B.may_leave
-            self.old self.new }
+        ensures { Stays B.Books self.old self.new }
     {
         self.books.keep_body(file, body);
     }
@@ -40,8 +39,7 @@ impl<B: Keeper> Desk<B> {
     pub fn keep_page(&mut self, page: Page<'_>, served: Served, text: Vec<u8>)
         requires { B.IsHonest self.old →
             page_in (B.tables self.old) served page ≡ Some text.items }
-        ensures { Stays B.IsHonest B.IsClean B.tables B.failures B.may_leave
-            self.old self.new }
+        ensures { Stays B.Books self.old self.new }
     {
         self.books.keep_page(page, served, text);
     }

@@ -1,8 +1,7 @@
 //! The report: a line for each held or prohibited name.
 ghost use Rattle.std.specs.Prelude.{◌≡◌, ◌++◌, ℕ, IfErr, IfOk, OnOk, replicate};
 ghost use Rattle.index_io.specs.Counts.{FailsAtMostOnce, HasFailed};
-ghost use Rattle.index_rules.specs.Tables.{Tables};
-ghost use Rattle.index_desk.specs.Looks.{Looks};
+ghost use Rattle.index_desk.specs.Looks.{LeavesTables, Looks};
 ghost use Rattle.index_desk.specs.Reports.{Reports, at_left, at_right, name_columns, number_columns, report_in, report_line, report_of, state_text as state_text_lem};
 
 use super::Desk;
@@ -47,12 +46,9 @@ impl<B: Books> Desk<B> {
             HasFailed (S.failures sink.old) (S.failures sink.new)) }
         ensures store { IfErr result (λ fault. fault ≡ ReportFault.Store →
             HasFailed (B.failures self.old) (B.failures self.new)) }
-        ensures unchanged { B.IsHonest self.new → B.tables self.new ≡ B.tables self.old }
+        ensures leaves { LeavesTables B.Books self.old self.new }
         ensures kept { OnOk result (B.failures self.new ≡ B.failures self.old) }
         ensures failures { FailsAtMostOnce (B.failures self.old) (B.failures self.new) }
-        ensures honest { B.IsHonest self.new → B.IsHonest self.old }
-        ensures clean { B.IsClean self.new → B.IsClean self.old }
-        ensures crash { (T : Tables) → B.may_leave self.new T → B.may_leave self.old T }
     {
         let text = report_text(&mut self.books, alloc)?;
         match write_bytes(sink, text.as_slice()) {
@@ -66,8 +62,7 @@ impl<B: Books> Desk<B> {
 fn report_text<B: Books>(books: &mut B, alloc: Global) -> Result<Vec<u8>, Fault>
     ensures text { B.IsHonest books.new →
         IfOk result (λ text. text.items ≡ report_in (B.tables books.old)) }
-    ensures look { Looks B.IsHonest B.IsClean B.tables B.failures B.may_leave
-        books.old books.new result }
+    ensures look { Looks B.Books books.old books.new result }
 {
     let rows = books.names(alloc)?;
     let text = lines_of(alloc, rows.as_slice())?;

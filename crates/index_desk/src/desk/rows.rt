@@ -27,8 +27,7 @@ impl<B: Books> Desk<B> {
         // It is so after each history for which the tables stand.
         ensures history { B.IsHonest self.new → IfOk result (λ held. (h : History) →
             StandsFor (B.tables self.old) h → held ≡ is_held_now (state_after h name.now)) }
-        ensures look { Looks B.IsHonest B.IsClean B.tables B.failures B.may_leave
-            self.old self.new result }
+        ensures look { Looks B.Books self.old self.new result }
     {
         is_held(&mut self.books, alloc, name)
     }
@@ -41,8 +40,7 @@ impl<B: Books> Desk<B> {
         // They are the rows of the names that are held after a history for which the tables stand.
         ensures history { B.IsHonest self.new → IfOk result (λ rows. (h : History) →
             StandsFor (B.tables self.old) h → AreHeldRowsAfter h rows.items) }
-        ensures look { Looks B.IsHonest B.IsClean B.tables B.failures B.may_leave
-            self.old self.new result }
+        ensures look { Looks B.Books self.old self.new result }
     {
         let mut rows = self.books.names(alloc)?;
         rows.retain(|row| is_held_row(row));
@@ -64,8 +62,7 @@ impl<B: Books> Desk<B> {
         ensures history { B.IsHonest self.new → IfOk result (λ found. (h : History) →
             StandsFor (B.tables self.old) h →
             AreProjectRowsAfter h name.now (option_map (λ rows. rows.items) found)) }
-        ensures look { Looks B.IsHonest B.IsClean B.tables B.failures B.may_leave
-            self.old self.new result }
+        ensures look { Looks B.Books self.old self.new result }
     {
         if !is_held(&mut self.books, alloc, name)? {
             return Ok(None);
@@ -87,8 +84,7 @@ impl<B: Books> Desk<B> {
         // Whatever the store did, the taker was given some rows in this way.
         ensures given { (rows : List NameRowData) ×
             Walks K.takes K.stops rows taker.old taker.new result }
-        ensures look { LooksInWalk B.IsHonest B.IsClean B.tables B.failures B.may_leave
-            self.old self.new result }
+        ensures look { LooksInWalk B.Books self.old self.new result }
     {
         self.books.walk_held(alloc, taker)
     }
@@ -112,8 +108,7 @@ impl<B: Books> Desk<B> {
         // Whatever the store did, the taker was given some rows in this way, or nothing.
         ensures given { (rows : Option (List FileRowData)) ×
             WalksProject K.takes K.stops rows taker.old taker.new result }
-        ensures look { LooksInWalk B.IsHonest B.IsClean B.tables B.failures B.may_leave
-            self.old self.new result }
+        ensures look { LooksInWalk B.Books self.old self.new result }
     {
         if !is_held(&mut self.books, alloc, name)? {
             return Ok(false);
@@ -133,8 +128,7 @@ fn is_held_row(row: &NameRow) -> bool
 fn is_held<B: Books>(books: &mut B, alloc: Global, name: &NormalName) -> Result<bool, Fault>
     ensures held { B.IsHonest books.new →
         IfOk result (λ held. held ≡ is_held_lem (get (B.tables books.old).names name.now)) }
-    ensures look { Looks B.IsHonest B.IsClean B.tables B.failures B.may_leave
-        books.old books.new result }
+    ensures look { Looks B.Books books.old books.new result }
 {
     let view = seen_name(books, alloc, name)?;
     Ok(matches!(view.name, Some(NameRecord::Held(_))))

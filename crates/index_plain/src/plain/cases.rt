@@ -1,8 +1,8 @@
 //! What is written where a case is opened, goes on or ends.
-ghost use Rattle.std.specs.Prelude.{◌≡◌, OnOk, OnErr, true};
+ghost use Rattle.std.specs.Prelude.{◌≡◌, true};
 ghost use Rattle.std.specs.FinMap.{remove};
 ghost use Rattle.index_rules.specs.declared.change.Change.TheVariants.{Transfer};
-ghost use Rattle.index_plain.specs.Plain.{Writes, tables_of, failures_of, is_of_case};
+ghost use Rattle.index_plain.specs.Plain.{Makes, tables_of, is_of_case};
 
 use crate::plain::PlainBooks;
 use crate::{pairs, table};
@@ -14,9 +14,7 @@ impl PlainBooks {
     /// Makes a change of a case, or leaves the tables as they were.
     pub(super) fn make_of_case(&mut self, alloc: Global, change: Change) -> Result<(), AllocError>
         requires case { is_of_case change ≡ true }
-        ensures written { OnOk result (Writes change self.old self.new) }
-        ensures unchanged { OnErr result (tables_of self.new ≡ tables_of self.old) }
-        ensures failures { failures_of self.new ≡ failures_of self.old }
+        ensures made { Makes change self.old self.new result }
     {
         match change {
             Change::OpenCase { name, case } | Change::RecordAttempt { name, case } => {
@@ -47,9 +45,7 @@ impl PlainBooks {
         name: &NormalName,
         candidate: &UserId,
     ) -> Result<(), AllocError>
-        ensures written { OnOk result (Writes (Transfer name.now candidate.now) self.old self.new) }
-        ensures unchanged { OnErr result (tables_of self.new ≡ tables_of self.old) }
-        ensures failures { failures_of self.new ≡ failures_of self.old }
+        ensures made { Makes (Transfer name.now candidate.now) self.old self.new result }
     {
         pairs::put_alone(alloc, &mut self.owners, name, candidate, ())?;
         self.end_case(name);

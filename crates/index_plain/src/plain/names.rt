@@ -1,9 +1,9 @@
 //! What is written where a name is claimed, given up or prohibited.
-ghost use Rattle.std.specs.Prelude.{◌≡◌, OnOk, OnErr, true};
+ghost use Rattle.std.specs.Prelude.{◌≡◌, true};
 ghost use Rattle.std.specs.FinMap.{remove};
 ghost use Rattle.index_rules.specs.declared.change.Change.TheVariants.{Claim, Prohibit, Relinquish, SetQuota};
 ghost use Rattle.index_rules.specs.Effect.{without_name};
-ghost use Rattle.index_plain.specs.Plain.{Writes, tables_of, failures_of, is_of_name};
+ghost use Rattle.index_plain.specs.Plain.{Makes, Writes, tables_of, failures_of, is_of_name};
 
 use crate::plain::PlainBooks;
 use crate::{name_files, pairs, table};
@@ -15,9 +15,7 @@ impl PlainBooks {
     /// Makes a change of the state of a name, or leaves the tables as they were.
     pub(super) fn make_of_name(&mut self, alloc: Global, change: Change) -> Result<(), AllocError>
         requires name { is_of_name change ≡ true }
-        ensures written { OnOk result (Writes change self.old self.new) }
-        ensures unchanged { OnErr result (tables_of self.new ≡ tables_of self.old) }
-        ensures failures { failures_of self.new ≡ failures_of self.old }
+        ensures made { Makes change self.old self.new result }
     {
         match change {
             Change::SetQuota { name, project } => self.set_quota(&name, project),
@@ -37,9 +35,7 @@ impl PlainBooks {
 
     /// The name is held, with this record.
     fn set_quota(&mut self, name: &NormalName, project: Project) -> Result<(), AllocError>
-        ensures written { OnOk result (Writes (SetQuota name.now project) self.old self.new) }
-        ensures unchanged { OnErr result (tables_of self.new ≡ tables_of self.old) }
-        ensures failures { failures_of self.new ≡ failures_of self.old }
+        ensures made { Makes (SetQuota name.now project) self.old self.new result }
     {
         table::put(&mut self.names, name, NameRecord::Held(project))
     }
@@ -52,10 +48,7 @@ impl PlainBooks {
         project: Project,
         owner: &UserId,
     ) -> Result<(), AllocError>
-        ensures written { let change = Claim name.now project owner.now in
-            OnOk result (Writes change self.old self.new) }
-        ensures unchanged { OnErr result (tables_of self.new ≡ tables_of self.old) }
-        ensures failures { failures_of self.new ≡ failures_of self.old }
+        ensures made { Makes (Claim name.now project owner.now) self.old self.new result }
     {
         let alone = table::one(alloc, owner, ())?;
         let held = NameRecord::Held(project);
@@ -75,9 +68,7 @@ impl PlainBooks {
 
     /// The name is prohibited, its files are deleted, and its owners, its yanks and its case go.
     fn prohibit(&mut self, name: &NormalName) -> Result<(), AllocError>
-        ensures written { OnOk result (Writes (Prohibit name.now) self.old self.new) }
-        ensures unchanged { OnErr result (tables_of self.new ≡ tables_of self.old) }
-        ensures failures { failures_of self.new ≡ failures_of self.old }
+        ensures made { Makes (Prohibit name.now) self.old self.new result }
     {
         table::put(&mut self.names, name, NameRecord::Prohibited)?;
         self.clear(name);

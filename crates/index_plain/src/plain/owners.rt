@@ -1,7 +1,7 @@
 //! What is written where a name gets or loses an owner.
-ghost use Rattle.std.specs.Prelude.{◌≡◌, OnOk, OnErr, true};
+ghost use Rattle.std.specs.Prelude.{◌≡◌, true};
 ghost use Rattle.index_rules.specs.declared.change.Change.TheVariants.{AddOwner, RemoveOwner};
-ghost use Rattle.index_plain.specs.Plain.{Writes, tables_of, failures_of, is_of_owner};
+ghost use Rattle.index_plain.specs.Plain.{Makes, Writes, failures_of, is_of_owner};
 
 use crate::pairs;
 use crate::plain::PlainBooks;
@@ -13,9 +13,7 @@ impl PlainBooks {
     /// Makes a change of who owns a name, or leaves the tables as they were.
     pub(super) fn make_of_owner(&mut self, alloc: Global, change: Change) -> Result<(), AllocError>
         requires owner { is_of_owner change ≡ true }
-        ensures written { OnOk result (Writes change self.old self.new) }
-        ensures unchanged { OnErr result (tables_of self.new ≡ tables_of self.old) }
-        ensures failures { failures_of self.new ≡ failures_of self.old }
+        ensures made { Makes change self.old self.new result }
     {
         match change {
             Change::AddOwner { name, user } => self.add_owner(alloc, &name, &user),
@@ -34,9 +32,7 @@ impl PlainBooks {
         name: &NormalName,
         user: &UserId,
     ) -> Result<(), AllocError>
-        ensures written { OnOk result (Writes (AddOwner name.now user.now) self.old self.new) }
-        ensures unchanged { OnErr result (tables_of self.new ≡ tables_of self.old) }
-        ensures failures { failures_of self.new ≡ failures_of self.old }
+        ensures made { Makes (AddOwner name.now user.now) self.old self.new result }
     {
         pairs::put(alloc, &mut self.owners, name, user, ())?;
         self.end_case(name);

@@ -1,7 +1,7 @@
 //! What is written of a release: of its files and its yank.
-ghost use Rattle.std.specs.Prelude.{◌≡◌, OnOk, OnErr, true};
+ghost use Rattle.std.specs.Prelude.{◌≡◌, true};
 ghost use Rattle.index_rules.specs.declared.change.Change.TheVariants.{Unyank, Yank};
-ghost use Rattle.index_plain.specs.Plain.{Writes, tables_of, failures_of, is_of_release};
+ghost use Rattle.index_plain.specs.Plain.{Makes, Writes, failures_of, is_of_release};
 
 use crate::pairs;
 use crate::plain::PlainBooks;
@@ -18,9 +18,7 @@ impl PlainBooks {
         change: Change,
     ) -> Result<(), AllocError>
         requires release { is_of_release change ≡ true }
-        ensures written { OnOk result (Writes change self.old self.new) }
-        ensures unchanged { OnErr result (tables_of self.new ≡ tables_of self.old) }
-        ensures failures { failures_of self.new ≡ failures_of self.old }
+        ensures made { Makes change self.old self.new result }
     {
         match change {
             Change::Upload {
@@ -64,10 +62,7 @@ impl PlainBooks {
         release: &Release,
         reason: Text,
     ) -> Result<(), AllocError>
-        ensures written { let change = Yank name.now release.now reason in
-            OnOk result (Writes change self.old self.new) }
-        ensures unchanged { OnErr result (tables_of self.new ≡ tables_of self.old) }
-        ensures failures { failures_of self.new ≡ failures_of self.old }
+        ensures made { Makes (Yank name.now release.now reason) self.old self.new result }
     {
         pairs::put(alloc, &mut self.yanks, name, release, reason)?;
         self.end_case(name);

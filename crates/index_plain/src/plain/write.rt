@@ -1,6 +1,5 @@
 //! What a change writes.
-ghost use Rattle.std.specs.Prelude.{◌≡◌, OnOk, OnErr};
-ghost use Rattle.index_plain.specs.Plain.{Writes, tables_of, failures_of};
+ghost use Rattle.index_plain.specs.Plain.{Makes};
 
 use crate::plain::PlainBooks;
 use index_rules::Change;
@@ -10,9 +9,7 @@ impl PlainBooks {
     /// Makes a change, or leaves the tables as they were. What takes memory comes first; what is written by then is
     /// taken back where memory is refused, and what is left to do takes none.
     pub(crate) fn make(&mut self, alloc: Global, change: Change) -> Result<(), AllocError>
-        ensures written { OnOk result (Writes change self.old self.new) }
-        ensures unchanged { OnErr result (tables_of self.new ≡ tables_of self.old) }
-        ensures failures { failures_of self.new ≡ failures_of self.old }
+        ensures made { Makes change self.old self.new result }
     {
         match change {
             Change::AddUser { user, record } | Change::SetToken { user, record } => {

@@ -1,5 +1,6 @@
 use Rattle.std.proofs.Common.{◌≡◌, ◌≢◌, ◌∙◌, ◌+◌, inl, refl, Ok, Err, arith, rules}
 use Rattle.index_rules.proofs.StandsOn.{sound_when_legal}
+use Rattle.index_desk.proofs.InvariantLemmas.{keeps_on}
 use Rattle.index_cli.specs.declared.end.LineEnd.TheVariants.{ReadFault, WriteFault}
 use Rattle.index_cli.proofs.Calls.{taken_none}
 use Rattle.index_cli.proofs.CauseLemmas.{HaveFailed-push, faults_before, faults_push, none_failed}
@@ -14,16 +15,13 @@ use Rattle.index_cli.proofs.apply.apply_lines.Goals as goal
 pub loop-count-init : goal.loop-count-init
 loop-count-init g c = record {
   progress = search rules;
-  called = Progress-none _ _ _ _ (refl, taken_none _ _ _ _ _ (g.met.B.Books.settled _));
+  called = Progress-none _ _ _ _ (refl, taken_none _ _ (g.met.B.Books.settled _));
   faults = (0, none_failed _ _ (inl refl), Progress-none _ _ _ _ (refl, refl));
   charged = search rules;
   spent = search rules;
   reads = search rules;
   writes = search rules;
-  one_bearer = search rules;
-  sound = search rules;
-  honest = search rules;
-  clean = search rules;
+  keeps = search rules;
 }
 
 -- ---- no line was read
@@ -45,7 +43,7 @@ returns-in_err-size-clause-crash g c = λ honest clean one T left.
     let is : c.from_residual.result ≡ Err c.in_err-size.field-0.0 = search rules in
     let other : c.from_residual.result ≢ Err WriteFault = search rules in
     let B = g.B.Books in
-    lines_crash B.IsHonest B.IsClean B.tables B.may_leave _ _ honest clean one T left _ _ _ _ _ _
+    lines_crash B _ _ honest clean one T left _ _ _ _ _ _
     (Ends-before _ _ _ _ _ _ c.from_residual.result c.in_err-size.field-0.0 is other
     (Progress-part _ _ _ _ _ _ _ _ c.loop-count.invariant.called c.in_err-size.ensures.part))
 
@@ -91,7 +89,7 @@ pub returns-in_default-clause-crash : goal.returns-in_default-clause-crash
 returns-in_default-clause-crash g c = λ honest clean one T left.
     let end = rw c.in_default.is at c.in_ok-size.ensures.line in
     let B = g.B.Books in
-    lines_crash B.IsHonest B.IsClean B.tables B.may_leave _ _ honest clean one T left _ _ _ _ _ (Ok _)
+    lines_crash B _ _ honest clean one T left _ _ _ _ _ (Ok _)
     (Progress-whole _ _ _ _ _ _ _ _ c.loop-count.invariant.called end.0 end.1)
 
 pub returns-in_default-clause-crash_history : goal.returns-in_default-clause-crash_history
@@ -113,7 +111,7 @@ returns-in_err-reply-clause-tables g c = λ honest one.
     let other : c.from_residual-in_err-reply.result ≢ Err WriteFault = search rules in
     Ends-before _ _ _ _ _ _ c.from_residual-in_err-reply.result c.in_err-reply.field-0.0 is other
     (rw (c.in_err-reply.ensures.leaves.unchanged honest)
-    (Progress-taken _ _ _ _ _ _ _ _ c.in-Some.size _ (c.loop-count.invariant.progress (c.reply_to.ensures.honest honest) one)
+    (Progress-taken _ _ _ _ _ _ _ _ c.in-Some.size _ (c.loop-count.invariant.progress (c.reply_to.ensures.keeps.honest honest) one)
     (rw c.in-Some.is at c.in_ok-size.ensures.line)))
 
 pub returns-in_err-reply-clause-history : goal.returns-in_err-reply-clause-history
@@ -127,7 +125,7 @@ returns-in_err-reply-clause-crash g c = λ honest clean one T left.
     let other : c.from_residual-in_err-reply.result ≢ Err WriteFault = search rules in
     let leaves = c.in_err-reply.ensures.leaves in
     let B = g.B.Books in
-    lines_crash B.IsHonest B.IsClean B.tables B.may_leave _ _ honest (leaves.clean clean) one T (leaves.crash T left) _ _ _ _ _ _
+    lines_crash B _ _ honest (leaves.clean clean) one T (leaves.crash T left) _ _ _ _ _ _
     (Ends-before _ _ _ _ _ _ c.from_residual-in_err-reply.result c.in_err-reply.field-0.0 is other
     (Progress-taken _ _ _ _ _ _ _ _ c.in-Some.size _ c.loop-count.invariant.called (rw c.in-Some.is at c.in_ok-size.ensures.line)))
 
@@ -142,10 +140,13 @@ returns-in_err-reply-clause-store g c =
     let other : c.from_residual-in_err-reply.result ≢ Err WriteFault = search rules in
     let told = c.loop-count.invariant.faults in (
       told.0,
-      rw c.in_err-reply.ensures.kept told.1,
+      rw c.in_err-reply.ensures.causes.kept told.1,
       Ends-before _ _ _ _ _ _ c.from_residual-in_err-reply.result c.in_err-reply.field-0.0 is other
           (faults_before _ _ _ _ _ _ _ (Progress-taken _ _ _ _ _ _ _ _ c.in-Some.size _ told.2 (rw c.in-Some.is at c.in_ok-size.ensures.line))),
     )
+
+pub returns-in_err-reply-clause-keeps : goal.returns-in_err-reply-clause-keeps
+returns-in_err-reply-clause-keeps g c = keeps_on _ _ _ _ c.loop-count.invariant.keeps c.reply_to.ensures.keeps
 
 pub returns-in_err-reply-clause-limit : goal.returns-in_err-reply-clause-limit
 returns-in_err-reply-clause-limit g c =
@@ -155,11 +156,11 @@ returns-in_err-reply-clause-limit g c =
 
 pub returns-in_default-told-clause-tables : goal.returns-in_default-told-clause-tables
 returns-in_default-told-clause-tables g c = λ honest one.
-    let honest_then = c.reply_to.ensures.honest honest in
+    let honest_then = c.reply_to.ensures.keeps.honest honest in
     let front = rw c.as_bytes.ensures at c.in_default-told.ensures.front in
     Progress-during _ _ _ _ _ _ _ _ _ _ _ c.in-Some.size _ _ _ (c.loop-count.invariant.progress honest_then one)
     (rw c.in-Some.is at c.in_ok-size.ensures.line)
-    (lines_push _ _ _ _ _ _ (rw c.as_slice.ensures.value at (c.in_ok-reply.ensures.reply honest (c.loop-count.invariant.one_bearer honest_then one))))
+    (lines_push _ _ _ _ _ _ (rw c.as_slice.ensures.value at (c.in_ok-reply.ensures.reply honest (c.loop-count.invariant.keeps.one_bearer honest_then one))))
     front.0 front.1
 
 pub returns-in_default-told-clause-history : goal.returns-in_default-told-clause-history
@@ -171,10 +172,10 @@ pub returns-in_default-told-clause-crash : goal.returns-in_default-told-clause-c
 returns-in_default-told-clause-crash g c = λ honest clean one T left.
     let front = rw c.as_bytes.ensures at c.in_default-told.ensures.front in
     let B = g.B.Books in
-    lines_crash B.IsHonest B.IsClean B.tables B.may_leave _ _ honest clean one T left (B.tables c.reply_to.new.desk) _ _ _ _ (Err WriteFault)
+    lines_crash B _ _ honest clean one T left (B.tables c.reply_to.new.desk) _ _ _ _ (Err WriteFault)
     (Progress-during _ _ _ _ _ _ _ _ _ _ _ c.in-Some.size _ _ _ c.loop-count.invariant.called
     (rw c.in-Some.is at c.in_ok-size.ensures.line)
-    (taken_push B.IsHonest B.IsClean B.tables B.may_leave _ _ _ _ (B.tables c.reply_to.new.desk) _ _ _ (rw c.as_slice.ensures.value at c.in_ok-reply.ensures.asks))
+    (taken_push B _ _ _ _ (B.tables c.reply_to.new.desk) _ _ _ (rw c.as_slice.ensures.value at c.in_ok-reply.ensures.asks))
     front.0 front.1)
 
 pub returns-in_default-told-clause-crash_history : goal.returns-in_default-told-clause-crash_history
@@ -186,7 +187,7 @@ pub returns-in_default-told-clause-store : goal.returns-in_default-told-clause-s
 returns-in_default-told-clause-store g c =
     let front = rw c.as_bytes.ensures at c.in_default-told.ensures.front in
     let told = c.loop-count.invariant.faults in
-    let causes = c.in_ok-reply.ensures.store in (
+    let causes = c.in_ok-reply.ensures.causes.told in (
       told.0 + causes.0,
       HaveFailed-push told.0 causes.0 _ _ _ told.1 causes.2,
       Progress-during _ _ _ _ _ _ _ _ _ _ _ c.in-Some.size _ _ _ told.2
@@ -202,12 +203,8 @@ pub returns-in_default-told-clause-limit : goal.returns-in_default-told-clause-l
 returns-in_default-told-clause-limit g c =
     (c.next_line.new.left, Charges-trans _ _ _ _ _ _ c.loop-count.invariant.charged c.next_line.ensures.charged)
 
-pub returns-in_default-told-clause-one_bearer : goal.returns-in_default-told-clause-one_bearer
-returns-in_default-told-clause-one_bearer g c = λ honest one.
-    c.reply_to.ensures.one_bearer honest (c.loop-count.invariant.one_bearer (c.reply_to.ensures.honest honest) one)
-
-pub returns-in_default-told-clause-honest : goal.returns-in_default-told-clause-honest
-returns-in_default-told-clause-honest g c = λ honest. c.loop-count.invariant.honest (c.reply_to.ensures.honest honest)
+pub returns-in_default-told-clause-keeps : goal.returns-in_default-told-clause-keeps
+returns-in_default-told-clause-keeps g c = keeps_on _ _ _ _ c.loop-count.invariant.keeps c.reply_to.ensures.keeps
 
 -- ---- a line was answered
 
@@ -217,16 +214,16 @@ loop-count-preserved g c =
     let invariant = c.loop-count.invariant in
     record {
       progress = λ honest one.
-          let honest_then = c.reply_to.ensures.honest honest in
+          let honest_then = c.reply_to.ensures.keeps.honest honest in
           Progress-push _ _ _ _ _ _ _ _ _ _ _ c.in-Some.size _ _ (invariant.progress honest_then one)
           (rw c.in-Some.is at c.in_ok-size.ensures.line)
-          (lines_push _ _ _ _ _ _ (rw c.as_slice.ensures.value at (c.in_ok-reply.ensures.reply honest (invariant.one_bearer honest_then one))))
+          (lines_push _ _ _ _ _ _ (rw c.as_slice.ensures.value at (c.in_ok-reply.ensures.reply honest (invariant.keeps.one_bearer honest_then one))))
           (rw c.as_bytes.ensures at c.in-Ok.ensures.whole);
       called = Progress-push _ _ _ _ _ _ _ _ _ _ _ c.in-Some.size _ _ invariant.called
           (rw c.in-Some.is at c.in_ok-size.ensures.line)
-          (taken_push B.IsHonest B.IsClean B.tables B.may_leave _ _ _ _ _ _ _ _ (rw c.as_slice.ensures.value at c.in_ok-reply.ensures.asks))
+          (taken_push B _ _ _ _ _ _ _ _ (rw c.as_slice.ensures.value at c.in_ok-reply.ensures.asks))
           (rw c.as_bytes.ensures at c.in-Ok.ensures.whole);
-      faults = let causes = c.in_ok-reply.ensures.store in (
+      faults = let causes = c.in_ok-reply.ensures.causes.told in (
         invariant.faults.0 + causes.0,
         HaveFailed-push invariant.faults.0 causes.0 _ _ _ invariant.faults.1 causes.2,
         Progress-push _ _ _ _ _ _ _ _ _ _ _ c.in-Some.size _ _ invariant.faults.2
@@ -238,11 +235,7 @@ loop-count-preserved g c =
       spent = let less = rw c.in-Some.is at c.in_ok-size.ensures.left in omega (arith, less.1, invariant.spent);
       reads = c.in_ok-size.ensures.kept (search rules) ∙ invariant.reads;
       writes = c.in-Ok.ensures.kept ∙ invariant.writes;
-      one_bearer = λ honest one.
-          c.reply_to.ensures.one_bearer honest (invariant.one_bearer (c.reply_to.ensures.honest honest) one);
-      sound = λ honest sound. c.reply_to.ensures.sound honest (invariant.sound (c.reply_to.ensures.honest honest) sound);
-      honest = λ honest. invariant.honest (c.reply_to.ensures.honest honest);
-      clean = λ clean. invariant.clean (c.reply_to.ensures.clean clean);
+      keeps = keeps_on _ _ _ _ invariant.keeps c.reply_to.ensures.keeps;
     }
 
 -- ---- no more lines may be read
@@ -259,7 +252,7 @@ returns-clause-history g c = λ honest h legal stands.
 pub returns-clause-crash : goal.returns-clause-crash
 returns-clause-crash g c = λ honest clean one T left.
     let B = g.B.Books in
-    lines_crash B.IsHonest B.IsClean B.tables B.may_leave _ _ honest clean one T left _ _ _ _ _ (Err ReadFault)
+    lines_crash B _ _ honest clean one T left _ _ _ _ _ (Err ReadFault)
     (Progress-part _ _ _ _ _ _ _ _ c.loop-count.invariant.called (TakesPart-none _))
 
 pub returns-clause-crash_history : goal.returns-clause-crash_history

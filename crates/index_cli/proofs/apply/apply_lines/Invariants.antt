@@ -1,7 +1,7 @@
 use Rattle.std.proofs.Common.{◌≡◌, ◌≤◌, ◌+◌, ℕ}
 use Rattle.index_rules.specs.Facts.{HasOneBearer}
-use Rattle.index_rules.specs.Sound.{IsSound}
 use Rattle.index_cli.specs.declared.apply.TheConstants.{MOST_BYTES}
+use Rattle.index_desk.specs.Invariants.{KeepsInvariants}
 use Rattle.index_desk.specs.Rules.{by_tables}
 use Rattle.index_cli.specs.Causes.{HaveFailed, TellsFaults}
 use Rattle.index_cli.specs.Lines.{Charges}
@@ -21,7 +21,7 @@ invariant-loop-count g l =
     record {
       progress : honest → HasOneBearer before
           → Progress (TellsLines by_tables before) now given left (g.K.Sink.contents l.fn.sink) (g.K.Sink.contents l.sink) l.count;
-      called : Progress (TellsCalls (by_taken g.B.Books.IsHonest g.B.Books.IsClean g.B.Books.tables g.B.Books.may_leave l.fn.desk l.desk)) now
+      called : Progress (TellsCalls (by_taken g.B.Books l.fn.desk l.desk)) now
           given left (g.K.Sink.contents l.fn.sink) (g.K.Sink.contents l.sink) l.count;
       faults : (faults : ℕ) × HaveFailed faults (g.B.Books.failures l.fn.desk) (g.B.Books.failures l.desk)
           × Progress (TellsFaults faults) now given left (g.K.Sink.contents l.fn.sink) (g.K.Sink.contents l.sink) l.count;
@@ -29,8 +29,5 @@ invariant-loop-count g l =
       spent : l.left + l.count ≤ MOST_BYTES;
       reads : g.S.Source.failures l.source ≡ g.S.Source.failures l.fn.source;
       writes : g.K.Sink.failures l.sink ≡ g.K.Sink.failures l.fn.sink;
-      one_bearer : honest → HasOneBearer before → HasOneBearer now;
-      sound : honest → IsSound before → IsSound now;
-      honest : honest → g.B.Books.IsHonest l.fn.desk;
-      clean : g.B.Books.IsClean l.desk → g.B.Books.IsClean l.fn.desk;
+      keeps : KeepsInvariants g.B.Books l.fn.desk l.desk;
     }

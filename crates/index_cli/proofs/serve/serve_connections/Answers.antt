@@ -1,5 +1,6 @@
 use Rattle.std.proofs.Common.{◌≡◌, ◌<◌, ℕ, ◌∷◌, Result, Err, arith, rules, subst, sym}
 use Rattle.index_rules.proofs.StandsOn.{sound_when_legal}
+use Rattle.index_desk.proofs.InvariantLemmas.{keeps_on, looks_keep}
 use Rattle.index_cli.specs.declared.end.ServeEnd.{ServeEnd}
 use Rattle.index_cli.specs.Serving.{IsCount}
 use Rattle.index_cli.proofs.Crashes.{serves_crash, serves_crash_history, serves_look, serves_push}
@@ -11,13 +12,14 @@ loop-count-preserved g c =
     let B = g.B.Books in
     let invariant = c.loop-count.invariant in
     let looked = c.is_shut-was_shut.ensures.leaves in
-    let mid = λ (honest : B.IsHonest c.is_shut-was_shut.new.desk). c.answer_stream.ensures.honest (looked.honest honest) in
+    let kept = c.answer_stream.ensures.keeps in
+    let mid = λ (honest : B.IsHonest c.is_shut-was_shut.new.desk). kept.honest (looked.honest honest) in
     record {
       tables = λ honest one.
           let before = invariant.tables (mid honest) one in
           rw (looked.unchanged honest) (record {
             moments = c.in_ok-moment.moment ∷ before.moments;
-            answered = (_, before.answered, c.answer_stream.ensures.tables (looked.honest honest) (invariant.one_bearer (mid honest) one));
+            answered = (_, before.answered, c.answer_stream.ensures.tables (looked.honest honest) (invariant.keeps.one_bearer (mid honest) one));
             counted = omega (arith, before.counted);
             are_given = (c.in_ok-moment.ensures.given, before.are_given);
           });
@@ -36,14 +38,9 @@ loop-count-preserved g c =
             stands = it.stands;
           });
       called =
-          serves_look B.IsHonest B.IsClean B.tables B.may_leave _ _ _ (B.tables c.answer_stream.new.desk) _ _ _ looked
-          (serves_push B.IsHonest B.IsClean B.tables B.may_leave _ _ _ _ _ _ _ _ c.in_ok-moment.ensures.given c.answer_stream.ensures.asks invariant.called);
-      one_bearer = λ honest one.
-          rw (looked.unchanged honest) (c.answer_stream.ensures.one_bearer (looked.honest honest) (invariant.one_bearer (mid honest) one));
-      sound = λ honest sound.
-          rw (looked.unchanged honest) (c.answer_stream.ensures.sound (looked.honest honest) (invariant.sound (mid honest) sound));
-      honest = λ honest. invariant.honest (mid honest);
-      clean = λ clean. invariant.clean (c.answer_stream.ensures.clean (looked.clean clean));
+          serves_look B _ _ _ (B.tables c.answer_stream.new.desk) _ _ _ looked
+          (serves_push B _ _ _ _ _ _ _ _ c.in_ok-moment.ensures.given c.answer_stream.ensures.asks invariant.called);
+      keeps = keeps_on _ _ _ _ invariant.keeps (keeps_on _ _ _ _ kept (looks_keep _ _ _ looked));
       shut = c.is_shut-was_shut.ensures.store;
     }
 
@@ -57,7 +54,7 @@ pub returns-in_default-clause-crash : goal.returns-in_default-clause-crash
 returns-in_default-clause-crash g c = λ honest clean one T left.
     let B = g.B.Books in
     let less : c.loop-count._count < c.args.requests = search rules in
-    (c.loop-count._count, less, serves_crash B.IsHonest B.IsClean B.tables B.may_leave _ _ honest clean one T left _ _ _ c.loop-count.invariant.called)
+    (c.loop-count._count, less, serves_crash B _ _ honest clean one T left _ _ _ c.loop-count.invariant.called)
 
 pub returns-in_default-clause-crash_history : goal.returns-in_default-clause-crash_history
 returns-in_default-clause-crash_history g c = λ honest clean h legal stands T left.
@@ -68,7 +65,7 @@ pub returns-then-was_shut-clause-crash : goal.returns-then-was_shut-clause-crash
 returns-then-was_shut-clause-crash g c = λ honest clean one T left.
     let B = g.B.Books in
     let less : c.loop-count._count < c.args.requests = search rules in
-    (c.loop-count._count, less, serves_crash B.IsHonest B.IsClean B.tables B.may_leave _ _ honest clean one T left _ _ _ c.loop-count.invariant.called)
+    (c.loop-count._count, less, serves_crash B _ _ honest clean one T left _ _ _ c.loop-count.invariant.called)
 
 pub returns-then-was_shut-clause-crash_history : goal.returns-then-was_shut-clause-crash_history
 returns-then-was_shut-clause-crash_history g c = λ honest clean h legal stands T left.
@@ -80,7 +77,7 @@ returns-in_err-moment-clause-crash g c = λ honest clean one T left.
     let B = g.B.Books in
     let less : c.loop-count._count < c.args.requests = search rules in
     let is : c.from_residual.result ≡ Err c.in_err-moment.field-0.0 = search rules in
-    (c.loop-count._count, early _ _ _ _ is less, serves_crash B.IsHonest B.IsClean B.tables B.may_leave _ _ honest clean one T left _ _ _ c.loop-count.invariant.called)
+    (c.loop-count._count, early _ _ _ _ is less, serves_crash B _ _ honest clean one T left _ _ _ c.loop-count.invariant.called)
 
 pub returns-in_err-moment-clause-crash_history : goal.returns-in_err-moment-clause-crash_history
 returns-in_err-moment-clause-crash_history g c = λ honest clean h legal stands T left.
@@ -91,7 +88,7 @@ pub returns-clause-crash : goal.returns-clause-crash
 returns-clause-crash g c = λ honest clean one T left.
     let B = g.B.Books in
     let all : c.loop-count._count ≡ c.args.requests = search rules in
-    (c.loop-count._count, all, serves_crash B.IsHonest B.IsClean B.tables B.may_leave _ _ honest clean one T left _ _ _ c.loop-count.invariant.called)
+    (c.loop-count._count, all, serves_crash B _ _ honest clean one T left _ _ _ c.loop-count.invariant.called)
 
 pub returns-clause-crash_history : goal.returns-clause-crash_history
 returns-clause-crash_history g c = λ honest clean h legal stands T left.

@@ -2,8 +2,8 @@ use Rattle.std.proofs.Common.{◌≡◌, ◌<◌, ℕ, true}
 use Rattle.index_rules.specs.Facts.{HasOneBearer}
 use Rattle.index_rules.specs.History.{History}
 use Rattle.index_rules.specs.Legal.{IsLegal}
-use Rattle.index_rules.specs.Sound.{IsSound}
 use Rattle.index_rules.specs.StandsFor.{StandsFor}
+use Rattle.index_desk.specs.Invariants.{KeepsInvariants}
 use Rattle.index_desk.specs.Rules.{by_tables}
 use Rattle.index_cli.specs.Serving.{Serves, ServesCalls, ServesHistory}
 use Rattle.index_cli.proofs.Calls.{by_taken}
@@ -18,10 +18,7 @@ invariant-loop-count g l =
     record {
       tables : honest → HasOneBearer before → Serves by_tables l.fn.at l._count before now;
       history : honest → (h : History) → IsLegal h → StandsFor before h → ServesHistory h l.fn.at l._count now;
-      called : ServesCalls (by_taken g.B.Books.IsHonest g.B.Books.IsClean g.B.Books.tables g.B.Books.may_leave l.fn.desk l.desk) l.fn.at l._count now;
-      one_bearer : honest → HasOneBearer before → HasOneBearer now;
-      sound : honest → IsSound before → IsSound now;
-      honest : honest → g.B.Books.IsHonest l.fn.desk;
-      clean : g.B.Books.IsClean l.desk → g.B.Books.IsClean l.fn.desk;
+      called : ServesCalls (by_taken g.B.Books l.fn.desk l.desk) l.fn.at l._count now;
+      keeps : KeepsInvariants g.B.Books l.fn.desk l.desk;
       shut : l.was_shut ≡ true → 0 < g.B.Books.failures l.desk;
     }

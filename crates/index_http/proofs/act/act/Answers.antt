@@ -48,8 +48,8 @@ returns-clause-asks g c =
         crash = applied.crash;
         nothing_new = applied.nothing_new;
         lasts = applied.lasts;
-        honest = applied.honest;
-        clean = applied.clean;
+        honest = applied.keeps.honest;
+        clean = applied.keeps.clean;
       },
     ) c.send_reply-2.ensures.sent)
 

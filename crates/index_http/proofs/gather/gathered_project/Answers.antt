@@ -3,7 +3,7 @@ use Rattle.std.specs.Prelude.{option_map}
 use Rattle.index_desk.specs.Projects.{project_rows_in}
 use Rattle.index_pages.specs.Pages.{project_page_of}
 use Rattle.index_pages.specs.Parts.{project_rest}
-use Rattle.index_pages.specs.States.{sink_state, text_state}
+use Rattle.index_pages.specs.States.{text_state}
 use Rattle.index_http.specs.PagePasses.{without_stop}
 use Rattle.index_http.proofs.PassLemmas.{fresh_text, gathered, rows_given, sent_page}
 use Rattle.index_http.proofs.gather.gathered_project.Goals as goal
@@ -15,10 +15,10 @@ returns-in-Ok-clause-text g c = λ honest clean.
     let is : without_stop true walk.result ≡ Ok true = sym c.without_stop.ensures ∙ c.in_ok-without_stop.was ∙ ap Ok c.if-not-branch.false in
     let rows = project_rows_in (g.B.Books.tables c.args.desk.now) c.args.name.now in
     let there = rows_given _ _ rows page walk.new.taker walk.result (walk.ensures.walked honest clean) is in
-    let fresh = fresh_text (project_rest page.page.as_json page.name.now page.page.is_started page.page.releases.keys) (sink_state (Some page.sink.now.bytes.items) page.sink.now.failures) page.written page.end
+    let fresh = fresh_text (project_rest page.page.as_json page.name.now page.page.is_started page.page.releases.keys) (record { contents = Some page.sink.now.bytes.items; failures = page.sink.now.failures }) page.written page.end
     c.project-page.ensures.none.0 c.project-page.ensures.none.1 in
     let passed = sent_page _ _
-    (λ p. text_state (project_rest p.page.as_json p.name.now p.page.is_started p.page.releases.keys) (sink_state (Some p.sink.now.bytes.items) p.sink.now.failures) p.written p.end)
+    (λ p. text_state (project_rest p.page.as_json p.name.now p.page.is_started p.page.releases.keys) (record { contents = Some p.sink.now.bytes.items; failures = p.sink.now.failures }) p.written p.end)
     (λ p. p.sink.ghost_name) (λ before row after h. h) (λ before row after h. h)
     page walk.new.taker walk.result _ c.finish.result fresh there.3 c.finish.ensures.page c.finish.ensures.stopped there.0 there.2 in
     let back = c.buffer-2-1.given.1 (sym (passed.0 ∙ c.project-page.ensures.sink)) in

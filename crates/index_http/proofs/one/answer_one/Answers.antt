@@ -20,7 +20,7 @@ returns-clause-tables g c = λ honest one.
       subst (RepliesTo by_tables Cause c.args.at (g.B.Books.tables c.args.desk.now) c.in_ok-message.message text) (sym (replies.2 honest)) replies.1,
     ))
     (λ stands. stands honest)
-    (c.answer.ensures.tables (c.answer.ensures.honest honest) (g.met.B.Books.honest_is_clean _ honest) one)
+    (c.answer.ensures.tables (c.answer.ensures.keeps.honest honest) (g.met.B.Books.honest_is_clean _ honest) one)
 
 pub returns-clause-replied : goal.returns-clause-replied
 returns-clause-replied g c = λ honest clean one.

@@ -1,7 +1,7 @@
 use Rattle.std.proofs.Common.{◌∙◌, refl, rules, sym}
 use Rattle.index_rules.specs.TableRows.{held_rows_in}
 use Rattle.index_pages.specs.Parts.{root_rest}
-use Rattle.index_pages.specs.States.{sink_state, text_state}
+use Rattle.index_pages.specs.States.{state_of, text_state}
 use Rattle.index_http.proofs.PassLemmas.{cut_page, faulty, fresh_text, no_fault, sent_page}
 use Rattle.index_http.proofs.page.root_text.Goals as goal
 
@@ -10,10 +10,10 @@ returns-in-Ok g c =
     let page = c.root-page.result in
     let walk = c.walk_root-walked in
     let right = no_fault _ _ walk.result (sym c.without_stop.ensures ∙ c.in-Ok.is) in
-    let fresh = fresh_text (root_rest page.page.as_json page.page.is_started) (sink_state (g.K.Sink.contents page.sink.now) (g.K.Sink.failures page.sink.now)) page.written page.end
+    let fresh = fresh_text (root_rest page.page.as_json page.page.is_started) (state_of g.K.Sink page.sink.now) page.written page.end
     c.root-page.ensures.none.0 c.root-page.ensures.none.1 in
     let passed = sent_page _ _
-    (λ p. text_state (root_rest p.page.as_json p.page.is_started) (sink_state (g.K.Sink.contents p.sink.now) (g.K.Sink.failures p.sink.now)) p.written p.end)
+    (λ p. text_state (root_rest p.page.as_json p.page.is_started) (state_of g.K.Sink p.sink.now) p.written p.end)
     (λ p. p.sink.ghost_name) (λ before row after h. h) (λ before row after h. h)
     page walk.new.taker walk.result _ c.finish.result fresh right c.finish.ensures.page c.finish.ensures.stopped in
     let given = walk.ensures.given in
@@ -37,10 +37,10 @@ returns-in-Err g c =
     let page = c.root-page.result in
     let walk = c.walk_root-walked in
     let fault = faulty _ _ walk.result (sym c.without_stop.ensures ∙ c.in-Err.is) in
-    let fresh = fresh_text (root_rest page.page.as_json page.page.is_started) (sink_state (g.K.Sink.contents page.sink.now) (g.K.Sink.failures page.sink.now)) page.written page.end
+    let fresh = fresh_text (root_rest page.page.as_json page.page.is_started) (state_of g.K.Sink page.sink.now) page.written page.end
     c.root-page.ensures.none.0 c.root-page.ensures.none.1 in
     let passed = cut_page _ _
-    (λ p. text_state (root_rest p.page.as_json p.page.is_started) (sink_state (g.K.Sink.contents p.sink.now) (g.K.Sink.failures p.sink.now)) p.written p.end)
+    (λ p. text_state (root_rest p.page.as_json p.page.is_started) (state_of g.K.Sink p.sink.now) p.written p.end)
     (λ p. p.sink.ghost_name) (λ before row after h. h) (λ before row after h. h)
     page walk.new.taker walk.result fresh fault c.abandon.ensures.front c.abandon.ensures.steady in
     let given = walk.ensures.given in

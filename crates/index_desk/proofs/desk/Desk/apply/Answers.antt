@@ -1,4 +1,4 @@
-use Rattle.std.proofs.Common.{◌≡◌, ◌⊎◌, ◌∙◌, inl, inr, ap, subst, sym}
+use Rattle.std.proofs.Common.{◌≡◌, ◌⊎◌, ◌∙◌, inl, inr, ap, rules, subst, sym}
 use Rattle.index_rules.specs.declared.answer.Answer.TheVariants.{Accepted}
 use Rattle.index_rules.specs.Tables.{Tables}
 use Rattle.index_rules.specs.Effect.{effect, means}
@@ -32,15 +32,19 @@ returns-in-Ok-clause-tables g c =
     subst (λ U. tables c.settle.new.books ≡ tables_after_change U change c.settle.result) (c.consider.ensures.look.unchanged before)
     (c.settle.ensures.tables honest (verdict_now T call) change (c.in-Ok.ensures.decision before one)))
 
-pub returns-in-Ok-clause-one_bearer : goal.returns-in-Ok-clause-one_bearer
-returns-in-Ok-clause-one_bearer g c = λ honest one.
-    subst HasOneBearer (sym (returns-in-Ok-clause-tables g c honest one))
-    (HasOneBearer-tables_after (g.B.Books.tables c.args.self.now) one c.args.call c.settle.result (returns-in-Ok-clause-answer g c honest one))
-
-pub returns-in-Ok-clause-sound : goal.returns-in-Ok-clause-sound
-returns-in-Ok-clause-sound g c = λ honest sound.
-    subst IsSound (sym (returns-in-Ok-clause-tables g c honest sound.one_bearer))
-    (IsSound-tables_after (g.B.Books.tables c.args.self.now) sound c.args.call c.settle.result (returns-in-Ok-clause-answer g c honest sound.one_bearer))
+pub returns-in-Ok-clause-keeps : goal.returns-in-Ok-clause-keeps
+returns-in-Ok-clause-keeps g c =
+    let before = g.B.Books.tables c.args.self.now in
+    record {
+      one_bearer = λ honest one.
+          subst HasOneBearer (sym (returns-in-Ok-clause-tables g c honest one))
+          (HasOneBearer-tables_after before one c.args.call c.settle.result (returns-in-Ok-clause-answer g c honest one));
+      sound = λ honest sound.
+          subst IsSound (sym (returns-in-Ok-clause-tables g c honest sound.one_bearer))
+          (IsSound-tables_after before sound c.args.call c.settle.result (returns-in-Ok-clause-answer g c honest sound.one_bearer));
+      honest = search rules;
+      clean = search rules;
+    }
 
 pub returns-in-Ok-clause-history : goal.returns-in-Ok-clause-history
 returns-in-Ok-clause-history g c = λ honest h legal stands.

@@ -14,22 +14,23 @@ loop-call-preserved g c =
     let before = c.loop-call.invariant in
     let applied = c.apply-answer.ensures in
     record {
-      runs = λ honest one. let now_one = before.one (applied.honest honest) one in rw c.push_reserved.ensures.items
+      runs = λ honest one. let now_one = before.one (applied.keeps.honest honest) one in rw c.push_reserved.ensures.items
           (Runs-push (tables c.args.self.now) c.loop-call.yielded c.loop-call.answers.items (tables c.loop-call.self) c.in-Some.call c.apply-answer.result (tables c.apply-answer.new.self)
-          (before.runs (applied.honest honest) one) (applied.answer honest now_one) (applied.tables honest now_one));
-      one = λ honest one. let now_one = before.one (applied.honest honest) one in
+          (before.runs (applied.keeps.honest honest) one) (applied.answer honest now_one) (applied.tables honest now_one));
+      one = λ honest one. let now_one = before.one (applied.keeps.honest honest) one in
           subst HasOneBearer (sym (applied.tables honest now_one))
           (HasOneBearer-tables_after (tables c.loop-call.self) now_one c.in-Some.call c.apply-answer.result (applied.answer honest now_one));
       told = rw c.push_reserved.ensures.items (simp length-append (omega (arith, before.told)));
       room = omega (arith, before.room, c.push_reserved.ensures.capacity);
       store = λ found. HasFailed-push c.loop-call.answers.items c.apply-answer.result (answer.Fault Store) _ _ _ before.counts applied.failures before.store applied.store (rw c.push_reserved.ensures.items at found);
       counts = NotFewer-more _ _ _ before.counts applied.failures;
-      lasts = λ clean. rw c.push_reserved.ensures.items (LastsAll-push c.loop-call.answers.items c.apply-answer.result _ _ _ (before.lasts (applied.clean clean)) (applied.lasts clean));
+      lasts = λ clean. rw c.push_reserved.ensures.items (LastsAll-push c.loop-call.answers.items c.apply-answer.result _ _ _ (before.lasts (applied.keeps.clean clean)) (applied.lasts clean));
       crash = λ honest clean one T left.
-          let clean_then = applied.clean clean in
+          let clean_then = applied.keeps.clean clean in
           rw c.push_reserved.ensures.items
           (LeavesAll-push (tables c.args.self.now) c.loop-call.yielded c.loop-call.answers.items (tables c.loop-call.self) c.in-Some.call c.apply-answer.result (g.B.Books.may_leave c.loop-call.self) _ _ T
-          (λ then. before.runs then one) (before.crash honest clean_then one) (applied.lasts clean) applied.honest (applied.nothing_new T left)
+          (λ then. before.runs then one) (before.crash honest clean_then one) (applied.lasts clean) applied.keeps.honest (applied.nothing_new T left)
           (λ then. applied.crash then clean (before.one then one) T left));
-      honest = λ honest. before.honest (applied.honest honest);
+      honest = λ honest. before.honest (applied.keeps.honest honest);
+      clean = λ clean. before.clean (applied.keeps.clean clean);
     }

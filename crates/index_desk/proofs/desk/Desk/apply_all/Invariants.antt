@@ -20,4 +20,5 @@ invariant-loop-call g l = record {
   lasts : g.B.Books.IsClean l.self → LastsAll l.answers.items (g.B.Books.IsHonest l.fn.self) (g.B.Books.IsHonest l.self);
   crash : g.B.Books.IsHonest l.fn.self → g.B.Books.IsClean l.self → HasOneBearer (g.B.Books.tables l.fn.self) → (T : Tables) → g.B.Books.may_leave l.self T → LeavesAll (g.B.Books.tables l.fn.self) l.yielded l.answers.items T;
   honest : g.B.Books.IsHonest l.self → g.B.Books.IsHonest l.fn.self;
+  clean : g.B.Books.IsClean l.self → g.B.Books.IsClean l.fn.self;
 }

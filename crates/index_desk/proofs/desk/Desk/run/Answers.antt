@@ -4,13 +4,15 @@ use Rattle.index_rules.proofs.SoundLemmas.{IsSound-Runs}
 use Rattle.index_desk.proofs.CrashLemmas.{LastsAll-weaker, LeavesAllOf-LeavesAll}
 use Rattle.index_desk.proofs.desk.Desk.run.Goals as goal
 
-pub returns-clause-sound : goal.returns-clause-sound
-returns-clause-sound g c = λ honest sound.
-    IsSound-Runs _ sound c.args.calls.items c.apply_all.new.answers.items _ (c.apply_all.ensures.runs honest sound.one_bearer)
-
-pub returns-clause-one_bearer : goal.returns-clause-one_bearer
-returns-clause-one_bearer g c = λ honest one.
-    HasOneBearer-Runs _ one c.args.calls.items c.apply_all.new.answers.items _ (c.apply_all.ensures.runs honest one)
+pub returns-clause-keeps : goal.returns-clause-keeps
+returns-clause-keeps g c = record {
+  one_bearer = λ honest one.
+      HasOneBearer-Runs _ one c.args.calls.items c.apply_all.new.answers.items _ (c.apply_all.ensures.runs honest one);
+  sound = λ honest sound.
+      IsSound-Runs _ sound c.args.calls.items c.apply_all.new.answers.items _ (c.apply_all.ensures.runs honest sound.one_bearer);
+  honest = c.apply_all.ensures.honest;
+  clean = c.apply_all.ensures.clean;
+}
 
 pub returns-clause-history : goal.returns-clause-history
 returns-clause-history g c = λ honest h legal stands.

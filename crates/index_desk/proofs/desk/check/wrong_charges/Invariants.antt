@@ -7,5 +7,5 @@ abbrev pub invariant-loop-row : goal.invariant-loop-row
 invariant-loop-row g l = let books = g.B.Books in record {
   count : books.IsHonest l.books → l.count ≡ count_by (is_charged_wrong_in (books.tables l.fn.books)) (take l.row-index l.rows);
   few : l.count ≤ l.row-index;
-  look : Looks {X = Unit {0}} books.IsHonest books.IsClean books.tables books.failures books.may_leave l.fn.books l.books (Ok tt);
+  look : Looks {X = Unit {0}} books l.fn.books l.books (Ok tt);
 }

@@ -1,5 +1,5 @@
 use Rattle.std.proofs.Common.{ap, refl}
-use Rattle.index_pages.specs.States.{sink_state, text_state}
+use Rattle.index_pages.specs.States.{state_of, text_state}
 use Rattle.index_pages.proofs.TextLemmas.{page_ends, page_stops}
 use Rattle.index_pages.proofs.text.PageText+K+P+Vec+u8.finish.Goals as goal
 
@@ -7,7 +7,7 @@ pub returns-clause-page : goal.returns-clause-page
 returns-clause-page g c =
     let self = c.args.self in
     let sink = self.sink.now in
-    page_ends (text_state (g.P.Page.rest self.page self.name.now) (sink_state (g.K.Sink.contents sink) (g.K.Sink.failures sink)) self.written self.end) _ c.close.result
+    page_ends (text_state (g.P.Page.rest self.page self.name.now) (state_of g.K.Sink sink) self.written self.end) _ c.close.result
     (λ end e. let h = c.close.ensures.ended end e in (h.0, rw h.1 refl))
     c.close.ensures.closed
 
@@ -15,5 +15,5 @@ pub returns-clause-stopped : goal.returns-clause-stopped
 returns-clause-stopped g c =
     let self = c.args.self in
     let sink = self.sink.now in
-    page_stops (text_state (g.P.Page.rest self.page self.name.now) (sink_state (g.K.Sink.contents sink) (g.K.Sink.failures sink)) self.written self.end) _ c.close.result
-    (λ end e. let h = c.close.ensures.ended end e in (h.0, ap (λ sink. sink_state (g.K.Sink.contents sink) (g.K.Sink.failures sink)) h.1))
+    page_stops (text_state (g.P.Page.rest self.page self.name.now) (state_of g.K.Sink sink) self.written self.end) _ c.close.result
+    (λ end e. let h = c.close.ensures.ended end e in (h.0, ap (λ sink. state_of g.K.Sink sink) h.1))

@@ -1,4 +1,4 @@
-use Rattle.std.proofs.Common.{◌∙◌}
+use Rattle.std.proofs.Common.{◌∙◌, rules}
 use Rattle.std.specs.FinMap.{remove}
 use Rattle.index_rules.specs.Effect.{without_name}
 use Rattle.index_rules.specs.Maps.{bytes_cmp}
@@ -7,11 +7,15 @@ use Rattle.index_plain.specs.Plain.{tables_of}
 use Rattle.index_plain.proofs.OwnerLemmas.{name_alone}
 use Rattle.index_plain.proofs.plain.PlainBooks.claim.Goals as goal
 
-pub returns-clause-written : goal.returns-clause-written
-returns-clause-written c =
+pub returns-clause-made : goal.returns-clause-made
+returns-clause-made c =
     let books = c.args.self.now in
     let name = c.args.name.now in
     let T = tables_of books in
     let owners = name_alone (map_of bytes_cmp books.owners) (map_of bytes_cmp c.put_both.new.map) name c.in_ok-alone.alone c.args.owner.now tt c.in_ok-alone.ensures c.in_ok-put_both.ensures.written in
-    c.end_yanks_and_case.ensures.tables
-    ∙ (λ i. record T { names = c.in_ok-put_both.ensures.other_written i; owners = owners i; yanks = without_name name T.yanks; cases = remove T.cases name })
+    record {
+      written = c.end_yanks_and_case.ensures.tables
+          ∙ (λ i. record T { names = c.in_ok-put_both.ensures.other_written i; owners = owners i; yanks = without_name name T.yanks; cases = remove T.cases name });
+      unchanged = search rules;
+      failures = search rules;
+    }

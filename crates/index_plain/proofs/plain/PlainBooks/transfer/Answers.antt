@@ -1,12 +1,16 @@
-use Rattle.std.proofs.Common.{◌∙◌}
+use Rattle.std.proofs.Common.{◌∙◌, rules}
 use Rattle.std.specs.FinMap.{remove}
 use Rattle.index_plain.specs.Plain.{tables_of}
 use Rattle.index_plain.proofs.OwnerLemmas.{alone_in_place}
 use Rattle.index_plain.proofs.plain.PlainBooks.transfer.Goals as goal
 
-pub returns-clause-written : goal.returns-clause-written
-returns-clause-written c =
+pub returns-clause-made : goal.returns-clause-made
+returns-clause-made c =
     let name = c.args.name.now in
     let T = tables_of c.args.self.now in
     let owners = alone_in_place T.owners _ name c.args.candidate.now tt c.in_ok-put_alone.ensures.written in
-    c.end_case.ensures.tables ∙ (λ i. record T { owners = owners i; cases = remove T.cases name })
+    record {
+      written = c.end_case.ensures.tables ∙ (λ i. record T { owners = owners i; cases = remove T.cases name });
+      unchanged = search rules;
+      failures = search rules;
+    }
