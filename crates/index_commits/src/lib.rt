@@ -5,4 +5,4 @@ mod commit;
 mod step;
 
 pub use commit::commit_steps;
-pub use step::{Deletion, Put, Step, take_steps};
+pub use step::{Deletion, Put, Step};

@@ -129,7 +129,10 @@ fn take_step<S: Alter>(tx: &mut Transaction<'_, S>, step: &Step<'_>) -> Result<(
 }
 
 /// Takes the steps in turn, up to the first that fails.
-pub fn take_steps<S: Alter>(tx: &mut Transaction<'_, S>, steps: &[Step<'_>]) -> Result<(), Error>
+pub(crate) fn take_steps<S: Alter>(
+    tx: &mut Transaction<'_, S>,
+    steps: &[Step<'_>],
+) -> Result<(), Error>
     ensures same_reference { tx.new.conn.ghost_name ≡ tx.old.conn.ghost_name }
     ensures made { MakesIfOk S.Store (all_of steps.now) tx.old.conn.now tx.new.conn.now result }
     ensures kept { Keeps S.Store tx.old.conn.now tx.new.conn.now }

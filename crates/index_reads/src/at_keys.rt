@@ -22,7 +22,7 @@ use sqlite::Alter;
 use std::alloc::Global;
 
 /// Who bears the token, as the caller of a call.
-pub fn caller_at<S: Alter>(
+pub(crate) fn caller_at<S: Alter>(
     alloc: Global,
     conn: &mut IndexConnection<S>,
     token: Option<Digest256>,
@@ -45,7 +45,7 @@ pub fn caller_at<S: Alter>(
 }
 
 /// Who bears the token.
-pub fn bearer_at<S: Alter>(
+pub(crate) fn bearer_at<S: Alter>(
     alloc: Global,
     conn: &mut IndexConnection<S>,
     token: Option<Digest256>,
@@ -65,7 +65,7 @@ pub fn bearer_at<S: Alter>(
 }
 
 /// The record of the user.
-pub fn user_at<S: Alter>(
+pub(crate) fn user_at<S: Alter>(
     alloc: Global,
     conn: &mut IndexConnection<S>,
     user: &Option<UserId>,
@@ -82,7 +82,7 @@ pub fn user_at<S: Alter>(
 }
 
 /// The record of the name.
-pub fn name_at<S: Alter>(
+pub(crate) fn name_at<S: Alter>(
     alloc: Global,
     conn: &mut IndexConnection<S>,
     name: &Option<NormalName>,
@@ -99,7 +99,7 @@ pub fn name_at<S: Alter>(
 }
 
 /// The owners of the name.
-pub fn owners_at<S: Alter>(
+pub(crate) fn owners_at<S: Alter>(
     alloc: Global,
     conn: &mut IndexConnection<S>,
     name: &Option<NormalName>,
@@ -116,7 +116,7 @@ pub fn owners_at<S: Alter>(
 }
 
 /// The open case of the name.
-pub fn case_at<S: Alter>(
+pub(crate) fn case_at<S: Alter>(
     alloc: Global,
     conn: &mut IndexConnection<S>,
     name: &Option<NormalName>,
@@ -133,7 +133,7 @@ pub fn case_at<S: Alter>(
 }
 
 /// The record of the file.
-pub fn file_at<S: Alter>(
+pub(crate) fn file_at<S: Alter>(
     alloc: Global,
     conn: &mut IndexConnection<S>,
     file: &Option<FileName>,
@@ -150,7 +150,7 @@ pub fn file_at<S: Alter>(
 }
 
 /// Whether the file is banned.
-pub fn ban_at<S: Alter>(
+pub(crate) fn ban_at<S: Alter>(
     conn: &mut IndexConnection<S>,
     file: &Option<FileName>,
 ) -> Result<bool, Fault>
@@ -166,7 +166,7 @@ pub fn ban_at<S: Alter>(
 }
 
 /// Why the release of the name is yanked, where it is.
-pub fn yank_at<S: Alter>(
+pub(crate) fn yank_at<S: Alter>(
     alloc: Global,
     conn: &mut IndexConnection<S>,
     name: &Option<NormalName>,
@@ -184,7 +184,7 @@ pub fn yank_at<S: Alter>(
 }
 
 /// Whether the name has an undeleted file of the release.
-pub fn release_at<S: Alter>(
+pub(crate) fn release_at<S: Alter>(
     conn: &mut IndexConnection<S>,
     name: &Option<NormalName>,
     release: &Option<Release>,

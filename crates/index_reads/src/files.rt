@@ -17,7 +17,7 @@ use sqlite::{Alter, params};
 use std::alloc::Global;
 
 /// The record of a file that was once accepted.
-pub fn find_file<S: Alter>(
+pub(crate) fn find_file<S: Alter>(
     alloc: Global,
     conn: &mut IndexConnection<S>,
     file: &FileName,
@@ -36,7 +36,10 @@ pub fn find_file<S: Alter>(
 }
 
 /// Whether the file is banned.
-pub fn is_banned<S: Alter>(conn: &mut IndexConnection<S>, file: &FileName) -> Result<bool, Fault>
+pub(crate) fn is_banned<S: Alter>(
+    conn: &mut IndexConnection<S>,
+    file: &FileName,
+) -> Result<bool, Fault>
     ensures found { HasCleanDisk (state S.Store conn.new) → IfOk result (λ it.
         it ≡ is_banned_in (tables_of S.Store conn.old) file.now) }
     ensures looks { Looks S.Store conn.old conn.new (is_ok result) }
@@ -51,7 +54,7 @@ pub fn is_banned<S: Alter>(conn: &mut IndexConnection<S>, file: &FileName) -> Re
 }
 
 /// Why the release is yanked, where it is.
-pub fn find_yank<S: Alter>(
+pub(crate) fn find_yank<S: Alter>(
     alloc: Global,
     conn: &mut IndexConnection<S>,
     name: &NormalName,
@@ -71,7 +74,7 @@ pub fn find_yank<S: Alter>(
 }
 
 /// Whether the name has an undeleted file of the release.
-pub fn has_release<S: Alter>(
+pub(crate) fn has_release<S: Alter>(
     conn: &mut IndexConnection<S>,
     name: &NormalName,
     release: &Release,

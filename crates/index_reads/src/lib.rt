@@ -11,8 +11,5 @@ mod shown;
 mod users;
 
 pub use body::find_body;
-pub use files::{find_file, find_yank, has_release, is_banned};
 pub use listed::{files_of, names, owners_of};
-pub use projects::{find_case, find_name};
 pub use seen::view;
-pub use users::{find_bearer, find_user};

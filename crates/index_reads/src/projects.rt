@@ -15,7 +15,7 @@ use sqlite::{Alter, params};
 use std::alloc::Global;
 
 /// The record of a name that is not free.
-pub fn find_name<S: Alter>(
+pub(crate) fn find_name<S: Alter>(
     alloc: Global,
     conn: &mut IndexConnection<S>,
     name: &NormalName,
@@ -34,7 +34,7 @@ pub fn find_name<S: Alter>(
 }
 
 /// The open case of a name.
-pub fn find_case<S: Alter>(
+pub(crate) fn find_case<S: Alter>(
     alloc: Global,
     conn: &mut IndexConnection<S>,
     name: &NormalName,

@@ -48,7 +48,11 @@ pub struct FilesSeen {
 }
 
 /// The records that the keys name.
-pub fn view<S: Alter>(alloc: Global, conn: &mut IndexConnection<S>, keys: &Keys) -> Result<View, Fault>
+pub fn view<S: Alter>(
+    alloc: Global,
+    conn: &mut IndexConnection<S>,
+    keys: &Keys,
+) -> Result<View, Fault>
     ensures found { HasCleanDisk (state S.Store conn.new)
         → IfOk result (Sees (tables_of S.Store conn.old) keys.now) }
     ensures looks { Looks S.Store conn.old conn.new (is_ok result) }

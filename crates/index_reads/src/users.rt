@@ -16,7 +16,7 @@ use sqlite::{Alter, params};
 use std::alloc::Global;
 
 /// The record of a user.
-pub fn find_user<S: Alter>(
+pub(crate) fn find_user<S: Alter>(
     alloc: Global,
     conn: &mut IndexConnection<S>,
     user: &UserId,
@@ -35,7 +35,7 @@ pub fn find_user<S: Alter>(
 }
 
 /// Who bears the token with this digest, with the record of that user.
-pub fn find_bearer<S: Alter>(
+pub(crate) fn find_bearer<S: Alter>(
     alloc: Global,
     conn: &mut IndexConnection<S>,
     token: Digest256,

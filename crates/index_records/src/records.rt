@@ -43,7 +43,7 @@ pub fn name_record(alloc: Global, row: &Row) -> Result<NameRecord, Fault>
 }
 
 /// The row of a held name. `Store` where its numbers don't fit together.
-pub fn project(alloc: Global, row: &Row) -> Result<Project, Fault>
+fn project(alloc: Global, row: &Row) -> Result<Project, Fault>
     ensures record { IfOk result (λ it. it ≡ project_in row.now) }
     ensures complete { IsProjectRow row.now → IsOkUnless result Fault.OutOfMemory }
 {
