@@ -32,7 +32,7 @@ module _ {S : Type 0} (g : Ghosts S) (old new : Held S) (known : IsTrue (state g
     (survives : Survives (state g old) (state g new) (CommitsShowing select_version_text [] (state g old))) where
   looks_by : (did : Bool) → (HasCleanDisk (state g new) → Stays (state g old) (state g new)) → (IsTrue did → HasCleanDisk (state g new) → IsTrue (state g new).is_open) → Looks g old new did
   looks_by did stays is_open = record {
-    ended = ended;
+    outside = λ _. ended;
     was_clean = λ clean. omega (arith, survives.clean);
     was_open = λ clean. (stays clean).was_open;
     now_is = λ clean. (stays clean).now_is;
@@ -99,7 +99,7 @@ looks_dropped g old start mid new is settled kept_start ran_start ended undone d
     let was : (clean : HasCleanDisk (state g new)) → IsTrue (state g new).is_open → IsTrue (state g old).is_open = λ clean o. (kept (before clean)).was_open ((undone clean).was_open o) in
     let same : (clean : HasCleanDisk (state g new)) (o : IsTrue (state g new).is_open) → (state g mid).committed ≡ (state g old).committed = λ clean o. (kept (before clean)).committed ((undone clean).was_open o) in
     record {
-      ended = ended;
+      outside = λ _. ended;
       was_clean = first;
       was_open = was;
       now_is = λ clean o. ((undone clean).undone o).0 ∙ same clean o ∙ sym (settled (was clean o));

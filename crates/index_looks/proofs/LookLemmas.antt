@@ -55,7 +55,7 @@ module _ {S : Type 0} (g : Ghosts S) where
     -- of a query with this text, which leaves it as it was, or undoes it
     pub looks_by : (did : Bool) → (HasCleanDisk (state g new) → Stays (state g old) (state g new)) → (IsTrue did → HasCleanDisk (state g new) → IsTrue (state g new).is_open) → Looks g old new did
     looks_by did stays is_open = record {
-      ended = ended;
+      outside = λ _. ended;
       was_clean = was_clean;
       was_open = λ clean. (stays clean).was_open;
       now_is = λ clean. (stays clean).now_is;
@@ -82,9 +82,9 @@ module _ {S : Type 0} (g : Ghosts S) where
   -- ---- several
 
   -- none
-  pub looks_none : (held : Held S) (did : Bool) → held.in_transaction ≡ false → Looks g held held did
-  looks_none held did ended = record {
-    ended = ended;
+  pub looks_none : (held : Held S) (did : Bool) → Looks g held held did
+  looks_none held did = record {
+    outside = λ outside. outside;
     was_clean = λ clean. clean;
     was_open = λ clean o. o;
     now_is = λ clean o. refl;
@@ -97,7 +97,7 @@ module _ {S : Type 0} (g : Ghosts S) where
   -- one after another
   pub looks_then : (a b c : Held S) (did : Bool) → Looks g a b true → Looks g b c did → Looks g a c did
   looks_then a b c did first second = record {
-    ended = second.ended;
+    outside = λ outside. second.outside (first.outside outside);
     was_clean = λ clean. first.was_clean (second.was_clean clean);
     was_open = λ clean o. first.was_open (second.was_clean clean) (second.was_open clean o);
     now_is = λ clean o. second.now_is clean o ∙ first.now_is (second.was_clean clean) (second.was_open clean o);
@@ -110,7 +110,7 @@ module _ {S : Type 0} (g : Ghosts S) where
   -- what follows looks that succeeded may fail
   pub looks_failed : (a b : Held S) (did : Bool) → Looks g a b true → Looks g a b did
   looks_failed a b did it = record {
-    ended = it.ended;
+    outside = it.outside;
     was_clean = it.was_clean;
     was_open = it.was_open;
     now_is = it.now_is;
@@ -123,6 +123,7 @@ module _ {S : Type 0} (g : Ghosts S) where
   -- an index stays one, with its version
   pub looks_kept : (a b : Held S) (did : Bool) → IsKept g a → Looks g a b did → IsKept g b
   looks_kept a b did kept it = record {
+    outside = it.outside kept.outside;
     index = λ clean o. subst IsIndex (sym (it.now_is clean o)) (kept.index (it.was_clean clean) (it.was_open clean o));
     committed = λ clean o. it.now_is clean o ∙ kept.committed (it.was_clean clean) (it.was_open clean o) ∙ sym (it.committed_is clean o);
     version = λ clean o. subst (λ (db : Database). version_in db.trees ≡ Some 2) (sym (it.now_is clean o)) (kept.version (it.was_clean clean) (it.was_open clean o));

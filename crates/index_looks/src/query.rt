@@ -1,5 +1,5 @@
 //! One query of the tables.
-ghost use Rattle.std.specs.Prelude.{◌≡◌, false, is_ok, IfOk, OnOk};
+ghost use Rattle.std.specs.Prelude.{◌≡◌, is_ok, IfOk, OnOk};
 ghost use Rattle.sqlite.specs.Held.{state};
 ghost use Rattle.sqlite.specs.Listing.{understood};
 ghost use Rattle.sqlite.specs.Given.{IsPlain};
@@ -8,13 +8,14 @@ ghost use Rattle.sqlite.specs.Values.{bound};
 ghost use Rattle.index_schema.specs.Index.{IsIndex};
 ghost use Rattle.index_schema.specs.Schema.{index_schema};
 ghost use Rattle.index_looks.specs.Faults.{fault_by};
-ghost use Rattle.index_looks.specs.Looks.{IsKept, Looks};
+ghost use Rattle.index_looks.specs.Looks.{Looks};
 ghost use Rattle.index_looks.specs.Reasons.{StoreForReason};
 ghost use Rattle.index_schema.specs.Sure.{IsSure};
 
+use crate::connection::IndexConnection;
 use index_rules::Fault;
 use sqlite::types::ValueRef;
-use sqlite::{Alter, Connection, Error, ErrorCode, Row};
+use sqlite::{Alter, Error, ErrorCode, Row};
 
 /// The fault that an error of the database is: want of memory as such, and each other one as a fault of the store.
 pub fn fault_of(error: Error) -> Fault
@@ -31,12 +32,10 @@ pub fn fault_of(error: Error) -> Fault
 /// # Errors
 /// `OutOfMemory` for want of memory, else `Store`. Where the connection is open after it, it holds what it held.
 pub fn look<S: Alter>(
-    conn: &mut Connection<S>,
+    conn: &mut IndexConnection<S>,
     text: &str,
     params: &[ValueRef<'_>],
 ) -> Result<Vec<Row>, Fault>
-    requires outside { conn.old.in_transaction ≡ false }
-    requires kept { IsKept S.Store conn.old }
     requires plain { IsPlain (understood index_schema text.now) }
     ensures shown { HasCleanDisk (state S.Store conn.new) → IfOk result (λ rows.
         Shown text.now (bound params.now)
@@ -47,8 +46,9 @@ pub fn look<S: Alter>(
     ensures reason { IsSure text.now (bound params.now) → HasCleanDisk (state S.Store conn.new)
         → StoreForReason S.Store conn.old conn.new result }
 {
-    match conn.query_all(text, params) {
-        Ok(rows) => Ok(rows),
-        Err(error) => Err(fault_of(error)),
-    }
+    let rows = match conn.conn.query_all(text, params) {
+        Ok(rows) => rows,
+        Err(error) => return Err(fault_of(error)),
+    };
+    Ok(rows)
 }

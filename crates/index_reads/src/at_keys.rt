@@ -5,7 +5,7 @@ ghost use Rattle.std.specs.FinMap.{get};
 ghost use Rattle.sqlite.specs.Held.{state};
 ghost use Rattle.sqlite.specs.State.{HasCleanDisk};
 ghost use Rattle.index_rules.specs.Facts.{AreOwners, IsBearerAs, at_both, caller_of, has_release_in, is_banned_in, of_both, yank_in};
-ghost use Rattle.index_looks.specs.Looks.{IsKept, Looks};
+ghost use Rattle.index_looks.specs.Looks.{Looks};
 ghost use Rattle.index_looks.specs.Reasons.{FailsForReason};
 ghost use Rattle.index_reads.specs.Held.{tables_of};
 
@@ -14,20 +14,19 @@ use crate::listed::owners_of;
 use crate::projects::{find_case, find_name};
 use crate::users::{find_bearer, find_user};
 use index_digest::Digest256;
+use index_looks::IndexConnection;
 use index_names::{FileName, NormalName, Release};
 use index_rules::{Caller, CaseRecord, Fault, FileRecord, NameRecord, Owners, UserId, UserRecord};
 use index_text::Text;
-use sqlite::{Alter, Connection};
+use sqlite::Alter;
 use std::alloc::Global;
 
 /// Who bears the token, as the caller of a call.
 pub(crate) fn caller_at<S: Alter>(
     alloc: Global,
-    conn: &mut Connection<S>,
+    conn: &mut IndexConnection<S>,
     token: Option<Digest256>,
 ) -> Result<Option<Caller>, Fault>
-    requires outside { conn.old.in_transaction ≡ false }
-    requires kept { IsKept S.Store conn.old }
     ensures found { HasCleanDisk (state S.Store conn.new)
         → IfOk result (IsBearerAs caller_of (tables_of S.Store conn.old) token) }
     ensures looks { Looks S.Store conn.old conn.new (is_ok result) }
@@ -48,11 +47,9 @@ pub(crate) fn caller_at<S: Alter>(
 /// Who bears the token.
 pub(crate) fn bearer_at<S: Alter>(
     alloc: Global,
-    conn: &mut Connection<S>,
+    conn: &mut IndexConnection<S>,
     token: Option<Digest256>,
 ) -> Result<Option<UserId>, Fault>
-    requires outside { conn.old.in_transaction ≡ false }
-    requires kept { IsKept S.Store conn.old }
     ensures found { HasCleanDisk (state S.Store conn.new)
         → IfOk result (IsBearerAs (λ user. user.0) (tables_of S.Store conn.old) token) }
     ensures looks { Looks S.Store conn.old conn.new (is_ok result) }
@@ -70,11 +67,9 @@ pub(crate) fn bearer_at<S: Alter>(
 /// The record of the user.
 pub(crate) fn user_at<S: Alter>(
     alloc: Global,
-    conn: &mut Connection<S>,
+    conn: &mut IndexConnection<S>,
     user: &Option<UserId>,
 ) -> Result<Option<UserRecord>, Fault>
-    requires outside { conn.old.in_transaction ≡ false }
-    requires kept { IsKept S.Store conn.old }
     ensures found { HasCleanDisk (state S.Store conn.new) → IfOk result (λ it.
         it ≡ option_and_then (get (tables_of S.Store conn.old).users) user.now) }
     ensures looks { Looks S.Store conn.old conn.new (is_ok result) }
@@ -89,11 +84,9 @@ pub(crate) fn user_at<S: Alter>(
 /// The record of the name.
 pub(crate) fn name_at<S: Alter>(
     alloc: Global,
-    conn: &mut Connection<S>,
+    conn: &mut IndexConnection<S>,
     name: &Option<NormalName>,
 ) -> Result<Option<NameRecord>, Fault>
-    requires outside { conn.old.in_transaction ≡ false }
-    requires kept { IsKept S.Store conn.old }
     ensures found { HasCleanDisk (state S.Store conn.new) → IfOk result (λ it.
         it ≡ option_and_then (get (tables_of S.Store conn.old).names) name.now) }
     ensures looks { Looks S.Store conn.old conn.new (is_ok result) }
@@ -108,11 +101,9 @@ pub(crate) fn name_at<S: Alter>(
 /// The owners of the name.
 pub(crate) fn owners_at<S: Alter>(
     alloc: Global,
-    conn: &mut Connection<S>,
+    conn: &mut IndexConnection<S>,
     name: &Option<NormalName>,
 ) -> Result<Owners, Fault>
-    requires outside { conn.old.in_transaction ≡ false }
-    requires kept { IsKept S.Store conn.old }
     ensures found { HasCleanDisk (state S.Store conn.new)
         → IfOk result (AreOwners (tables_of S.Store conn.old) name.now) }
     ensures looks { Looks S.Store conn.old conn.new (is_ok result) }
@@ -127,11 +118,9 @@ pub(crate) fn owners_at<S: Alter>(
 /// The open case of the name.
 pub(crate) fn case_at<S: Alter>(
     alloc: Global,
-    conn: &mut Connection<S>,
+    conn: &mut IndexConnection<S>,
     name: &Option<NormalName>,
 ) -> Result<Option<CaseRecord>, Fault>
-    requires outside { conn.old.in_transaction ≡ false }
-    requires kept { IsKept S.Store conn.old }
     ensures found { HasCleanDisk (state S.Store conn.new) → IfOk result (λ it.
         it ≡ option_and_then (get (tables_of S.Store conn.old).cases) name.now) }
     ensures looks { Looks S.Store conn.old conn.new (is_ok result) }
@@ -146,11 +135,9 @@ pub(crate) fn case_at<S: Alter>(
 /// The record of the file.
 pub(crate) fn file_at<S: Alter>(
     alloc: Global,
-    conn: &mut Connection<S>,
+    conn: &mut IndexConnection<S>,
     file: &Option<FileName>,
 ) -> Result<Option<FileRecord>, Fault>
-    requires outside { conn.old.in_transaction ≡ false }
-    requires kept { IsKept S.Store conn.old }
     ensures found { HasCleanDisk (state S.Store conn.new) → IfOk result (λ it.
         it ≡ option_and_then (get (tables_of S.Store conn.old).files) file.now) }
     ensures looks { Looks S.Store conn.old conn.new (is_ok result) }
@@ -164,11 +151,9 @@ pub(crate) fn file_at<S: Alter>(
 
 /// Whether the file is banned.
 pub(crate) fn ban_at<S: Alter>(
-    conn: &mut Connection<S>,
+    conn: &mut IndexConnection<S>,
     file: &Option<FileName>,
 ) -> Result<bool, Fault>
-    requires outside { conn.old.in_transaction ≡ false }
-    requires kept { IsKept S.Store conn.old }
     ensures found { HasCleanDisk (state S.Store conn.new) → IfOk result (λ it.
         it ≡ option_map_or (is_banned_in (tables_of S.Store conn.old)) file.now false) }
     ensures looks { Looks S.Store conn.old conn.new (is_ok result) }
@@ -183,12 +168,10 @@ pub(crate) fn ban_at<S: Alter>(
 /// Why the release of the name is yanked, where it is.
 pub(crate) fn yank_at<S: Alter>(
     alloc: Global,
-    conn: &mut Connection<S>,
+    conn: &mut IndexConnection<S>,
     name: &Option<NormalName>,
     release: &Option<Release>,
 ) -> Result<Option<Text>, Fault>
-    requires outside { conn.old.in_transaction ≡ false }
-    requires kept { IsKept S.Store conn.old }
     ensures found { HasCleanDisk (state S.Store conn.new) → IfOk result (λ it.
         it ≡ at_both (yank_in (tables_of S.Store conn.old)) name.now release.now) }
     ensures looks { Looks S.Store conn.old conn.new (is_ok result) }
@@ -202,12 +185,10 @@ pub(crate) fn yank_at<S: Alter>(
 
 /// Whether the name has an undeleted file of the release.
 pub(crate) fn release_at<S: Alter>(
-    conn: &mut Connection<S>,
+    conn: &mut IndexConnection<S>,
     name: &Option<NormalName>,
     release: &Option<Release>,
 ) -> Result<bool, Fault>
-    requires outside { conn.old.in_transaction ≡ false }
-    requires kept { IsKept S.Store conn.old }
     ensures found { HasCleanDisk (state S.Store conn.new) → IfOk result (λ it.
         it ≡ of_both (has_release_in (tables_of S.Store conn.old)) name.now release.now) }
     ensures looks { Looks S.Store conn.old conn.new (is_ok result) }

@@ -1,11 +1,11 @@
 //! The bytes that are kept of a file.
-ghost use Rattle.std.specs.Prelude.{◌≡◌, false, is_ok, option_map, slice_get, IfOk, IsOk, IsOkUnless};
+ghost use Rattle.std.specs.Prelude.{◌≡◌, is_ok, option_map, slice_get, IfOk, IsOk, IsOkUnless};
 ghost use Rattle.std.specs.List.{AllByRecursion};
 ghost use Rattle.std.specs.FinMap.{get};
 ghost use Rattle.sqlite.specs.Held.{state};
 ghost use Rattle.sqlite.specs.State.{HasCleanDisk};
 ghost use Rattle.index_schema.specs.Records.{body_in};
-ghost use Rattle.index_looks.specs.Looks.{IsKept, Looks};
+ghost use Rattle.index_looks.specs.Looks.{Looks};
 ghost use Rattle.index_looks.specs.Reasons.{FailsForReason};
 ghost use Rattle.index_schema.specs.RecordRows.{IsBodyRow};
 ghost use Rattle.index_reads.specs.Held.{tables_of};
@@ -13,22 +13,20 @@ ghost use Rattle.index_reads.specs.Sealed.{digest_in, IsBoundTo};
 
 use crate::files::find_file;
 use index_digest::{Digest256, Sealed};
-use index_looks::look;
+use index_looks::{IndexConnection, look};
 use index_names::FileName;
 use index_records::body;
 use index_rules::Fault;
 use index_schema::statement_texts::SELECT_BODY;
-use sqlite::{Alter, Connection, Row, params};
+use sqlite::{Alter, Row, params};
 use std::alloc::Global;
 
 /// The bytes that are kept of a file, if any are. `Store` where they have not the digest that the file is bound to.
 pub fn find_body<S: Alter>(
     alloc: Global,
-    conn: &mut Connection<S>,
+    conn: &mut IndexConnection<S>,
     file: &FileName,
 ) -> Result<Option<Sealed>, Fault>
-    requires outside { conn.old.in_transaction ≡ false }
-    requires kept { IsKept S.Store conn.old }
     ensures found { HasCleanDisk (state S.Store conn.new) → IfOk result (λ it.
         it ≡ get (tables_of S.Store conn.old).bodies file.now) }
     ensures bound { HasCleanDisk (state S.Store conn.new)
@@ -46,11 +44,9 @@ pub fn find_body<S: Alter>(
 /// The digest that a file is bound to.
 fn find_digest<S: Alter>(
     alloc: Global,
-    conn: &mut Connection<S>,
+    conn: &mut IndexConnection<S>,
     file: &FileName,
 ) -> Result<Option<Digest256>, Fault>
-    requires outside { conn.old.in_transaction ≡ false }
-    requires kept { IsKept S.Store conn.old }
     ensures found { HasCleanDisk (state S.Store conn.new) → IfOk result (λ it.
         it ≡ digest_in (tables_of S.Store conn.old) file.now) }
     ensures looks { Looks S.Store conn.old conn.new (is_ok result) }
@@ -65,11 +61,9 @@ fn find_digest<S: Alter>(
 /// The bytes that are kept of a file, whatever their digest is.
 fn find_bytes<S: Alter>(
     alloc: Global,
-    conn: &mut Connection<S>,
+    conn: &mut IndexConnection<S>,
     file: &FileName,
 ) -> Result<Option<Vec<u8>>, Fault>
-    requires outside { conn.old.in_transaction ≡ false }
-    requires kept { IsKept S.Store conn.old }
     ensures found { HasCleanDisk (state S.Store conn.new) → IfOk result (λ it.
         option_map (λ bytes. bytes.items) it
         ≡ get (tables_of S.Store conn.old).bodies file.now) }

@@ -1,30 +1,28 @@
 //! Look-ups of files and releases.
-ghost use Rattle.std.specs.Prelude.{◌≡◌, false, is_ok, IfOk};
+ghost use Rattle.std.specs.Prelude.{◌≡◌, is_ok, IfOk};
 ghost use Rattle.std.specs.FinMap.{get};
 ghost use Rattle.sqlite.specs.Held.{state};
 ghost use Rattle.sqlite.specs.State.{HasCleanDisk};
 ghost use Rattle.index_rules.specs.Facts.{has_release_in, is_banned_in, yank_in};
-ghost use Rattle.index_looks.specs.Looks.{IsKept, Looks};
+ghost use Rattle.index_looks.specs.Looks.{Looks};
 ghost use Rattle.index_looks.specs.Reasons.{FailsForReason};
 ghost use Rattle.index_reads.specs.Held.{tables_of};
 
 use crate::shown::{first, has_row};
-use index_looks::look;
+use index_looks::{IndexConnection, look};
 use index_names::{FileName, NormalName, Release};
 use index_rules::{Fault, FileRecord};
 use index_schema::statement_texts::{SELECT_BAN, SELECT_FILE, SELECT_RELEASE, SELECT_YANK};
 use index_text::Text;
-use sqlite::{Alter, Connection, params};
+use sqlite::{Alter, params};
 use std::alloc::Global;
 
 /// The record of a file that was once accepted.
 pub(crate) fn find_file<S: Alter>(
     alloc: Global,
-    conn: &mut Connection<S>,
+    conn: &mut IndexConnection<S>,
     file: &FileName,
 ) -> Result<Option<FileRecord>, Fault>
-    requires outside { conn.old.in_transaction ≡ false }
-    requires kept { IsKept S.Store conn.old }
     ensures found { HasCleanDisk (state S.Store conn.new) → IfOk result (λ it.
         it ≡ get (tables_of S.Store conn.old).files file.now) }
     ensures looks { Looks S.Store conn.old conn.new (is_ok result) }
@@ -35,9 +33,10 @@ pub(crate) fn find_file<S: Alter>(
 }
 
 /// Whether the file is banned.
-pub(crate) fn is_banned<S: Alter>(conn: &mut Connection<S>, file: &FileName) -> Result<bool, Fault>
-    requires outside { conn.old.in_transaction ≡ false }
-    requires kept { IsKept S.Store conn.old }
+pub(crate) fn is_banned<S: Alter>(
+    conn: &mut IndexConnection<S>,
+    file: &FileName,
+) -> Result<bool, Fault>
     ensures found { HasCleanDisk (state S.Store conn.new) → IfOk result (λ it.
         it ≡ is_banned_in (tables_of S.Store conn.old) file.now) }
     ensures looks { Looks S.Store conn.old conn.new (is_ok result) }
@@ -50,12 +49,10 @@ pub(crate) fn is_banned<S: Alter>(conn: &mut Connection<S>, file: &FileName) -> 
 /// Why the release is yanked, where it is.
 pub(crate) fn find_yank<S: Alter>(
     alloc: Global,
-    conn: &mut Connection<S>,
+    conn: &mut IndexConnection<S>,
     name: &NormalName,
     release: &Release,
 ) -> Result<Option<Text>, Fault>
-    requires outside { conn.old.in_transaction ≡ false }
-    requires kept { IsKept S.Store conn.old }
     ensures found { HasCleanDisk (state S.Store conn.new) → IfOk result (λ it.
         it ≡ yank_in (tables_of S.Store conn.old) name.now release.now) }
     ensures looks { Looks S.Store conn.old conn.new (is_ok result) }
@@ -67,12 +64,10 @@ pub(crate) fn find_yank<S: Alter>(
 
 /// Whether the name has an undeleted file of the release.
 pub(crate) fn has_release<S: Alter>(
-    conn: &mut Connection<S>,
+    conn: &mut IndexConnection<S>,
     name: &NormalName,
     release: &Release,
 ) -> Result<bool, Fault>
-    requires outside { conn.old.in_transaction ≡ false }
-    requires kept { IsKept S.Store conn.old }
     ensures found { HasCleanDisk (state S.Store conn.new) → IfOk result (λ it.
         it ≡ has_release_in (tables_of S.Store conn.old) name.now release.now) }
     ensures looks { Looks S.Store conn.old conn.new (is_ok result) }

@@ -1,29 +1,27 @@
 //! Lists of records, each in the byte order of its keys.
-ghost use Rattle.std.specs.Prelude.{◌≡◌, false, is_ok, IfOk};
+ghost use Rattle.std.specs.Prelude.{◌≡◌, is_ok, IfOk};
 ghost use Rattle.sqlite.specs.Held.{state};
 ghost use Rattle.sqlite.specs.State.{HasCleanDisk};
 ghost use Rattle.index_rules.specs.Tables.{owners_in};
 ghost use Rattle.index_rules.specs.TableRows.{file_rows_in, name_rows_in};
-ghost use Rattle.index_looks.specs.Looks.{IsKept, Looks};
+ghost use Rattle.index_looks.specs.Looks.{Looks};
 ghost use Rattle.index_looks.specs.Reasons.{FailsForReason};
 ghost use Rattle.index_reads.specs.Held.{tables_of};
 
 use crate::shown::each;
-use index_looks::look;
+use index_looks::{IndexConnection, look};
 use index_names::NormalName;
 use index_rules::{Fault, FileRow, NameRow, Owners};
 use index_schema::statement_texts::{SELECT_FILES, SELECT_NAMES, SELECT_OWNERS};
-use sqlite::{Alter, Connection, params};
+use sqlite::{Alter, params};
 use std::alloc::Global;
 
 /// The owners of a name.
 pub fn owners_of<S: Alter>(
     alloc: Global,
-    conn: &mut Connection<S>,
+    conn: &mut IndexConnection<S>,
     name: &NormalName,
 ) -> Result<Owners, Fault>
-    requires outside { conn.old.in_transaction ≡ false }
-    requires kept { IsKept S.Store conn.old }
     ensures found { HasCleanDisk (state S.Store conn.new) → IfOk result (λ owners.
         owners ≡ owners_in (tables_of S.Store conn.old) name.now) }
     ensures looks { Looks S.Store conn.old conn.new (is_ok result) }
@@ -34,9 +32,7 @@ pub fn owners_of<S: Alter>(
 }
 
 /// The held names and the prohibited ones with their records.
-pub fn names<S: Alter>(alloc: Global, conn: &mut Connection<S>) -> Result<Vec<NameRow>, Fault>
-    requires outside { conn.old.in_transaction ≡ false }
-    requires kept { IsKept S.Store conn.old }
+pub fn names<S: Alter>(alloc: Global, conn: &mut IndexConnection<S>) -> Result<Vec<NameRow>, Fault>
     ensures found { HasCleanDisk (state S.Store conn.new) → IfOk result (λ rows.
         rows.items ≡ name_rows_in (tables_of S.Store conn.old)) }
     ensures looks { Looks S.Store conn.old conn.new (is_ok result) }
@@ -49,11 +45,9 @@ pub fn names<S: Alter>(alloc: Global, conn: &mut Connection<S>) -> Result<Vec<Na
 /// The undeleted files of a name.
 pub fn files_of<S: Alter>(
     alloc: Global,
-    conn: &mut Connection<S>,
+    conn: &mut IndexConnection<S>,
     name: &NormalName,
 ) -> Result<Vec<FileRow>, Fault>
-    requires outside { conn.old.in_transaction ≡ false }
-    requires kept { IsKept S.Store conn.old }
     ensures found { HasCleanDisk (state S.Store conn.new) → IfOk result (λ rows.
         rows.items ≡ file_rows_in (tables_of S.Store conn.old) name.now) }
     ensures looks { Looks S.Store conn.old conn.new (is_ok result) }

@@ -1,28 +1,26 @@
 //! Look-ups of names.
-ghost use Rattle.std.specs.Prelude.{◌≡◌, false, is_ok, IfOk};
+ghost use Rattle.std.specs.Prelude.{◌≡◌, is_ok, IfOk};
 ghost use Rattle.std.specs.FinMap.{get};
 ghost use Rattle.sqlite.specs.Held.{state};
 ghost use Rattle.sqlite.specs.State.{HasCleanDisk};
-ghost use Rattle.index_looks.specs.Looks.{IsKept, Looks};
+ghost use Rattle.index_looks.specs.Looks.{Looks};
 ghost use Rattle.index_looks.specs.Reasons.{FailsForReason};
 ghost use Rattle.index_reads.specs.Held.{tables_of};
 
 use crate::shown::first;
-use index_looks::look;
+use index_looks::{IndexConnection, look};
 use index_names::NormalName;
 use index_rules::{CaseRecord, Fault, NameRecord};
 use index_schema::statement_texts::{SELECT_CASE, SELECT_NAME};
-use sqlite::{Alter, Connection, params};
+use sqlite::{Alter, params};
 use std::alloc::Global;
 
 /// The record of a name that is not free.
 pub(crate) fn find_name<S: Alter>(
     alloc: Global,
-    conn: &mut Connection<S>,
+    conn: &mut IndexConnection<S>,
     name: &NormalName,
 ) -> Result<Option<NameRecord>, Fault>
-    requires outside { conn.old.in_transaction ≡ false }
-    requires kept { IsKept S.Store conn.old }
     ensures found { HasCleanDisk (state S.Store conn.new) → IfOk result (λ it.
         it ≡ get (tables_of S.Store conn.old).names name.now) }
     ensures looks { Looks S.Store conn.old conn.new (is_ok result) }
@@ -35,11 +33,9 @@ pub(crate) fn find_name<S: Alter>(
 /// The open case of a name.
 pub(crate) fn find_case<S: Alter>(
     alloc: Global,
-    conn: &mut Connection<S>,
+    conn: &mut IndexConnection<S>,
     name: &NormalName,
 ) -> Result<Option<CaseRecord>, Fault>
-    requires outside { conn.old.in_transaction ≡ false }
-    requires kept { IsKept S.Store conn.old }
     ensures found { HasCleanDisk (state S.Store conn.new) → IfOk result (λ it.
         it ≡ get (tables_of S.Store conn.old).cases name.now) }
     ensures looks { Looks S.Store conn.old conn.new (is_ok result) }

@@ -1,11 +1,11 @@
 //! What the tables have at the keys of a call.
-ghost use Rattle.std.specs.Prelude.{◌≡◌, false, is_ok, IfOk};
+ghost use Rattle.std.specs.Prelude.{◌≡◌, is_ok, IfOk};
 ghost use Rattle.sqlite.specs.Held.{state};
 ghost use Rattle.sqlite.specs.State.{HasCleanDisk};
 ghost use Rattle.index_rules.specs.declared.keys.Keys.{Keys as KeysData};
 ghost use Rattle.index_rules.specs.Tables.{Tables};
 ghost use Rattle.index_rules.specs.Facts.{Sees};
-ghost use Rattle.index_looks.specs.Looks.{IsKept, Looks};
+ghost use Rattle.index_looks.specs.Looks.{Looks};
 ghost use Rattle.index_looks.specs.Reasons.{FailsForReason};
 ghost use Rattle.index_reads.specs.Held.{tables_of};
 ghost use Rattle.index_reads.specs.Seen.{SeesFiles, SeesName, SeesUsers};
@@ -14,11 +14,12 @@ use crate::at_keys::{
     ban_at, bearer_at, caller_at, case_at, file_at, name_at, owners_at, release_at, user_at,
     yank_at,
 };
+use index_looks::IndexConnection;
 use index_rules::{
     Caller, CaseRecord, Fault, FileRecord, Keys, NameRecord, Owners, UserId, UserRecord, View,
 };
 use index_text::Text;
-use sqlite::{Alter, Connection};
+use sqlite::Alter;
 use std::alloc::Global;
 
 /// What the tables have of users.
@@ -47,9 +48,11 @@ pub struct FilesSeen {
 }
 
 /// The records that the keys name.
-pub fn view<S: Alter>(alloc: Global, conn: &mut Connection<S>, keys: &Keys) -> Result<View, Fault>
-    requires outside { conn.old.in_transaction ≡ false }
-    requires kept { IsKept S.Store conn.old }
+pub fn view<S: Alter>(
+    alloc: Global,
+    conn: &mut IndexConnection<S>,
+    keys: &Keys,
+) -> Result<View, Fault>
     ensures found { HasCleanDisk (state S.Store conn.new)
         → IfOk result (Sees (tables_of S.Store conn.old) keys.now) }
     ensures looks { Looks S.Store conn.old conn.new (is_ok result) }
@@ -62,11 +65,9 @@ pub fn view<S: Alter>(alloc: Global, conn: &mut Connection<S>, keys: &Keys) -> R
 
 fn see_users<S: Alter>(
     alloc: Global,
-    conn: &mut Connection<S>,
+    conn: &mut IndexConnection<S>,
     keys: &Keys,
 ) -> Result<UsersSeen, Fault>
-    requires outside { conn.old.in_transaction ≡ false }
-    requires kept { IsKept S.Store conn.old }
     ensures found { HasCleanDisk (state S.Store conn.new)
         → IfOk result (SeesUsers (tables_of S.Store conn.old) keys.now) }
     ensures looks { Looks S.Store conn.old conn.new (is_ok result) }
@@ -84,11 +85,9 @@ fn see_users<S: Alter>(
 
 fn see_project<S: Alter>(
     alloc: Global,
-    conn: &mut Connection<S>,
+    conn: &mut IndexConnection<S>,
     keys: &Keys,
 ) -> Result<(FilesSeen, NameSeen), Fault>
-    requires outside { conn.old.in_transaction ≡ false }
-    requires kept { IsKept S.Store conn.old }
     ensures files { HasCleanDisk (state S.Store conn.new)
         → IfOk result (λ seen. SeesFiles (tables_of S.Store conn.old) keys.now seen.0) }
     ensures name { HasCleanDisk (state S.Store conn.new)
@@ -103,11 +102,9 @@ fn see_project<S: Alter>(
 
 fn see_files<S: Alter>(
     alloc: Global,
-    conn: &mut Connection<S>,
+    conn: &mut IndexConnection<S>,
     keys: &Keys,
 ) -> Result<FilesSeen, Fault>
-    requires outside { conn.old.in_transaction ≡ false }
-    requires kept { IsKept S.Store conn.old }
     ensures found { HasCleanDisk (state S.Store conn.new)
         → IfOk result (SeesFiles (tables_of S.Store conn.old) keys.now) }
     ensures looks { Looks S.Store conn.old conn.new (is_ok result) }
@@ -127,11 +124,9 @@ fn see_files<S: Alter>(
 
 fn see_name<S: Alter>(
     alloc: Global,
-    conn: &mut Connection<S>,
+    conn: &mut IndexConnection<S>,
     keys: &Keys,
 ) -> Result<NameSeen, Fault>
-    requires outside { conn.old.in_transaction ≡ false }
-    requires kept { IsKept S.Store conn.old }
     ensures found { HasCleanDisk (state S.Store conn.new)
         → IfOk result (SeesName (tables_of S.Store conn.old) keys.now) }
     ensures looks { Looks S.Store conn.old conn.new (is_ok result) }

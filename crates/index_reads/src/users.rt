@@ -1,29 +1,27 @@
 //! Look-ups of users.
-ghost use Rattle.std.specs.Prelude.{◌≡◌, false, is_ok, IfOk};
+ghost use Rattle.std.specs.Prelude.{◌≡◌, is_ok, IfOk};
 ghost use Rattle.std.specs.FinMap.{get};
 ghost use Rattle.sqlite.specs.Held.{state};
 ghost use Rattle.sqlite.specs.State.{HasCleanDisk};
 ghost use Rattle.index_rules.specs.Facts.{IsBearer};
-ghost use Rattle.index_looks.specs.Looks.{IsKept, Looks};
+ghost use Rattle.index_looks.specs.Looks.{Looks};
 ghost use Rattle.index_looks.specs.Reasons.{FailsForReason};
 ghost use Rattle.index_reads.specs.Held.{tables_of};
 
 use crate::shown::first;
 use index_digest::Digest256;
-use index_looks::look;
+use index_looks::{IndexConnection, look};
 use index_rules::{Fault, UserId, UserRecord};
 use index_schema::statement_texts::{SELECT_BEARER, SELECT_USER};
-use sqlite::{Alter, Connection, params};
+use sqlite::{Alter, params};
 use std::alloc::Global;
 
 /// The record of a user.
 pub(crate) fn find_user<S: Alter>(
     alloc: Global,
-    conn: &mut Connection<S>,
+    conn: &mut IndexConnection<S>,
     user: &UserId,
 ) -> Result<Option<UserRecord>, Fault>
-    requires outside { conn.old.in_transaction ≡ false }
-    requires kept { IsKept S.Store conn.old }
     ensures found { HasCleanDisk (state S.Store conn.new) → IfOk result (λ it.
         it ≡ get (tables_of S.Store conn.old).users user.now) }
     ensures looks { Looks S.Store conn.old conn.new (is_ok result) }
@@ -36,11 +34,9 @@ pub(crate) fn find_user<S: Alter>(
 /// Who bears the token with this digest, with the record of that user.
 pub(crate) fn find_bearer<S: Alter>(
     alloc: Global,
-    conn: &mut Connection<S>,
+    conn: &mut IndexConnection<S>,
     token: Digest256,
 ) -> Result<Option<(UserId, UserRecord)>, Fault>
-    requires outside { conn.old.in_transaction ≡ false }
-    requires kept { IsKept S.Store conn.old }
     ensures found { HasCleanDisk (state S.Store conn.new)
         → IfOk result (IsBearer (tables_of S.Store conn.old) token) }
     ensures looks { Looks S.Store conn.old conn.new (is_ok result) }

@@ -1,36 +1,47 @@
 -- What a look at the connection leaves of the books.
-use Rattle.std.proofs.Common.{◌≡◌, ◌⊎◌, inl, inr, Bool, not, IsTrue, OnOk, Result, Ok, Err, ap, is_ok, refl, subst, sym}
+use Rattle.std.proofs.Common.{◌≡◌, ◌⊎◌, ◌∙◌, inl, inr, Bool, not, IsTrue, OnOk, Result, Ok, Err, Some, ap, is_ok, refl, subst, sym}
 use Rattle.sqlite_trees.specs.declared.store.Store.{Ghosts}
 use Rattle.sqlite.specs.Effect.{Database}
 use Rattle.sqlite.specs.Held.{Held, state}
 use Rattle.sqlite.specs.State.{HasCleanDisk}
 use Rattle.index_io.specs.Counts.{next_count}
-use Rattle.index_looks.specs.Looks.{IsKept, Looks}
-use Rattle.index_looks.proofs.LookLemmas.{looks_kept}
+use Rattle.index_looks.specs.Looks.{Looks}
 use Rattle.index_rules.specs.declared.answer.Fault.{Fault}
 use Rattle.index_rules.specs.declared.rows.WalkEnd.{WalkEnd}
 use Rattle.index_rules.specs.Tables.{Tables}
 use Rattle.index_rules.specs.Walks.{has_fault}
+use Rattle.index_schema.specs.Index.{IsIndex, version_in}
 use Rattle.index_schema.specs.RecordRows.{AreRecords}
 use Rattle.index_schema.specs.Records.{tables_in}
 use Rattle.index_tables.specs.Kept.{IsHonest, Kept, Leaves}
 use Rattle.index_tables.specs.LooksUp.{LooksUp, WalksUp}
 
-keeps : {S : Type 0} (g : Ghosts S) (old new : Held S) (did : Bool) → IsTrue did → IsKept g old → Looks g old new did → IsHonest (state g old) → HasCleanDisk (state g new) → IsHonest (state g new)
-keeps g old new did right kept looks honest clean =
-    let after = looks_kept g old new did kept looks in
+keeps : {S : Type 0} (g : Ghosts S) (old new : Held S) (did : Bool) → IsTrue did → Looks g old new did → IsHonest (state g old) → HasCleanDisk (state g new) → IsHonest (state g new)
+keeps g old new did right looks honest clean =
     let o = looks.lasts right clean honest.is_open in
-    record { clean = clean; is_open = o; index = after.index clean o; committed = after.committed clean o; version = after.version clean o }
+    let same = looks.now_is clean o in
+    record {
+      clean = clean;
+      is_open = o;
+      index = subst IsIndex (sym same) honest.index;
+      committed = same ∙ honest.committed ∙ sym (looks.committed_is clean o);
+      version = subst (λ (d : Database). version_in d.trees ≡ Some 2) (sym same) honest.version;
+    }
 
-pub looks_last : {A E S : Type 0} (g : Ghosts S) (old new : Held S) (r : Result A E) → IsKept g old → Looks g old new (is_ok r) → OnOk r (IsHonest (state g old) → HasCleanDisk (state g new) → IsHonest (state g new))
-looks_last g old new (Ok a) kept looks = keeps g old new _ refl kept looks
-looks_last g old new (Err e) kept looks = tt
+pub looks_last : {A E S : Type 0} (g : Ghosts S) (old new : Held S) (r : Result A E) → Looks g old new (is_ok r) → OnOk r (IsHonest (state g old) → HasCleanDisk (state g new) → IsHonest (state g new))
+looks_last g old new (Ok a) looks = keeps g old new _ refl looks
+looks_last g old new (Err e) looks = tt
 
-looks_back : {S : Type 0} (g : Ghosts S) (old new : Held S) (did : Bool) → IsKept g old → Looks g old new did → IsHonest (state g new) → IsHonest (state g old)
-looks_back g old new did kept looks honest =
-    let clean = looks.was_clean honest.clean in
-    let o = looks.was_open honest.clean honest.is_open in
-    record { clean = clean; is_open = o; index = kept.index clean o; committed = kept.committed clean o; version = kept.version clean o }
+looks_back : {S : Type 0} (g : Ghosts S) (old new : Held S) (did : Bool) → Looks g old new did → IsHonest (state g new) → IsHonest (state g old)
+looks_back g old new did looks honest =
+    let same = looks.now_is honest.clean honest.is_open in
+    record {
+      clean = looks.was_clean honest.clean;
+      is_open = looks.was_open honest.clean honest.is_open;
+      index = subst IsIndex same honest.index;
+      committed = sym same ∙ honest.committed ∙ looks.committed_is honest.clean honest.is_open;
+      version = subst (λ (d : Database). version_in d.trees ≡ Some 2) same honest.version;
+    }
 
 looks_leave : {S : Type 0} (g : Ghosts S) (old new : Held S) (did : Bool) → Looks g old new did → (T : Tables) → Leaves (state g new) T → Leaves (state g old) T
 looks_leave g old new did looks T (clean, (db, may, is)) = (looks.was_clean clean, (db, before (looks.survives.crash clean db may), is))
@@ -40,24 +51,24 @@ looks_leave g old new did looks T (clean, (db, may, is)) = (looks.was_clean clea
     before (inr none) = absurd none
 
 -- so a look at the connection, counted, is a look at the books
-pub looks_up : {A S : Type 0} (g : Ghosts S) (old new : Kept S) (r : Result A Fault) → IsKept g old.conn → Looks g old.conn new.conn (is_ok r) → new.failures ≡ next_count old.failures (is_ok r) → LooksUp g old new r
-looks_up g old new r kept looks counted = record {
+pub looks_up : {A S : Type 0} (g : Ghosts S) (old new : Kept S) (r : Result A Fault) → Looks g old.conn new.conn (is_ok r) → new.failures ≡ next_count old.failures (is_ok r) → LooksUp g old new r
+looks_up g old new r looks counted = record {
   unchanged = λ honest. ap (λ (d : Database). tables_in d.trees) (looks.now_is honest.clean honest.is_open);
-  honest = looks_back g old.conn new.conn _ kept looks;
+  honest = looks_back g old.conn new.conn _ looks;
   clean = looks.was_clean;
-  lasts = looks_last g old.conn new.conn r kept looks;
+  lasts = looks_last g old.conn new.conn r looks;
   crash = looks_leave g old.conn new.conn _ looks;
   records = λ honest records. subst AreRecords (sym (looks.now_is honest.clean honest.is_open)) records;
   failures = counted;
 }
 
 -- and so is a walk
-pub walks_up : {A S : Type 0} (g : Ghosts S) (old new : Kept S) (r : Result A WalkEnd) → IsKept g old.conn → Looks g old.conn new.conn (not (has_fault r)) → new.failures ≡ next_count old.failures (not (has_fault r)) → WalksUp g old new r
-walks_up g old new r kept looks counted = record {
+pub walks_up : {A S : Type 0} (g : Ghosts S) (old new : Kept S) (r : Result A WalkEnd) → Looks g old.conn new.conn (not (has_fault r)) → new.failures ≡ next_count old.failures (not (has_fault r)) → WalksUp g old new r
+walks_up g old new r looks counted = record {
   unchanged = λ honest. ap (λ (d : Database). tables_in d.trees) (looks.now_is honest.clean honest.is_open);
-  honest = looks_back g old.conn new.conn _ kept looks;
+  honest = looks_back g old.conn new.conn _ looks;
   clean = looks.was_clean;
-  lasts = λ right. keeps g old.conn new.conn _ (subst (λ faulty. IsTrue (not faulty)) (sym right) refl) kept looks;
+  lasts = λ right. keeps g old.conn new.conn _ (subst (λ faulty. IsTrue (not faulty)) (sym right) refl) looks;
   crash = looks_leave g old.conn new.conn _ looks;
   records = λ honest records. subst AreRecords (sym (looks.now_is honest.clean honest.is_open)) records;
   failures = counted;

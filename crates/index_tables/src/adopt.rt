@@ -20,7 +20,7 @@ use index_adopt::{
     has_all_tables, has_meta, has_table, is_first_version, is_ours, known, migrate, read_version,
     told_version,
 };
-use index_looks::fault_of;
+use index_looks::{IndexConnection, fault_of};
 use index_rules::OpenFault;
 use sqlite::{Alter, Connection};
 use std::alloc::{AllocError, Global};
@@ -142,7 +142,10 @@ fn adopt_index<S: Alter>(conn: Connection<S>) -> Result<SqlBooks<S>, Unopened<S>
     let has_bans = has_table(conn.schema(), b"bans");
     let mut conn = conn;
     match read_version(&mut conn) {
-        Ok(Some(2)) => Ok(SqlBooks { conn, failures: 0 }),
+        Ok(Some(2)) => Ok(SqlBooks {
+            conn: IndexConnection { conn },
+            failures: 0,
+        }),
         Ok(version) => Err(Unopened {
             why: refusal(version, has_first, has_bans),
             conn,
@@ -291,7 +294,10 @@ fn raise<S: Alter>(conn: Connection<S>) -> Result<SqlBooks<S>, Unopened<S>>
 {
     let mut conn = conn;
     match migrate(&mut conn) {
-        Ok(()) => Ok(SqlBooks { conn, failures: 0 }),
+        Ok(()) => Ok(SqlBooks {
+            conn: IndexConnection { conn },
+            failures: 0,
+        }),
         Err(error) => Err(Unopened {
             why: open_fault_of(fault_of(error)),
             conn,

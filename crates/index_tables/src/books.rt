@@ -85,7 +85,7 @@ impl<S: Alter> Books for SqlBooks<S> {
             → AreRecords (state S.Store self.new.conn).now }
         ensures reason { FailsToWrite S.Store change self.old.conn self.new.conn result }
     {
-        let made = make_change(&mut self.conn, &change);
+        let made = make_change(&mut self.conn.conn, &change);
         drop(change);
         self.failures = counted(self.failures, made.is_ok());
         told(made)

@@ -22,7 +22,7 @@ use crate::tables::SqlBooks;
 use index_adopt::{has_any_table, is_blank, known};
 use index_create::fill_new;
 use index_digest::Digest256;
-use index_looks::fault_of;
+use index_looks::{IndexConnection, fault_of};
 use index_rules::{OpenFault, UserId, UserRecord, first_user};
 use sqlite::{Alter, Connection};
 use std::alloc::Global;
@@ -144,7 +144,10 @@ fn fill_blank<S: Alter>(
     }
     let mut conn = conn;
     match fill_new(&mut conn, user, account) {
-        Ok(()) => Ok(SqlBooks { conn, failures: 0 }),
+        Ok(()) => Ok(SqlBooks {
+            conn: IndexConnection { conn },
+            failures: 0,
+        }),
         Err(error) => Err(Unopened {
             why: open_fault_of(fault_of(error)),
             conn,

@@ -12,6 +12,7 @@ ghost use Rattle.index_tables.specs.Reopened.{MayLeave, IsLeft, IsOver, OpensOnl
 
 use crate::opening::Unopened;
 use crate::tables::SqlBooks;
+use index_looks::IndexConnection;
 use sqlite::{Alter, Connection, FileStore};
 use sqlite_disk::Disk;
 use std::alloc::Global;
@@ -39,11 +40,12 @@ pub fn left_is_found_again<D: Disk, S: Alter>(
         conn: before,
         failures,
     } = books;
+    let IndexConnection { conn: before } = before;
     let before = left_by(before);
     let opened = SqlBooks::adopt(alloc, conn);
     (
         SqlBooks {
-            conn: before,
+            conn: IndexConnection { conn: before },
             failures,
         },
         opened,
@@ -57,8 +59,12 @@ pub fn honest_index_leaves_itself<S: Alter>(books: SqlBooks<S>) -> SqlBooks<S>
         Leaves (state S.Store books.conn) T → T ≡ tables_of S.Store books.conn }
 {
     let SqlBooks { conn, failures } = books;
+    let IndexConnection { conn } = conn;
     let conn = left_by(conn);
-    SqlBooks { conn, failures }
+    SqlBooks {
+        conn: IndexConnection { conn },
+        failures,
+    }
 }
 
 /// The connection as it is: what a crash leaves of it is a database, and of an open one its last commit.

@@ -1,4 +1,4 @@
-//! What holds the tables: a connection, outside a transaction.
+//! What holds the tables: a connection to an index.
 ghost use Rattle.std.specs.Prelude.{◌≡◌, false};
 ghost use Rattle.sqlite.specs.Held.{state};
 ghost use Rattle.index_io.specs.Counts.{next_count};
@@ -6,6 +6,7 @@ ghost use Rattle.index_reads.specs.Held.{tables_of};
 ghost use Rattle.index_tables.specs.Adopted.{IsCommitted};
 ghost use Rattle.index_tables.specs.Kept.{IsHonest, IsWorking};
 
+use index_looks::IndexConnection;
 use sqlite::{Alter, Connection};
 use std::marker::Model;
 
@@ -14,13 +15,11 @@ use std::marker::Model;
 /// A call looks at the database, or makes one transaction. After a fault of the store the connection may be shut, and
 /// each later call answers `Store`. It has no drop: `into_connection` gives the connection back, to be closed.
 pub struct SqlBooks<S: Alter> {
-    pub(crate) conn: Connection<S>,
+    pub(crate) conn: IndexConnection<S>,
     pub(crate) failures: u64,
 }
 
 impl<S: Alter> Model for SqlBooks<S> {
-    ghost use Rattle.std.specs.Prelude.{◌≡◌, false};
-    ghost use Rattle.index_looks.specs.Looks.{IsKept};
     ghost use Rattle.index_tables.specs.Kept.{Kept, kept_code};
 
     ghost Value = { Kept S };
@@ -28,9 +27,6 @@ impl<S: Alter> Model for SqlBooks<S> {
     ghost coded = { kept_code S.code };
 
     ghost view = { λ books. record { conn = books.conn; failures = books.failures } };
-
-    ghost invariant = { λ books. (books.conn.in_transaction ≡ false)
-        × IsKept S.Store books.conn };
 }
 
 impl<S: Alter> SqlBooks<S> {
@@ -43,6 +39,7 @@ impl<S: Alter> SqlBooks<S> {
             → IsCommitted (state S.Store result) (tables_of S.Store self.conn) }
     {
         let SqlBooks { conn, failures: _ } = self;
+        let IndexConnection { conn } = conn;
         conn
     }
 }

@@ -1,5 +1,5 @@
 //! The rows of one query, handed to a taker as the port reads them.
-ghost use Rattle.std.specs.Prelude.{◌≡◌, false, not, List};
+ghost use Rattle.std.specs.Prelude.{◌≡◌, not, List};
 ghost use Rattle.sqlite_value.specs.Order.{Row as RowData};
 ghost use Rattle.sqlite.specs.Given.{IsPlain};
 ghost use Rattle.sqlite.specs.Held.{state};
@@ -14,10 +14,10 @@ ghost use Rattle.index_rules.specs.Walks.{Walks, has_fault, walk_end_of};
 ghost use Rattle.index_walks.specs.Handed.{HasHanded, IsOf, QueryEndsForReason};
 
 use crate::hand::Hand;
-use index_looks::fault_of;
+use index_looks::{IndexConnection, fault_of};
 use index_rules::WalkEnd;
 use sqlite::types::ValueRef;
-use sqlite::{Alter, Connection, Error, Rows};
+use sqlite::{Alter, Error, Rows};
 use std::alloc::Global;
 
 /// Hands the rows that a query shows to a taker one at a time, until it wants no more. The tables stay as they are.
@@ -27,14 +27,13 @@ use std::alloc::Global;
 /// a row is no record, or there are 18,446,744,073,709,551,615 rows or more.
 pub(crate) fn walk<S: Alter, K, H: Hand<K>>(
     alloc: Global,
-    conn: &mut Connection<S>,
+    conn: &mut IndexConnection<S>,
     query: &str,
     params: &[ValueRef<'_>],
     taker: &mut K,
 ) -> Result<(), WalkEnd>
-    requires outside { conn.old.in_transaction ≡ false }
-    requires kept { IsKept S.Store conn.old }
     requires plain { IsPlain (understood index_schema query.now) }
+    ensures kept { IsKept S.Store conn.old }
     ensures handed { (rows : List RowData)
         × Walks H.takes H.stops rows taker.old taker.new result
         × (HasCleanDisk (state S.Store conn.new)
@@ -43,10 +42,11 @@ pub(crate) fn walk<S: Alter, K, H: Hand<K>>(
     ensures reason { IsSure query.now (bound params.now) → QueryEndsForReason S.Store H.is_row
         query.now (bound params.now) conn.old conn.new result }
 {
-    match conn.query(query, params) {
-        Ok(mut rows) => hand_all::<S, K, H>(alloc, &mut rows, taker),
-        Err(error) => Err(end_of(error)),
-    }
+    let mut rows = match conn.conn.query(query, params) {
+        Ok(rows) => rows,
+        Err(error) => return Err(end_of(error)),
+    };
+    hand_all::<S, K, H>(alloc, &mut rows, taker)
 }
 
 /// Hands the rows that are left of a query over.

@@ -1,8 +1,8 @@
 //! The walks over the tables.
-ghost use Rattle.std.specs.Prelude.{◌≡◌, false, not, List};
+ghost use Rattle.std.specs.Prelude.{◌≡◌, not, List};
 ghost use Rattle.sqlite.specs.Held.{state};
 ghost use Rattle.sqlite.specs.State.{HasCleanDisk};
-ghost use Rattle.index_looks.specs.Looks.{IsKept, Looks};
+ghost use Rattle.index_looks.specs.Looks.{Looks};
 ghost use Rattle.index_rules.specs.declared.rows.FileRow.{FileRow as FileRowData};
 ghost use Rattle.index_rules.specs.declared.rows.NameRow.{NameRow as NameRowData};
 ghost use Rattle.index_rules.specs.Walks.{Walks, has_fault};
@@ -11,10 +11,11 @@ ghost use Rattle.index_walks.specs.WalkedRows.{file_rows_of, held_rows_of};
 
 use crate::hand::{Files, Names};
 use crate::rows::walk;
+use index_looks::IndexConnection;
 use index_names::NormalName;
 use index_rules::{FileTaker, NameTaker, WalkEnd};
 use index_schema::statement_texts::{SELECT_FILES, SELECT_HELD};
-use sqlite::{Alter, Connection, params};
+use sqlite::{Alter, params};
 use std::alloc::Global;
 
 /// Hands the held names to a taker one at a time, in byte order, until it wants no more. The tables stay as they are.
@@ -25,11 +26,9 @@ use std::alloc::Global;
 /// is given some rows in this way, and nothing else is done to it.
 pub fn walk_held<S: Alter, K: NameTaker>(
     alloc: Global,
-    conn: &mut Connection<S>,
+    conn: &mut IndexConnection<S>,
     taker: &mut K,
 ) -> Result<(), WalkEnd>
-    requires outside { conn.old.in_transaction ≡ false }
-    requires kept { IsKept S.Store conn.old }
     ensures walked { HasCleanDisk (state S.Store conn.new) →
         let rows = held_rows_of S.Store conn.old in
         Walks K.takes K.stops rows taker.old taker.new result }
@@ -51,12 +50,10 @@ pub fn walk_held<S: Alter, K: NameTaker>(
 /// is given some rows in this way, and nothing else is done to it.
 pub fn walk_files<S: Alter, K: FileTaker>(
     alloc: Global,
-    conn: &mut Connection<S>,
+    conn: &mut IndexConnection<S>,
     name: &NormalName,
     taker: &mut K,
 ) -> Result<(), WalkEnd>
-    requires outside { conn.old.in_transaction ≡ false }
-    requires kept { IsKept S.Store conn.old }
     ensures walked { HasCleanDisk (state S.Store conn.new) →
         let rows = file_rows_of S.Store conn.old name.now in
         Walks K.takes K.stops rows taker.old taker.new result }

@@ -11,8 +11,8 @@ use Rattle.index_schema.proofs.ShownRecords.{known_records}
 use Rattle.index_reads.proofs.FindLemmas.{shown_with, ok_is, never_store, at_exit, sure_with}
 use Rattle.index_reads.proofs.files.find_yank.Goals as goal
 
-pub look-requires-clause-plain : goal.look-requires-clause-plain
-look-requires-clause-plain g c = statement.shown.is_plain
+pub look-requires : goal.look-requires
+look-requires g c = record { plain = statement.shown.is_plain }
 
 pub returns-clause-found : goal.returns-clause-found
 returns-clause-found g c clean =

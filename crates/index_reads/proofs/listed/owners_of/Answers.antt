@@ -10,8 +10,8 @@ use Rattle.index_schema.proofs.SelectOwners as statement
 use Rattle.index_reads.proofs.FindLemmas.{shown_with, never_memory, at_exit, sure_with}
 use Rattle.index_reads.proofs.listed.owners_of.Goals as goal
 
-pub look-requires-clause-plain : goal.look-requires-clause-plain
-look-requires-clause-plain g c = statement.is_plain
+pub look-requires : goal.look-requires
+look-requires g c = record { plain = statement.is_plain }
 
 pub returns-clause-found : goal.returns-clause-found
 returns-clause-found g c clean =

@@ -13,8 +13,8 @@ use Rattle.index_reads.specs.Held.{tables_of}
 use Rattle.index_reads.proofs.FindLemmas.{shown_with, ok_as, never_store, at_exit, sure_with}
 use Rattle.index_reads.proofs.users.find_bearer.Goals as goal
 
-pub look-requires-clause-plain : goal.look-requires-clause-plain
-look-requires-clause-plain g c = statement.shown.is_plain
+pub look-requires : goal.look-requires
+look-requires g c = record { plain = statement.shown.is_plain }
 
 pub returns-clause-found : goal.returns-clause-found
 returns-clause-found g c clean =

@@ -1,4 +1,4 @@
-use Rattle.std.proofs.Common.{◌≡◌, ◌⊎◌, ap, subst}
+use Rattle.std.proofs.Common.{◌≡◌, ◌⊎◌, ◌∙◌, ap, subst}
 use Rattle.sqlite_wal.specs.Recovery.{Image}
 use Rattle.sqlite.specs.Files.{over_files, file_state}
 use Rattle.sqlite.specs.Held.{state}
@@ -15,10 +15,10 @@ returns-clause-rest g c =
     let found = c.adopt-opened.ensures in
     let before = c.left_by-before.ensures in
     subst (λ held. (left : Image) → IsHonest (file_state held) → IsLeft held left → (HasCleanDisk (state g.S.Store c.args.conn) → IsOver left (state g.S.Store c.args.conn))
-    → OpensOnly g.S.Store (λ T. T ≡ tables_of over_files held) c.adopt-opened.result) (ap (λ (k : Kept _). k.conn) c.books.view_is)
+    → OpensOnly g.S.Store (λ T. T ≡ tables_of over_files held) c.adopt-opened.result) (c.before-2.view_is ∙ ap (λ (k : Kept _). k.conn) c.books.view_is)
     (λ left honest is_left over.
-    opens_if_clean g.S.Store c.args.conn left over (λ T. T ≡ tables_of over_files c.books.inside.conn) c.adopt-opened.result found.clean found.clean_refused found.lasts
-    (λ it. opens_rest g.S.Store c.books.inside.conn c.args.conn left it (before.numbered honest.clean) (before.databases honest.clean) honest before.settled is_left
+    opens_if_clean g.S.Store c.args.conn left over (λ T. T ≡ tables_of over_files c.before-2.inside.conn) c.adopt-opened.result found.clean found.clean_refused found.lasts
+    (λ it. opens_rest g.S.Store c.before-2.inside.conn c.args.conn left it (before.numbered honest.clean) (before.databases honest.clean) honest before.settled is_left
     c.adopt-opened.result found.found found.again))
 
 pub returns-clause-during : goal.returns-clause-during
@@ -26,7 +26,7 @@ returns-clause-during g c =
     let found = c.adopt-opened.ensures in
     let before = c.left_by-before.ensures in
     subst (λ held. (left : Image) (A B : Tables) → HasCleanDisk (file_state held) → ((T : Tables) → Leaves (file_state held) T → (T ≡ A) ⊎ (T ≡ B)) → MayLeave held left
-    → (HasCleanDisk (state g.S.Store c.args.conn) → IsOver left (state g.S.Store c.args.conn)) → OpensOnly g.S.Store (λ T. ∥ (T ≡ A) ⊎ (T ≡ B) ∥₁) c.adopt-opened.result) (ap (λ (k : Kept _). k.conn) c.books.view_is)
+    → (HasCleanDisk (state g.S.Store c.args.conn) → IsOver left (state g.S.Store c.args.conn)) → OpensOnly g.S.Store (λ T. ∥ (T ≡ A) ⊎ (T ≡ B) ∥₁) c.adopt-opened.result) (c.before-2.view_is ∙ ap (λ (k : Kept _). k.conn) c.books.view_is)
     (λ left A B clean leaves may over.
     opens_if_clean g.S.Store c.args.conn left over (λ T. ∥ (T ≡ A) ⊎ (T ≡ B) ∥₁) c.adopt-opened.result found.clean found.clean_refused found.lasts
-    (λ it. opens_either g.S.Store c.books.inside.conn c.args.conn left it (before.numbered clean) (before.databases clean) A B clean leaves may c.adopt-opened.result found.found found.again))
+    (λ it. opens_either g.S.Store c.before-2.inside.conn c.args.conn left it (before.numbered clean) (before.databases clean) A B clean leaves may c.adopt-opened.result found.found found.again))

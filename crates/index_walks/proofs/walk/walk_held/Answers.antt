@@ -10,13 +10,13 @@ use Rattle.index_walks.proofs.QueryLemmas.{ends_for, walks_all}
 use Rattle.index_walks.proofs.WalkLemmas.{read_walks}
 use Rattle.index_walks.proofs.walk.walk_held.Goals as goal
 
-pub walk-requires-clause-plain : goal.walk-requires-clause-plain
-walk-requires-clause-plain g c = held_shown.is_plain
+pub walk-requires : goal.walk-requires
+walk-requires g c = record { plain = held_shown.is_plain }
 
 pub returns-clause-walked : goal.returns-clause-walked
 returns-clause-walked g c clean =
     let it = c.walk.ensures.handed in
-    walks_all g.S.Store select_held_text [] held_ends c.args.conn.now c.requires.kept (c.walk.ensures.looks.was_clean clean) name_row_in held_rows_in selects_held
+    walks_all g.S.Store select_held_text [] held_ends c.args.conn.now c.walk.ensures.kept (c.walk.ensures.looks.was_clean clean) name_row_in held_rows_in selects_held
     g.K.NameTaker.takes g.K.NameTaker.stops it.0 c.args.taker.now c.walk.new.taker c.walk.result (it.2 clean) it.1
 
 pub returns-clause-given : goal.returns-clause-given
@@ -26,5 +26,5 @@ returns-clause-given g c =
 
 pub returns-clause-reason : goal.returns-clause-reason
 returns-clause-reason g c clean are =
-    ends_for g.S.Store select_held_text [] held_ends c.args.conn.now c.requires.kept (c.walk.ensures.looks.was_clean clean) name_row_in held_rows_in selects_held
+    ends_for g.S.Store select_held_text [] held_ends c.args.conn.now c.walk.ensures.kept (c.walk.ensures.looks.was_clean clean) name_row_in held_rows_in selects_held
     IsNamedRow records are c.walk.new.conn c.walk.result ((c.walk.ensures.reason sure).reason clean)

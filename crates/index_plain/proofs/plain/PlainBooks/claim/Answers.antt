@@ -7,8 +7,8 @@ use Rattle.index_plain.specs.Plain.{tables_of}
 use Rattle.index_plain.proofs.OwnerLemmas.{name_alone}
 use Rattle.index_plain.proofs.plain.PlainBooks.claim.Goals as goal
 
-pub returns-clause-made : goal.returns-clause-made
-returns-clause-made c =
+pub returns : goal.returns
+returns c =
     let books = c.args.self.now in
     let name = c.args.name.now in
     let T = tables_of books in

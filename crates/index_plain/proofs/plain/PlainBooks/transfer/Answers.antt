@@ -4,8 +4,8 @@ use Rattle.index_plain.specs.Plain.{tables_of}
 use Rattle.index_plain.proofs.OwnerLemmas.{alone_in_place}
 use Rattle.index_plain.proofs.plain.PlainBooks.transfer.Goals as goal
 
-pub returns-clause-made : goal.returns-clause-made
-returns-clause-made c =
+pub returns : goal.returns
+returns c =
     let name = c.args.name.now in
     let T = tables_of c.args.self.now in
     let owners = alone_in_place T.owners _ name c.args.candidate.now tt c.in_ok-put_alone.ensures.written in

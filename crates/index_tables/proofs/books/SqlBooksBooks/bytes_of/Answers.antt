@@ -11,4 +11,4 @@ returns-clause-looks g c =
     let old : Kept _ = record { conn = c.self.inside.conn; failures = c.self.inside.failures } in
     let count : new.failures ≡ next_count old.failures (is_ok c.find_body-body.result) = search rules in
     subst (λ before. LooksUp g.S.Store before new c.find_body-body.result) c.self.view_is
-    (looks_up g.S.Store old new c.find_body-body.result c.self.invariant.1 c.find_body-body.ensures.looks count)
+    (looks_up g.S.Store old new c.find_body-body.result c.find_body-body.ensures.looks count)

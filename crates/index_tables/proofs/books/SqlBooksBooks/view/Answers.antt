@@ -11,4 +11,4 @@ returns-clause-looks g c =
     let old : Kept _ = record { conn = c.self.inside.conn; failures = c.self.inside.failures } in
     let count : new.failures ≡ next_count old.failures (is_ok c.view-seen.result) = search rules in
     subst (λ before. LooksUp g.S.Store before new c.view-seen.result) c.self.view_is
-    (looks_up g.S.Store old new c.view-seen.result c.self.invariant.1 c.view-seen.ensures.looks count)
+    (looks_up g.S.Store old new c.view-seen.result c.view-seen.ensures.looks count)

@@ -12,4 +12,4 @@ returns-clause-walks g c =
     let old : Kept _ = record { conn = c.self.inside.conn; failures = c.self.inside.failures } in
     let count : new.failures ≡ next_count old.failures (not (has_fault c.walk_files-ended.result)) = search rules in
     subst (λ before. WalksUp g.S.Store before new c.walk_files-ended.result) c.self.view_is
-    (walks_up g.S.Store old new c.walk_files-ended.result c.self.invariant.1 c.walk_files-ended.ensures.looks count)
+    (walks_up g.S.Store old new c.walk_files-ended.result c.walk_files-ended.ensures.looks count)
