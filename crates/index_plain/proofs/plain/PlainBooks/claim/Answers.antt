@@ -14,8 +14,10 @@ returns c =
     let T = tables_of books in
     let owners = name_alone (map_of bytes_cmp books.owners) (map_of bytes_cmp c.put_both.new.map) name c.in_ok-alone.alone c.args.owner.now tt c.in_ok-alone.ensures c.in_ok-put_both.ensures.written in
     record {
-      written = c.end_yanks_and_case.ensures.tables
-          ∙ (λ i. record T { names = c.in_ok-put_both.ensures.other_written i; owners = owners i; yanks = without_name name T.yanks; cases = remove T.cases name });
-      unchanged = search rules;
-      failures = search rules;
+      made = record {
+        written = c.end_yanks_and_case.ensures.tables
+            ∙ (λ i. record T { names = c.in_ok-put_both.ensures.other_written i; owners = owners i; yanks = without_name name T.yanks; cases = remove T.cases name });
+        unchanged = search rules;
+        failures = search rules;
+      };
     }

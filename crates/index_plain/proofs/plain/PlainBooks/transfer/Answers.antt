@@ -10,7 +10,9 @@ returns c =
     let T = tables_of c.args.self.now in
     let owners = alone_in_place T.owners _ name c.args.candidate.now tt c.in_ok-put_alone.ensures.written in
     record {
-      written = c.end_case.ensures.tables ∙ (λ i. record T { owners = owners i; cases = remove T.cases name });
-      unchanged = search rules;
-      failures = search rules;
+      made = record {
+        written = c.end_case.ensures.tables ∙ (λ i. record T { owners = owners i; cases = remove T.cases name });
+        unchanged = search rules;
+        failures = search rules;
+      };
     }
