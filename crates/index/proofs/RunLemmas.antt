@@ -24,14 +24,14 @@ use Rattle.sqlite_store.specs.Unopened.{state_of}
 use Rattle.sqlite_trees.specs.Props.{Trees-set}
 use Rattle.sqlite_trees.proofs.Doubt.{no_doubt}
 use Rattle.sqlite_trees.specs.View.{IsClean, doubt}
-use Rattle.index_adopt.specs.Names.{has_any_of}
+use Rattle.index_sql_opening.specs.Names.{has_any_of}
 use Rattle.index_rules.specs.declared.open.OpenFault.TheVariants.{BadFirstUser, NotEmpty, OutOfMemory}
 use Rattle.index_rules.specs.FirstTables.{IsBadFirstUser}
 use Rattle.index_rules.specs.Maps.{Bytes}
 use Rattle.index_rules.specs.Tables.{Tables}
-use Rattle.index_schema.specs.Index.{version_in}
-use Rattle.index_schema.specs.Records.{tables_in}
-use Rattle.index_schema.specs.Schema.{index_schema}
+use Rattle.index_sql_schema.specs.Index.{version_in}
+use Rattle.index_sql_schema.specs.Records.{tables_in}
+use Rattle.index_sql_schema.specs.Schema.{index_schema}
 use Rattle.index_tables.specs.Adopted.{IsCommitted, IsCurrent, IsFound}
 use Rattle.index_tables.specs.Kept.{IsWorking}
 use Rattle.index_tables.specs.Opened.{IsRefusedAs, IsTaken}

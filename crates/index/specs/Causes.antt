@@ -12,7 +12,7 @@ use Rattle.sqlite_schema.specs.declared.schema.Schema.{Schema}
 use Rattle.sqlite_schema.specs.declared.schema.Table.{Table}
 use Rattle.index_cli.specs.declared.end.ServeEnd.TheVariants as serve_end
 use Rattle.index_rules.specs.declared.open.OpenFault.TheVariants as open_fault
-use Rattle.index_schema.specs.Schema.{index_schema}
+use Rattle.index_sql_schema.specs.Schema.{index_schema}
 use Rattle.index.specs.declared.cause.Cause.{Cause}
 use Rattle.index.specs.declared.cause.Cause.TheVariants as cause
 use Rattle.index.specs.declared.end.End.{End}

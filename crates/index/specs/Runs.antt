@@ -15,7 +15,7 @@ use Rattle.sqlite_disk.specs.declared.Disk.{Ghosts}
 use Rattle.sqlite_disk.specs.declared.Files.{Files}
 use Rattle.sqlite_pool.specs.Stored.{StandsAs}
 use Rattle.sqlite_store.specs.Unopened.{state_of}
-use Rattle.index_adopt.specs.Names.{has_any_of}
+use Rattle.index_sql_opening.specs.Names.{has_any_of}
 use Rattle.index_cli.specs.declared.end.LineEnd.{LineEnd}
 use Rattle.index_cli.specs.Ends.{Ends}
 use Rattle.index_cli.specs.Serving.{Serves, ServesCalls, ServesHistory}
@@ -31,9 +31,9 @@ use Rattle.index_rules.specs.History.{History}
 use Rattle.index_rules.specs.Legal.{IsLegal}
 use Rattle.index_rules.specs.StandsFor.{StandsFor}
 use Rattle.index_rules.specs.Tables.{Tables}
-use Rattle.index_schema.specs.FirstVersion.{IsFirstVersion, without_bans}
-use Rattle.index_schema.specs.Records.{tables_in}
-use Rattle.index_schema.specs.Schema.{index_schema}
+use Rattle.index_sql_schema.specs.FirstVersion.{IsFirstVersion, without_bans}
+use Rattle.index_sql_schema.specs.Records.{tables_in}
+use Rattle.index_sql_schema.specs.Schema.{index_schema}
 use Rattle.index_tables.specs.Adopted.{IsCommitted, IsCurrent, IsFound}
 use Rattle.index_tables.specs.Kept.{AreCurrent}
 use Rattle.index.specs.declared.database.Left.{Left}

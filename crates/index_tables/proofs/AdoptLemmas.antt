@@ -5,23 +5,23 @@ use Rattle.sqlite_trees.specs.declared.store.Store.{Ghosts}
 use Rattle.sqlite.specs.Effect.{Database}
 use Rattle.sqlite.specs.Held.{Held, state}
 use Rattle.sqlite.specs.State.{HasCleanDisk}
-use Rattle.index_commits.specs.Asked.{AreRefused}
-use Rattle.index_looks.specs.Looks.{Looks}
-use Rattle.index_looks.specs.Reasons.{HasReason}
+use Rattle.index_sql_writes.specs.StepAsks.{AreRefused}
+use Rattle.index_sql_schema.specs.Looks.{Looks}
+use Rattle.index_sql_schema.specs.Reasons.{HasReason}
 use Rattle.index_rules.specs.declared.open.OpenFault.{OpenFault}
 use Rattle.index_rules.specs.declared.open.OpenFault.TheVariants.{BadFirstUser, NotEmpty, NotAnIndex, OtherVersion, OutOfMemory, Store}
 use Rattle.sqlite_schema.specs.Names.{same_name}
-use Rattle.index_adopt.specs.Migrated.{asks_of_migration}
-use Rattle.index_adopt.specs.Names.{has_meta}
-use Rattle.index_adopt.specs.Versions.{begun}
+use Rattle.index_sql_opening.specs.Migrated.{asks_of_migration}
+use Rattle.index_sql_opening.specs.Names.{has_meta}
+use Rattle.index_sql_opening.specs.Versions.{begun}
 use Rattle.index_rules.specs.declared.answer.Fault.{Fault}
 use Rattle.index_rules.specs.declared.answer.Fault.TheVariants as fault
-use Rattle.index_schema.proofs.SelectVersion.{selects}
-use Rattle.index_schema.specs.FirstVersion.{IsAnyVersion, IsFirstVersion, without_bans}
-use Rattle.index_schema.specs.Index.{version_in}
-use Rattle.index_schema.specs.Records.{tables_in}
-use Rattle.index_schema.specs.Stays.{Stays}
-use Rattle.index_steps.proofs.GoingLemmas.{fault_since}
+use Rattle.index_sql_schema.proofs.SelectVersion.{selects}
+use Rattle.index_sql_schema.specs.FirstVersion.{IsAnyVersion, IsFirstVersion, without_bans}
+use Rattle.index_sql_schema.specs.Index.{version_in}
+use Rattle.index_sql_schema.specs.Records.{tables_in}
+use Rattle.index_sql_schema.specs.Stays.{Stays}
+use Rattle.index_sql_writes.proofs.GoingLemmas.{fault_since}
 use Rattle.index_tables.specs.Kept.{AreCurrent}
 use Rattle.index_tables.specs.Adopted.{FailsToOpen, IsFault, IsOurs, IsReason, LeavesMigrated, TellsVersion, refusal_in}
 use Rattle.index_tables.specs.Opened.{StoreForRefusal, open_fault_by}

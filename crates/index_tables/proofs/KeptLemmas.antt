@@ -5,14 +5,14 @@ use Rattle.sqlite.specs.Effect.{Database}
 use Rattle.sqlite.specs.Held.{Held, state}
 use Rattle.sqlite.specs.State.{HasCleanDisk}
 use Rattle.index_io.specs.Counts.{next_count}
-use Rattle.index_looks.specs.Looks.{Looks}
+use Rattle.index_sql_schema.specs.Looks.{Looks}
 use Rattle.index_rules.specs.declared.answer.Fault.{Fault}
 use Rattle.index_rules.specs.declared.rows.WalkEnd.{WalkEnd}
 use Rattle.index_rules.specs.Tables.{Tables}
 use Rattle.index_rules.specs.Walks.{has_fault}
-use Rattle.index_schema.specs.Index.{IsIndex, version_in}
-use Rattle.index_schema.specs.RecordRows.{AreRecords}
-use Rattle.index_schema.specs.Records.{tables_in}
+use Rattle.index_sql_schema.specs.Index.{IsIndex, version_in}
+use Rattle.index_sql_schema.specs.RecordRows.{AreRecords}
+use Rattle.index_sql_schema.specs.Records.{tables_in}
 use Rattle.index_tables.specs.Kept.{IsHonest, Kept, Leaves}
 use Rattle.index_tables.specs.LooksUp.{LooksUp, WalksUp}
 

@@ -2,13 +2,13 @@
 use Rattle.std.proofs.Common.{◌≡◌, ◌∙◌, inr, List, refl, sym}
 use Rattle.sqlite.specs.declared.error.Error.{Error}
 use Rattle.sqlite.specs.State.{State}
-use Rattle.index_commits.specs.Asked.{FailsForRefusal}
-use Rattle.index_looks.specs.Faults.{fault_by}
+use Rattle.index_sql_writes.specs.StepAsks.{FailsForRefusal}
+use Rattle.index_sql_schema.specs.Faults.{fault_by}
 use Rattle.index_rules.specs.declared.answer.Fault.{Fault}
 use Rattle.index_rules.specs.declared.answer.Fault.TheVariants as fault
 use Rattle.index_rules.specs.declared.open.OpenFault.{OpenFault}
 use Rattle.index_rules.specs.declared.open.OpenFault.TheVariants as open_fault
-use Rattle.index_steps.specs.Asks.{Ask}
+use Rattle.index_sql_writes.specs.Asks.{Ask}
 use Rattle.index_tables.specs.Opened.{StoreForOthers, StoreForRefusal, open_fault_by}
 
 store_by : (f : Fault) → open_fault_by f ≡ open_fault.Store → f ≡ fault.Store

@@ -17,18 +17,18 @@ use Rattle.sqlite.specs.Files.{over_files, file_state}
 use Rattle.sqlite.specs.Held.{Held, state, AreDatabases}
 use Rattle.sqlite.specs.State.{HasCleanDisk}
 use Rattle.sqlite.proofs.Theorems.{next_run}
-use Rattle.index_commits.specs.Changed.{HoldsIndex}
-use Rattle.index_reads.specs.Held.{tables_of}
+use Rattle.index_sql_writes.specs.Changed.{HoldsIndex}
+use Rattle.index_sql_reads.specs.Held.{tables_of}
 use Rattle.index_rules.specs.Maps.{bytes_cmp}
 use Rattle.index_rules.specs.Tables.{Tables}
 use Rattle.index_rules.specs.declared.open.OpenFault.{OpenFault}
 use Rattle.index_rules.specs.declared.open.OpenFault.TheVariants.{BadFirstUser, NotEmpty, NotAnIndex, OtherVersion, OutOfMemory, Store}
 use Rattle.index_rules.proofs.KeyLemmas.{get-put}
-use Rattle.index_schema.specs.FirstVersion.{first_version_schema}
-use Rattle.index_schema.specs.Index.{IsIndex}
-use Rattle.index_schema.specs.Records.{tables_in}
-use Rattle.index_schema.specs.Schema.{index_schema}
-use Rattle.index_schema.specs.Stages.{no_tables}
+use Rattle.index_sql_schema.specs.FirstVersion.{first_version_schema}
+use Rattle.index_sql_schema.specs.Index.{IsIndex}
+use Rattle.index_sql_schema.specs.Records.{tables_in}
+use Rattle.index_sql_schema.specs.Schema.{index_schema}
+use Rattle.index_sql_schema.specs.Stages.{no_tables}
 use Rattle.index_tables.specs.declared.opening.Unopened.{Unopened}
 use Rattle.index_tables.specs.Kept.{Kept, AreCurrent, IsHonest, IsWorking, Leaves}
 use Rattle.index_tables.specs.Adopted.{IsFault, IsFound, IsOurs}

@@ -3,13 +3,13 @@ use Rattle.std.proofs.Common.{◌≡◌, ◌⊎◌, Result, Ok, Err, IfErr, is_o
 use Rattle.sqlite_trees.specs.declared.store.Store.{Ghosts}
 use Rattle.sqlite.specs.declared.error.Error.{Error}
 use Rattle.sqlite.specs.Held.{Held, state}
-use Rattle.index_commits.specs.Asked.{AreRefused, FailsForRefusal}
-use Rattle.index_looks.specs.Faults.{fault_by}
-use Rattle.index_looks.specs.Reasons.{HasReason}
+use Rattle.index_sql_writes.specs.StepAsks.{AreRefused, FailsForRefusal}
+use Rattle.index_sql_schema.specs.Faults.{fault_by}
+use Rattle.index_sql_schema.specs.Reasons.{HasReason}
 use Rattle.index_rules.specs.declared.answer.Fault.{Fault}
 use Rattle.index_rules.specs.declared.answer.Fault.TheVariants as fault
 use Rattle.index_rules.specs.declared.change.Change.{Change}
-use Rattle.index_changes.specs.Asked.{asks_of}
+use Rattle.index_sql_writes.specs.ChangeAsks.{asks_of}
 
 -- an error that is told as a fault has the reason of the error
 pub told_reason : {A S : Type 0} (g : Ghosts S) (change : Change) (old new : Held S) (made : Result A Error) (told : Result A Fault) → is_ok told ≡ is_ok made → IfErr made (λ error. told ≡ Err (fault_by error))

@@ -6,18 +6,18 @@ use Rattle.sqlite_schema.specs.declared.schema.Schema.{Schema}
 use Rattle.sqlite.specs.Effect.{Database}
 use Rattle.sqlite.specs.Held.{Held, state}
 use Rattle.sqlite.specs.State.{State, HasCleanDisk}
-use Rattle.index_adopt.specs.Migrated.{asks_of_migration}
-use Rattle.index_adopt.specs.Names.{has_all_of, has_meta, has_table}
-use Rattle.index_adopt.specs.Versions.{FailsToTell, Tells, begun}
-use Rattle.index_commits.specs.Asked.{AreRefused}
-use Rattle.index_looks.specs.Reasons.{HasReason}
+use Rattle.index_sql_opening.specs.Migrated.{asks_of_migration}
+use Rattle.index_sql_opening.specs.Names.{has_all_of, has_meta, has_table}
+use Rattle.index_sql_opening.specs.Versions.{FailsToTell, Tells, begun}
+use Rattle.index_sql_writes.specs.StepAsks.{AreRefused}
+use Rattle.index_sql_schema.specs.Reasons.{HasReason}
 use Rattle.index_rules.specs.declared.open.OpenFault.{OpenFault}
 use Rattle.index_rules.specs.declared.open.OpenFault.TheVariants.{NotAnIndex, OtherVersion, OutOfMemory, Store}
 use Rattle.index_rules.specs.Tables.{Tables}
-use Rattle.index_schema.specs.FirstVersion.{IsAnyVersion, IsFirstVersion, first_version_schema, without_bans}
-use Rattle.index_schema.specs.Index.{IsIndex, version_in}
-use Rattle.index_schema.specs.Records.{tables_in}
-use Rattle.index_schema.specs.Schema.{index_schema}
+use Rattle.index_sql_schema.specs.FirstVersion.{IsAnyVersion, IsFirstVersion, first_version_schema, without_bans}
+use Rattle.index_sql_schema.specs.Index.{IsIndex, version_in}
+use Rattle.index_sql_schema.specs.Records.{tables_in}
+use Rattle.index_sql_schema.specs.Schema.{index_schema}
 use Rattle.index_tables.specs.declared.adopt.Kind.{Kind}
 use Rattle.index_tables.specs.declared.adopt.Kind.TheVariants as kind
 use Rattle.index_tables.specs.Kept.{AreCurrent, IsWorking}

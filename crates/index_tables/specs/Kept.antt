@@ -4,10 +4,10 @@ use Rattle.std.specs.Coded.{Coded, code_by, coded×, coded_ℕ}
 use Rattle.sqlite_trees.specs.Tree.{Trees}
 use Rattle.sqlite.specs.Held.{Held, held_code}
 use Rattle.sqlite.specs.State.{State, HasCleanDisk}
-use Rattle.index_commits.specs.Changed.{HoldsIndex}
+use Rattle.index_sql_writes.specs.Changed.{HoldsIndex}
 use Rattle.index_rules.specs.Tables.{Tables}
-use Rattle.index_schema.specs.Index.{IsIndex, version_in}
-use Rattle.index_schema.specs.Records.{tables_in}
+use Rattle.index_sql_schema.specs.Index.{IsIndex, version_in}
+use Rattle.index_sql_schema.specs.Records.{tables_in}
 
 -- a connection, and how many calls answered a fault
 pub record Kept (S : Type 0) : Type 0 where

@@ -4,9 +4,9 @@ use Rattle.std.proofs.Common.{◌∙◌, ap, refl, subst, sym}
 use Rattle.sqlite_trees.specs.Tree.{Trees}
 use Rattle.sqlite.specs.Effect.{Database}
 use Rattle.sqlite.specs.State.{State}
-use Rattle.index_commits.proofs.CommitLemmas.{index_held}
+use Rattle.index_sql_writes.proofs.CommitLemmas.{index_held}
 use Rattle.index_rules.specs.Tables.{Tables}
-use Rattle.index_schema.specs.Records.{tables_in}
+use Rattle.index_sql_schema.specs.Records.{tables_in}
 use Rattle.index_tables.specs.Kept.{AreCurrent, IsHonest, Leaves}
 
 -- while it is open, a crash leaves the last commit and nothing else: a law of each store

@@ -4,12 +4,12 @@ use Rattle.sqlite_trees.specs.declared.store.Store.{Ghosts}
 use Rattle.sqlite.specs.Held.{state}
 use Rattle.sqlite.specs.State.{HasCleanDisk}
 use Rattle.index_io.specs.Counts.{next_count}
-use Rattle.index_reads.specs.Held.{tables_of}
+use Rattle.index_sql_reads.specs.Held.{tables_of}
 use Rattle.index_rules.specs.declared.answer.Fault.{Fault}
 use Rattle.index_rules.specs.declared.rows.WalkEnd.{WalkEnd}
 use Rattle.index_rules.specs.Tables.{Tables}
 use Rattle.index_rules.specs.Walks.{has_fault}
-use Rattle.index_schema.specs.RecordRows.{AreRecords}
+use Rattle.index_sql_schema.specs.RecordRows.{AreRecords}
 use Rattle.index_tables.specs.Kept.{IsHonest, Kept, Leaves}
 
 -- what the trait says of each look, beside what it finds

@@ -3,9 +3,9 @@ use Rattle.std.specs.Prelude.{◌≡◌, ◌≢◌, ◌⊎◌, List, Result, Ok,
 use Rattle.sqlite_trees.specs.Tree.{Trees}
 use Rattle.sqlite_schema.specs.declared.schema.Schema.{Schema}
 use Rattle.sqlite.specs.State.{State, HasCleanDisk}
-use Rattle.index_adopt.specs.Names.{has_any_of}
-use Rattle.index_commits.specs.Asked.{AreRefused}
-use Rattle.index_looks.specs.Reasons.{HasReason}
+use Rattle.index_sql_opening.specs.Names.{has_any_of}
+use Rattle.index_sql_writes.specs.StepAsks.{AreRefused}
+use Rattle.index_sql_schema.specs.Reasons.{HasReason}
 use Rattle.index_rules.specs.declared.answer.Fault.{Fault}
 use Rattle.index_rules.specs.declared.answer.Fault.TheVariants as fault
 use Rattle.index_rules.specs.declared.open.OpenFault.{OpenFault}
@@ -13,9 +13,9 @@ use Rattle.index_rules.specs.declared.open.OpenFault.TheVariants as open_fault
 use Rattle.index_rules.specs.FirstTables.{IsBadFirstUser}
 use Rattle.index_rules.specs.Maps.{Bytes}
 use Rattle.index_rules.specs.Tables.{Tables}
-use Rattle.index_schema.specs.Records.{tables_in}
-use Rattle.index_schema.specs.Schema.{index_schema, no_schema}
-use Rattle.index_steps.specs.Asks.{Ask}
+use Rattle.index_sql_schema.specs.Records.{tables_in}
+use Rattle.index_sql_schema.specs.Schema.{index_schema, no_schema}
+use Rattle.index_sql_writes.specs.Asks.{Ask}
 use Rattle.index_tables.specs.declared.opening.Unopened.{Unopened}
 use Rattle.index_tables.specs.Kept.{AreCurrent, IsWorking}
 

@@ -10,7 +10,7 @@ use Rattle.sqlite.specs.Files.{file_state}
 use Rattle.sqlite.specs.Held.{Held, state}
 use Rattle.sqlite.specs.Start.{FindsIn}
 use Rattle.sqlite.specs.State.{State, HasCleanDisk, IsLive, Opens}
-use Rattle.index_reads.specs.Held.{tables_of}
+use Rattle.index_sql_reads.specs.Held.{tables_of}
 use Rattle.index_rules.specs.Tables.{Tables}
 use Rattle.index_tables.specs.declared.opening.Unopened.{Unopened}
 use Rattle.index_tables.specs.Kept.{Kept, IsHonest}

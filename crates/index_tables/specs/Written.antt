@@ -3,13 +3,13 @@ use Rattle.std.specs.Prelude.{◌≡◌, ◌⊎◌, IfErr, Result}
 use Rattle.sqlite_trees.specs.declared.store.Store.{Ghosts}
 use Rattle.sqlite.specs.Held.{Held, state}
 use Rattle.sqlite.specs.State.{HasCleanDisk}
-use Rattle.index_changes.specs.Asked.{asks_of}
-use Rattle.index_commits.specs.Asked.{AreRefused}
-use Rattle.index_looks.specs.Reasons.{HasReason}
+use Rattle.index_sql_writes.specs.ChangeAsks.{asks_of}
+use Rattle.index_sql_writes.specs.StepAsks.{AreRefused}
+use Rattle.index_sql_schema.specs.Reasons.{HasReason}
 use Rattle.index_rules.specs.declared.answer.Fault.{Fault}
 use Rattle.index_rules.specs.declared.answer.Fault.TheVariants.{Store}
 use Rattle.index_rules.specs.declared.change.Change.{Change}
-use Rattle.index_schema.specs.RecordRows.{AreRecords}
+use Rattle.index_sql_schema.specs.RecordRows.{AreRecords}
 
 -- On a clean disk, where all rows are those of records, it does so only for a reason of the store, or where SQL refuses
 -- a statement of the change on the tables as they stand.

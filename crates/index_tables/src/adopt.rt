@@ -4,24 +4,24 @@ ghost use Rattle.sqlite.specs.Held.{state};
 ghost use Rattle.sqlite.specs.State.{HasCleanDisk};
 ghost use Rattle.index_rules.specs.Facts.{HasOneBearer};
 ghost use Rattle.index_rules.specs.Tables.{Tables};
-ghost use Rattle.index_schema.specs.FirstVersion.{IsFirstVersion, first_version_schema, without_bans};
-ghost use Rattle.index_schema.specs.Index.{IsIndex, version_in};
-ghost use Rattle.index_schema.specs.Stays.{Stays};
-ghost use Rattle.index_adopt.specs.Migrated.{asks_of_migration};
-ghost use Rattle.index_adopt.specs.Names.{has_meta};
-ghost use Rattle.index_reads.specs.Held.{tables_of};
+ghost use Rattle.index_sql_schema.specs.FirstVersion.{IsFirstVersion, first_version_schema, without_bans};
+ghost use Rattle.index_sql_schema.specs.Index.{IsIndex, version_in};
+ghost use Rattle.index_sql_schema.specs.Stays.{Stays};
+ghost use Rattle.index_sql_opening.specs.Migrated.{asks_of_migration};
+ghost use Rattle.index_sql_opening.specs.Names.{has_meta};
+ghost use Rattle.index_sql_reads.specs.Held.{tables_of};
 ghost use Rattle.index_tables.specs.Kept.{IsHonest, IsWorking, Leaves};
 ghost use Rattle.index_tables.specs.Opened.{IsRefusedAs, StoreForRefusal};
 ghost use Rattle.index_tables.specs.Adopted.{IsFault, IsFound, IsOfKind, IsOurs, IsReason, LeavesMigrated, refusal_by, unlike};
 
 use crate::opening::{Unopened, open_fault_of};
 use crate::tables::SqlBooks;
-use index_adopt::{
+use index_rules::OpenFault;
+use index_sql_opening::{
     has_all_tables, has_meta, has_table, is_first_version, is_ours, known, migrate, read_version,
     told_version,
 };
-use index_looks::{IndexConnection, fault_of};
-use index_rules::OpenFault;
+use index_sql_schema::{IndexConnection, fault_of};
 use sqlite::{Alter, Connection};
 use std::alloc::{AllocError, Global};
 

@@ -2,9 +2,9 @@
 ghost use Rattle.std.specs.Prelude.{◌≡◌, ◌⊎◌, Err, IfErr, IfOk, List, OnErr, OnOk, is_ok};
 ghost use Rattle.std.specs.FinMap.{get};
 ghost use Rattle.index_io.specs.Counts.{next_count};
-ghost use Rattle.index_looks.specs.Faults.{fault_by};
-ghost use Rattle.index_looks.specs.Reasons.{FailsForReason};
-ghost use Rattle.index_reads.specs.Sealed.{IsBoundTo, digest_in};
+ghost use Rattle.index_sql_schema.specs.Faults.{fault_by};
+ghost use Rattle.index_sql_schema.specs.Reasons.{FailsForReason};
+ghost use Rattle.index_sql_reads.specs.Sealed.{IsBoundTo, digest_in};
 ghost use Rattle.index_rules.specs.declared.rows.FileRow.{FileRow as FileRowData};
 ghost use Rattle.index_rules.specs.declared.rows.NameRow.{NameRow as NameRowData};
 ghost use Rattle.index_rules.specs.Effect.{means};
@@ -12,26 +12,26 @@ ghost use Rattle.index_rules.specs.Facts.{Sees};
 ghost use Rattle.index_rules.specs.TableRows.{file_rows_in, held_rows_in, name_rows_in};
 ghost use Rattle.index_rules.specs.Tables.{Tables, owners_in};
 ghost use Rattle.index_rules.specs.Walks.{Walks, has_fault};
-ghost use Rattle.index_schema.specs.RecordRows.{AreRecords};
+ghost use Rattle.index_sql_schema.specs.RecordRows.{AreRecords};
 ghost use Rattle.index_tables.specs.LooksUp.{LooksUp, WalksUp};
 ghost use Rattle.index_tables.specs.Written.{FailsToWrite};
-ghost use Rattle.index_walks.specs.Reasons.{EndsForReason};
+ghost use Rattle.index_sql_reads.specs.WalkReasons.{EndsForReason};
 
 use crate::tables::{SqlBooks, counted};
-use index_changes::make_change;
 use index_digest::Sealed;
-use index_looks::fault_of;
 use index_names::{FileName, NormalName};
 use index_rules::{
     Books, Change, Fault, FileRow, FileTaker, Keys, NameRow, NameTaker, Owners, View, WalkEnd,
 };
+use index_sql_schema::fault_of;
+use index_sql_writes::make_change;
 use sqlite::{Alter, Error};
 use std::alloc::Global;
 
 impl<S: Alter> Books for SqlBooks<S> {
     ghost use Rattle.sqlite.specs.Held.{state};
     ghost use Rattle.sqlite.specs.State.{HasCleanDisk};
-    ghost use Rattle.index_reads.specs.Held.{tables_of};
+    ghost use Rattle.index_sql_reads.specs.Held.{tables_of};
     ghost use Rattle.index_tables.specs.Kept.{IsHonest, Leaves};
     ghost use Rattle.index_tables.specs.Laws.{settled_at};
 
@@ -55,7 +55,7 @@ impl<S: Alter> Books for SqlBooks<S> {
         ensures looks { LooksUp S.Store self.old self.new result }
         ensures reason { FailsForReason S.Store self.old.conn self.new.conn result }
     {
-        let seen = index_reads::view(alloc, &mut self.conn, keys);
+        let seen = index_sql_reads::view(alloc, &mut self.conn, keys);
         self.failures = counted(self.failures, seen.is_ok());
         seen
     }
@@ -97,7 +97,7 @@ impl<S: Alter> Books for SqlBooks<S> {
         ensures looks { LooksUp S.Store self.old self.new result }
         ensures reason { FailsForReason S.Store self.old.conn self.new.conn result }
     {
-        let owners = index_reads::owners_of(alloc, &mut self.conn, name);
+        let owners = index_sql_reads::owners_of(alloc, &mut self.conn, name);
         self.failures = counted(self.failures, owners.is_ok());
         owners
     }
@@ -113,7 +113,7 @@ impl<S: Alter> Books for SqlBooks<S> {
             IsBoundTo (digest_in T file.now) (get T.bodies file.now)
             → FailsForReason S.Store self.old.conn self.new.conn result }
     {
-        let body = index_reads::find_body(alloc, &mut self.conn, file);
+        let body = index_sql_reads::find_body(alloc, &mut self.conn, file);
         self.failures = counted(self.failures, body.is_ok());
         body
     }
@@ -124,7 +124,7 @@ impl<S: Alter> Books for SqlBooks<S> {
         ensures looks { LooksUp S.Store self.old self.new result }
         ensures reason { FailsForReason S.Store self.old.conn self.new.conn result }
     {
-        let rows = index_reads::names(alloc, &mut self.conn);
+        let rows = index_sql_reads::names(alloc, &mut self.conn);
         self.failures = counted(self.failures, rows.is_ok());
         rows
     }
@@ -136,7 +136,7 @@ impl<S: Alter> Books for SqlBooks<S> {
         ensures looks { LooksUp S.Store self.old self.new result }
         ensures reason { FailsForReason S.Store self.old.conn self.new.conn result }
     {
-        let rows = index_reads::files_of(alloc, &mut self.conn, name);
+        let rows = index_sql_reads::files_of(alloc, &mut self.conn, name);
         self.failures = counted(self.failures, rows.is_ok());
         rows
     }
@@ -152,7 +152,7 @@ impl<S: Alter> Books for SqlBooks<S> {
         ensures reason { let rows = held_rows_in (tables_of S.Store self.old.conn) in
             EndsForReason S.Store self.old.conn self.new.conn rows result }
     {
-        let ended = index_walks::walk_held(alloc, &mut self.conn, taker);
+        let ended = index_sql_reads::walk_held(alloc, &mut self.conn, taker);
         self.failures = counted(self.failures, !is_broken(&ended));
         ended
     }
@@ -173,7 +173,7 @@ impl<S: Alter> Books for SqlBooks<S> {
         ensures reason { let rows = file_rows_in (tables_of S.Store self.old.conn) name.now in
             EndsForReason S.Store self.old.conn self.new.conn rows result }
     {
-        let ended = index_walks::walk_files(alloc, &mut self.conn, name, taker);
+        let ended = index_sql_reads::walk_files(alloc, &mut self.conn, name, taker);
         self.failures = counted(self.failures, !is_broken(&ended));
         ended
     }

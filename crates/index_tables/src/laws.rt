@@ -5,14 +5,14 @@ ghost use Rattle.sqlite_wal.specs.Recovery.{Image};
 ghost use Rattle.sqlite.specs.Files.{file_state, over_files};
 ghost use Rattle.sqlite.specs.Held.{state, AreDatabases};
 ghost use Rattle.sqlite.specs.State.{HasCleanDisk};
-ghost use Rattle.index_reads.specs.Held.{tables_of};
+ghost use Rattle.index_sql_reads.specs.Held.{tables_of};
 ghost use Rattle.index_rules.specs.Tables.{Tables};
 ghost use Rattle.index_tables.specs.Kept.{IsHonest, Leaves};
 ghost use Rattle.index_tables.specs.Reopened.{MayLeave, IsLeft, IsOver, OpensOnly};
 
 use crate::opening::Unopened;
 use crate::tables::SqlBooks;
-use index_looks::IndexConnection;
+use index_sql_schema::IndexConnection;
 use sqlite::{Alter, Connection, FileStore};
 use sqlite_disk::Disk;
 use std::alloc::Global;

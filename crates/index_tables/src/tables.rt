@@ -2,11 +2,11 @@
 ghost use Rattle.std.specs.Prelude.{◌≡◌, false};
 ghost use Rattle.sqlite.specs.Held.{state};
 ghost use Rattle.index_io.specs.Counts.{next_count};
-ghost use Rattle.index_reads.specs.Held.{tables_of};
+ghost use Rattle.index_sql_reads.specs.Held.{tables_of};
 ghost use Rattle.index_tables.specs.Adopted.{IsCommitted};
 ghost use Rattle.index_tables.specs.Kept.{IsHonest, IsWorking};
 
-use index_looks::IndexConnection;
+use index_sql_schema::IndexConnection;
 use sqlite::{Alter, Connection};
 use std::marker::Model;
 

@@ -1,8 +1,8 @@
 use Rattle.std.proofs.Common.{◌≡◌, ◌∙◌, false, ap, inl, sym, IfOk}
 use Rattle.sqlite.specs.Effect.{Database}
 use Rattle.sqlite.specs.Held.{state}
-use Rattle.index_adopt.specs.Names.{has_any_of}
-use Rattle.index_schema.specs.Schema.{index_schema}
+use Rattle.index_sql_opening.specs.Names.{has_any_of}
+use Rattle.index_sql_schema.specs.Schema.{index_schema}
 use Rattle.index.proofs.RunLemmas.{clean_if_open, free_of}
 use Rattle.index.proofs.database.create_in.Goals as goal
 

@@ -3,7 +3,7 @@ use Rattle.std.proofs.lemmas.Bool.{cases_Bool}
 use Rattle.sqlite.specs.Effect.{Database}
 use Rattle.sqlite.specs.Held.{state}
 use Rattle.sqlite.specs.State.{HasCleanDisk}
-use Rattle.index_reads.specs.Held.{tables_of}
+use Rattle.index_sql_reads.specs.Held.{tables_of}
 use Rattle.index_rules.specs.Facts.{HasOneBearer}
 use Rattle.index_tables.specs.Adopted.{IsCommitted, IsFound}
 use Rattle.index_tables.specs.Kept.{IsHonest, IsWorking, Kept, Leaves}

@@ -1,5 +1,5 @@
 use Rattle.std.proofs.Common.{◌≡◌, Some, rules, refl, inl, inr, ◌∙◌, subst, sym}
-use Rattle.index_schema.specs.FirstVersion.{IsFirstVersion}
+use Rattle.index_sql_schema.specs.FirstVersion.{IsFirstVersion}
 use Rattle.index_tables.proofs.AdoptLemmas.{all_refused, both_opened, both_refused, migrated_after, reason_failed, reason_raised, reason_told, stays_after}
 use Rattle.index_tables.proofs.adopt.adopt_first_version.Goals as goal
 

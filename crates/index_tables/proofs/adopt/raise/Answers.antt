@@ -1,6 +1,6 @@
 use Rattle.std.proofs.Common.{rules}
 use Rattle.sqlite.specs.Held.{state}
-use Rattle.index_adopt.specs.Migrated.{asks_of_migration}
+use Rattle.index_sql_opening.specs.Migrated.{asks_of_migration}
 use Rattle.index_tables.proofs.OpenedLemmas.{told_refused}
 use Rattle.index_tables.proofs.adopt.raise.Goals as goal
 

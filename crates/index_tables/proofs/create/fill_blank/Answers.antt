@@ -1,8 +1,8 @@
 use Rattle.std.proofs.Common.{rules, IsTrue}
 use Rattle.sqlite.specs.Held.{state}
-use Rattle.index_commits.specs.Changed.{IsMade}
-use Rattle.index_create.specs.Asked.{asks_of_new}
-use Rattle.index_create.specs.Created.{IsBlank, as_new, one_user}
+use Rattle.index_sql_writes.specs.Changed.{IsMade}
+use Rattle.index_sql_opening.specs.NewAsks.{asks_of_new}
+use Rattle.index_sql_opening.specs.Created.{IsBlank, as_new, one_user}
 use Rattle.index_tables.proofs.OpenedLemmas.{told_refused_alone}
 use Rattle.index_tables.proofs.RecordLemmas.{blank_records}
 use Rattle.index_tables.proofs.create.fill_blank.Goals as goal

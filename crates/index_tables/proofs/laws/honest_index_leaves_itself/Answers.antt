@@ -1,6 +1,6 @@
 use Rattle.std.proofs.Common.{◌≡◌, ◌∙◌, ap, subst}
 use Rattle.sqlite.specs.Held.{state}
-use Rattle.index_reads.specs.Held.{tables_of}
+use Rattle.index_sql_reads.specs.Held.{tables_of}
 use Rattle.index_rules.specs.Tables.{Tables}
 use Rattle.index_tables.specs.Kept.{Kept, IsHonest, Leaves}
 use Rattle.index_tables.specs.Laws.{settled_at}

@@ -3,7 +3,7 @@ use Rattle.sqlite_wal.specs.Recovery.{Image}
 use Rattle.sqlite.specs.Files.{over_files, file_state}
 use Rattle.sqlite.specs.Held.{state}
 use Rattle.sqlite.specs.State.{HasCleanDisk}
-use Rattle.index_reads.specs.Held.{tables_of}
+use Rattle.index_sql_reads.specs.Held.{tables_of}
 use Rattle.index_rules.specs.Tables.{Tables}
 use Rattle.index_tables.specs.Kept.{Kept, IsHonest, Leaves}
 use Rattle.index_tables.specs.Reopened.{MayLeave, IsLeft, IsOver, OpensOnly}

@@ -2,7 +2,7 @@ use Rattle.std.proofs.Common.{rules, inl, IfOk, IfErr, subst}
 use Rattle.std.proofs.lemmas.Result.{IfErr-weaker, IfOk-weaker}
 use Rattle.sqlite.specs.Held.{state}
 use Rattle.sqlite.specs.State.{HasCleanDisk}
-use Rattle.index_schema.proofs.BearerLemmas.{one_bearer}
+use Rattle.index_sql_schema.proofs.BearerLemmas.{one_bearer}
 use Rattle.index_rules.specs.declared.open.OpenFault.TheVariants.{NotAnIndex}
 use Rattle.index_tables.proofs.AdoptLemmas.{fault_alone}
 use Rattle.index_tables.specs.Adopted.{IsReason, LeavesMigrated}

@@ -8,8 +8,8 @@ use Rattle.index_rules.specs.History.{begins}
 use Rattle.index_rules.specs.StandsFor.{StandsFor}
 use Rattle.index_rules.proofs.SoundOpened.{IsSound-opened}
 use Rattle.index_rules.proofs.StandsOn.{StandsFor-opened}
-use Rattle.index_create.specs.Asked.{asks_of_new}
-use Rattle.index_create.specs.Created.{one_user}
+use Rattle.index_sql_opening.specs.NewAsks.{asks_of_new}
+use Rattle.index_sql_opening.specs.Created.{one_user}
 use Rattle.index_tables.specs.Kept.{IsHonest, IsWorking}
 use Rattle.index_tables.specs.Laws.{settled_at}
 use Rattle.index_tables.specs.Opened.{LeavesOr, StoreForOthers}

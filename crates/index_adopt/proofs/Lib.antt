@@ -1,4 +1,0 @@
-pub mod RowidLemmas
-pub mod LookLemmas
-pub mod MigrationLemmas
-pub mod SureLemmas

@@ -1,2 +1,0 @@
-pub mod Subjects
-pub mod Asked

@@ -1,4 +1,0 @@
-use Rattle.index_commits.proofs.step.take_put.Goals as goal
-
-pub returns-in-Case-clause-asked : goal.returns-in-Case-clause-asked
-returns-in-Case-clause-asked g c = rw c.in-Case.is c.put_case.ensures.asked

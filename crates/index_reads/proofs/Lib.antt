@@ -1,2 +1,0 @@
-pub mod FindLemmas
-pub mod SeenLemmas

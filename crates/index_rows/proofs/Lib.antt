@@ -1,4 +1,0 @@
-pub mod MapLemmas
-pub mod Permutations
-pub mod RowLemmas
-pub mod EntryLemmas

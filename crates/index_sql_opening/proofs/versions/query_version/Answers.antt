@@ -1,0 +1,27 @@
+use Rattle.std.proofs.Common.{[], ap, ◌∙◌, sym}
+use Rattle.index_sql_schema.specs.StatementTexts.{select_version_text}
+use Rattle.index_sql_opening.specs.Versions.{first_number}
+use Rattle.index_sql_opening.proofs.LookLemmas.{fails_inside, refused_keeps, shown_keeps}
+use Rattle.index_sql_opening.proofs.versions.query_version.Goals as goal
+
+pub returns-in-Err-clause-kept : goal.returns-in-Err-clause-kept
+returns-in-Err-clause-kept g c clean = refused_keeps _ _ select_version_text [] _ (c.in-Err.ensures.err clean)
+
+pub returns-in-Err-clause-fails : goal.returns-in-Err-clause-fails
+returns-in-Err-clause-fails g c clean is = record {
+  after = c.query_all.new.self.conn.now;
+  error = c.in-Err.error;
+  fails = fails_inside _ _ select_version_text [] _ c.requires.inside (c.in-Err.ensures.err clean);
+  fault = sym c.fault_of.ensures ∙ is;
+}
+
+pub returns-in-Ok-clause-kept : goal.returns-in-Ok-clause-kept
+returns-in-Ok-clause-kept g c clean = shown_keeps _ _ select_version_text [] _ c.requires.inside (c.in-Ok.ensures.ok clean)
+
+pub returns-in-Ok-clause-told : goal.returns-in-Ok-clause-told
+returns-in-Ok-clause-told g c clean = record {
+  after = c.query_all.new.self.conn.now;
+  rows = c.in-Ok.rows.items;
+  shown = c.in-Ok.ensures.ok clean;
+  first = c.first_number.ensures.number ∙ ap first_number c.as_slice.ensures.value;
+}

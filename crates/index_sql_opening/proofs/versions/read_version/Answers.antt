@@ -1,0 +1,24 @@
+use Rattle.std.proofs.Common.{[], rules, ap, ◌∙◌, sym}
+use Rattle.sqlite.specs.Held.{state}
+use Rattle.index_sql_schema.proofs.StayLemmas.{shown_open}
+use Rattle.index_sql_schema.proofs.SelectVersion as select_version
+use Rattle.index_sql_schema.specs.StatementTexts.{select_version_text}
+use Rattle.index_sql_opening.specs.Versions.{first_number}
+use Rattle.index_sql_opening.proofs.LookLemmas.{looks_shown, looks_refused}
+use Rattle.index_sql_opening.proofs.SureLemmas.{reasoned}
+use Rattle.index_sql_opening.proofs.versions.read_version.Goals as goal
+
+pub returns-in-Err-clause-looks : goal.returns-in-Err-clause-looks
+returns-in-Err-clause-looks g c = looks_refused g.S.Store c.args.conn.now c.query_all.new.self c.requires.version (c.query_all.ensures.mode c.requires.outside) c.query_all.ensures.survives _ _ (search rules) c.requires.settled c.in-Err.ensures.err
+
+pub returns-in-Err-clause-reason : goal.returns-in-Err-clause-reason
+returns-in-Err-clause-reason g c clean is = reasoned (state g.S.Store c.args.conn.now) (state g.S.Store c.query_all.new.self) _ c.requires.version (c.in-Err.ensures.err clean) (sym c.fault_of.ensures ∙ is)
+
+pub returns-in-Ok-clause-looks : goal.returns-in-Ok-clause-looks
+returns-in-Ok-clause-looks g c = looks_shown g.S.Store c.args.conn.now c.query_all.new.self c.requires.version (c.query_all.ensures.mode c.requires.outside) c.query_all.ensures.survives c.in-Ok.rows.items c.in-Ok.ensures.ok _
+
+pub returns-in-Ok-clause-found : goal.returns-in-Ok-clause-found
+returns-in-Ok-clause-found g c clean =
+    let shown = c.in-Ok.ensures.ok clean in
+    let known = c.requires.version (shown_open (state g.S.Store c.args.conn.now) (state g.S.Store c.query_all.new.self) select_version_text [] c.in-Ok.rows.items shown).0 in
+    c.first_number.ensures.number ∙ ap first_number c.as_slice.ensures.value ∙ select_version.selects _ _ c.in-Ok.rows.items known shown

@@ -1,0 +1,5 @@
+pub mod Created
+pub mod NewAsks
+pub mod Names
+pub mod Versions
+pub mod Migrated

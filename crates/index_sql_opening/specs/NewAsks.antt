@@ -1,0 +1,36 @@
+-- What the making of a new index asks of SQL.
+use Rattle.std.specs.Prelude.{◌≡◌, ℕ, List, [], ◌∷◌, ◌++◌, None, Result, map, take, drop}
+use Rattle.sqlite_trees.specs.declared.store.Store.{Ghosts}
+use Rattle.sqlite.specs.declared.error.Error.{Error}
+use Rattle.sqlite.specs.Held.{Held}
+use Rattle.sqlite.specs.State.{State}
+use Rattle.index_rules.specs.declared.records.UserRecord.{UserRecord}
+use Rattle.index_rules.specs.Maps.{Bytes}
+use Rattle.index_sql_schema.specs.Stages.{IsStage, all_texts}
+use Rattle.index_sql_schema.specs.StatementTexts.{put_version_text}
+use Rattle.index_sql_writes.specs.Asks.{Ask, Statement, AnswersAll, GoesAs}
+use Rattle.index_sql_writes.specs.Statements.{put_user_ask}
+
+-- one text, without parameters
+abbrev pub text_ask : List ℕ → Ask
+text_ask text = Statement text []
+
+-- the texts of these tables, in turn
+abbrev pub table_asks : ℕ → ℕ → List Ask
+table_asks from to = map text_ask (drop from (take to all_texts))
+
+-- the row of the version
+abbrev pub put_version_ask : Ask
+put_version_ask = text_ask put_version_text
+
+-- the tables, the first user and the version
+abbrev pub asks_of_new : Bytes → UserRecord → List Ask
+asks_of_new user account = table_asks 0 9 ++ (put_user_ask user account ∷ put_version_ask ∷ [])
+
+-- it is so, and no query has a limit on its steps
+abbrev pub Unlimited : (State → Type 0) → State → Type 0
+Unlimited Is s = Is s × (s.step_limit ≡ None)
+
+-- where so many tables are made, the next ones go by their texts
+abbrev pub GoesByTexts : {S A : Type 0} → Ghosts S → ℕ → ℕ → Held S → Held S → Result A Error → Type 0
+GoesByTexts g from to = GoesAs g (Unlimited (IsStage from)) (AnswersAll (table_asks from to))

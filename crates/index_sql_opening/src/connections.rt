@@ -1,0 +1,29 @@
+//! What is known of every connection.
+ghost use Rattle.std.specs.Prelude.{◌≡◌, false, IsTrue};
+ghost use Rattle.sqlite.specs.Held.{state};
+ghost use Rattle.sqlite.specs.State.{IsLive};
+ghost use Rattle.index_sql_schema.specs.Schema.{index_schema};
+ghost use Rattle.index_sql_schema.specs.Index.{IsIndex};
+ghost use Rattle.index_sql_schema.specs.FirstVersion.{first_version_schema, IsFirstVersion};
+
+use sqlite::{Alter, Connection};
+
+/// The connection as it is. One with the schema of an index is an index, and one with that of version 1 is of version 1:
+/// the rowids of each table rise, so none comes twice.
+///
+/// It is taken by value, since only then is what a connection keeps true of itself known.
+pub fn known<S: Alter>(conn: Connection<S>) -> Connection<S>
+    ensures same { result ≡ conn }
+    ensures live { IsLive (state S.Store conn) }
+    ensures settled { conn.in_transaction ≡ false → IsTrue (state S.Store conn).is_open
+        → (state S.Store conn).now ≡ (state S.Store conn).committed }
+    ensures index { IsTrue (state S.Store conn).is_open
+        → (state S.Store conn).now.schema ≡ index_schema
+        → IsIndex (state S.Store conn).now }
+    ensures first_version { IsTrue (state S.Store conn).is_open
+        → (state S.Store conn).now.schema ≡ first_version_schema
+        → IsFirstVersion (state S.Store conn).now }
+{
+    let _outside = conn.is_autocommit();
+    conn
+}

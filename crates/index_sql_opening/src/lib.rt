@@ -1,0 +1,19 @@
+//! An index in a database of SQLite as it is opened: whether a database is one, how a new one is made, and how
+//! one of version 1 becomes an index of today.
+#![tactic(auto)]
+
+mod connections;
+mod migration;
+mod names;
+mod new_index;
+mod recognition;
+mod same;
+mod tables;
+mod versions;
+
+pub use connections::known;
+pub use migration::migrate;
+pub use names::{has_all_tables, has_any_table, has_meta, has_table};
+pub use new_index::fill_new;
+pub use recognition::{is_blank, is_first_version, is_ours};
+pub use versions::{read_version, told_version};

@@ -1,0 +1,91 @@
+//! Schemas that are compared with those of an index. Where `is_ours` or `is_first_version` is false, nothing is known.
+ghost use Rattle.std.specs.Prelude.{◌≡◌, ◌↔◌, ℕ, false, IsTrue, IfOk, OnOk};
+ghost use Rattle.sqlite.specs.Held.{state};
+ghost use Rattle.sqlite.specs.State.{HasCleanDisk};
+ghost use Rattle.sqlite.specs.Steps.{over_memory};
+ghost use Rattle.index_sql_opening.specs.Created.{IsBlank};
+ghost use Rattle.index_sql_schema.specs.Schema.{index_schema, no_schema};
+ghost use Rattle.index_sql_schema.specs.Stages.{stage};
+ghost use Rattle.index_sql_schema.specs.FirstVersion.{first_version_schema};
+
+use crate::same::Same;
+use crate::tables::{make_first_version, make_tables};
+use sqlite::{Alter, Connection, Error, MemStore};
+use std::alloc::{AllocError, Global};
+
+/// Whether nothing is in the database.
+pub fn is_blank<S: Alter>(conn: &Connection<S>) -> bool
+    ensures schema { IsTrue result ↔ ((state S.Store conn.now).now.schema ≡ no_schema) }
+{
+    let schema = conn.schema();
+    schema.tables.is_empty() && schema.indexes.is_empty() && schema.views.is_empty()
+}
+
+/// Whether the schema is that of an index, which is made in memory: that fails for want of memory alone.
+pub fn is_ours<S: Alter>(alloc: Global, conn: &Connection<S>) -> Result<bool, AllocError>
+    ensures schema { IfOk result (λ it. IsTrue it
+        → (state S.Store conn.now).now.schema ≡ index_schema) }
+{
+    match ours(alloc) {
+        Ok(ours) => Ok(conn.schema().same(ours.schema())),
+        Err(_) => Err(AllocError),
+    }
+}
+
+/// Whether the schema is that of version 1, which is made in memory too.
+pub fn is_first_version<S: Alter>(alloc: Global, conn: &Connection<S>) -> Result<bool, AllocError>
+    ensures schema { IfOk result (λ it. IsTrue it
+        → (state S.Store conn.now).now.schema ≡ first_version_schema) }
+{
+    match first_version(alloc) {
+        Ok(first) => Ok(conn.schema().same(first.schema())),
+        Err(_) => Err(AllocError),
+    }
+}
+
+/// A database in memory with the tables of an index.
+fn ours(alloc: Global) -> Result<Connection<MemStore>, Error>
+    ensures schema { IfOk result (λ ours. (state over_memory ours).now.schema ≡ index_schema) }
+{
+    let mut conn = Connection::open_in_memory(alloc)?;
+    commit_tables(&mut conn)?;
+    Ok(conn)
+}
+
+/// A database in memory with the tables of version 1.
+fn first_version(alloc: Global) -> Result<Connection<MemStore>, Error>
+    ensures schema { IfOk result (λ first.
+        (state over_memory first).now.schema ≡ first_version_schema) }
+{
+    let mut conn = Connection::open_in_memory(alloc)?;
+    commit_first_version(&mut conn)?;
+    Ok(conn)
+}
+
+/// Makes the tables of an index.
+fn commit_tables<S: Alter>(conn: &mut Connection<S>) -> Result<(), Error>
+    requires { conn.old.in_transaction ≡ false }
+    ensures made { HasCleanDisk (state S.Store conn.new)
+        → OnOk result (IsTrue (state S.Store conn.old).is_open
+        → IsBlank (state S.Store conn.old).now
+        → (state S.Store conn.new).now.schema ≡ stage 9) }
+{
+    let mut tx = conn.transaction();
+    make_tables(&mut tx)?;
+    tx.commit()?;
+    Ok(())
+}
+
+/// Makes the tables of version 1.
+fn commit_first_version<S: Alter>(conn: &mut Connection<S>) -> Result<(), Error>
+    requires { conn.old.in_transaction ≡ false }
+    ensures made { HasCleanDisk (state S.Store conn.new)
+        → OnOk result (IsTrue (state S.Store conn.old).is_open
+        → IsBlank (state S.Store conn.old).now
+        → (state S.Store conn.new).now.schema ≡ stage 8) }
+{
+    let mut tx = conn.transaction();
+    make_first_version(&mut tx)?;
+    tx.commit()?;
+    Ok(())
+}

@@ -1,0 +1,98 @@
+//! The version that the table `meta` tells.
+ghost use Rattle.std.specs.Prelude.{◌≡◌, true, false, is_ok, IsTrue, IfErr, IfOk};
+ghost use Rattle.sqlite.specs.Held.{state};
+ghost use Rattle.sqlite.specs.State.{HasCleanDisk};
+ghost use Rattle.sqlite_value.specs.Order.{column};
+ghost use Rattle.index_sql_opening.specs.Versions.{first_number, FailsToTell, Tells, begun};
+ghost use Rattle.index_sql_schema.specs.Looks.{Looks};
+ghost use Rattle.index_sql_schema.specs.Reasons.{StoreForReason};
+ghost use Rattle.index_sql_schema.specs.Records.{number_in};
+ghost use Rattle.index_sql_schema.specs.Index.{version_in};
+ghost use Rattle.index_sql_writes.specs.Inside.{Keeps, LeavesNothing};
+ghost use Rattle.index_sql_schema.specs.FirstVersion.{IsAnyVersion};
+
+use index_rules::Fault;
+use index_sql_schema::fault_of;
+use index_sql_schema::statement_texts::SELECT_VERSION;
+use sqlite::types::ValueRef;
+use sqlite::{Alter, Connection, Row, Transaction};
+
+/// The version of an index of today or of version 1, or `None` where `meta` has no row of it. A version that is no number
+/// from 0 to 18,446,744,073,709,551,615 is told as 0.
+///
+/// # Errors
+/// `OutOfMemory` for want of memory, and `Store` where the store fails.
+pub fn read_version<S: Alter>(conn: &mut Connection<S>) -> Result<Option<u64>, Fault>
+    requires outside { conn.old.in_transaction ≡ false }
+    requires version { IsTrue (state S.Store conn.old).is_open
+        → IsAnyVersion (state S.Store conn.old).now }
+    requires settled { IsTrue (state S.Store conn.old).is_open
+        → (state S.Store conn.old).now ≡ (state S.Store conn.old).committed }
+    ensures found { HasCleanDisk (state S.Store conn.new)
+        → IfOk result (λ version. version ≡ version_in (state S.Store conn.old).now.trees) }
+    ensures looks { Looks S.Store conn.old conn.new (is_ok result) }
+    ensures reason { HasCleanDisk (state S.Store conn.new)
+        → StoreForReason S.Store conn.old conn.new result }
+{
+    match conn.query_all(SELECT_VERSION, &[]) {
+        Ok(rows) => Ok(first_number(rows.as_slice())),
+        Err(error) => Err(fault_of(error)),
+    }
+}
+
+/// The version that a table `meta` tells which others may have made, as `read_version` tells it.
+///
+/// Nothing is known of what a query does to such a database, so it runs in a transaction that is dropped.
+///
+/// # Errors
+/// `OutOfMemory` for want of memory, and `Store` where the query fails by anything else.
+pub fn told_version<S: Alter>(conn: &mut Connection<S>) -> Result<Option<u64>, Fault>
+    requires outside { conn.old.in_transaction ≡ false }
+    requires settled { IsTrue (state S.Store conn.old).is_open
+        → (state S.Store conn.old).now ≡ (state S.Store conn.old).committed }
+    ensures told { HasCleanDisk (state S.Store conn.new)
+        → IfOk result (Tells S.Store (begun conn.old)) }
+    ensures fails { HasCleanDisk (state S.Store conn.new)
+        → IfErr result (λ fault. fault ≡ Fault.Store → FailsToTell S.Store (begun conn.old)) }
+    ensures looks { Looks S.Store conn.old conn.new false }
+{
+    let mut tx = conn.transaction();
+    query_version(&mut tx)
+}
+
+/// The version that `meta` tells inside a transaction.
+fn query_version<S: Alter>(tx: &mut Transaction<'_, S>) -> Result<Option<u64>, Fault>
+    requires inside { tx.old.conn.now.in_transaction ≡ true }
+    ensures same_reference { tx.new.conn.ghost_name ≡ tx.old.conn.ghost_name }
+    ensures told { HasCleanDisk (state S.Store tx.new.conn.now)
+        → IfOk result (Tells S.Store tx.old.conn.now) }
+    ensures fails { HasCleanDisk (state S.Store tx.new.conn.now)
+        → IfErr result (λ fault. fault ≡ Fault.Store → FailsToTell S.Store tx.old.conn.now) }
+    ensures kept { Keeps S.Store tx.old.conn.now tx.new.conn.now }
+    ensures survives { LeavesNothing S.Store tx.old.conn.now tx.new.conn.now }
+{
+    match tx.query_all(SELECT_VERSION, &[]) {
+        Ok(rows) => Ok(first_number(rows.as_slice())),
+        Err(error) => Err(fault_of(error)),
+    }
+}
+
+/// The number in the first row.
+fn first_number(rows: &[Row]) -> Option<u64>
+    ensures number { result ≡ first_number rows.now }
+{
+    match rows.first() {
+        Some(row) => Some(number(row)),
+        None => None,
+    }
+}
+
+/// The number in the first column, or 0 where it has none from 0 on.
+fn number(row: &Row) -> u64
+    ensures number { result ≡ number_in (column row.now 0) }
+{
+    match row.get_ref(0) {
+        Ok(ValueRef::Int(number)) => u64::try_from(number).unwrap_or(0),
+        _ => 0,
+    }
+}

@@ -1,0 +1,39 @@
+use Rattle.std.proofs.Common.{[], ◌∷◌, map, rules, subst}
+use Rattle.sqlite_value.specs.declared.value.Value.TheVariants.{Text}
+use Rattle.index_rules.specs.TableRows.{file_rows_in}
+use Rattle.index_sql_schema.specs.RecordRows.{IsListedRow}
+use Rattle.index_sql_schema.specs.ShownRows.{file_row_shown}
+use Rattle.index_sql_schema.specs.StatementTexts.{select_files_text}
+use Rattle.index_sql_schema.proofs.SelectFiles.{is_plain, records, selects, sure}
+use Rattle.index_sql_schema.proofs.ShownRecords.{known_records}
+use Rattle.index_sql_schema.specs.Sure.{IsSure}
+use Rattle.index_sql_reads.specs.Handed.{IsOf, QueryEndsForReason}
+use Rattle.index_sql_reads.proofs.EndLemmas.{files_ends}
+use Rattle.index_sql_reads.proofs.QueryLemmas.{ends_for, walks_all}
+use Rattle.index_sql_reads.proofs.WalkLemmas.{read_walks}
+use Rattle.index_sql_reads.proofs.walk.walk_files.Goals as goal
+
+pub walk-requires : goal.walk-requires
+walk-requires g c = record { plain = is_plain }
+
+pub returns-clause-walked : goal.returns-clause-walked
+returns-clause-walked g c clean =
+    let name = c.args.name.now in
+    let it = c.walk.ensures.handed in
+    let told = subst (λ params. IsOf g.S.Store select_files_text params c.args.conn.now it.0 c.walk.result) (search rules) (it.2 clean) in
+    walks_all g.S.Store select_files_text (Text name ∷ []) files_ends c.args.conn.now c.walk.ensures.kept (c.walk.ensures.looks.was_clean clean) file_row_shown (λ T. file_rows_in T name) (selects name)
+    g.K.FileTaker.takes g.K.FileTaker.stops it.0 c.args.taker.now c.walk.new.taker c.walk.result told it.1
+
+pub returns-clause-given : goal.returns-clause-given
+returns-clause-given g c =
+    let it = c.walk.ensures.handed in
+    (map file_row_shown it.0, read_walks g.K.FileTaker.takes g.K.FileTaker.stops file_row_shown it.0 c.args.taker.now c.walk.new.taker c.walk.result it.1)
+
+pub returns-clause-reason : goal.returns-clause-reason
+returns-clause-reason g c clean are =
+    let name = c.args.name.now in
+    let old = c.args.conn.now in
+    let new = c.walk.new.conn in
+    let told = subst (λ params. IsSure select_files_text params → QueryEndsForReason g.S.Store IsListedRow select_files_text params old new c.walk.result) (search rules) c.walk.ensures.reason in
+    ends_for g.S.Store select_files_text (Text name ∷ []) files_ends old c.walk.ensures.kept (c.walk.ensures.looks.was_clean clean) file_row_shown (λ T. file_rows_in T name) (selects name)
+    IsListedRow (λ before after rows h are shown. let known = known_records before.now h are in records name before after rows h shown known.1.1.1.1.0 known.1.1.1.1.1.1.0) are new c.walk.result ((told (sure name)).reason clean)

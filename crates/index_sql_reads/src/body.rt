@@ -1,0 +1,103 @@
+//! The bytes that are kept of a file.
+ghost use Rattle.std.specs.Prelude.{◌≡◌, is_ok, option_map, slice_get, IfOk, IsOk, IsOkUnless};
+ghost use Rattle.std.specs.List.{AllByRecursion};
+ghost use Rattle.std.specs.FinMap.{get};
+ghost use Rattle.sqlite.specs.Held.{state};
+ghost use Rattle.sqlite.specs.State.{HasCleanDisk};
+ghost use Rattle.index_sql_schema.specs.Records.{body_in};
+ghost use Rattle.index_sql_schema.specs.Looks.{Looks};
+ghost use Rattle.index_sql_schema.specs.Reasons.{FailsForReason};
+ghost use Rattle.index_sql_schema.specs.RecordRows.{IsBodyRow};
+ghost use Rattle.index_sql_reads.specs.Held.{tables_of};
+ghost use Rattle.index_sql_reads.specs.Sealed.{digest_in, IsBoundTo};
+
+use crate::files::find_file;
+use index_digest::{Digest256, Sealed};
+use index_names::FileName;
+use index_rules::Fault;
+use index_sql_records::body;
+use index_sql_schema::statement_texts::SELECT_BODY;
+use index_sql_schema::{IndexConnection, look};
+use sqlite::{Alter, Row, params};
+use std::alloc::Global;
+
+/// The bytes that are kept of a file, if any are. `Store` where they have not the digest that the file is bound to.
+pub fn find_body<S: Alter>(
+    alloc: Global,
+    conn: &mut IndexConnection<S>,
+    file: &FileName,
+) -> Result<Option<Sealed>, Fault>
+    ensures found { HasCleanDisk (state S.Store conn.new) → IfOk result (λ it.
+        it ≡ get (tables_of S.Store conn.old).bodies file.now) }
+    ensures bound { HasCleanDisk (state S.Store conn.new)
+        → IfOk result (IsBoundTo (digest_in (tables_of S.Store conn.old) file.now)) }
+    ensures looks { Looks S.Store conn.old conn.new (is_ok result) }
+    ensures reason { let T = tables_of S.Store conn.old in
+        IsBoundTo (digest_in T file.now) (get T.bodies file.now)
+        → FailsForReason S.Store conn.old conn.new result }
+{
+    let digest = find_digest(alloc, conn, file)?;
+    let bytes = find_bytes(alloc, conn, file)?;
+    seal(bytes, digest)
+}
+
+/// The digest that a file is bound to.
+fn find_digest<S: Alter>(
+    alloc: Global,
+    conn: &mut IndexConnection<S>,
+    file: &FileName,
+) -> Result<Option<Digest256>, Fault>
+    ensures found { HasCleanDisk (state S.Store conn.new) → IfOk result (λ it.
+        it ≡ digest_in (tables_of S.Store conn.old) file.now) }
+    ensures looks { Looks S.Store conn.old conn.new (is_ok result) }
+    ensures reason { FailsForReason S.Store conn.old conn.new result }
+{
+    match find_file(alloc, conn, file)? {
+        Some(known) => Ok(Some(known.digest)),
+        None => Ok(None),
+    }
+}
+
+/// The bytes that are kept of a file, whatever their digest is.
+fn find_bytes<S: Alter>(
+    alloc: Global,
+    conn: &mut IndexConnection<S>,
+    file: &FileName,
+) -> Result<Option<Vec<u8>>, Fault>
+    ensures found { HasCleanDisk (state S.Store conn.new) → IfOk result (λ it.
+        option_map (λ bytes. bytes.items) it
+        ≡ get (tables_of S.Store conn.old).bodies file.now) }
+    ensures looks { Looks S.Store conn.old conn.new (is_ok result) }
+    ensures reason { FailsForReason S.Store conn.old conn.new result }
+{
+    let rows = look(conn, SELECT_BODY, params![file.text()])?;
+    first_body(alloc, rows.as_slice())
+}
+
+/// The bytes in the first row, if there is a row.
+fn first_body(alloc: Global, rows: &[Row]) -> Result<Option<Vec<u8>>, Fault>
+    ensures value { IfOk result (λ it. option_map (λ bytes. bytes.items) it
+        ≡ option_map body_in (slice_get rows.now 0)) }
+    ensures complete { AllByRecursion IsBodyRow rows.now → IsOkUnless result Fault.OutOfMemory }
+{
+    match rows.first() {
+        Some(row) => Ok(Some(body(alloc, row)?)),
+        None => Ok(None),
+    }
+}
+
+/// The bytes under their digest. `Store` where they have another, or none is declared.
+fn seal(bytes: Option<Vec<u8>>, declared: Option<Digest256>) -> Result<Option<Sealed>, Fault>
+    ensures kept { IfOk result (λ it. it ≡ option_map (λ bytes. bytes.items) bytes) }
+    ensures bound { IfOk result (IsBoundTo declared) }
+    ensures complete { IsBoundTo declared (option_map (λ bytes. bytes.items) bytes) → IsOk result }
+{
+    match (bytes, declared) {
+        (None, _) => Ok(None),
+        (Some(bytes), Some(declared)) => match Sealed::new(bytes, declared) {
+            Ok(sealed) => Ok(Some(sealed)),
+            Err(_bytes) => Err(Fault::Store),
+        },
+        (Some(_bytes), None) => Err(Fault::Store),
+    }
+}

@@ -1,0 +1,78 @@
+//! Look-ups of files and releases.
+ghost use Rattle.std.specs.Prelude.{◌≡◌, is_ok, IfOk};
+ghost use Rattle.std.specs.FinMap.{get};
+ghost use Rattle.sqlite.specs.Held.{state};
+ghost use Rattle.sqlite.specs.State.{HasCleanDisk};
+ghost use Rattle.index_rules.specs.Facts.{has_release_in, is_banned_in, yank_in};
+ghost use Rattle.index_sql_schema.specs.Looks.{Looks};
+ghost use Rattle.index_sql_schema.specs.Reasons.{FailsForReason};
+ghost use Rattle.index_sql_reads.specs.Held.{tables_of};
+
+use crate::shown::{first, has_row};
+use index_names::{FileName, NormalName, Release};
+use index_rules::{Fault, FileRecord};
+use index_sql_schema::statement_texts::{SELECT_BAN, SELECT_FILE, SELECT_RELEASE, SELECT_YANK};
+use index_sql_schema::{IndexConnection, look};
+use index_text::Text;
+use sqlite::{Alter, params};
+use std::alloc::Global;
+
+/// The record of a file that was once accepted.
+pub(crate) fn find_file<S: Alter>(
+    alloc: Global,
+    conn: &mut IndexConnection<S>,
+    file: &FileName,
+) -> Result<Option<FileRecord>, Fault>
+    ensures found { HasCleanDisk (state S.Store conn.new) → IfOk result (λ it.
+        it ≡ get (tables_of S.Store conn.old).files file.now) }
+    ensures looks { Looks S.Store conn.old conn.new (is_ok result) }
+    ensures reason { FailsForReason S.Store conn.old conn.new result }
+{
+    let rows = look(conn, SELECT_FILE, params![file.text()])?;
+    first(alloc, rows.as_slice())
+}
+
+/// Whether the file is banned.
+pub(crate) fn is_banned<S: Alter>(
+    conn: &mut IndexConnection<S>,
+    file: &FileName,
+) -> Result<bool, Fault>
+    ensures found { HasCleanDisk (state S.Store conn.new) → IfOk result (λ it.
+        it ≡ is_banned_in (tables_of S.Store conn.old) file.now) }
+    ensures looks { Looks S.Store conn.old conn.new (is_ok result) }
+    ensures reason { FailsForReason S.Store conn.old conn.new result }
+{
+    let rows = look(conn, SELECT_BAN, params![file.text()])?;
+    Ok(has_row(rows.as_slice()))
+}
+
+/// Why the release is yanked, where it is.
+pub(crate) fn find_yank<S: Alter>(
+    alloc: Global,
+    conn: &mut IndexConnection<S>,
+    name: &NormalName,
+    release: &Release,
+) -> Result<Option<Text>, Fault>
+    ensures found { HasCleanDisk (state S.Store conn.new) → IfOk result (λ it.
+        it ≡ yank_in (tables_of S.Store conn.old) name.now release.now) }
+    ensures looks { Looks S.Store conn.old conn.new (is_ok result) }
+    ensures reason { FailsForReason S.Store conn.old conn.new result }
+{
+    let rows = look(conn, SELECT_YANK, params![name.text(), release.text()])?;
+    first(alloc, rows.as_slice())
+}
+
+/// Whether the name has an undeleted file of the release.
+pub(crate) fn has_release<S: Alter>(
+    conn: &mut IndexConnection<S>,
+    name: &NormalName,
+    release: &Release,
+) -> Result<bool, Fault>
+    ensures found { HasCleanDisk (state S.Store conn.new) → IfOk result (λ it.
+        it ≡ has_release_in (tables_of S.Store conn.old) name.now release.now) }
+    ensures looks { Looks S.Store conn.old conn.new (is_ok result) }
+    ensures reason { FailsForReason S.Store conn.old conn.new result }
+{
+    let rows = look(conn, SELECT_RELEASE, params![name.text(), release.text()])?;
+    Ok(has_row(rows.as_slice()))
+}

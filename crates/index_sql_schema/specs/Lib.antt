@@ -1,0 +1,15 @@
+pub mod RowMaps
+pub mod TableTexts
+pub mod Schema
+pub mod Records
+pub mod RecordRows
+pub mod ShownRows
+pub mod Index
+pub mod StatementTexts
+pub mod Stages
+pub mod Stays
+pub mod Sure
+pub mod FirstVersion
+pub mod Faults
+pub mod Looks
+pub mod Reasons

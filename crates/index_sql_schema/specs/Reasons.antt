@@ -1,0 +1,21 @@
+-- Why a look answers a fault of the store.
+use Rattle.std.specs.Prelude.{◌≡◌, ◌⊎◌, false, IsSome, IfErr, Result}
+use Rattle.sqlite_disk.specs.Disk.{MoreFaults}
+use Rattle.sqlite_trees.specs.declared.store.Store.{Ghosts}
+use Rattle.sqlite.specs.Held.{Held, state}
+use Rattle.sqlite.specs.State.{State, HasCleanDisk}
+use Rattle.index_rules.specs.declared.answer.Fault.{Fault}
+use Rattle.index_rules.specs.declared.answer.Fault.TheVariants.{Store}
+use Rattle.index_sql_schema.specs.RecordRows.{AreRecords}
+
+-- the disk had a fault since, the connection was shut before, or the steps of its queries are limited
+abbrev pub HasReason : State → State → Type 0
+HasReason old new = MoreFaults old.faults new.faults ⊎ ((old.is_open ≡ false) ⊎ IsSome old.step_limit)
+
+-- it answers `Store` only for such a reason
+abbrev pub StoreForReason : {S A : Type 0} → Ghosts S → Held S → Held S → Result A Fault → Type 0
+StoreForReason g old new result = IfErr result (λ fault. fault ≡ Store → HasReason (state g old) (state g new))
+
+-- so it does on a clean disk, where all rows are those of records
+abbrev pub FailsForReason : {S A : Type 0} → Ghosts S → Held S → Held S → Result A Fault → Type 0
+FailsForReason g old new result = HasCleanDisk (state g new) → AreRecords (state g old).now → StoreForReason g old new result

@@ -1,0 +1,11 @@
+//! The tables of an index in SQLite: their schema, what their rows stand for, what each statement does to
+//! them, and one look at them.
+#![tactic(auto)]
+
+mod connection;
+mod query;
+pub mod statement_texts;
+pub mod table_texts;
+
+pub use connection::IndexConnection;
+pub use query::{fault_of, look};

@@ -1,0 +1,22 @@
+-- A name that is put anew after its row went.
+use Rattle.std.proofs.Common.{◌≡◌, sym, ◌∙◌}
+use Rattle.std.specs.FinMap.{insert, remove, get, same_map}
+use Rattle.std.proofs.lemmas.Cmp.{nat_list_cmp_total}
+use Rattle.std.proofs.lemmas.Map.Lookups.{exact_bytes}
+use Rattle.index_rules.specs.Maps.{Bytes, Map}
+use Rattle.index_rules.specs.Effect.{means}
+use Rattle.index_rules.specs.declared.change.Change.TheVariants as change
+use Rattle.index_rules.specs.declared.records.NameRecord.TheVariants.{Prohibited}
+use Rattle.index_rules.proofs.PutLemmas.{get-put_here, get-put_other, get-without_other, each_put}
+use Rattle.index_rules.specs.Effect.{without_record}
+use Rattle.index_sql_writes.specs.Writes.{puts_name, deletes_bodies, marks_files}
+
+pub insert-remove : {X : Type 0} (m : Map X) (k : Bytes) (v : X) → insert (remove m k) k v ≡ insert m k v
+insert-remove m k v =
+    same_map nat_list_cmp_total exact_bytes _ _ (each_put (remove m k) k v (λ q found. found ≡ get (insert m k v) q)
+    (sym (get-put_here m k v))
+    (λ q other. get-without_other m k q other ∙ sym (get-put_other m k v q other)))
+
+-- the steps of a prohibition
+pub prohibits : (name : Bytes) → (λ T. puts_name name Prohibited (without_record name (marks_files name (deletes_bodies name T)))) ≡ means (change.Prohibit name)
+prohibits name i T = record (means (change.Prohibit name) T) { names = insert-remove T.names name Prohibited i }

@@ -1,0 +1,26 @@
+use Rattle.std.proofs.Common.{◌≡◌, ◌<◌, IsTrue, drop}
+use Rattle.sqlite.specs.Effect.{Database}
+use Rattle.sqlite.specs.Held.{state}
+use Rattle.sqlite.specs.Rows.{Outcome}
+use Rattle.sqlite.specs.State.{HasCleanDisk, KeepsCommit, Survives}
+use Rattle.index_sql_writes.specs.Inside.{IsReady}
+use Rattle.index_sql_schema.specs.Index.{version_in}
+use Rattle.index_sql_schema.specs.Records.{tables_in}
+use Rattle.index_sql_schema.specs.RecordRows.{AreRecords}
+use Rattle.index_sql_writes.specs.Asks.{AnswersAll, CanAsk}
+use Rattle.index_sql_writes.specs.StepAsks.{asks_by}
+use Rattle.index_sql_writes.specs.Changed.{all_of}
+use Rattle.index_sql_writes.proofs.step.take_steps.Given as goal
+
+abbrev pub invariant-loop-step : goal.invariant-loop-step
+invariant-loop-step g l =
+    let first = state g.S.Store l.fn.tx.conn.now in
+    let now = state g.S.Store l.tx.conn.now in
+    record {
+      same : l.tx.conn.ghost_name ≡ l.fn.tx.conn.ghost_name;
+      made : HasCleanDisk now → IsReady first → IsReady now × (all_of (drop l.step-index l.steps) (tables_in now.now.trees) ≡ all_of l.steps (tables_in first.now.trees)) × (now.committed ≡ first.committed) × (version_in now.now.trees ≡ version_in first.now.trees) × (AreRecords first.now → AreRecords now.now);
+      kept : HasCleanDisk now → KeepsCommit first now;
+      opened : 0 < l.step-index → HasCleanDisk now → IsTrue first.is_open;
+      survives : Survives first now (λ _. ⊥);
+      asked : HasCleanDisk now → CanAsk first → (out : Outcome Database) → AnswersAll (asks_by (drop l.step-index l.steps)) now.now out → AnswersAll (asks_by l.steps) first.now out;
+    }

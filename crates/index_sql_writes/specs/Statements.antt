@@ -1,0 +1,105 @@
+-- What each step asks.
+use Rattle.std.specs.Prelude.{pos, ℕ, ℤ, List, [], ◌∷◌, Option, None, option_map}
+use Rattle.std.specs.Option.{option_to_list}
+use Rattle.sqlite_value.specs.Order.{Row}
+use Rattle.sqlite_value.specs.declared.value.Value.TheVariants.{Int, Text, Blob}
+use Rattle.sqlite.specs.Values.{or_null}
+use Rattle.index_rules.specs.declared.records.UserRecord.{UserRecord}
+use Rattle.index_rules.specs.declared.records.FileRecord.{FileRecord}
+use Rattle.index_rules.specs.declared.records.CaseRecord.{CaseRecord}
+use Rattle.index_rules.specs.Maps.{Bytes}
+use Rattle.index_rules.specs.Projects.{Project}
+use Rattle.index_sql_schema.specs.StatementTexts.{put_user_text, put_name_text, put_owner_text, put_file_text, put_body_text, put_yank_text, put_case_text, put_ban_text, delete_name_text, delete_owners_text, delete_owner_text, delete_yanks_text, delete_yank_text, delete_case_text, delete_body_text, update_files_text}
+use Rattle.index_sql_writes.specs.Asks.{Ask, Statement, WithNumbers, BodiesOf}
+use Rattle.index_sql_writes.specs.Writes.{flag, kind_number}
+
+-- one text, by which rows are found
+abbrev by_text : List ℕ → Bytes → Ask
+by_text sql key = Statement sql (Text key ∷ [])
+
+-- two of them
+abbrev by_texts : List ℕ → Bytes → Bytes → Ask
+by_texts sql first second = Statement sql (Text first ∷ Text second ∷ [])
+
+-- the numbers of a held name
+abbrev pub project_numbers : Project → List ℕ
+project_numbers project = project.quota ∷ project.charge ∷ project.undeleted ∷ option_to_list project.last_upload
+
+-- the row of a name
+abbrev pub name_cells : Bytes → ℤ → Bytes → ℤ → ℤ → ℤ → Option ℤ → Row
+name_cells name standing shown quota charge undeleted last =
+    Text name ∷ Int standing ∷ Text shown ∷ Int quota ∷ Int charge ∷ Int undeleted ∷ or_null Int last ∷ []
+
+-- ---- a row in place of the one with its key
+
+abbrev pub put_user_ask : Bytes → UserRecord → Ask
+put_user_ask user account = Statement put_user_text (Text user ∷ Int (flag account.office) ∷ Blob account.token ∷ [])
+
+abbrev pub hold_name_ask : Bytes → Project → Ask
+hold_name_ask name project =
+    WithNumbers (project_numbers project) (Statement put_name_text
+    (name_cells name (pos 1) project.shown (pos project.quota) (pos project.charge) (pos project.undeleted) (option_map pos project.last_upload)))
+
+abbrev pub prohibit_name_ask : Bytes → Ask
+prohibit_name_ask name = Statement put_name_text (name_cells name (pos 2) [] (pos 0) (pos 0) (pos 0) None)
+
+abbrev pub put_owner_ask : Bytes → Bytes → Ask
+put_owner_ask = by_texts put_owner_text
+
+-- the row of a file
+abbrev pub file_cells : Bytes → FileRecord → Row
+file_cells file known = Text file ∷ Text known.project ∷ Text known.release ∷ Blob known.digest ∷ Int (pos known.size) ∷ Text known.requires_python ∷ Int (flag known.is_undeleted) ∷ []
+
+abbrev pub put_file_ask : Bytes → FileRecord → Ask
+put_file_ask file known = WithNumbers (known.size ∷ []) (Statement put_file_text (file_cells file known))
+
+abbrev pub put_body_ask : Bytes → Bytes → Ask
+put_body_ask file body = Statement put_body_text (Text file ∷ Blob body ∷ [])
+
+abbrev pub put_yank_ask : Bytes → Bytes → Bytes → Ask
+put_yank_ask name release reason = Statement put_yank_text (Text name ∷ Text release ∷ Text reason ∷ [])
+
+-- the numbers of a case
+abbrev pub case_numbers : CaseRecord → List ℕ
+case_numbers case = case.opened ∷ case.state.attempts ∷ case.state.sent ∷ option_to_list case.state.first
+
+-- the row of a case
+abbrev pub case_cells : Bytes → CaseRecord → Row
+case_cells name case =
+    Text name ∷ Int (kind_number case.kind) ∷ Text case.candidate ∷ Text case.contact ∷ Text case.work ∷ Text case.why ∷ Int (pos case.opened) ∷ Int (pos case.state.attempts) ∷ Int (pos case.state.sent)
+    ∷ Int (flag case.state.profile) ∷ Int (flag case.state.author) ∷ Int (flag case.state.pages) ∷ or_null Int (option_map pos case.state.first) ∷ []
+
+abbrev pub put_case_ask : Bytes → CaseRecord → Ask
+put_case_ask name case = WithNumbers (case_numbers case) (Statement put_case_text (case_cells name case))
+
+abbrev pub put_ban_ask : Bytes → Ask
+put_ban_ask = by_text put_ban_text
+
+-- ---- rows that go, or are marked
+
+abbrev pub delete_name_ask : Bytes → Ask
+delete_name_ask = by_text delete_name_text
+
+abbrev pub delete_owners_ask : Bytes → Ask
+delete_owners_ask = by_text delete_owners_text
+
+abbrev pub delete_owner_ask : Bytes → Bytes → Ask
+delete_owner_ask = by_texts delete_owner_text
+
+abbrev pub delete_yanks_ask : Bytes → Ask
+delete_yanks_ask = by_text delete_yanks_text
+
+abbrev pub delete_yank_ask : Bytes → Bytes → Ask
+delete_yank_ask = by_texts delete_yank_text
+
+abbrev pub delete_case_ask : Bytes → Ask
+delete_case_ask = by_text delete_case_text
+
+abbrev pub delete_body_ask : Bytes → Ask
+delete_body_ask = by_text delete_body_text
+
+abbrev pub delete_bodies_ask : Bytes → Ask
+delete_bodies_ask = BodiesOf
+
+abbrev pub mark_files_ask : Bytes → Ask
+mark_files_ask = by_text update_files_text

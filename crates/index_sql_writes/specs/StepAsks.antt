@@ -1,0 +1,57 @@
+-- What the steps ask of SQL, and why they fail.
+use Rattle.std.specs.Prelude.{◌≡◌, ◌⊎◌, List, Option, Err, map}
+use Rattle.sqlite.specs.declared.error.Error.{Error}
+use Rattle.sqlite.specs.Effect.{Database}
+use Rattle.sqlite.specs.State.{State}
+use Rattle.index_sql_schema.specs.Faults.{fault_by}
+use Rattle.index_sql_schema.specs.Reasons.{HasReason}
+use Rattle.index_rules.specs.declared.answer.Fault.TheVariants.{Store}
+use Rattle.index_sql_writes.specs.Asks.{Ask, AnswersAll}
+use Rattle.index_sql_writes.specs.Statements.{put_user_ask, hold_name_ask, prohibit_name_ask, put_owner_ask, put_file_ask, put_body_ask, put_case_ask, put_ban_ask, put_yank_ask, delete_name_ask, delete_owners_ask, delete_owner_ask, delete_yanks_ask, delete_yank_ask, delete_case_ask, delete_body_ask, delete_bodies_ask, mark_files_ask}
+use Rattle.index_sql_writes.specs.declared.step.Put.{Put}
+use Rattle.index_sql_writes.specs.declared.step.Put.TheVariants as put
+use Rattle.index_sql_writes.specs.declared.step.Deletion.{Deletion}
+use Rattle.index_sql_writes.specs.declared.step.Deletion.TheVariants as deletion
+use Rattle.index_sql_writes.specs.declared.step.Step.{Step}
+use Rattle.index_sql_writes.specs.declared.step.Step.TheVariants as step
+
+-- by a record that is put
+abbrev pub put_ask : Put → Ask
+put_ask (put.User user account) = put_user_ask user.now account.now
+put_ask (put.Held name project) = hold_name_ask name.now project.now
+put_ask (put.Prohibited name) = prohibit_name_ask name.now
+put_ask (put.Owner name user) = put_owner_ask name.now user.now
+put_ask (put.File file known) = put_file_ask file.now known.now
+put_ask (put.Body file body) = put_body_ask file.now body.now
+put_ask (put.Case name case) = put_case_ask name.now case.now
+put_ask (put.Ban file) = put_ban_ask file.now
+put_ask (put.Yank name release reason) = put_yank_ask name.now release.now reason.now
+
+-- where something goes
+abbrev pub deletion_ask : Deletion → Ask
+deletion_ask (deletion.Name name) = delete_name_ask name.now
+deletion_ask (deletion.Owners name) = delete_owners_ask name.now
+deletion_ask (deletion.Owner name user) = delete_owner_ask name.now user.now
+deletion_ask (deletion.Yanks name) = delete_yanks_ask name.now
+deletion_ask (deletion.Yank name release) = delete_yank_ask name.now release.now
+deletion_ask (deletion.Case name) = delete_case_ask name.now
+deletion_ask (deletion.Body file) = delete_body_ask file.now
+deletion_ask (deletion.Bodies name) = delete_bodies_ask name.now
+
+-- by a step
+abbrev pub step_ask : Step → Ask
+step_ask (step.Put it) = put_ask it
+step_ask (step.Delete it) = deletion_ask it
+step_ask (step.MarkFiles name) = mark_files_ask name.now
+
+-- by several, in turn
+abbrev pub asks_by : List Step → List Ask
+asks_by = map step_ask
+
+-- SQL refuses one of these, on what those before it make of the database
+abbrev pub AreRefused : List Ask → Database → Type 0
+AreRefused asks db = (why : Option Error) × AnswersAll asks db (Err why)
+
+-- a fault of the store comes for a reason of the store, or where SQL refuses
+abbrev pub FailsForRefusal : List Ask → State → State → Error → Type 0
+FailsForRefusal asks old new e = fault_by e ≡ Store → HasReason old new ⊎ AreRefused asks old.now

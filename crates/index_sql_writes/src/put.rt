@@ -1,0 +1,226 @@
+//! Statements that put a row, in place of the one with its key if there is one. Where a number is more than SQL can
+//! hold, that is an error, and nothing is written.
+ghost use Rattle.std.specs.Prelude.{◌≡◌, ℤ};
+ghost use Rattle.index_sql_schema.specs.RecordRows.{IsNameRow};
+ghost use Rattle.index_sql_schema.specs.StatementTexts.{put_name_text};
+ghost use Rattle.index_sql_writes.specs.Asks.{Answers, CanAsk, GoesAs, GoesByAsk};
+ghost use Rattle.index_sql_writes.specs.Inside.{MakesIfOk, Keeps, LeavesNothing, WasOpenIfOk};
+ghost use Rattle.index_rules.specs.declared.records.NameRecord.TheVariants.{Held, Prohibited};
+ghost use Rattle.index_sql_writes.specs.Writes.{puts_user, puts_name, name_of, row_of_name, puts_owner, puts_file, puts_body, puts_yank, puts_ban};
+ghost use Rattle.index_sql_writes.specs.Statements.{hold_name_ask, name_cells, prohibit_name_ask, put_ban_ask, put_body_ask, put_file_ask, put_owner_ask, put_user_ask, put_yank_ask};
+
+use crate::number::{whole, whole_if_any};
+use index_names::{FileName, NormalName, Release};
+use index_rules::{FileRecord, Project, UserId, UserRecord};
+use index_sql_schema::statement_texts::{
+    PUT_BAN, PUT_BODY, PUT_FILE, PUT_NAME, PUT_OWNER, PUT_USER, PUT_YANK,
+};
+use sqlite::{Alter, Error, Transaction, params};
+
+/// The user has this record.
+pub fn put_user<S: Alter>(
+    tx: &mut Transaction<'_, S>,
+    user: &UserId,
+    account: &UserRecord,
+) -> Result<(), Error>
+    ensures same_reference { tx.new.conn.ghost_name ≡ tx.old.conn.ghost_name }
+    ensures made { MakesIfOk S.Store (puts_user user.now account.now)
+        tx.old.conn.now tx.new.conn.now result }
+    ensures kept { Keeps S.Store tx.old.conn.now tx.new.conn.now }
+    ensures opened { WasOpenIfOk S.Store tx.old.conn.now tx.new.conn.now result }
+    ensures survives { LeavesNothing S.Store tx.old.conn.now tx.new.conn.now }
+    ensures asked { GoesByAsk S.Store (put_user_ask user.now account.now)
+        tx.old.conn.now tx.new.conn.now result }
+{
+    let token = account.token.to_bytes();
+    tx.execute(
+        PUT_USER,
+        params![user.text(), account.office, token.as_slice()],
+    )?;
+    Ok(())
+}
+
+/// The name is held, with this record.
+pub(crate) fn hold_name<S: Alter>(
+    tx: &mut Transaction<'_, S>,
+    name: &NormalName,
+    project: &Project,
+) -> Result<(), Error>
+    ensures same_reference { tx.new.conn.ghost_name ≡ tx.old.conn.ghost_name }
+    ensures made { MakesIfOk S.Store (puts_name name.now (Held project.now))
+        tx.old.conn.now tx.new.conn.now result }
+    ensures kept { Keeps S.Store tx.old.conn.now tx.new.conn.now }
+    ensures opened { WasOpenIfOk S.Store tx.old.conn.now tx.new.conn.now result }
+    ensures survives { LeavesNothing S.Store tx.old.conn.now tx.new.conn.now }
+    ensures asked { GoesByAsk S.Store (hold_name_ask name.now project.now)
+        tx.old.conn.now tx.new.conn.now result }
+{
+    let quota = whole(project.quota())?;
+    let charge = whole(project.charge())?;
+    let undeleted = whole(project.undeleted())?;
+    let last = whole_if_any(project.last_upload())?;
+    put_name(
+        tx,
+        name,
+        1,
+        project.shown().as_str(),
+        quota,
+        charge,
+        undeleted,
+        last,
+    )?;
+    Ok(())
+}
+
+/// The name is prohibited.
+pub(crate) fn prohibit_name<S: Alter>(
+    tx: &mut Transaction<'_, S>,
+    name: &NormalName,
+) -> Result<(), Error>
+    ensures same_reference { tx.new.conn.ghost_name ≡ tx.old.conn.ghost_name }
+    ensures made { MakesIfOk S.Store (puts_name name.now Prohibited)
+        tx.old.conn.now tx.new.conn.now result }
+    ensures kept { Keeps S.Store tx.old.conn.now tx.new.conn.now }
+    ensures opened { WasOpenIfOk S.Store tx.old.conn.now tx.new.conn.now result }
+    ensures survives { LeavesNothing S.Store tx.old.conn.now tx.new.conn.now }
+    ensures asked { GoesByAsk S.Store (prohibit_name_ask name.now)
+        tx.old.conn.now tx.new.conn.now result }
+{
+    put_name(tx, name, 2, "", 0, 0, 0, None)?;
+    Ok(())
+}
+
+/// The row of a name.
+fn put_name<S: Alter>(
+    tx: &mut Transaction<'_, S>,
+    name: &NormalName,
+    standing: i64,
+    shown: &str,
+    quota: i64,
+    charge: i64,
+    undeleted: i64,
+    last: Option<i64>,
+) -> Result<(), Error>
+    requires { (id : ℤ) → IsNameRow
+        (row_of_name id name.now standing shown.now quota charge undeleted last) }
+    ensures same_reference { tx.new.conn.ghost_name ≡ tx.old.conn.ghost_name }
+    ensures made { MakesIfOk S.Store
+        (puts_name name.now (name_of standing shown.now quota charge undeleted last))
+        tx.old.conn.now tx.new.conn.now result }
+    ensures kept { Keeps S.Store tx.old.conn.now tx.new.conn.now }
+    ensures opened { WasOpenIfOk S.Store tx.old.conn.now tx.new.conn.now result }
+    ensures survives { LeavesNothing S.Store tx.old.conn.now tx.new.conn.now }
+    ensures asked { GoesAs S.Store CanAsk (Answers put_name_text
+        (name_cells name.now standing shown.now quota charge undeleted last))
+        tx.old.conn.now tx.new.conn.now result }
+{
+    tx.execute(
+        PUT_NAME,
+        params![name.text(), standing, shown, quota, charge, undeleted, last],
+    )?;
+    Ok(())
+}
+
+/// The user owns the name.
+pub(crate) fn put_owner<S: Alter>(
+    tx: &mut Transaction<'_, S>,
+    name: &NormalName,
+    user: &UserId,
+) -> Result<(), Error>
+    ensures same_reference { tx.new.conn.ghost_name ≡ tx.old.conn.ghost_name }
+    ensures made { MakesIfOk S.Store (puts_owner name.now user.now)
+        tx.old.conn.now tx.new.conn.now result }
+    ensures kept { Keeps S.Store tx.old.conn.now tx.new.conn.now }
+    ensures opened { WasOpenIfOk S.Store tx.old.conn.now tx.new.conn.now result }
+    ensures survives { LeavesNothing S.Store tx.old.conn.now tx.new.conn.now }
+    ensures asked { GoesByAsk S.Store (put_owner_ask name.now user.now)
+        tx.old.conn.now tx.new.conn.now result }
+{
+    tx.execute(PUT_OWNER, params![name.text(), user.text()])?;
+    Ok(())
+}
+
+/// The file has this record.
+pub(crate) fn put_file<S: Alter>(
+    tx: &mut Transaction<'_, S>,
+    file: &FileName,
+    known: &FileRecord,
+) -> Result<(), Error>
+    ensures same_reference { tx.new.conn.ghost_name ≡ tx.old.conn.ghost_name }
+    ensures made { MakesIfOk S.Store (puts_file file.now known.now)
+        tx.old.conn.now tx.new.conn.now result }
+    ensures kept { Keeps S.Store tx.old.conn.now tx.new.conn.now }
+    ensures opened { WasOpenIfOk S.Store tx.old.conn.now tx.new.conn.now result }
+    ensures survives { LeavesNothing S.Store tx.old.conn.now tx.new.conn.now }
+    ensures asked { GoesByAsk S.Store (put_file_ask file.now known.now)
+        tx.old.conn.now tx.new.conn.now result }
+{
+    let size = whole(known.size)?;
+    let digest = known.digest.to_bytes();
+    tx.execute(
+        PUT_FILE,
+        params![
+            file.text(),
+            known.project.text(),
+            known.release.text(),
+            digest.as_slice(),
+            size,
+            known.requires_python.as_str(),
+            known.is_undeleted
+        ],
+    )?;
+    Ok(())
+}
+
+/// These bytes are kept of the file.
+pub(crate) fn put_body<S: Alter>(
+    tx: &mut Transaction<'_, S>,
+    file: &FileName,
+    body: &[u8],
+) -> Result<(), Error>
+    ensures same_reference { tx.new.conn.ghost_name ≡ tx.old.conn.ghost_name }
+    ensures made { MakesIfOk S.Store (puts_body file.now body.now)
+        tx.old.conn.now tx.new.conn.now result }
+    ensures kept { Keeps S.Store tx.old.conn.now tx.new.conn.now }
+    ensures opened { WasOpenIfOk S.Store tx.old.conn.now tx.new.conn.now result }
+    ensures survives { LeavesNothing S.Store tx.old.conn.now tx.new.conn.now }
+    ensures asked { GoesByAsk S.Store (put_body_ask file.now body.now)
+        tx.old.conn.now tx.new.conn.now result }
+{
+    tx.execute(PUT_BODY, params![file.text(), body])?;
+    Ok(())
+}
+
+/// The release is yanked, for this reason.
+pub(crate) fn put_yank<S: Alter>(
+    tx: &mut Transaction<'_, S>,
+    name: &NormalName,
+    release: &Release,
+    reason: &str,
+) -> Result<(), Error>
+    ensures same_reference { tx.new.conn.ghost_name ≡ tx.old.conn.ghost_name }
+    ensures made { MakesIfOk S.Store (puts_yank name.now release.now reason.now)
+        tx.old.conn.now tx.new.conn.now result }
+    ensures kept { Keeps S.Store tx.old.conn.now tx.new.conn.now }
+    ensures opened { WasOpenIfOk S.Store tx.old.conn.now tx.new.conn.now result }
+    ensures survives { LeavesNothing S.Store tx.old.conn.now tx.new.conn.now }
+    ensures asked { GoesByAsk S.Store (put_yank_ask name.now release.now reason.now)
+        tx.old.conn.now tx.new.conn.now result }
+{
+    tx.execute(PUT_YANK, params![name.text(), release.text(), reason])?;
+    Ok(())
+}
+
+/// The file is banned.
+pub(crate) fn put_ban<S: Alter>(tx: &mut Transaction<'_, S>, file: &FileName) -> Result<(), Error>
+    ensures same_reference { tx.new.conn.ghost_name ≡ tx.old.conn.ghost_name }
+    ensures made { MakesIfOk S.Store (puts_ban file.now) tx.old.conn.now tx.new.conn.now result }
+    ensures kept { Keeps S.Store tx.old.conn.now tx.new.conn.now }
+    ensures opened { WasOpenIfOk S.Store tx.old.conn.now tx.new.conn.now result }
+    ensures survives { LeavesNothing S.Store tx.old.conn.now tx.new.conn.now }
+    ensures asked { GoesByAsk S.Store (put_ban_ask file.now)
+        tx.old.conn.now tx.new.conn.now result }
+{
+    tx.execute(PUT_BAN, params![file.text()])?;
+    Ok(())
+}

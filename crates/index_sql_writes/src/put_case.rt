@@ -1,0 +1,109 @@
+//! The statement that puts an open case.
+ghost use Rattle.std.specs.Prelude.{◌≡◌, pos, IfErr, IfOk, OnOk, option_map};
+ghost use Rattle.sqlite.specs.declared.error.Error.TheVariants.{IntegralValueOutOfRange};
+ghost use Rattle.index_retention.specs.Attempts.{IsTally};
+ghost use Rattle.index_sql_writes.specs.Asks.{GoesByAsk, HasTooMuch};
+ghost use Rattle.index_sql_writes.specs.Inside.{MakesIfOk, Keeps, LeavesNothing, WasOpenIfOk};
+ghost use Rattle.index_sql_writes.specs.Writes.{puts_case, kind_number};
+ghost use Rattle.index_sql_writes.specs.Statements.{case_numbers, put_case_ask};
+
+use crate::number::{whole, whole_if_any};
+use index_names::NormalName;
+use index_retention::CaseKind;
+use index_rules::CaseRecord;
+use index_sql_schema::statement_texts::PUT_CASE;
+use sqlite::{Alter, Error, Transaction, params};
+
+/// What a case has beside its texts, as SQL holds it.
+#[derive(Clone, Copy)]
+struct CaseNumbers {
+    kind: i64,
+    opened: i64,
+    attempts: i64,
+    sent: i64,
+    profile: bool,
+    author: bool,
+    pages: bool,
+    first: Option<i64>,
+}
+
+/// The name has this open case.
+pub(crate) fn put_case<S: Alter>(
+    tx: &mut Transaction<'_, S>,
+    name: &NormalName,
+    case: &CaseRecord,
+) -> Result<(), Error>
+    ensures same_reference { tx.new.conn.ghost_name ≡ tx.old.conn.ghost_name }
+    ensures made { MakesIfOk S.Store (puts_case name.now case.now)
+        tx.old.conn.now tx.new.conn.now result }
+    ensures kept { Keeps S.Store tx.old.conn.now tx.new.conn.now }
+    ensures opened { WasOpenIfOk S.Store tx.old.conn.now tx.new.conn.now result }
+    ensures survives { LeavesNothing S.Store tx.old.conn.now tx.new.conn.now }
+    ensures asked { GoesByAsk S.Store (put_case_ask name.now case.now)
+        tx.old.conn.now tx.new.conn.now result }
+{
+    let numbers = numbers_of(case)?;
+    tx.execute(
+        PUT_CASE,
+        params![
+            name.text(),
+            numbers.kind,
+            case.candidate.text(),
+            case.contact.as_str(),
+            case.work.as_str(),
+            case.why.as_str(),
+            numbers.opened,
+            numbers.attempts,
+            numbers.sent,
+            numbers.profile,
+            numbers.author,
+            numbers.pages,
+            numbers.first
+        ],
+    )?;
+    Ok(())
+}
+
+/// What a case has beside its texts. `IntegralValueOutOfRange` where one is more than SQL can hold.
+fn numbers_of(case: &CaseRecord) -> Result<CaseNumbers, Error>
+    ensures numbers { IfOk result (λ it. it ≡ record {
+      kind = kind_number case.now.kind;
+      opened = pos case.now.opened;
+      attempts = pos case.now.state.attempts;
+      sent = pos case.now.state.sent;
+      profile = case.now.state.profile;
+      author = case.now.state.author;
+      pages = case.now.state.pages;
+      first = option_map pos case.now.state.first;
+    }) }
+    ensures tally { OnOk result
+        (IsTally case.now.state.attempts case.now.state.sent case.now.state.first) }
+    ensures too_much { IfErr result (λ error. (error ≡ IntegralValueOutOfRange 0)
+        × HasTooMuch (case_numbers case.now)) }
+{
+    let state = &case.state;
+    let opened = whole(case.opened)?;
+    let attempts = whole(state.attempts())?;
+    let sent = whole(state.sent())?;
+    let first = whole_if_any(state.first())?;
+    Ok(CaseNumbers {
+        kind: number_of(case.kind),
+        opened,
+        attempts,
+        sent,
+        profile: state.profile(),
+        author: state.author(),
+        pages: state.pages(),
+        first,
+    })
+}
+
+/// The kind as the tables have it.
+fn number_of(kind: CaseKind) -> i64
+    ensures { result ≡ kind_number kind }
+{
+    match kind {
+        CaseKind::Continue => 1,
+        CaseKind::Reuse => 2,
+    }
+}

@@ -1,0 +1,153 @@
+//! One step of a change.
+ghost use Rattle.std.specs.Prelude.{◌≡◌, ◌<◌, length};
+ghost use Rattle.index_sql_writes.specs.Inside.{MakesIfOk, Keeps, LeavesNothing, WasOpenIfOk};
+ghost use Rattle.index_sql_writes.specs.Asks.{AnswersAll, CanAsk, GoesAs, GoesByAsk};
+ghost use Rattle.index_sql_writes.specs.StepAsks.{asks_by, deletion_ask, put_ask, step_ask};
+ghost use Rattle.index_sql_writes.specs.Changed.{put_by, deletion_by, step_by, all_of};
+
+use crate::bodies::delete_bodies;
+use crate::delete::{
+    delete_body, delete_case, delete_name, delete_owner, delete_owners, delete_yank, delete_yanks,
+    mark_files,
+};
+use crate::put::{
+    hold_name, prohibit_name, put_ban, put_body, put_file, put_owner, put_user, put_yank,
+};
+use crate::put_case::put_case;
+use index_names::{FileName, NormalName, Release};
+use index_rules::{CaseRecord, FileRecord, Project, UserId, UserRecord};
+use sqlite::{Alter, Error, Transaction};
+
+/// A record that is put at its key, in place of the one that is there.
+#[derive(Clone, Copy)]
+pub(crate) enum Put<'a> {
+    /// The user has this record.
+    User(&'a UserId, &'a UserRecord),
+    /// The name is held, with this record.
+    Held(&'a NormalName, &'a Project),
+    /// The name is prohibited.
+    Prohibited(&'a NormalName),
+    /// The user owns the name.
+    Owner(&'a NormalName, &'a UserId),
+    /// The file has this record.
+    File(&'a FileName, &'a FileRecord),
+    /// These bytes are kept of the file.
+    Body(&'a FileName, &'a [u8]),
+    /// The name has this open case.
+    Case(&'a NormalName, &'a CaseRecord),
+    /// The file is banned.
+    Ban(&'a FileName),
+    /// The release of the name is yanked, for this reason.
+    Yank(&'a NormalName, &'a Release, &'a str),
+}
+
+/// What goes, where it is there.
+#[derive(Clone, Copy)]
+pub(crate) enum Deletion<'a> {
+    /// The name is free: its owners, its yanks and its case go with it.
+    Name(&'a str),
+    /// The name has no owner.
+    Owners(&'a str),
+    /// The user does not own the name.
+    Owner(&'a str, &'a str),
+    /// No release of the name is yanked.
+    Yanks(&'a str),
+    /// The release is not yanked.
+    Yank(&'a str, &'a str),
+    /// The name has no open case.
+    Case(&'a str),
+    /// No bytes are kept of the file.
+    Body(&'a str),
+    /// No bytes are kept of the files of the name.
+    Bodies(&'a str),
+}
+
+/// One step of a change.
+#[derive(Clone, Copy)]
+pub(crate) enum Step<'a> {
+    Put(Put<'a>),
+    Delete(Deletion<'a>),
+    /// Each file of the name is deleted.
+    MarkFiles(&'a str),
+}
+
+/// Puts a record.
+fn take_put<S: Alter>(tx: &mut Transaction<'_, S>, put: Put<'_>) -> Result<(), Error>
+    ensures same_reference { tx.new.conn.ghost_name ≡ tx.old.conn.ghost_name }
+    ensures made { MakesIfOk S.Store (put_by put.entry) tx.old.conn.now tx.new.conn.now result }
+    ensures kept { Keeps S.Store tx.old.conn.now tx.new.conn.now }
+    ensures opened { WasOpenIfOk S.Store tx.old.conn.now tx.new.conn.now result }
+    ensures survives { LeavesNothing S.Store tx.old.conn.now tx.new.conn.now }
+    ensures asked { GoesByAsk S.Store (put_ask put.entry) tx.old.conn.now tx.new.conn.now result }
+{
+    match put {
+        Put::User(user, account) => put_user(tx, user, account),
+        Put::Held(name, project) => hold_name(tx, name, project),
+        Put::Prohibited(name) => prohibit_name(tx, name),
+        Put::Owner(name, user) => put_owner(tx, name, user),
+        Put::File(file, known) => put_file(tx, file, known),
+        Put::Body(file, body) => put_body(tx, file, body),
+        Put::Case(name, case) => put_case(tx, name, case),
+        Put::Ban(file) => put_ban(tx, file),
+        Put::Yank(name, release, reason) => put_yank(tx, name, release, reason),
+    }
+}
+
+/// Takes out what goes.
+fn take_deletion<S: Alter>(tx: &mut Transaction<'_, S>, deletion: Deletion<'_>) -> Result<(), Error>
+    ensures same_reference { tx.new.conn.ghost_name ≡ tx.old.conn.ghost_name }
+    ensures made { MakesIfOk S.Store (deletion_by deletion.entry)
+        tx.old.conn.now tx.new.conn.now result }
+    ensures kept { Keeps S.Store tx.old.conn.now tx.new.conn.now }
+    ensures opened { WasOpenIfOk S.Store tx.old.conn.now tx.new.conn.now result }
+    ensures survives { LeavesNothing S.Store tx.old.conn.now tx.new.conn.now }
+    ensures asked { GoesByAsk S.Store (deletion_ask deletion.entry)
+        tx.old.conn.now tx.new.conn.now result }
+{
+    match deletion {
+        Deletion::Name(name) => delete_name(tx, name),
+        Deletion::Owners(name) => delete_owners(tx, name),
+        Deletion::Owner(name, user) => delete_owner(tx, name, user),
+        Deletion::Yanks(name) => delete_yanks(tx, name),
+        Deletion::Yank(name, release) => delete_yank(tx, name, release),
+        Deletion::Case(name) => delete_case(tx, name),
+        Deletion::Body(file) => delete_body(tx, file),
+        Deletion::Bodies(name) => delete_bodies(tx, name),
+    }
+}
+
+/// Takes one step.
+fn take_step<S: Alter>(tx: &mut Transaction<'_, S>, step: &Step<'_>) -> Result<(), Error>
+    ensures same_reference { tx.new.conn.ghost_name ≡ tx.old.conn.ghost_name }
+    ensures made { MakesIfOk S.Store (step_by step.now) tx.old.conn.now tx.new.conn.now result }
+    ensures kept { Keeps S.Store tx.old.conn.now tx.new.conn.now }
+    ensures opened { WasOpenIfOk S.Store tx.old.conn.now tx.new.conn.now result }
+    ensures survives { LeavesNothing S.Store tx.old.conn.now tx.new.conn.now }
+    ensures asked { GoesByAsk S.Store (step_ask step.now) tx.old.conn.now tx.new.conn.now result }
+{
+    match *step {
+        Step::Put(put) => take_put(tx, put),
+        Step::Delete(deletion) => take_deletion(tx, deletion),
+        Step::MarkFiles(name) => mark_files(tx, name),
+    }
+}
+
+/// Takes the steps in turn, up to the first that fails.
+pub(crate) fn take_steps<S: Alter>(
+    tx: &mut Transaction<'_, S>,
+    steps: &[Step<'_>],
+) -> Result<(), Error>
+    ensures same_reference { tx.new.conn.ghost_name ≡ tx.old.conn.ghost_name }
+    ensures made { MakesIfOk S.Store (all_of steps.now) tx.old.conn.now tx.new.conn.now result }
+    ensures kept { Keeps S.Store tx.old.conn.now tx.new.conn.now }
+    ensures opened { 0 < length steps.now →
+        WasOpenIfOk S.Store tx.old.conn.now tx.new.conn.now result }
+    ensures survives { LeavesNothing S.Store tx.old.conn.now tx.new.conn.now }
+    ensures asked { GoesAs S.Store CanAsk (AnswersAll (asks_by steps.now))
+        tx.old.conn.now tx.new.conn.now result }
+{
+    for step in steps {
+        take_step(tx, step)?;
+    }
+    Ok(())
+}

@@ -1,4 +1,0 @@
-pub mod Writes
-pub mod Inside
-pub mod Asks
-pub mod Statements

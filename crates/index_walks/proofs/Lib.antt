@@ -1,4 +1,0 @@
-pub mod WalkLemmas
-pub mod QueryLemmas
-pub mod EndLemmas
-pub mod HeldLemmas
