@@ -443,12 +443,14 @@ fn assert_cut<B: Books + Drop>(
     let mut desk = desk_of_long_names(rt, books, failing, fault, 2);
     let mut told = Vec::new(rt.alloc());
     let ended = tell(rt, site, &mut desk, ROOT.message.as_bytes(), &mut told);
-    let has_head = told.as_slice().starts_with(HEAD_OF_LONG_PAGE.as_bytes());
-    let is_front = front.as_bytes().starts_with(told.as_slice());
-    let count = told.len();
-    drop(told);
-    assert!(rt; has_head && is_front, "{fault}");
-    assert!(rt; ended == Err(IoEnd::Cut(count as u64)), "{fault}");
+    assert_is_cut(rt, told.as_slice(), ended, front);
+}
+
+/// What went out is the head of the long page and no more than this front of it, and its length was told.
+fn assert_is_cut(rt: &impl Abort, told: &[u8], ended: Result<(), IoEnd>, front: &str) {
+    assert!(rt; told.starts_with(HEAD_OF_LONG_PAGE.as_bytes()));
+    assert!(rt; front.as_bytes().starts_with(told));
+    assert!(rt; ended == Err(IoEnd::Cut(told.len() as u64)));
 }
 
 /// A front of the reply with the long page: its head, and up to its rows or further. The page has 164 bytes beside its rows,

@@ -240,14 +240,25 @@ const LOOKS: &[[&str; 2]] = &[
     ],
 ];
 
+/// A message gets its reply, or tells of a fault at some stops.
+fn assert_told(
+    rt: &(impl Abort + AllocGlobal),
+    site: &Site,
+    files: &Files<File>,
+    which: Which,
+    exchange: &[&str; 2],
+) {
+    let [message, reply] = exchange;
+    let (faults, cuts) = stop_each(rt, site, files, which, 1, message, reply.as_bytes());
+    assert!(rt; faults > 0 && cuts == 0, "{message}");
+}
+
 #[test]
 fn a_look_at_a_database_that_stops(rt: HostRuntime) {
     let site = &Site::new(rt.alloc()).expect(&rt, "routes");
     let files = closed(with_a_file(&rt, new_database(&rt)));
-    for [message, reply] in LOOKS {
-        let whole = reply.as_bytes();
-        let (faults, cuts) = stop_each(&rt, site, &files, Which::Database, 1, message, whole);
-        assert!(rt; faults > 0 && cuts == 0, "{message}");
+    for look in LOOKS {
+        assert_told(&rt, site, &files, Which::Database, look);
     }
 }
 
@@ -293,17 +304,29 @@ const CHANGES: &[[&str; 2]] = &[
 fn a_change_of_a_database_that_stops(rt: HostRuntime) {
     let site = &Site::new(rt.alloc()).expect(&rt, "routes");
     let files = closed(with_a_file(&rt, new_database(&rt)));
-    for [message, reply] in CHANGES {
-        for which in [Which::Log, Which::Database] {
-            let whole = reply.as_bytes();
-            let (faults, cuts) = stop_each(&rt, site, &files, which, 1, message, whole);
-            assert!(rt; faults > 0 && cuts == 0, "{message}");
-        }
+    for change in CHANGES {
+        assert_told(&rt, site, &files, Which::Log, change);
+        assert_told(&rt, site, &files, Which::Database, change);
     }
 }
 
 /// The page has 164 bytes beside its rows, of 269 bytes each beside two numbers of one to three digits.
 const LENGTH_OF_PAGE: usize = 274_944;
+
+/// The reply with the long page where no file stops.
+fn long_reply(rt: &(impl Abort + AllocGlobal), site: &Site, files: &Files<File>) -> Reply {
+    let files = stopping(rt, files, Which::Database, u64::MAX);
+    let reply = reply_after(rt, site, files, ROOT.message).expect(rt, "an index");
+    assert!(rt; reply.ended == Ok(()) && reply.told.starts_with(HEAD_OF_LONG_PAGE.as_bytes()));
+    assert_eq!(rt; reply.told.len(), HEAD_OF_LONG_PAGE.len() + LENGTH_OF_PAGE);
+    reply
+}
+
+/// Some stops are told as a fault, and others cut the page.
+fn assert_cut(rt: &(impl Abort + AllocGlobal), site: &Site, files: &Files<File>, whole: &[u8]) {
+    let (faults, cuts) = stop_each(rt, site, files, Which::Database, 31, ROOT.message, whole);
+    assert!(rt; faults > 0 && cuts > 0);
+}
 
 /// The page is gathered until it is too long, then counted, and then sent. A stop in the first two walks is told as a fault,
 /// and one in the last cuts the page.
@@ -311,11 +334,6 @@ const LENGTH_OF_PAGE: usize = 274_944;
 fn a_long_page_of_a_database_that_stops(rt: HostRuntime) {
     let site = &Site::new(rt.alloc()).expect(&rt, "routes");
     let files = closed(with_long_names(&rt, new_database(&rt)));
-    let honest = stopping(&rt, &files, Which::Database, u64::MAX);
-    let reply = reply_after(&rt, site, honest, ROOT.message).expect(&rt, "an index");
-    let whole = reply.told.as_slice();
-    assert!(rt; reply.ended == Ok(()) && whole.starts_with(HEAD_OF_LONG_PAGE.as_bytes()));
-    assert_eq!(rt; whole.len(), HEAD_OF_LONG_PAGE.len() + LENGTH_OF_PAGE);
-    let (faults, cuts) = stop_each(&rt, site, &files, Which::Database, 31, ROOT.message, whole);
-    assert!(rt; faults > 0 && cuts > 0);
+    let reply = long_reply(&rt, site, &files);
+    assert_cut(&rt, site, &files, reply.told.as_slice());
 }
