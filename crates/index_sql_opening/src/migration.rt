@@ -11,7 +11,7 @@ ghost use Rattle.index_sql_schema.specs.Index.{as_told};
 ghost use Rattle.index_sql_schema.specs.StatementTexts.{update_version_text};
 ghost use Rattle.index_sql_schema.specs.TableTexts.{bans_text};
 ghost use Rattle.index_sql_writes.specs.Asks.{AnswersAll, AnswersAsk, GoesAs};
-ghost use Rattle.index_sql_writes.specs.Inside.{IsReady, TellsIfOk, Keeps, LeavesNothing};
+ghost use Rattle.index_sql_writes.specs.Inside.{IsReady, TellsIfOk, IsUncommitted};
 
 use index_sql_schema::statement_texts::UPDATE_VERSION;
 use index_sql_schema::table_texts::BANS;
@@ -21,8 +21,7 @@ use sqlite::{Alter, Connection, Error, Transaction};
 fn make_bans<S: Alter>(tx: &mut Transaction<'_, S>) -> Result<(), Error>
     ensures same_reference { tx.new.conn.ghost_name ≡ tx.old.conn.ghost_name }
     ensures made { MigratesIfOk S.Store as_told tx.old.conn.now tx.new.conn.now result }
-    ensures kept { Keeps S.Store tx.old.conn.now tx.new.conn.now }
-    ensures survives { LeavesNothing S.Store tx.old.conn.now tx.new.conn.now }
+    ensures uncommitted { IsUncommitted S.Store tx.old.conn.now tx.new.conn.now }
     ensures asked { GoesAs S.Store (Unlimited IsReadyFirst) (AnswersAsk (text_ask bans_text))
         tx.old.conn.now tx.new.conn.now result }
 {
@@ -35,8 +34,7 @@ fn raise_version<S: Alter>(tx: &mut Transaction<'_, S>) -> Result<(), Error>
     ensures same_reference { tx.new.conn.ghost_name ≡ tx.old.conn.ghost_name }
     ensures made { TellsIfOk S.Store (λ T. T) raised
         tx.old.conn.now tx.new.conn.now result }
-    ensures kept { Keeps S.Store tx.old.conn.now tx.new.conn.now }
-    ensures survives { LeavesNothing S.Store tx.old.conn.now tx.new.conn.now }
+    ensures uncommitted { IsUncommitted S.Store tx.old.conn.now tx.new.conn.now }
     ensures asked { GoesAs S.Store (Unlimited IsReady) (AnswersAsk (text_ask update_version_text))
         tx.old.conn.now tx.new.conn.now result }
 {
@@ -48,8 +46,7 @@ fn raise_version<S: Alter>(tx: &mut Transaction<'_, S>) -> Result<(), Error>
 fn migrate_tables<S: Alter>(tx: &mut Transaction<'_, S>) -> Result<(), Error>
     ensures same_reference { tx.new.conn.ghost_name ≡ tx.old.conn.ghost_name }
     ensures made { MigratesIfOk S.Store raised tx.old.conn.now tx.new.conn.now result }
-    ensures kept { Keeps S.Store tx.old.conn.now tx.new.conn.now }
-    ensures survives { LeavesNothing S.Store tx.old.conn.now tx.new.conn.now }
+    ensures uncommitted { IsUncommitted S.Store tx.old.conn.now tx.new.conn.now }
     ensures asked { GoesAs S.Store (Unlimited IsReadyFirst) (AnswersAll asks_of_migration)
         tx.old.conn.now tx.new.conn.now result }
 {

@@ -4,7 +4,7 @@ ghost use Rattle.sqlite.specs.Held.{state};
 ghost use Rattle.sqlite.specs.State.{HasCleanDisk};
 ghost use Rattle.index_sql_schema.specs.Stages.{IsStage};
 ghost use Rattle.index_sql_writes.specs.Asks.{AnswersAll, AnswersAsk, GoesAs};
-ghost use Rattle.index_sql_writes.specs.Inside.{IsReady, TellsIfOk, Keeps, LeavesNothing};
+ghost use Rattle.index_sql_writes.specs.Inside.{IsReady, TellsIfOk, IsUncommitted};
 ghost use Rattle.index_sql_writes.specs.StepAsks.{FailsForRefusal};
 ghost use Rattle.index_sql_writes.specs.Changed.{IsMade, IsUndone, LeavesAll};
 ghost use Rattle.index_sql_opening.specs.NewAsks.{Unlimited, asks_of_new, put_version_ask};
@@ -21,8 +21,7 @@ fn put_version<S: Alter>(tx: &mut Transaction<'_, S>) -> Result<(), Error>
     ensures same_reference { tx.new.conn.ghost_name ≡ tx.old.conn.ghost_name }
     ensures made { TellsIfOk S.Store (λ T. T) as_new
         tx.old.conn.now tx.new.conn.now result }
-    ensures kept { Keeps S.Store tx.old.conn.now tx.new.conn.now }
-    ensures survives { LeavesNothing S.Store tx.old.conn.now tx.new.conn.now }
+    ensures uncommitted { IsUncommitted S.Store tx.old.conn.now tx.new.conn.now }
     ensures asked { GoesAs S.Store (Unlimited IsReady) (AnswersAsk put_version_ask)
         tx.old.conn.now tx.new.conn.now result }
 {
@@ -39,8 +38,7 @@ fn make_all<S: Alter>(
     ensures same_reference { tx.new.conn.ghost_name ≡ tx.old.conn.ghost_name }
     ensures made { FillsIfOk S.Store (one_user user.now account.now)
         tx.old.conn.now tx.new.conn.now result }
-    ensures kept { Keeps S.Store tx.old.conn.now tx.new.conn.now }
-    ensures survives { LeavesNothing S.Store tx.old.conn.now tx.new.conn.now }
+    ensures uncommitted { IsUncommitted S.Store tx.old.conn.now tx.new.conn.now }
     ensures asked { GoesAs S.Store (Unlimited (IsStage 0))
         (AnswersAll (asks_of_new user.now account.now))
         tx.old.conn.now tx.new.conn.now result }

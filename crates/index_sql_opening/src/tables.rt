@@ -2,7 +2,7 @@
 ghost use Rattle.std.specs.Prelude.{◌≡◌, ℕ, suc, Some, slice_get};
 ghost use Rattle.index_sql_schema.specs.Stages.{IsStage, all_texts};
 ghost use Rattle.index_sql_writes.specs.Asks.{AnswersAsk, GoesAs};
-ghost use Rattle.index_sql_writes.specs.Inside.{Keeps, LeavesNothing};
+ghost use Rattle.index_sql_writes.specs.Inside.{IsUncommitted};
 ghost use Rattle.index_sql_opening.specs.NewAsks.{GoesByTexts, Unlimited, text_ask};
 ghost use Rattle.index_sql_opening.specs.Created.{Advances};
 
@@ -14,8 +14,7 @@ fn make_table<S: Alter>(tx: &mut Transaction<'_, S>, sql: &str) -> Result<(), Er
     ensures same_reference { tx.new.conn.ghost_name ≡ tx.old.conn.ghost_name }
     ensures made { (n : ℕ) → slice_get all_texts n ≡ Some sql.now
         → Advances S.Store n (suc n) tx.old.conn.now tx.new.conn.now result }
-    ensures kept { Keeps S.Store tx.old.conn.now tx.new.conn.now }
-    ensures survives { LeavesNothing S.Store tx.old.conn.now tx.new.conn.now }
+    ensures uncommitted { IsUncommitted S.Store tx.old.conn.now tx.new.conn.now }
     ensures asked { (n : ℕ) → slice_get all_texts n ≡ Some sql.now
         → GoesAs S.Store (Unlimited (IsStage n)) (AnswersAsk (text_ask sql.now))
         tx.old.conn.now tx.new.conn.now result }
@@ -28,8 +27,7 @@ fn make_table<S: Alter>(tx: &mut Transaction<'_, S>, sql: &str) -> Result<(), Er
 fn make_first_four<S: Alter>(tx: &mut Transaction<'_, S>) -> Result<(), Error>
     ensures same_reference { tx.new.conn.ghost_name ≡ tx.old.conn.ghost_name }
     ensures made { Advances S.Store 0 4 tx.old.conn.now tx.new.conn.now result }
-    ensures kept { Keeps S.Store tx.old.conn.now tx.new.conn.now }
-    ensures survives { LeavesNothing S.Store tx.old.conn.now tx.new.conn.now }
+    ensures uncommitted { IsUncommitted S.Store tx.old.conn.now tx.new.conn.now }
     ensures asked { GoesByTexts S.Store 0 4 tx.old.conn.now tx.new.conn.now result }
 {
     make_table(tx, META)?;
@@ -43,8 +41,7 @@ fn make_first_four<S: Alter>(tx: &mut Transaction<'_, S>) -> Result<(), Error>
 fn make_next_four<S: Alter>(tx: &mut Transaction<'_, S>) -> Result<(), Error>
     ensures same_reference { tx.new.conn.ghost_name ≡ tx.old.conn.ghost_name }
     ensures made { Advances S.Store 4 8 tx.old.conn.now tx.new.conn.now result }
-    ensures kept { Keeps S.Store tx.old.conn.now tx.new.conn.now }
-    ensures survives { LeavesNothing S.Store tx.old.conn.now tx.new.conn.now }
+    ensures uncommitted { IsUncommitted S.Store tx.old.conn.now tx.new.conn.now }
     ensures asked { GoesByTexts S.Store 4 8 tx.old.conn.now tx.new.conn.now result }
 {
     make_table(tx, FILES)?;
@@ -58,8 +55,7 @@ fn make_next_four<S: Alter>(tx: &mut Transaction<'_, S>) -> Result<(), Error>
 pub(crate) fn make_first_version<S: Alter>(tx: &mut Transaction<'_, S>) -> Result<(), Error>
     ensures same_reference { tx.new.conn.ghost_name ≡ tx.old.conn.ghost_name }
     ensures made { Advances S.Store 0 8 tx.old.conn.now tx.new.conn.now result }
-    ensures kept { Keeps S.Store tx.old.conn.now tx.new.conn.now }
-    ensures survives { LeavesNothing S.Store tx.old.conn.now tx.new.conn.now }
+    ensures uncommitted { IsUncommitted S.Store tx.old.conn.now tx.new.conn.now }
     ensures asked { GoesByTexts S.Store 0 8 tx.old.conn.now tx.new.conn.now result }
 {
     make_first_four(tx)?;
@@ -71,8 +67,7 @@ pub(crate) fn make_first_version<S: Alter>(tx: &mut Transaction<'_, S>) -> Resul
 pub(crate) fn make_tables<S: Alter>(tx: &mut Transaction<'_, S>) -> Result<(), Error>
     ensures same_reference { tx.new.conn.ghost_name ≡ tx.old.conn.ghost_name }
     ensures made { Advances S.Store 0 9 tx.old.conn.now tx.new.conn.now result }
-    ensures kept { Keeps S.Store tx.old.conn.now tx.new.conn.now }
-    ensures survives { LeavesNothing S.Store tx.old.conn.now tx.new.conn.now }
+    ensures uncommitted { IsUncommitted S.Store tx.old.conn.now tx.new.conn.now }
     ensures asked { GoesByTexts S.Store 0 9 tx.old.conn.now tx.new.conn.now result }
 {
     make_first_version(tx)?;

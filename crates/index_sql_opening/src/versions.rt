@@ -8,7 +8,7 @@ ghost use Rattle.index_sql_schema.specs.Looks.{Looks};
 ghost use Rattle.index_sql_schema.specs.Reasons.{StoreForReason};
 ghost use Rattle.index_sql_schema.specs.Records.{number_in};
 ghost use Rattle.index_sql_schema.specs.Index.{version_in};
-ghost use Rattle.index_sql_writes.specs.Inside.{Keeps, LeavesNothing};
+ghost use Rattle.index_sql_writes.specs.Inside.{IsUncommitted};
 ghost use Rattle.index_sql_schema.specs.FirstVersion.{IsAnyVersion};
 
 use index_rules::Fault;
@@ -68,8 +68,7 @@ fn query_version<S: Alter>(tx: &mut Transaction<'_, S>) -> Result<Option<u64>, F
         → IfOk result (Tells S.Store tx.old.conn.now) }
     ensures fails { HasCleanDisk (state S.Store tx.new.conn.now)
         → IfErr result (λ fault. fault ≡ Fault.Store → FailsToTell S.Store tx.old.conn.now) }
-    ensures kept { Keeps S.Store tx.old.conn.now tx.new.conn.now }
-    ensures survives { LeavesNothing S.Store tx.old.conn.now tx.new.conn.now }
+    ensures uncommitted { IsUncommitted S.Store tx.old.conn.now tx.new.conn.now }
 {
     match tx.query_all(SELECT_VERSION, &[]) {
         Ok(rows) => Ok(first_number(rows.as_slice())),

@@ -42,3 +42,8 @@ WasOpenIfOk g old new result = HasCleanDisk (state g new) → OnOk result (IsTru
 -- nothing of it outlasts a crash
 abbrev pub LeavesNothing : {S : Type 0} → Ghosts S → Held S → Held S → Type 0
 LeavesNothing g old new = Survives (state g old) (state g new) (λ _. ⊥)
+
+-- what a step does is not committed: what is committed stays, and nothing of it outlasts a crash
+pub record IsUncommitted {S : Type 0} (g : Ghosts S) (old new : Held S) : Type 0 where
+  pub kept : Keeps g old new
+  pub survives : LeavesNothing g old new

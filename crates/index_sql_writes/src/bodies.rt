@@ -8,7 +8,7 @@ ghost use Rattle.sqlite.specs.State.{HasCleanDisk};
 ghost use Rattle.index_sql_schema.specs.Records.{tables_in};
 ghost use Rattle.index_sql_schema.specs.ShownRows.{file_shown};
 ghost use Rattle.index_sql_writes.specs.Asks.{AnswersEach, CanAsk, GoesAs, GoesByAsk, ShowsFile};
-ghost use Rattle.index_sql_writes.specs.Inside.{IsReady, MakesIfOk, Keeps, LeavesNothing, WasOpenIfOk};
+ghost use Rattle.index_sql_writes.specs.Inside.{IsReady, MakesIfOk, WasOpenIfOk, IsUncommitted};
 ghost use Rattle.index_sql_writes.specs.Writes.{AreFilesOf, deletes_bodies, deletes_body, deletes_shown};
 ghost use Rattle.index_sql_writes.specs.Statements.{delete_bodies_ask, delete_body_ask};
 
@@ -21,9 +21,8 @@ pub(crate) fn delete_bodies<S: Alter>(tx: &mut Transaction<'_, S>, name: &str) -
     ensures same_reference { tx.new.conn.ghost_name ≡ tx.old.conn.ghost_name }
     ensures made { MakesIfOk S.Store (deletes_bodies name.now)
         tx.old.conn.now tx.new.conn.now result }
-    ensures kept { Keeps S.Store tx.old.conn.now tx.new.conn.now }
+    ensures uncommitted { IsUncommitted S.Store tx.old.conn.now tx.new.conn.now }
     ensures opened { WasOpenIfOk S.Store tx.old.conn.now tx.new.conn.now result }
-    ensures survives { LeavesNothing S.Store tx.old.conn.now tx.new.conn.now }
     ensures asked { GoesByAsk S.Store (delete_bodies_ask name.now)
         tx.old.conn.now tx.new.conn.now result }
 {
@@ -39,9 +38,8 @@ fn files_named<S: Alter>(tx: &mut Transaction<'_, S>, name: &str) -> Result<Vec<
         HasCleanDisk (state S.Store tx.new.conn.now) → IfOk result (λ rows.
         IsReady old → AreFilesOf name.now (tables_in old.now.trees) rows.items) }
     ensures made { MakesIfOk S.Store (λ T. T) tx.old.conn.now tx.new.conn.now result }
-    ensures kept { Keeps S.Store tx.old.conn.now tx.new.conn.now }
+    ensures uncommitted { IsUncommitted S.Store tx.old.conn.now tx.new.conn.now }
     ensures opened { WasOpenIfOk S.Store tx.old.conn.now tx.new.conn.now result }
-    ensures survives { LeavesNothing S.Store tx.old.conn.now tx.new.conn.now }
     ensures shown { HasCleanDisk (state S.Store tx.new.conn.now) → IfOk result (λ rows.
         CanAsk (state S.Store tx.old.conn.now) → AllByRecursion ShowsFile rows.items) }
     ensures asked { GoesAs S.Store CanAsk Gives tx.old.conn.now tx.new.conn.now result }
@@ -57,8 +55,7 @@ fn delete_each<S: Alter>(tx: &mut Transaction<'_, S>, rows: &[Row]) -> Result<()
     ensures same_reference { tx.new.conn.ghost_name ≡ tx.old.conn.ghost_name }
     ensures made { MakesIfOk S.Store (deletes_shown rows.now)
         tx.old.conn.now tx.new.conn.now result }
-    ensures kept { Keeps S.Store tx.old.conn.now tx.new.conn.now }
-    ensures survives { LeavesNothing S.Store tx.old.conn.now tx.new.conn.now }
+    ensures uncommitted { IsUncommitted S.Store tx.old.conn.now tx.new.conn.now }
     ensures asked { AllByRecursion ShowsFile rows.now → GoesAs S.Store CanAsk
         (AnswersEach rows.now) tx.old.conn.now tx.new.conn.now result }
 {
@@ -73,8 +70,7 @@ fn delete_shown<S: Alter>(tx: &mut Transaction<'_, S>, row: &Row) -> Result<(), 
     ensures same_reference { tx.new.conn.ghost_name ≡ tx.old.conn.ghost_name }
     ensures made { MakesIfOk S.Store (deletes_body (file_shown row.now))
         tx.old.conn.now tx.new.conn.now result }
-    ensures kept { Keeps S.Store tx.old.conn.now tx.new.conn.now }
-    ensures survives { LeavesNothing S.Store tx.old.conn.now tx.new.conn.now }
+    ensures uncommitted { IsUncommitted S.Store tx.old.conn.now tx.new.conn.now }
     ensures asked { ShowsFile row.now → GoesByAsk S.Store (delete_body_ask (file_shown row.now))
         tx.old.conn.now tx.new.conn.now result }
 {

@@ -2,7 +2,7 @@
 //! error.
 ghost use Rattle.std.specs.Prelude.{◌≡◌};
 ghost use Rattle.index_sql_writes.specs.Asks.{GoesByAsk};
-ghost use Rattle.index_sql_writes.specs.Inside.{MakesIfOk, Keeps, LeavesNothing, WasOpenIfOk};
+ghost use Rattle.index_sql_writes.specs.Inside.{MakesIfOk, WasOpenIfOk, IsUncommitted};
 ghost use Rattle.index_rules.specs.Effect.{without_record};
 ghost use Rattle.index_sql_writes.specs.Writes.{deletes_owners, deletes_owner, deletes_yanks, deletes_yank, deletes_case, deletes_body, marks_files};
 ghost use Rattle.index_sql_writes.specs.Statements.{delete_body_ask, delete_case_ask, delete_name_ask, delete_owner_ask, delete_owners_ask, delete_yank_ask, delete_yanks_ask, mark_files_ask};
@@ -18,9 +18,8 @@ pub(crate) fn delete_name<S: Alter>(tx: &mut Transaction<'_, S>, name: &str) -> 
     ensures same_reference { tx.new.conn.ghost_name ≡ tx.old.conn.ghost_name }
     ensures made { MakesIfOk S.Store (without_record name.now)
         tx.old.conn.now tx.new.conn.now result }
-    ensures kept { Keeps S.Store tx.old.conn.now tx.new.conn.now }
+    ensures uncommitted { IsUncommitted S.Store tx.old.conn.now tx.new.conn.now }
     ensures opened { WasOpenIfOk S.Store tx.old.conn.now tx.new.conn.now result }
-    ensures survives { LeavesNothing S.Store tx.old.conn.now tx.new.conn.now }
     ensures asked { GoesByAsk S.Store (delete_name_ask name.now)
         tx.old.conn.now tx.new.conn.now result }
 {
@@ -33,9 +32,8 @@ pub(crate) fn delete_owners<S: Alter>(tx: &mut Transaction<'_, S>, name: &str) -
     ensures same_reference { tx.new.conn.ghost_name ≡ tx.old.conn.ghost_name }
     ensures made { MakesIfOk S.Store (deletes_owners name.now)
         tx.old.conn.now tx.new.conn.now result }
-    ensures kept { Keeps S.Store tx.old.conn.now tx.new.conn.now }
+    ensures uncommitted { IsUncommitted S.Store tx.old.conn.now tx.new.conn.now }
     ensures opened { WasOpenIfOk S.Store tx.old.conn.now tx.new.conn.now result }
-    ensures survives { LeavesNothing S.Store tx.old.conn.now tx.new.conn.now }
     ensures asked { GoesByAsk S.Store (delete_owners_ask name.now)
         tx.old.conn.now tx.new.conn.now result }
 {
@@ -52,9 +50,8 @@ pub(crate) fn delete_owner<S: Alter>(
     ensures same_reference { tx.new.conn.ghost_name ≡ tx.old.conn.ghost_name }
     ensures made { MakesIfOk S.Store (deletes_owner name.now user.now)
         tx.old.conn.now tx.new.conn.now result }
-    ensures kept { Keeps S.Store tx.old.conn.now tx.new.conn.now }
+    ensures uncommitted { IsUncommitted S.Store tx.old.conn.now tx.new.conn.now }
     ensures opened { WasOpenIfOk S.Store tx.old.conn.now tx.new.conn.now result }
-    ensures survives { LeavesNothing S.Store tx.old.conn.now tx.new.conn.now }
     ensures asked { GoesByAsk S.Store (delete_owner_ask name.now user.now)
         tx.old.conn.now tx.new.conn.now result }
 {
@@ -67,9 +64,8 @@ pub(crate) fn delete_yanks<S: Alter>(tx: &mut Transaction<'_, S>, name: &str) ->
     ensures same_reference { tx.new.conn.ghost_name ≡ tx.old.conn.ghost_name }
     ensures made { MakesIfOk S.Store (deletes_yanks name.now)
         tx.old.conn.now tx.new.conn.now result }
-    ensures kept { Keeps S.Store tx.old.conn.now tx.new.conn.now }
+    ensures uncommitted { IsUncommitted S.Store tx.old.conn.now tx.new.conn.now }
     ensures opened { WasOpenIfOk S.Store tx.old.conn.now tx.new.conn.now result }
-    ensures survives { LeavesNothing S.Store tx.old.conn.now tx.new.conn.now }
     ensures asked { GoesByAsk S.Store (delete_yanks_ask name.now)
         tx.old.conn.now tx.new.conn.now result }
 {
@@ -86,9 +82,8 @@ pub(crate) fn delete_yank<S: Alter>(
     ensures same_reference { tx.new.conn.ghost_name ≡ tx.old.conn.ghost_name }
     ensures made { MakesIfOk S.Store (deletes_yank name.now release.now)
         tx.old.conn.now tx.new.conn.now result }
-    ensures kept { Keeps S.Store tx.old.conn.now tx.new.conn.now }
+    ensures uncommitted { IsUncommitted S.Store tx.old.conn.now tx.new.conn.now }
     ensures opened { WasOpenIfOk S.Store tx.old.conn.now tx.new.conn.now result }
-    ensures survives { LeavesNothing S.Store tx.old.conn.now tx.new.conn.now }
     ensures asked { GoesByAsk S.Store (delete_yank_ask name.now release.now)
         tx.old.conn.now tx.new.conn.now result }
 {
@@ -101,9 +96,8 @@ pub(crate) fn delete_case<S: Alter>(tx: &mut Transaction<'_, S>, name: &str) -> 
     ensures same_reference { tx.new.conn.ghost_name ≡ tx.old.conn.ghost_name }
     ensures made { MakesIfOk S.Store (deletes_case name.now)
         tx.old.conn.now tx.new.conn.now result }
-    ensures kept { Keeps S.Store tx.old.conn.now tx.new.conn.now }
+    ensures uncommitted { IsUncommitted S.Store tx.old.conn.now tx.new.conn.now }
     ensures opened { WasOpenIfOk S.Store tx.old.conn.now tx.new.conn.now result }
-    ensures survives { LeavesNothing S.Store tx.old.conn.now tx.new.conn.now }
     ensures asked { GoesByAsk S.Store (delete_case_ask name.now)
         tx.old.conn.now tx.new.conn.now result }
 {
@@ -116,9 +110,8 @@ pub(crate) fn delete_body<S: Alter>(tx: &mut Transaction<'_, S>, file: &str) -> 
     ensures same_reference { tx.new.conn.ghost_name ≡ tx.old.conn.ghost_name }
     ensures made { MakesIfOk S.Store (deletes_body file.now)
         tx.old.conn.now tx.new.conn.now result }
-    ensures kept { Keeps S.Store tx.old.conn.now tx.new.conn.now }
+    ensures uncommitted { IsUncommitted S.Store tx.old.conn.now tx.new.conn.now }
     ensures opened { WasOpenIfOk S.Store tx.old.conn.now tx.new.conn.now result }
-    ensures survives { LeavesNothing S.Store tx.old.conn.now tx.new.conn.now }
     ensures asked { GoesByAsk S.Store (delete_body_ask file.now)
         tx.old.conn.now tx.new.conn.now result }
 {
@@ -130,9 +123,8 @@ pub(crate) fn delete_body<S: Alter>(tx: &mut Transaction<'_, S>, file: &str) -> 
 pub(crate) fn mark_files<S: Alter>(tx: &mut Transaction<'_, S>, name: &str) -> Result<(), Error>
     ensures same_reference { tx.new.conn.ghost_name ≡ tx.old.conn.ghost_name }
     ensures made { MakesIfOk S.Store (marks_files name.now) tx.old.conn.now tx.new.conn.now result }
-    ensures kept { Keeps S.Store tx.old.conn.now tx.new.conn.now }
+    ensures uncommitted { IsUncommitted S.Store tx.old.conn.now tx.new.conn.now }
     ensures opened { WasOpenIfOk S.Store tx.old.conn.now tx.new.conn.now result }
-    ensures survives { LeavesNothing S.Store tx.old.conn.now tx.new.conn.now }
     ensures asked { GoesByAsk S.Store (mark_files_ask name.now)
         tx.old.conn.now tx.new.conn.now result }
 {

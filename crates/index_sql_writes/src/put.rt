@@ -4,7 +4,7 @@ ghost use Rattle.std.specs.Prelude.{◌≡◌, ℤ};
 ghost use Rattle.index_sql_schema.specs.RecordRows.{IsNameRow};
 ghost use Rattle.index_sql_schema.specs.StatementTexts.{put_name_text};
 ghost use Rattle.index_sql_writes.specs.Asks.{Answers, CanAsk, GoesAs, GoesByAsk};
-ghost use Rattle.index_sql_writes.specs.Inside.{MakesIfOk, Keeps, LeavesNothing, WasOpenIfOk};
+ghost use Rattle.index_sql_writes.specs.Inside.{MakesIfOk, WasOpenIfOk, IsUncommitted};
 ghost use Rattle.index_rules.specs.declared.records.NameRecord.TheVariants.{Held, Prohibited};
 ghost use Rattle.index_sql_writes.specs.Writes.{puts_user, puts_name, name_of, row_of_name, puts_owner, puts_file, puts_body, puts_yank, puts_ban};
 ghost use Rattle.index_sql_writes.specs.Statements.{hold_name_ask, name_cells, prohibit_name_ask, put_ban_ask, put_body_ask, put_file_ask, put_owner_ask, put_user_ask, put_yank_ask};
@@ -26,9 +26,8 @@ pub fn put_user<S: Alter>(
     ensures same_reference { tx.new.conn.ghost_name ≡ tx.old.conn.ghost_name }
     ensures made { MakesIfOk S.Store (puts_user user.now account.now)
         tx.old.conn.now tx.new.conn.now result }
-    ensures kept { Keeps S.Store tx.old.conn.now tx.new.conn.now }
+    ensures uncommitted { IsUncommitted S.Store tx.old.conn.now tx.new.conn.now }
     ensures opened { WasOpenIfOk S.Store tx.old.conn.now tx.new.conn.now result }
-    ensures survives { LeavesNothing S.Store tx.old.conn.now tx.new.conn.now }
     ensures asked { GoesByAsk S.Store (put_user_ask user.now account.now)
         tx.old.conn.now tx.new.conn.now result }
 {
@@ -49,9 +48,8 @@ pub(crate) fn hold_name<S: Alter>(
     ensures same_reference { tx.new.conn.ghost_name ≡ tx.old.conn.ghost_name }
     ensures made { MakesIfOk S.Store (puts_name name.now (Held project.now))
         tx.old.conn.now tx.new.conn.now result }
-    ensures kept { Keeps S.Store tx.old.conn.now tx.new.conn.now }
+    ensures uncommitted { IsUncommitted S.Store tx.old.conn.now tx.new.conn.now }
     ensures opened { WasOpenIfOk S.Store tx.old.conn.now tx.new.conn.now result }
-    ensures survives { LeavesNothing S.Store tx.old.conn.now tx.new.conn.now }
     ensures asked { GoesByAsk S.Store (hold_name_ask name.now project.now)
         tx.old.conn.now tx.new.conn.now result }
 {
@@ -80,9 +78,8 @@ pub(crate) fn prohibit_name<S: Alter>(
     ensures same_reference { tx.new.conn.ghost_name ≡ tx.old.conn.ghost_name }
     ensures made { MakesIfOk S.Store (puts_name name.now Prohibited)
         tx.old.conn.now tx.new.conn.now result }
-    ensures kept { Keeps S.Store tx.old.conn.now tx.new.conn.now }
+    ensures uncommitted { IsUncommitted S.Store tx.old.conn.now tx.new.conn.now }
     ensures opened { WasOpenIfOk S.Store tx.old.conn.now tx.new.conn.now result }
-    ensures survives { LeavesNothing S.Store tx.old.conn.now tx.new.conn.now }
     ensures asked { GoesByAsk S.Store (prohibit_name_ask name.now)
         tx.old.conn.now tx.new.conn.now result }
 {
@@ -107,9 +104,8 @@ fn put_name<S: Alter>(
     ensures made { MakesIfOk S.Store
         (puts_name name.now (name_of standing shown.now quota charge undeleted last))
         tx.old.conn.now tx.new.conn.now result }
-    ensures kept { Keeps S.Store tx.old.conn.now tx.new.conn.now }
+    ensures uncommitted { IsUncommitted S.Store tx.old.conn.now tx.new.conn.now }
     ensures opened { WasOpenIfOk S.Store tx.old.conn.now tx.new.conn.now result }
-    ensures survives { LeavesNothing S.Store tx.old.conn.now tx.new.conn.now }
     ensures asked { GoesAs S.Store CanAsk (Answers put_name_text
         (name_cells name.now standing shown.now quota charge undeleted last))
         tx.old.conn.now tx.new.conn.now result }
@@ -130,9 +126,8 @@ pub(crate) fn put_owner<S: Alter>(
     ensures same_reference { tx.new.conn.ghost_name ≡ tx.old.conn.ghost_name }
     ensures made { MakesIfOk S.Store (puts_owner name.now user.now)
         tx.old.conn.now tx.new.conn.now result }
-    ensures kept { Keeps S.Store tx.old.conn.now tx.new.conn.now }
+    ensures uncommitted { IsUncommitted S.Store tx.old.conn.now tx.new.conn.now }
     ensures opened { WasOpenIfOk S.Store tx.old.conn.now tx.new.conn.now result }
-    ensures survives { LeavesNothing S.Store tx.old.conn.now tx.new.conn.now }
     ensures asked { GoesByAsk S.Store (put_owner_ask name.now user.now)
         tx.old.conn.now tx.new.conn.now result }
 {
@@ -149,9 +144,8 @@ pub(crate) fn put_file<S: Alter>(
     ensures same_reference { tx.new.conn.ghost_name ≡ tx.old.conn.ghost_name }
     ensures made { MakesIfOk S.Store (puts_file file.now known.now)
         tx.old.conn.now tx.new.conn.now result }
-    ensures kept { Keeps S.Store tx.old.conn.now tx.new.conn.now }
+    ensures uncommitted { IsUncommitted S.Store tx.old.conn.now tx.new.conn.now }
     ensures opened { WasOpenIfOk S.Store tx.old.conn.now tx.new.conn.now result }
-    ensures survives { LeavesNothing S.Store tx.old.conn.now tx.new.conn.now }
     ensures asked { GoesByAsk S.Store (put_file_ask file.now known.now)
         tx.old.conn.now tx.new.conn.now result }
 {
@@ -181,9 +175,8 @@ pub(crate) fn put_body<S: Alter>(
     ensures same_reference { tx.new.conn.ghost_name ≡ tx.old.conn.ghost_name }
     ensures made { MakesIfOk S.Store (puts_body file.now body.now)
         tx.old.conn.now tx.new.conn.now result }
-    ensures kept { Keeps S.Store tx.old.conn.now tx.new.conn.now }
+    ensures uncommitted { IsUncommitted S.Store tx.old.conn.now tx.new.conn.now }
     ensures opened { WasOpenIfOk S.Store tx.old.conn.now tx.new.conn.now result }
-    ensures survives { LeavesNothing S.Store tx.old.conn.now tx.new.conn.now }
     ensures asked { GoesByAsk S.Store (put_body_ask file.now body.now)
         tx.old.conn.now tx.new.conn.now result }
 {
@@ -201,9 +194,8 @@ pub(crate) fn put_yank<S: Alter>(
     ensures same_reference { tx.new.conn.ghost_name ≡ tx.old.conn.ghost_name }
     ensures made { MakesIfOk S.Store (puts_yank name.now release.now reason.now)
         tx.old.conn.now tx.new.conn.now result }
-    ensures kept { Keeps S.Store tx.old.conn.now tx.new.conn.now }
+    ensures uncommitted { IsUncommitted S.Store tx.old.conn.now tx.new.conn.now }
     ensures opened { WasOpenIfOk S.Store tx.old.conn.now tx.new.conn.now result }
-    ensures survives { LeavesNothing S.Store tx.old.conn.now tx.new.conn.now }
     ensures asked { GoesByAsk S.Store (put_yank_ask name.now release.now reason.now)
         tx.old.conn.now tx.new.conn.now result }
 {
@@ -215,9 +207,8 @@ pub(crate) fn put_yank<S: Alter>(
 pub(crate) fn put_ban<S: Alter>(tx: &mut Transaction<'_, S>, file: &FileName) -> Result<(), Error>
     ensures same_reference { tx.new.conn.ghost_name ≡ tx.old.conn.ghost_name }
     ensures made { MakesIfOk S.Store (puts_ban file.now) tx.old.conn.now tx.new.conn.now result }
-    ensures kept { Keeps S.Store tx.old.conn.now tx.new.conn.now }
+    ensures uncommitted { IsUncommitted S.Store tx.old.conn.now tx.new.conn.now }
     ensures opened { WasOpenIfOk S.Store tx.old.conn.now tx.new.conn.now result }
-    ensures survives { LeavesNothing S.Store tx.old.conn.now tx.new.conn.now }
     ensures asked { GoesByAsk S.Store (put_ban_ask file.now)
         tx.old.conn.now tx.new.conn.now result }
 {

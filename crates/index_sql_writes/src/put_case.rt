@@ -3,7 +3,7 @@ ghost use Rattle.std.specs.Prelude.{◌≡◌, pos, IfErr, IfOk, OnOk, option_ma
 ghost use Rattle.sqlite.specs.declared.error.Error.TheVariants.{IntegralValueOutOfRange};
 ghost use Rattle.index_retention.specs.Attempts.{IsTally};
 ghost use Rattle.index_sql_writes.specs.Asks.{GoesByAsk, HasTooMuch};
-ghost use Rattle.index_sql_writes.specs.Inside.{MakesIfOk, Keeps, LeavesNothing, WasOpenIfOk};
+ghost use Rattle.index_sql_writes.specs.Inside.{MakesIfOk, WasOpenIfOk, IsUncommitted};
 ghost use Rattle.index_sql_writes.specs.Writes.{puts_case, kind_number};
 ghost use Rattle.index_sql_writes.specs.Statements.{case_numbers, put_case_ask};
 
@@ -36,9 +36,8 @@ pub(crate) fn put_case<S: Alter>(
     ensures same_reference { tx.new.conn.ghost_name ≡ tx.old.conn.ghost_name }
     ensures made { MakesIfOk S.Store (puts_case name.now case.now)
         tx.old.conn.now tx.new.conn.now result }
-    ensures kept { Keeps S.Store tx.old.conn.now tx.new.conn.now }
+    ensures uncommitted { IsUncommitted S.Store tx.old.conn.now tx.new.conn.now }
     ensures opened { WasOpenIfOk S.Store tx.old.conn.now tx.new.conn.now result }
-    ensures survives { LeavesNothing S.Store tx.old.conn.now tx.new.conn.now }
     ensures asked { GoesByAsk S.Store (put_case_ask name.now case.now)
         tx.old.conn.now tx.new.conn.now result }
 {

@@ -26,5 +26,5 @@ returns-in_err-commit-clause-reason g c clean known =
     let ended : HasCleanDisk (state g.S.Store c.commit.new.self.0) = search rules in
     let before : HasCleanDisk (state g.S.Store mid) = omega (arith, ended, c.commit.ensures.survives.clean) in
     let reason : FailsForRefusal asks_of_migration (state g.S.Store old) (state g.S.Store c.commit.new.self.0) e =
-    fails_to_commit g.S.Store old _ c.transaction-tx.ensures.begun asks_of_migration (Unlimited IsReadyFirst) e mid c.commit.new.self.0 (begins_first g.S.Store old known) (λ can. (c.in_ok-migrate_tables.ensures.made before can.0).ready) c.migrate_tables.ensures.survives.counts (c.in_err-commit.ensures.err ended) in
+    fails_to_commit g.S.Store old _ c.transaction-tx.ensures.begun asks_of_migration (Unlimited IsReadyFirst) e mid c.commit.new.self.0 (begins_first g.S.Store old known) (λ can. (c.in_ok-migrate_tables.ensures.made before can.0).ready) c.migrate_tables.ensures.uncommitted.survives.counts (c.in_err-commit.ensures.err ended) in
     at_exit c.from_residual-in_err-commit.result e _ c.from_residual-in_err-commit.ensures.1 (search rules)

@@ -28,5 +28,5 @@ returns-in_err-commit-clause-reason g c clean blank =
     let ended : HasCleanDisk (state g.S.Store c.commit.new.self.0) = search rules in
     let before : HasCleanDisk (state g.S.Store mid) = omega (arith, ended, c.commit.ensures.survives.clean) in
     let reason : FailsForRefusal asks (state g.S.Store old) (state g.S.Store c.commit.new.self.0) e =
-    fails_to_commit g.S.Store old _ c.transaction-tx.ensures.begun asks (Unlimited (IsStage 0)) e mid c.commit.new.self.0 (begins_blank g.S.Store old blank) (λ can. (c.in_ok-make_all.ensures.made before can.0).ready) c.make_all.ensures.survives.counts (c.in_err-commit.ensures.err ended) in
+    fails_to_commit g.S.Store old _ c.transaction-tx.ensures.begun asks (Unlimited (IsStage 0)) e mid c.commit.new.self.0 (begins_blank g.S.Store old blank) (λ can. (c.in_ok-make_all.ensures.made before can.0).ready) c.make_all.ensures.uncommitted.survives.counts (c.in_err-commit.ensures.err ended) in
     at_exit c.from_residual-in_err-commit.result e _ c.from_residual-in_err-commit.ensures.1 (search rules)

@@ -1,11 +1,14 @@
-use Rattle.std.proofs.Common.{[], ap, ◌∙◌, sym}
+use Rattle.std.proofs.Common.{[], ap, ◌∙◌, sym, rules}
 use Rattle.index_sql_schema.specs.StatementTexts.{select_version_text}
 use Rattle.index_sql_opening.specs.Versions.{first_number}
 use Rattle.index_sql_opening.proofs.LookLemmas.{fails_inside, refused_keeps, shown_keeps}
 use Rattle.index_sql_opening.proofs.versions.query_version.Goals as goal
 
-pub returns-in-Err-clause-kept : goal.returns-in-Err-clause-kept
-returns-in-Err-clause-kept g c clean = refused_keeps _ _ select_version_text [] _ (c.in-Err.ensures.err clean)
+pub returns-in-Err-clause-uncommitted : goal.returns-in-Err-clause-uncommitted
+returns-in-Err-clause-uncommitted g c = record {
+  kept = λ clean. refused_keeps _ _ select_version_text [] _ (c.in-Err.ensures.err clean);
+  survives = search rules;
+}
 
 pub returns-in-Err-clause-fails : goal.returns-in-Err-clause-fails
 returns-in-Err-clause-fails g c clean is = record {
@@ -15,8 +18,11 @@ returns-in-Err-clause-fails g c clean is = record {
   fault = sym c.fault_of.ensures ∙ is;
 }
 
-pub returns-in-Ok-clause-kept : goal.returns-in-Ok-clause-kept
-returns-in-Ok-clause-kept g c clean = shown_keeps _ _ select_version_text [] _ c.requires.inside (c.in-Ok.ensures.ok clean)
+pub returns-in-Ok-clause-uncommitted : goal.returns-in-Ok-clause-uncommitted
+returns-in-Ok-clause-uncommitted g c = record {
+  kept = λ clean. shown_keeps _ _ select_version_text [] _ c.requires.inside (c.in-Ok.ensures.ok clean);
+  survives = search rules;
+}
 
 pub returns-in-Ok-clause-told : goal.returns-in-Ok-clause-told
 returns-in-Ok-clause-told g c clean = record {

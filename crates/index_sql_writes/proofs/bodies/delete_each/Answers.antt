@@ -28,12 +28,12 @@ loop-row-preserved g c =
     record {
       same = did.same_reference ∙ before.same;
       made = λ clean ready.
-          let was = before.made (omega (arith, did.survives.clean)) ready in
+          let was = before.made (omega (arith, did.uncommitted.survives.clean)) ready in
           one_more (λ (r : Row). deletes_body (file_shown r)) deletes_shown first mid last c.row-item.result (drop (c.loop-row.row-index + 1) c.args.rows.now) c.args.rows.now (subst (λ rest. IsReady mid × (deletes_shown rest (tables_in mid.now.trees) ≡ deletes_shown c.args.rows.now (tables_in first.now.trees)) × (mid.committed ≡ first.committed) × (version_in mid.now.trees ≡ version_in first.now.trees) × (AreRecords first.now → AreRecords mid.now)) split was) (c.in_ok-delete_shown.ensures.made clean was.0);
-      kept = λ clean. keeps_then first mid last (before.kept (omega (arith, did.survives.clean))) (did.kept clean);
-      survives = survives_then first mid last _ _ _ (λ _ db none. none) (λ _ db none. none) before.survives did.survives;
+      kept = λ clean. keeps_then first mid last (before.kept (omega (arith, did.uncommitted.survives.clean))) (did.uncommitted.kept clean);
+      survives = survives_then first mid last _ _ _ (λ _ db none. none) (λ _ db none. none) before.survives did.uncommitted.survives;
       asked = λ clean can shows out rest.
-          let earlier : HasCleanDisk mid = omega (arith, did.survives.clean) in
+          let earlier : HasCleanDisk mid = omega (arith, did.uncommitted.survives.clean) in
           let was = before.made earlier can.ready in
           let going = can_go_on first mid can was.0 was.4 before.survives.limit in
           let row = (subst (AllByRecursion ShowsFile) split (before.shows shows)).0 in
@@ -49,7 +49,7 @@ returns-in_err-delete_shown-clause-asked g c shows clean can =
     let last = state g.S.Store c.delete_shown.new.tx.conn.now in
     let before = c.loop-row.invariant in
     let did = c.delete_shown.ensures in
-    let earlier : HasCleanDisk mid = omega (arith, did.survives.clean) in
+    let earlier : HasCleanDisk mid = omega (arith, did.uncommitted.survives.clean) in
     let rest = drop (c.loop-row.row-index + 1) c.args.rows.now in
     let split : drop c.loop-row.row-index c.args.rows.now ≡ c.row-item.result ∷ rest = search (rules, drop-cons) in
     let was = before.made earlier can.ready in

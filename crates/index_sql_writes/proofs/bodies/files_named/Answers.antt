@@ -20,17 +20,21 @@ pub returns-in-Ok-clause-made : goal.returns-in-Ok-clause-made
 returns-in-Ok-clause-made g c clean ready =
     unchanged_makes _ _ (shown_unchanged _ _ select_named_text _ _ statement.is_plain (c.in-Ok.ensures.ok clean)) ready
 
-pub returns-in-Ok-clause-kept : goal.returns-in-Ok-clause-kept
-returns-in-Ok-clause-kept g c clean =
-    shown_keeps _ _ select_named_text _ _ statement.is_plain (c.in-Ok.ensures.ok clean)
+pub returns-in-Ok-clause-uncommitted : goal.returns-in-Ok-clause-uncommitted
+returns-in-Ok-clause-uncommitted g c = record {
+  kept = λ clean. shown_keeps _ _ select_named_text _ _ statement.is_plain (c.in-Ok.ensures.ok clean);
+  survives = search rules;
+}
 
 pub returns-in-Ok-clause-opened : goal.returns-in-Ok-clause-opened
 returns-in-Ok-clause-opened g c clean =
     (shown_unchanged _ _ select_named_text _ _ statement.is_plain (c.in-Ok.ensures.ok clean)).0.was_open
 
-pub returns-in-Err-clause-kept : goal.returns-in-Err-clause-kept
-returns-in-Err-clause-kept g c clean =
-    refused_keeps _ _ select_named_text _ _ (c.in-Err.ensures.err clean)
+pub returns-in-Err-clause-uncommitted : goal.returns-in-Err-clause-uncommitted
+returns-in-Err-clause-uncommitted g c = record {
+  kept = λ clean. refused_keeps _ _ select_named_text _ _ (c.in-Err.ensures.err clean);
+  survives = search rules;
+}
 
 pub returns-in-Ok-clause-shown : goal.returns-in-Ok-clause-shown
 returns-in-Ok-clause-shown g c clean can =

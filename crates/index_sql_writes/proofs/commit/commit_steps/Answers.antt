@@ -12,11 +12,11 @@ use Rattle.index_sql_writes.proofs.commit.commit_steps.Goals as goal
 
 pub returns-in_err-commit-clause-shut : goal.returns-in_err-commit-clause-shut
 returns-in_err-commit-clause-shut g c = λ some shut.
-    let survives = shut_survives g.S.Store c.args.conn.now _ c.take_steps.new.tx.conn.now c.commit.new.self.0 _ c.transaction-tx.ensures.begun (c.in_ok-take_steps.ensures.opened some) shut c.take_steps.ensures.survives c.commit.ensures.survives in search rules
+    let survives = shut_survives g.S.Store c.args.conn.now _ c.take_steps.new.tx.conn.now c.commit.new.self.0 _ c.transaction-tx.ensures.begun (c.in_ok-take_steps.ensures.opened some) shut c.take_steps.ensures.uncommitted.survives c.commit.ensures.survives in search rules
 
 pub returns-clause-shut : goal.returns-clause-shut
 returns-clause-shut g c = λ some shut.
-    let survives = shut_survives g.S.Store c.args.conn.now _ c.take_steps.new.tx.conn.now c.commit.new.self.0 _ c.transaction-tx.ensures.begun (c.in_ok-take_steps.ensures.opened some) shut c.take_steps.ensures.survives c.commit.ensures.survives in search rules
+    let survives = shut_survives g.S.Store c.args.conn.now _ c.take_steps.new.tx.conn.now c.commit.new.self.0 _ c.transaction-tx.ensures.begun (c.in_ok-take_steps.ensures.opened some) shut c.take_steps.ensures.uncommitted.survives c.commit.ensures.survives in search rules
 
 pub returns-in_err-take_steps-clause-reason : goal.returns-in_err-take_steps-clause-reason
 returns-in_err-take_steps-clause-reason g c clean index records =
@@ -36,7 +36,7 @@ returns-in_err-commit-clause-reason g c clean index records =
     let before : HasCleanDisk (state g.S.Store mid) = omega (arith, ended, c.commit.ensures.survives.clean) in
     let reason : FailsForRefusal (asks_by c.args.steps.now) (state g.S.Store c.args.conn.now) (state g.S.Store c.commit.new.self.0) e =
     fails_to_commit g.S.Store c.args.conn.now _ c.transaction-tx.ensures.begun (asks_by c.args.steps.now) CanAsk e mid c.commit.new.self.0 (begins_fit g.S.Store c.args.conn.now index records)
-    (λ can. (c.in_ok-take_steps.ensures.made before can.ready).ready) c.take_steps.ensures.survives.counts (c.in_err-commit.ensures.err ended) in
+    (λ can. (c.in_ok-take_steps.ensures.made before can.ready).ready) c.take_steps.ensures.uncommitted.survives.counts (c.in_err-commit.ensures.err ended) in
     at_exit c.from_residual-in_err-commit.result e _ c.from_residual-in_err-commit.ensures.1 (search rules)
 
 pub returns-clause-made : goal.returns-clause-made

@@ -18,9 +18,11 @@ returns-clause-made g c clean ready =
     let fits = file_fits c.args.file.now c.args.known.now c.text.ensures.file_name c.text-2.ensures.normal c.text-3.ensures.release digest requires in
     makes put_file_text (statement.cells c.args.file.now c.args.known.now.project c.args.known.now.release c.args.known.now.digest (pos c.args.known.now.size) c.args.known.now.requires_python (flag c.args.known.now.is_undeleted)) _ _ _ _ _ c.in_ok-execute.field-0 (file_put c.args.file.now c.args.known.now fits _ _ _) ready (c.in_ok-execute.ensures.runs clean ready.inside) (search rules)
 
-pub returns-in_err-execute-clause-kept : goal.returns-in_err-execute-clause-kept
-returns-in_err-execute-clause-kept g c clean =
-    keeps_by g.S.Store c.args.tx.now.conn.now c.execute.new.self.conn.now _ _ _ (λ out. (c.execute.ensures.ended out).1) (c.execute.ensures.runs clean)
+pub returns-in_err-execute-clause-uncommitted : goal.returns-in_err-execute-clause-uncommitted
+returns-in_err-execute-clause-uncommitted g c = record {
+  kept = λ clean. keeps_by g.S.Store c.args.tx.now.conn.now c.execute.new.self.conn.now _ _ _ (λ out. (c.execute.ensures.ended out).1) (c.execute.ensures.runs clean);
+  survives = search rules;
+}
 
 pub returns-clause-asked : goal.returns-clause-asked
 returns-clause-asked g c clean can =

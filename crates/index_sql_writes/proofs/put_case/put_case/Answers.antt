@@ -21,9 +21,11 @@ returns-clause-made g c clean ready =
     (statement.cells c.args.name.now (kind_number c.args.case.now.kind) c.args.case.now.candidate c.args.case.now.contact c.args.case.now.work c.args.case.now.why (pos c.args.case.now.opened) (pos c.args.case.now.state.attempts) (pos c.args.case.now.state.sent) (flag c.args.case.now.state.profile) (flag c.args.case.now.state.author) (flag c.args.case.now.state.pages)
     (option_map pos c.args.case.now.state.first)) _ _ _ _ _ c.in_ok-execute.field-0 (case_put c.args.name.now c.args.case.now fits _ _ _) ready (c.in_ok-execute.ensures.runs clean ready.inside) (search rules)
 
-pub returns-in_err-execute-clause-kept : goal.returns-in_err-execute-clause-kept
-returns-in_err-execute-clause-kept g c clean =
-    keeps_by g.S.Store c.args.tx.now.conn.now c.execute.new.self.conn.now _ _ _ (λ out. (c.execute.ensures.ended out).1) (c.execute.ensures.runs clean)
+pub returns-in_err-execute-clause-uncommitted : goal.returns-in_err-execute-clause-uncommitted
+returns-in_err-execute-clause-uncommitted g c = record {
+  kept = λ clean. keeps_by g.S.Store c.args.tx.now.conn.now c.execute.new.self.conn.now _ _ _ (λ out. (c.execute.ensures.ended out).1) (c.execute.ensures.runs clean);
+  survives = search rules;
+}
 
 pub returns-clause-asked : goal.returns-clause-asked
 returns-clause-asked g c clean can =

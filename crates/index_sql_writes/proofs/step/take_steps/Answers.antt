@@ -27,13 +27,13 @@ loop-step-preserved g c =
     record {
       same = did.same_reference ∙ before.same;
       made = λ clean ready.
-          let was = before.made (omega (arith, did.survives.clean)) ready in
+          let was = before.made (omega (arith, did.uncommitted.survives.clean)) ready in
           one_more step_by all_of first mid last c.step-item.result rest c.args.steps.now (subst (λ rest. IsReady mid × (all_of rest (tables_in mid.now.trees) ≡ all_of c.args.steps.now (tables_in first.now.trees)) × (mid.committed ≡ first.committed) × (version_in mid.now.trees ≡ version_in first.now.trees) × (AreRecords first.now → AreRecords mid.now)) split was) (c.in_ok-take_step.ensures.made clean was.0);
-      opened = λ some clean. (before.kept (omega (arith, did.survives.clean))).was_open (c.in_ok-take_step.ensures.opened clean);
-      kept = λ clean. keeps_then first mid last (before.kept (omega (arith, did.survives.clean))) (did.kept clean);
-      survives = survives_then first mid last _ _ _ (λ _ db none. none) (λ _ db none. none) before.survives did.survives;
+      opened = λ some clean. (before.kept (omega (arith, did.uncommitted.survives.clean))).was_open (c.in_ok-take_step.ensures.opened clean);
+      kept = λ clean. keeps_then first mid last (before.kept (omega (arith, did.uncommitted.survives.clean))) (did.uncommitted.kept clean);
+      survives = survives_then first mid last _ _ _ (λ _ db none. none) (λ _ db none. none) before.survives did.uncommitted.survives;
       asked = λ clean can out more.
-          let earlier : HasCleanDisk mid = omega (arith, did.survives.clean) in
+          let earlier : HasCleanDisk mid = omega (arith, did.uncommitted.survives.clean) in
           let was = before.made earlier can.ready in
           let going = can_go_on first mid can was.0 was.4 before.survives.limit in
           before.asked earlier can out (subst (λ l. AnswersAll (asks_by l) mid.now out) (sym split) (inr (last.now, c.in_ok-take_step.ensures.asked clean going, more)));
@@ -47,7 +47,7 @@ returns-in_err-take_step-clause-asked g c clean can =
     let rest = drop (c.loop-step.step-index + 1) c.args.steps.now in
     let split : drop c.loop-step.step-index c.args.steps.now ≡ c.step-item.result ∷ rest = search (rules, drop-cons) in
     let before = c.loop-step.invariant in
-    let earlier : HasCleanDisk mid = omega (arith, c.take_step.ensures.survives.clean) in
+    let earlier : HasCleanDisk mid = omega (arith, c.take_step.ensures.uncommitted.survives.clean) in
     let was = before.made earlier can.ready in
     let going = can_go_on first mid can was.0 was.4 before.survives.limit in
     at_exit c.from_residual.result c.in_err-take_step.field-0.0 _ _ c.from_residual.ensures.1 (λ store.
