@@ -78,6 +78,8 @@ fn ended_by(end: Result<u64, End>, closed: Result<(), End>) -> Result<u64, End>
     ensures unclosed { IfErr closed (λ fault. IfOk end (λ _. result ≡ Err fault)) }
     ensures failed { IfErr end (λ e. IsTrue (is_store e)
         → IfErr closed (λ fault. IsTrue (is_store fault) → result ≡ Err fault)) }
+    ensures kept { IfErr end (λ e.
+        IfErr closed (λ fault. is_store fault ≡ false → result ≡ Err e)) }
 {
     let Err(fault) = closed else {
         return end;
