@@ -33,10 +33,10 @@ use Rattle.index_sql_schema.specs.Index.{version_in}
 use Rattle.index_sql_schema.specs.Records.{tables_in}
 use Rattle.index_sql_schema.specs.Schema.{index_schema}
 use Rattle.index_tables.specs.Adopted.{IsCommitted, IsCurrent, IsFound}
-use Rattle.index_tables.specs.Kept.{IsWorking}
+use Rattle.index_tables.specs.BooksState.{IsWorking}
 use Rattle.index_tables.specs.Opened.{IsRefusedAs, IsTaken}
 use Rattle.index_tables.specs.declared.opening.Unopened.{Unopened}
-use Rattle.index.specs.Runs.{Began, Created, Holds, HoldsOnly, Interrupted, Keeps, Leaves, LeavesAsWas, LeavesShut, Ran, Refused, Worked}
+use Rattle.index.specs.Runs.{Began, Created, Holds, HoldsOnly, Interrupted, HoldsCurrent, HoldsAfterCrash, LeavesAsWas, LeavesShut, Ran, Refused, Worked}
 
 -- an index of today is found as it is, and never as one of version 1
 same_found : (db other : Database) (T found : Tables) → IsCurrent db T → IsFound other found → other.trees ≡ db.trees → found ≡ T
@@ -44,7 +44,7 @@ same_found db other T found current (inl it) same = it.tables ∙ (ap tables_in 
 same_found db other T found current (inr it) same =
     absurd (let told : Some 1 ≡ Some 2 = sym it.version ∙ (ap version_in same ∙ current.version) in cc)
 
-keeps_of : (image : Image) (db : Database) (T : Tables) → IsCurrent db T → HoldsAlone image db.trees → Keeps image T
+keeps_of : (image : Image) (db : Database) (T : Tables) → IsCurrent db T → HoldsAlone image db.trees → HoldsCurrent image T
 keeps_of image db T current held = record {
   db = db;
   current = current;
@@ -82,7 +82,7 @@ module _ {D : Type 0} {g : Ghosts D} where
   pub working_of : (last : Held (FileStore D g)) (files : Files D) → IsCopied last files → IsWorking (file_state last)
   working_of last files copied = record { clean = copied.was_clean; is_open = copied.was_open }
 
-  pub leaves_of : (last : Held (FileStore D g)) (files : Files D) (T : Tables) → IsCopied last files → IsCommitted (file_state last) T → Leaves g files T
+  pub leaves_of : (last : Held (FileStore D g)) (files : Files D) (T : Tables) → IsCopied last files → IsCommitted (file_state last) T → HoldsAfterCrash g files T
   leaves_of last files T copied committed =
       let db = (file_state last).now in
       let same : (file_state last).committed ≡ db = sym committed.committed in

@@ -11,7 +11,7 @@ use Rattle.sqlite_disk.specs.Events.{IsHonest, measured, settled}
 use Rattle.sqlite_disk.proofs.EventLemmas.{honest_len, honest_settled}
 use Rattle.index_rules.specs.Tables.{Tables}
 use Rattle.index_tables.specs.Adopted.{IsCurrent}
-use Rattle.index.specs.Runs.{Keeps}
+use Rattle.index.specs.Runs.{HoldsCurrent}
 
 -- a file that held these bytes, and tells that it is as long, is honest
 pub held_is_honest : (bytes : List ℕ) (key : ℕ) → IsHonest bytes (measured true (length bytes) ∷ settled key ∷ [])
@@ -22,7 +22,7 @@ pub empty_is_lied_to : (key n : ℕ) → 0 < n → ¬ IsHonest [] (measured true
 empty_is_lied_to key n some = λ honest. grind (arith, common_steps)
 
 -- what a run leaves is what the next one is given: the premise of its clauses holds of it
-pub starts_with : {S : Type 0} (start : Ghosts S) (image : Image) (T : Tables) → Keeps image T → image_at start ≡ image
+pub starts_with : {S : Type 0} (start : Ghosts S) (image : Image) (T : Tables) → HoldsCurrent image T → image_at start ≡ image
     → ∥ ((db : Database) × IsCurrent db T × HoldsDatabase (image_at start) db.trees) ∥₁
 starts_with start image T keeps same = ∥∥₁_map keeps.held.both (λ held. let r : (db : Database) × IsCurrent db T × HoldsDatabase (image_at start) db.trees =
     (keeps.db, keeps.current, subst (λ i. HoldsDatabase i keeps.db.trees) (sym same) held) in r)

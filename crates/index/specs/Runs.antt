@@ -17,7 +17,7 @@ use Rattle.sqlite_pool.specs.Stored.{StandsAs}
 use Rattle.sqlite_store.specs.Unopened.{state_of}
 use Rattle.index_sql_opening.specs.Names.{has_any_of}
 use Rattle.index_cli.specs.declared.end.LineEnd.{LineEnd}
-use Rattle.index_cli.specs.Ends.{Ends}
+use Rattle.index_cli.specs.Ends.{EndsRun}
 use Rattle.index_cli.specs.Serving.{Serves, ServesCalls, ServesHistory}
 use Rattle.index_cli.specs.Telling.{TellsLines}
 use Rattle.index_cli.specs.TellsCalls.{TellsCalls}
@@ -31,11 +31,10 @@ use Rattle.index_rules.specs.History.{History}
 use Rattle.index_rules.specs.Legal.{IsLegal}
 use Rattle.index_rules.specs.StandsFor.{StandsFor}
 use Rattle.index_rules.specs.Tables.{Tables}
-use Rattle.index_sql_schema.specs.FirstVersion.{IsFirstVersion, without_bans}
 use Rattle.index_sql_schema.specs.Records.{tables_in}
 use Rattle.index_sql_schema.specs.Schema.{index_schema}
-use Rattle.index_tables.specs.Adopted.{IsCommitted, IsCurrent, IsFound}
-use Rattle.index_tables.specs.Kept.{AreCurrent}
+use Rattle.index_tables.specs.Adopted.{IsCommitted, IsCurrent, IsFound, IsRaised}
+use Rattle.index_tables.specs.BooksState.{AreCurrent}
 use Rattle.index.specs.declared.database.Left.{Left}
 use Rattle.index.specs.declared.database.Left.TheVariants as unused
 use Rattle.index.specs.declared.end.End.{End}
@@ -55,16 +54,16 @@ pub record Holds (image : Image) (T : Tables) : Type 0 where
   pub only : HoldsOnly image db
 
 -- they hold an index of today with these tables, which a next run finds, and so does the database file with no log
-pub record Keeps (image : Image) (T : Tables) : Type 0 where
+pub record HoldsCurrent (image : Image) (T : Tables) : Type 0 where
   pub db : Database
   pub current : IsCurrent db T
   pub held : HoldsAlone image db.trees
   pub next : (found : Tables) → Holds image found → found ≡ T
 
 -- so they do as they read now, and whatever a crash leaves of them
-pub record Leaves {D : Type 0} (g : Ghosts D) (files : Files D) (T : Tables) : Type 0 where
-  pub seen : Keeps (image_of g files) T
-  pub crash : (image : Image) → outcomes g files.log files.db image → Keeps image T
+pub record HoldsAfterCrash {D : Type 0} (g : Ghosts D) (files : Files D) (T : Tables) : Type 0 where
+  pub seen : HoldsCurrent (image_of g files) T
+  pub crash : (image : Image) → outcomes g files.log files.db image → HoldsCurrent image T
 
 -- ---- a run
 
@@ -74,7 +73,7 @@ pub record Ran {D : Type 0} (g : Ghosts D) (Does : Tables → Tables → Type 0)
   pub after : Tables
   pub held : Holds start before
   pub did : Does before after
-  pub left : Leaves g files after
+  pub left : HoldsAfterCrash g files after
 
 -- of the databases that an open after a crash may find, each has tables of this kind. One that is no index of today would
 -- have any tables at all
@@ -92,7 +91,7 @@ pub record Created {D : Type 0} (g : Ghosts D) (T : Tables) (start : Image) (fil
   pub db : Database
   pub only : HoldsOnly start db
   pub free : has_any_of db.schema index_schema.tables ≡ false
-  pub left : Leaves g files T
+  pub left : HoldsAfterCrash g files T
 
 -- ---- a run that is refused
 
@@ -102,10 +101,6 @@ pub record Refused (Made : Database → Trees → Type 0) (start : Image) (now :
   pub db : Database
   pub only : HoldsOnly start db
   pub left : (found : Trees) → now.may_leave found → (found ≡ db.trees) ⊎ ((now.is_open ≡ false) × Made db found)
-
--- it was of version 1, and was brought to that of today
-abbrev pub IsRaised : Database → Trees → Type 0
-IsRaised was db = IsFirstVersion was × AreCurrent db × (tables_in db ≡ without_bans (tables_in was.trees))
 
 -- nothing was made of it
 abbrev pub MakesNothing : Database → Trees → Type 0
@@ -171,16 +166,18 @@ end_of (Err early) = Err (end.Lines early)
 pub record AnswersLines (given left had has : Option (List ℕ)) (T T' : Tables) (result : Result ℕ End) : Type 0 where
   pub ended : Result ℕ LineEnd
   pub is : result ≡ end_of ended
-  pub tables : Ends (TellsLines by_tables T) T' given left had has ended
-  pub history : (h : History) → IsLegal h → StandsFor T h → Ends (TellsHistory h) T' given left had has ended
+  pub tables : EndsRun (TellsLines by_tables T) T' given left had has ended
+  pub history : (h : History) → IsLegal h → StandsFor T h
+      → EndsRun (TellsHistory h) T' given left had has ended
 
 -- these tables may be left by the lines that were answered up to this end: what comes of the accepted calls, or of these
 -- and one to which a fault was answered since the last of them
 pub record LeavesLines (given left had has : Option (List ℕ)) (T T' : Tables) (result : Result ℕ End) : Type 0 where
   pub ended : Result ℕ LineEnd
   pub is : result ≡ end_of ended
-  pub tables : Ends (TellsCalls (LeavesAll T)) T' given left had has ended
-  pub history : (h : History) → IsLegal h → StandsFor T h → Ends (TellsCalls (LeavesAllOf h)) T' given left had has ended
+  pub tables : EndsRun (TellsCalls (LeavesAll T)) T' given left had has ended
+  pub history : (h : History) → IsLegal h → StandsFor T h
+      → EndsRun (TellsCalls (LeavesAllOf h)) T' given left had has ended
 
 -- the report was written, or a front of it, and no table changed
 pub record WritesReport (had has : Option (List ℕ)) (T T' : Tables) : Type 0 where

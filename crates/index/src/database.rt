@@ -1,8 +1,8 @@
-//! The index in a database of SQLite: opened, made or adopted, and closed.
-ghost use Rattle.std.specs.Prelude.{◌≡◌, ◌≢◌, false, not, ℕ, Result, None, Some, IfOk, IfErr, IfSome, IsErrOf, IsTrue, string_bytes};
+//! The index in a database of SQLite: made or adopted, worked on, and closed.
+ghost use Rattle.std.specs.Prelude.{◌≡◌, false, not, ℕ, Result, None, Some, IfOk, IfErr, IfSome, IsErrOf, IsTrue, string_bytes};
 ghost use Rattle.std.specs.Str.Lossy.{utf8_lossy};
 ghost use Rattle.sqlite.specs.Closing.{IsCopied};
-ghost use Rattle.sqlite.specs.Files.{file_state, over_files, IsCleanLeft, IsClosed, IsOpened};
+ghost use Rattle.sqlite.specs.Files.{file_state, over_files, IsClosed, IsOpened};
 ghost use Rattle.sqlite.specs.Held.{state};
 ghost use Rattle.sqlite.specs.Recovery.{Image};
 ghost use Rattle.sqlite.specs.Start.{FindsIn};
@@ -16,23 +16,23 @@ ghost use Rattle.index_rules.specs.Facts.{HasOneBearer};
 ghost use Rattle.index_rules.specs.FirstTables.{IsBadFirstUser, first_tables};
 ghost use Rattle.index_rules.specs.Tables.{Tables};
 ghost use Rattle.index_sql_schema.specs.Schema.{index_schema, no_schema};
-ghost use Rattle.index_tables.specs.Adopted.{IsCommitted};
-ghost use Rattle.index_tables.specs.Kept.{IsWorking};
+ghost use Rattle.index_tables.specs.Adopted.{IsCommitted, IsRaised};
+ghost use Rattle.index_tables.specs.BooksState.{IsWorking};
 ghost use Rattle.index.specs.declared.end.End.{End as EndData};
-ghost use Rattle.index.specs.Causes.{end_of_error, is_store, other_object};
-ghost use Rattle.index.specs.Runs.{Began, Created, Interrupted, IsRaised, IsUnfound, IsUnmade, LeavesAsWas, LeavesShut, LeavesUnused, MakesNothing, Ran, Worked};
+ghost use Rattle.index.specs.Causes.{is_store, other_object};
+ghost use Rattle.index.specs.Runs.{Began, Created, Interrupted, IsUnfound, IsUnmade, LeavesAsWas, LeavesUnused, MakesNothing, Ran, Worked};
 
 use crate::cause::{Cause, cause_of_calls};
 use crate::end::End;
 use crate::objects::other_object;
-use crate::path::{cause_at, is_missing};
+use crate::opening::{first_token, open, open_there};
 use index_desk::{Desk, Keeper};
 use index_digest::Digest256;
 use index_recent::Recent;
-use index_rules::{OpenFault, first_user};
+use index_rules::OpenFault;
 use index_sql_opening::{is_blank, is_first_version, is_ours};
 use index_tables::{SqlBooks, Unopened};
-use sqlite::{Alter, Connection, Error, ErrorCode, FileFrom, FileStore, Files, Leftover, Start};
+use sqlite::{Alter, Connection, FileFrom, FileStore, Files, Leftover, Start};
 use sqlite_disk::Disk;
 use std::alloc::Global;
 
@@ -70,77 +70,6 @@ pub trait Work {
             leaves self.old self.new (B.tables desk.old) T result }
         ensures honest { B.IsHonest desk.new → B.IsHonest desk.old }
         ensures clean { B.IsClean desk.new → B.IsClean desk.old };
-}
-
-/// Opens a database file, which is locked from here on, or makes an empty one. `S` says what it and its log held.
-///
-/// `OutOfMemory`, or `Store` where that can't be done: where the file is no database, or is in use.
-fn open<S: Start>(
-    rt: &HostRuntime,
-    path: &str,
-    start: S,
-) -> Result<Connection<FileStore<FileFrom<S>>>, (End, Option<Leftover<FileFrom<S>>>)>
-    ensures mode { IfOk result (λ conn. conn.in_transaction ≡ false) }
-    ensures opened { IfOk result (λ conn. HasCleanDisk (file_state conn) → IsOpened conn) }
-    ensures found { IfOk result (λ conn. HasCleanDisk (file_state conn)
-        → FindsIn (image_at S.Start) (file_state conn)) }
-    ensures shut { IfErr result (λ e. IfSome e.1 (λ left.
-        IsCleanLeft left → LeavesShut (image_at S.Start) left)) }
-{
-    match Connection::open_from(rt, path, false, start) {
-        Ok(conn) => Ok(conn),
-        Err((error, left)) => Err((unopened(rt, path, error), left)),
-    }
-}
-
-/// The end that an error is of a database that could not be opened. What is found at its path may tell the cause.
-fn unopened(rt: &HostRuntime, path: &str, error: Error) -> End
-    ensures told { error ≢ Error.SqliteFailure ErrorCode.CannotOpen → result ≡ end_of_error error }
-    ensures store { error ≡ Error.SqliteFailure ErrorCode.CannotOpen → IsTrue (is_store result) }
-{
-    match error {
-        Error::SqliteFailure(ErrorCode::CannotOpen) => End::Store(cause_at(rt, path)),
-        other => End::from(other),
-    }
-}
-
-/// Opens a database file that is there. Where there is none, none is made: `Store`.
-fn open_there<S: Start>(
-    rt: &HostRuntime,
-    path: &str,
-    start: S,
-) -> Result<Connection<FileStore<FileFrom<S>>>, (End, Option<Leftover<FileFrom<S>>>)>
-    ensures mode { IfOk result (λ conn. conn.in_transaction ≡ false) }
-    ensures opened { IfOk result (λ conn. HasCleanDisk (file_state conn) → IsOpened conn) }
-    ensures found { IfOk result (λ conn. HasCleanDisk (file_state conn)
-        → FindsIn (image_at S.Start) (file_state conn)) }
-    ensures shut { IfErr result (λ e. IfSome e.1 (λ left.
-        IsCleanLeft left → LeavesShut (image_at S.Start) left)) }
-{
-    if is_missing(rt, path) {
-        return Err((End::Store(Some(Cause::NoFile)), None));
-    }
-    open(rt, path, start)
-}
-
-/// The digest of the first user's token by its hex digits, where this user may be the first.
-fn first_token(alloc: Global, user: &str, token: &str) -> Result<Digest256, OpenFault>
-    ensures read { IfOk result (λ digest. read_digest token.now ≡ Some digest) }
-    ensures malformed { IsTrue (not (is_digest_text token.now))
-        → IsErrOf result OpenFault.BadFirstUser }
-    ensures bad_first_user { (digest : _) → read_digest token.now ≡ Some digest
-        → IsBadFirstUser user.now digest → IsErrOf result OpenFault.BadFirstUser }
-{
-    let Some(digest) = Digest256::read_hex(token.as_bytes()) else {
-        return Err(OpenFault::BadFirstUser);
-    };
-    match first_user(alloc, user.as_bytes(), digest) {
-        Ok(first) => {
-            drop(first);
-            Ok(digest)
-        }
-        Err(why) => Err(why),
-    }
 }
 
 /// Makes a new index with one user, of the office, whose token has the digest of these hex digits, and closes the files.

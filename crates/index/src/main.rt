@@ -6,6 +6,7 @@ mod database;
 mod end;
 mod job;
 mod objects;
+mod opening;
 mod path;
 
 ghost use Rattle.std.specs.Prelude.{◌≡◌, IfOk, IsErr};
@@ -21,8 +22,12 @@ use std::{env, io};
 fn main(rt: HostRuntime) -> ExitCode {
     match words(&rt) {
         Ok(words) => run(&rt, words.as_slice(), Wary),
-        Err(error) if error.kind() == ErrorKind::OutOfMemory => failed(&rt, None, End::OutOfMemory),
-        Err(_) => refused(&rt),
+        Err(error) if error.kind() == ErrorKind::OutOfMemory => tell_fault(
+            &rt,
+            None,
+            End::OutOfMemory,
+        ),
+        Err(_) => refuse_words(&rt),
     }
 }
 
@@ -34,12 +39,12 @@ fn words(rt: &HostRuntime) -> io::Result<Vec<String>> {
 /// Does what the words ask for. A database that they name held what `S` says.
 fn run<S: Start>(rt: &HostRuntime, words: &[String], start: S) -> ExitCode {
     match read_words(rt.alloc(), words) {
-        Ok(asked) => ended(rt, database_of(asked), perform(rt, asked, start)),
+        Ok(asked) => status_of_end(rt, database_of(asked), perform(rt, asked, start)),
         Err(WordsEnd::Clap(error)) => match error.print(rt) {
-            Err(_) if !error.use_stderr() => failed(rt, None, End::WriteFault),
+            Err(_) if !error.use_stderr() => tell_fault(rt, None, End::WriteFault),
             _ => ExitCode::from(error.exit_code() as u8),
         },
-        Err(WordsEnd::OutOfMemory) => failed(rt, None, End::OutOfMemory),
+        Err(WordsEnd::OutOfMemory) => tell_fault(rt, None, End::OutOfMemory),
     }
 }
 
@@ -72,18 +77,18 @@ fn database_of(asked: Job<'_>) -> Option<&str> {
 
 /// The status of a job. A fault that ended it is named on standard error, with the cause behind it that is known of the
 /// database.
-fn ended(rt: &HostRuntime, db: Option<&str>, end: Result<ExitCode, End>) -> ExitCode
+fn status_of_end(rt: &HostRuntime, db: Option<&str>, end: Result<ExitCode, End>) -> ExitCode
     ensures ok { IfOk end (λ status. result ≡ status) }
     ensures fault { IsErr end → exit_status result ≡ 1 }
 {
     match end {
         Ok(status) => status,
-        Err(end) => failed(rt, db, end),
+        Err(end) => tell_fault(rt, db, end),
     }
 }
 
 /// Names a fault on standard error, where that takes it, and on a second line the cause that is known of the database.
-fn failed(rt: &HostRuntime, db: Option<&str>, end: End) -> ExitCode
+fn tell_fault(rt: &HostRuntime, db: Option<&str>, end: End) -> ExitCode
     ensures status { exit_status result ≡ 1 }
 {
     let _ = eprintln!(rt; "index: {end}");
@@ -94,7 +99,7 @@ fn failed(rt: &HostRuntime, db: Option<&str>, end: End) -> ExitCode
 }
 
 /// Says that the words are no text.
-fn refused(rt: &HostRuntime) -> ExitCode
+fn refuse_words(rt: &HostRuntime) -> ExitCode
     ensures status { exit_status result ≡ 2 }
 {
     let _ = eprintln!(rt; "error: a word of the command line is not UTF-8");

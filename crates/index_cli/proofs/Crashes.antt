@@ -13,7 +13,7 @@ use Rattle.index_desk.specs.Rules.{by_tables}
 use Rattle.index_desk.proofs.CrashLemmas.{LeavesAllOf-LeavesAll}
 use Rattle.index_http.specs.Asks.{Takes}
 use Rattle.index_cli.specs.declared.end.LineEnd.{LineEnd}
-use Rattle.index_cli.specs.Ends.{Ends}
+use Rattle.index_cli.specs.Ends.{EndsRun}
 use Rattle.index_cli.specs.Serving.{AsksOne, ServesCalls}
 use Rattle.index_cli.specs.Telling.{TellsLines}
 use Rattle.index_cli.specs.TellsCalls.{AsksKept, TellsCalls}
@@ -38,8 +38,8 @@ module _ {S : Type 0} (g : Ghosts S) where
 
   module _ (first now : S) (honest : g.IsHonest first) (clean : g.IsClean now) (one : HasOneBearer (g.tables first)) (T : Tables) (left : g.may_leave now T) where
     pub lines_crash : (U : Tables) (a b w0 w1 : Option (List ℕ)) (result : Result ℕ LineEnd)
-        → Ends (TellsCalls (by_taken g first now)) U a b w0 w1 result
-        → Ends (TellsCalls (LeavesAll (g.tables first))) T a b w0 w1 result
+        → EndsRun (TellsCalls (by_taken g first now)) U a b w0 w1 result
+        → EndsRun (TellsCalls (LeavesAll (g.tables first))) T a b w0 w1 result
     lines_crash U a b w0 w1 result ends =
         Ends-map (TellsCalls (by_taken g first now)) (TellsCalls (LeavesAll (g.tables first))) U T
         (TellsCalls-map (by_taken g first now) (LeavesAll (g.tables first)) U T (λ calls answers taken. taken.left honest clean one T left))
@@ -82,11 +82,11 @@ module _ {S : Type 0} (g : Ghosts S) where
 -- ---- by a history for which the tables stood
 
 module _ (h : History) (legal : IsLegal h) (S : Tables) (stands : StandsFor S h) (T : Tables) where
-  pub lines_history : (a b w0 w1 : Option (List ℕ)) (result : Result ℕ LineEnd) → Ends (TellsLines by_tables S) T a b w0 w1 result → Ends (TellsHistory h) T a b w0 w1 result
+  pub lines_history : (a b w0 w1 : Option (List ℕ)) (result : Result ℕ LineEnd) → EndsRun (TellsLines by_tables S) T a b w0 w1 result → EndsRun (TellsHistory h) T a b w0 w1 result
   lines_history a b w0 w1 result ends =
       Ends-map (TellsLines by_tables S) (TellsHistory h) T T (λ lines text. TellsHistory-TellsLines h legal S stands lines text T) a b w0 w1 result ends
 
-  pub lines_crash_history : (a b w0 w1 : Option (List ℕ)) (result : Result ℕ LineEnd) → Ends (TellsCalls (LeavesAll S)) T a b w0 w1 result → Ends (TellsCalls (LeavesAllOf h)) T a b w0 w1 result
+  pub lines_crash_history : (a b w0 w1 : Option (List ℕ)) (result : Result ℕ LineEnd) → EndsRun (TellsCalls (LeavesAll S)) T a b w0 w1 result → EndsRun (TellsCalls (LeavesAllOf h)) T a b w0 w1 result
   lines_crash_history a b w0 w1 result ends =
       Ends-map (TellsCalls (LeavesAll S)) (TellsCalls (LeavesAllOf h)) T T
       (TellsCalls-map (LeavesAll S) (LeavesAllOf h) T T (λ calls answers. LeavesAllOf-LeavesAll h legal S stands calls answers T))

@@ -6,7 +6,7 @@ use Rattle.std.proofs.KnownBytes.{Consumes-nil, Consumes-trans}
 use Rattle.std.proofs.lemmas.List.{take-append-le}
 use Rattle.std.proofs.lemmas.List.Elements.{All-head, All-nil, All-push, All-tail}
 use Rattle.index_io.specs.Bytes.{IsInput}
-use Rattle.index_cli.specs.Lines.{line_feed, longest_line, lines_of, onto_first, Charges, HasNoFeed, IsKept, Passes, TakesLine, TakesLines, TakesPart, TakesWithin}
+use Rattle.index_cli.specs.Lines.{line_feed, longest_line, lines_of, onto_first, Charges, HasNoFeed, IsFrontOfLine, TakesOneLine, TakesLine, TakesLines, TakesPart, TakesWithin}
 
 -- ---- the lines of what begins with a line
 
@@ -28,7 +28,7 @@ lines_of-end (byte ∷ next ∷ line) some plain =
 -- the bytes of a line so far
 pub record Grows (old new : Option (List ℕ)) (size : ℕ) (kept : List ℕ) : Type 0 where
   pub line : List ℕ
-  pub is : IsKept size kept line
+  pub is : IsFrontOfLine size kept line
   pub taken : Consumes old new line
 
 below_or : (n m : ℕ) → (n < m) ⊎ (m ≤ n)
@@ -134,11 +134,11 @@ none_taken rest taken left empty is some =
     absurd (omega (arith, none, length-append taken left, some))
 
 cut_push : (input rest left line : List ℕ) (lines : List (List ℕ)) → Cut input rest lines
-    → HasNoFeed line → Passes line (Some rest) (Some left) → Cut input left (lines ++ line ∷ [])
+    → HasNoFeed line → TakesOneLine line (Some rest) (Some left) → Cut input left (lines ++ line ∷ [])
 cut_push input rest left line lines cut plain passes = go cut.whole passes
   where
     go : ((more : List ℕ) → lines_of (cut.taken ++ more) ≡ lines ++ lines_of more) ⊎ (rest ≡ [])
-        → Passes line (Some rest) (Some left) → Cut input left (lines ++ line ∷ [])
+        → TakesOneLine line (Some rest) (Some left) → Cut input left (lines ++ line ∷ [])
     go (inl whole) (inl taken) = cut_feed input rest left line lines cut whole plain taken
     go (inl whole) (inr (some, taken, end)) = cut_end input rest left line lines cut whole plain some taken end
     go (inr empty) (inl taken) =
@@ -167,13 +167,13 @@ pub Cuts-nil : (a : Option (List ℕ)) → Cuts a a []
 Cuts-nil None = All-nil HasNoFeed
 Cuts-nil (Some input) = record { taken = []; joins = refl; split = refl; whole = inl (λ more. refl) }
 
-no_pass : (rest line : List ℕ) → Passes line (Some rest) None → ⊥
+no_pass : (rest line : List ℕ) → TakesOneLine line (Some rest) None → ⊥
 no_pass rest line (inl taken) = taken
 no_pass rest line (inr taken) = taken.1
 
 -- one more line
 pub Cuts-push : (a b c : Option (List ℕ)) (lines : List (List ℕ)) (line : List ℕ)
-    → Cuts a b lines → HasNoFeed line → Passes line b c → Cuts a c (lines ++ line ∷ [])
+    → Cuts a b lines → HasNoFeed line → TakesOneLine line b c → Cuts a c (lines ++ line ∷ [])
 Cuts-push None b c lines line cuts plain passes = All-push HasNoFeed lines line cuts plain
 Cuts-push (Some input) None c lines line cuts plain passes = absurd cuts
 Cuts-push (Some input) (Some rest) None lines line cuts plain passes = absurd (no_pass rest line passes)

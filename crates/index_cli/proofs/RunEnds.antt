@@ -4,15 +4,15 @@ use Rattle.index_io.specs.Counts.{HasFailed}
 use Rattle.index_rules.specs.Tables.{Tables}
 use Rattle.index_cli.specs.declared.end.LineEnd.{LineEnd}
 use Rattle.index_cli.specs.declared.end.LineEnd.TheVariants.{ReadFault, WriteFault, OutOfMemory}
-use Rattle.index_cli.specs.Ends.{Ends, Telling, TellsAll, TellsBefore, TellsDuring}
+use Rattle.index_cli.specs.Ends.{EndsRun, Telling, TellsAll, TellsBefore, TellsDuring}
 use Rattle.index_cli.specs.Lines.{Charges}
 use Rattle.index_cli.proofs.Cuts.{Charges-trans}
 
 -- at each end but that of a writer
 pub Ends-before : (tells : Telling) (T : Tables) (a b w0 w1 : Option (List ℕ)) (r : Result ℕ LineEnd) (end : LineEnd)
-    → r ≡ Err end → r ≢ Err WriteFault → TellsBefore tells T a b w0 w1 → Ends tells T a b w0 w1 r
-Ends-before tells T a b w0 w1 r ReadFault is other before = subst (λ r. Ends tells T a b w0 w1 r) (sym is) before
-Ends-before tells T a b w0 w1 r OutOfMemory is other before = subst (λ r. Ends tells T a b w0 w1 r) (sym is) before
+    → r ≡ Err end → r ≢ Err WriteFault → TellsBefore tells T a b w0 w1 → EndsRun tells T a b w0 w1 r
+Ends-before tells T a b w0 w1 r ReadFault is other before = subst (λ r. EndsRun tells T a b w0 w1 r) (sym is) before
+Ends-before tells T a b w0 w1 r OutOfMemory is other before = subst (λ r. EndsRun tells T a b w0 w1 r) (sym is) before
 Ends-before tells T a b w0 w1 r WriteFault is other before = absurd (other is)
 
 -- a read failed, or nothing may be read any more
@@ -66,7 +66,7 @@ module _ (tells tells' : Telling) (T T' : Tables) (f : (lines : List (List ℕ))
     wrote = e.wrote;
   }
 
-  pub Ends-map : (a b w0 w1 : Option (List ℕ)) (result : Result ℕ LineEnd) → Ends tells T a b w0 w1 result → Ends tells' T' a b w0 w1 result
+  pub Ends-map : (a b w0 w1 : Option (List ℕ)) (result : Result ℕ LineEnd) → EndsRun tells T a b w0 w1 result → EndsRun tells' T' a b w0 w1 result
   Ends-map a b w0 w1 (Ok count) e = all_map a b w0 w1 count e
   Ends-map a b w0 w1 (Err ReadFault) e = before_map a b w0 w1 e
   Ends-map a b w0 w1 (Err WriteFault) e = during_map a b w0 w1 e

@@ -1,9 +1,12 @@
 -- What is known at each end of a run over lines.
-use Rattle.std.specs.Prelude.{◌≡◌, ℕ, ◌<◌, List, [], ◌∷◌, ◌++◌, length, take, Option, Result, Ok, Err}
+use Rattle.std.specs.Prelude.{◌≡◌, ◌≢◌, ◌⊎◌, ℕ, ◌<◌, List, [], ◌∷◌, ◌++◌, length, take, Option, Result, Ok, Err}
 use Rattle.std.specs.Io.KnownBytes.{Appends, Consumes, IsAtEnd}
 use Rattle.index_io.specs.Bytes.{IsInput}
+use Rattle.index_io.specs.Counts.{HasFailed}
+use Rattle.index_io.specs.declared.sink.Sink.{Ghosts as Outs}
+use Rattle.index_io.specs.declared.source.Source.{Ghosts as Ins}
 use Rattle.index_rules.specs.Tables.{Tables}
-use Rattle.index_cli.specs.Lines.{lines_of, TakesLines, TakesWithin}
+use Rattle.index_cli.specs.Lines.{lines_of, Charges, TakesLines, TakesWithin}
 use Rattle.index_cli.specs.declared.end.LineEnd.{LineEnd}
 use Rattle.index_cli.specs.declared.end.LineEnd.TheVariants.{ReadFault, WriteFault, OutOfMemory}
 
@@ -53,9 +56,23 @@ pub record TellsDuring (tells : Telling) (T : Tables)
   pub wrote : Appends had has (take count text)
 
 -- the end of a run, by what a reader had and has left and what a writer had and has
-abbrev pub Ends : Telling → Tables → (given left had has : Option (List ℕ))
+abbrev pub EndsRun : Telling → Tables → (given left had has : Option (List ℕ))
     → Result ℕ LineEnd → Type 0
-Ends tells T given left had has (Ok count) = TellsAll tells T given left had has count
-Ends tells T given left had has (Err ReadFault) = TellsBefore tells T given left had has
-Ends tells T given left had has (Err WriteFault) = TellsDuring tells T given left had has
-Ends tells T given left had has (Err OutOfMemory) = TellsBefore tells T given left had has
+EndsRun tells T given left had has (Ok count) = TellsAll tells T given left had has count
+EndsRun tells T given left had has (Err ReadFault) = TellsBefore tells T given left had has
+EndsRun tells T given left had has (Err WriteFault) = TellsDuring tells T given left had has
+EndsRun tells T given left had has (Err OutOfMemory) = TellsBefore tells T given left had has
+
+-- so a run ended that read from a source and wrote to a sink
+abbrev pub EndsBy : {S K : Type 0} → Ins S → Outs K → S → S → K → K → Result ℕ LineEnd → Telling → Tables → Type 0
+EndsBy ins out given left had has result tells T =
+    EndsRun tells T (ins.remaining given) (ins.remaining left) (out.contents had)
+    (out.contents has) result
+
+-- a read failed, or as many bytes were read as may be, or a write failed or took no byte, just where the result says so
+pub record RunFailsOnly {S K : Type 0} (ins : Ins S) (out : Outs K) (old new : S) (before after : K) (most : ℕ) (result : Result ℕ LineEnd) : Type 0 where
+  pub read_fault : result ≡ Err ReadFault
+      → HasFailed (ins.failures old) (ins.failures new) ⊎ Charges most 0 (ins.remaining old) (ins.remaining new)
+  pub write_fault : result ≡ Err WriteFault → HasFailed (out.failures before) (out.failures after)
+  pub reads : result ≢ Err ReadFault → ins.failures new ≡ ins.failures old
+  pub writes : result ≢ Err WriteFault → out.failures after ≡ out.failures before

@@ -29,13 +29,13 @@ HasNoFeed line = All (λ byte. byte ≢ line_feed) line
 -- ---- what a reader has left, before and after
 
 -- a line was taken, with its line feed or up to the end of the input
-abbrev pub Passes : List ℕ → Option (List ℕ) → Option (List ℕ) → Type 0
-Passes line old new =
+abbrev pub TakesOneLine : List ℕ → Option (List ℕ) → Option (List ℕ) → Type 0
+TakesOneLine line old new =
     Consumes old new (line ++ line_feed ∷ [])
     ⊎ ((0 < length line) × Consumes old new line × IsAtEnd new)
 
 -- this is a line of this size, and `kept` has its first 65,536 bytes
-pub record IsKept (size : ℕ) (kept line : List ℕ) : Type 0 where
+pub record IsFrontOfLine (size : ℕ) (kept line : List ℕ) : Type 0 where
   pub plain : HasNoFeed line
   pub sized : length line ≡ size
   pub front : kept ≡ take longest_line line
@@ -44,7 +44,7 @@ pub record IsKept (size : ℕ) (kept line : List ℕ) : Type 0 where
 abbrev pub TakesLine : Option ℕ → List ℕ → Option (List ℕ) → Option (List ℕ) → Type 0
 TakesLine None kept old new = Consumes old new [] × IsAtEnd new
 TakesLine (Some size) kept old new =
-    (line : List ℕ) × IsKept size kept line × Passes line old new
+    (line : List ℕ) × IsFrontOfLine size kept line × TakesOneLine line old new
 
 -- a part of one line was taken, and not its line feed
 abbrev pub TakesPart : Option (List ℕ) → Option (List ℕ) → Type 0

@@ -1,24 +1,49 @@
 -- The reply to a line.
-use Rattle.std.specs.Prelude.{◌≡◌, ℕ, List, length, take, string_bytes, Result, IfErr, IfOk, OnErr}
+use Rattle.std.specs.Prelude.{◌≡◌, ℕ, List, length, take, string_bytes, Option, Result, IfErr, IfOk, OnErr}
+use Rattle.index_rules.specs.declared.answer.Answer.{Answer}
+use Rattle.index_rules.specs.declared.books.Books.{Ghosts}
+use Rattle.index_rules.specs.declared.call.Call.{Call}
+use Rattle.index_rules.specs.Facts.{HasOneBearer}
 use Rattle.index_rules.specs.Tables.{Tables}
+use Rattle.index_desk.specs.Invariants.{KeepsInvariants}
+use Rattle.index_desk.specs.Looks.{LeavesTables}
 use Rattle.index_desk.specs.Rules.{by_tables}
+use Rattle.index_http.specs.Asks.{Takes}
 use Rattle.index_cli.specs.Causes.{HasCauses}
 use Rattle.index_cli.specs.Lines.{longest_line}
-use Rattle.index_cli.specs.Telling.{TellsLine}
+use Rattle.index_cli.specs.Telling.{TellsLine, TellsStanding}
 use Rattle.index_cli.specs.declared.end.LineEnd.{LineEnd}
 use Rattle.index_cli.specs.declared.reply.Reply.{Reply}
 use Rattle.index_cli.specs.declared.reply.Reply.TheVariants.{Fixed, Made}
 
 -- the text of a reply
-abbrev pub reply_text : Reply → List ℕ
-reply_text (Fixed text) = text.now
-reply_text (Made text) = string_bytes text
+abbrev pub line_reply_text : Reply → List ℕ
+line_reply_text (Fixed text) = text.now
+line_reply_text (Made text) = string_bytes text
 
 -- each fault of the store that a reply tells has a call that failed; the one error is want of memory, and then none did
 pub record RepliesOnly (failures_before failures_after : ℕ) (result : Result Reply LineEnd) : Type 0 where
-  pub told : IfOk result (λ reply. HasCauses (reply_text reply) failures_before failures_after)
+  pub told : IfOk result (λ reply. HasCauses (line_reply_text reply) failures_before failures_after)
   pub kept : OnErr result (failures_after ≡ failures_before)
   pub memory : IfErr result (λ end. end ≡ LineEnd.OutOfMemory)
+
+-- the reply to a line: it is told so by the tables before and after, and asks so of the desk; after an error no table changed
+pub record RepliesToLine {S : Type 0} (g : Ghosts S) (old new : S) (result : Result Reply LineEnd)
+    (Tells : Tables → List ℕ → Tables → Type 0) (Asks : List ℕ → Type 0 → (Call → Answer → Type 0) → Type 0) : Type 0 where
+  pub reply : g.IsHonest new → HasOneBearer (g.tables old)
+      → IfOk result (λ reply. Tells (g.tables old) (line_reply_text reply) (g.tables new))
+  pub asks : IfOk result
+      (λ reply. Asks (line_reply_text reply) (LeavesTables g old new) (Takes g old new))
+  pub leaves : OnErr result (LeavesTables g old new)
+  pub causes : RepliesOnly (g.failures old) (g.failures new) result
+  pub keeps : KeepsInvariants g old new
+
+-- the reply to the question for the standing of a name, where it can be read; no table changed
+pub record RepliesStanding {S : Type 0} (g : Ghosts S) (old new : S) (result : Result Reply LineEnd) (name : Option (List ℕ)) : Type 0 where
+  pub reply : g.IsHonest new
+      → IfOk result (λ reply. TellsStanding by_tables (g.tables old) name (line_reply_text reply))
+  pub leaves : LeavesTables g old new
+  pub causes : RepliesOnly (g.failures old) (g.failures new) result
 
 -- the text is told of each line of this size of which this front was kept
 abbrev pub TellsKept : ℕ → List ℕ → Tables → List ℕ → Tables → Type 0

@@ -1,6 +1,5 @@
 //! Answers to the lines of an input.
-ghost use Rattle.std.specs.Prelude.{◌≡◌, ◌≢◌, ◌⊎◌, ℕ, Err};
-ghost use Rattle.index_io.specs.Counts.{HasFailed};
+ghost use Rattle.std.specs.Prelude.{ℕ};
 ghost use Rattle.index_rules.specs.Facts.{HasOneBearer};
 ghost use Rattle.index_rules.specs.History.{History};
 ghost use Rattle.index_rules.specs.StandsFor.{StandsFor};
@@ -10,7 +9,7 @@ ghost use Rattle.index_desk.specs.Crashes.{LeavesAll, LeavesAllOf};
 ghost use Rattle.index_desk.specs.Invariants.{KeepsInvariants};
 ghost use Rattle.index_desk.specs.Rules.{by_tables};
 ghost use Rattle.index_cli.specs.Causes.{HaveFailed, TellsFaults};
-ghost use Rattle.index_cli.specs.Ends.{Ends};
+ghost use Rattle.index_cli.specs.Ends.{EndsBy, RunFailsOnly};
 ghost use Rattle.index_cli.specs.Lines.{Charges};
 ghost use Rattle.index_cli.specs.Telling.{TellsLines};
 ghost use Rattle.index_cli.specs.TellsCalls.{TellsCalls};
@@ -28,12 +27,14 @@ use std::alloc::Global;
 /// The most bytes that are read.
 pub const MOST_BYTES: u64 = 1_099_511_627_776;
 
-/// Answers each line of an input by a line, and tells how many lines there were. A last line may have no
-/// line feed. A fault of the tables is the answer to its line, and the next one is read.
+/// Answers each line of an input by a line, and tells how many lines there were. A last line may have no line feed. A
+/// fault of the tables is the answer to its line, and the next one is read. Bytes are read one by one, so hand in a
+/// buffered reader.
 ///
-/// It ends with `ReadFault` where a read fails or after 1,099,511,627,776 bytes, with `WriteFault` where a
-/// write fails or takes no byte, and with `OutOfMemory` where there is none to keep or to read a line, or for
-/// the text of a standing. Bytes are read one by one, so hand in a buffered reader.
+/// # Errors
+///
+/// `ReadFault` where a read fails or after 1,099,511,627,776 bytes, `WriteFault` where a write fails or takes no byte,
+/// and `OutOfMemory` where there is none to keep or to read a line, or for the text of a standing.
 pub fn apply_lines<S: Source, K: Sink, B: Books>(
     alloc: Global,
     source: &mut S,
@@ -42,47 +43,37 @@ pub fn apply_lines<S: Source, K: Sink, B: Books>(
 ) -> Result<u64, LineEnd>
     // By the tables: what was told of which lines, at each end.
     ensures tables { B.IsHonest desk.new → HasOneBearer (B.tables desk.old)
-        → Ends (TellsLines by_tables (B.tables desk.old)) (B.tables desk.new)
-        (S.remaining source.old) (S.remaining source.new)
-        (K.contents sink.old) (K.contents sink.new) result }
+        → EndsBy S.Source K.Sink source.old source.new sink.old sink.new result
+        (TellsLines by_tables (B.tables desk.old)) (B.tables desk.new) }
 
     // By a legal history for which the tables stood: the same.
     ensures history { B.IsHonest desk.new
         → (h : History) → IsLegal h → StandsFor (B.tables desk.old) h
-        → Ends (TellsHistory h) (B.tables desk.new)
-        (S.remaining source.old) (S.remaining source.new)
-        (K.contents sink.old) (K.contents sink.new) result }
+        → EndsBy S.Source K.Sink source.old source.new sink.old sink.new result
+        (TellsHistory h) (B.tables desk.new) }
 
     // A crash leaves the tables after the accepted calls, or these with one call to which a fault was answered since the
     // last of them; also where a fault has shut the store.
     ensures crash { B.IsHonest desk.old → B.IsClean desk.new → HasOneBearer (B.tables desk.old)
         → (T : Tables) → B.may_leave desk.new T
-        → Ends (TellsCalls (LeavesAll (B.tables desk.old))) T
-        (S.remaining source.old) (S.remaining source.new)
-        (K.contents sink.old) (K.contents sink.new) result }
+        → EndsBy S.Source K.Sink source.old source.new sink.old sink.new result
+        (TellsCalls (LeavesAll (B.tables desk.old))) T }
 
     // The former stand for the legal history with these calls, for which the tables stood without them.
     ensures crash_history { B.IsHonest desk.old → B.IsClean desk.new
         → (h : History) → IsLegal h → StandsFor (B.tables desk.old) h
         → (T : Tables) → B.may_leave desk.new T
-        → Ends (TellsCalls (LeavesAllOf h)) T
-        (S.remaining source.old) (S.remaining source.new)
-        (K.contents sink.old) (K.contents sink.new) result }
+        → EndsBy S.Source K.Sink source.old source.new sink.old sink.new result
+        (TellsCalls (LeavesAllOf h)) T }
 
     // Each fault of the store that a line tells has a call of the store that failed.
     ensures store { (faults : ℕ) × HaveFailed faults (B.failures desk.old) (B.failures desk.new)
-        × Ends (TellsFaults faults) (B.tables desk.new)
-        (S.remaining source.old) (S.remaining source.new)
-        (K.contents sink.old) (K.contents sink.new) result }
+        × EndsBy S.Source K.Sink source.old source.new sink.old sink.new result
+        (TellsFaults faults) (B.tables desk.new) }
 
     // Each fault has its cause, and else nothing failed.
-    ensures read_fault { result ≡ Err LineEnd.ReadFault
-        → HasFailed (S.failures source.old) (S.failures source.new)
-        ⊎ Charges MOST_BYTES 0 (S.remaining source.old) (S.remaining source.new) }
-    ensures write_fault { result ≡ Err LineEnd.WriteFault
-        → HasFailed (K.failures sink.old) (K.failures sink.new) }
-    ensures reads { result ≢ Err LineEnd.ReadFault → S.failures source.new ≡ S.failures source.old }
-    ensures writes { result ≢ Err LineEnd.WriteFault → K.failures sink.new ≡ K.failures sink.old }
+    ensures fails { RunFailsOnly S.Source K.Sink source.old source.new sink.old sink.new
+        MOST_BYTES result }
 
     // No more is read than may be.
     ensures limit { (left : ℕ)

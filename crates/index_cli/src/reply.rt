@@ -1,14 +1,10 @@
 //! The reply to one line.
-ghost use Rattle.std.specs.Prelude.{◌≡◌, Some, IfErr, IfOk, OnErr};
+ghost use Rattle.std.specs.Prelude.{◌≡◌, Some};
 ghost use Rattle.index_names.specs.Project.{read_name};
-ghost use Rattle.index_rules.specs.Facts.{HasOneBearer};
-ghost use Rattle.index_desk.specs.Invariants.{KeepsInvariants};
-ghost use Rattle.index_desk.specs.Looks.{LeavesTables};
 ghost use Rattle.index_desk.specs.Rules.{by_tables};
-ghost use Rattle.index_http.specs.Asks.{Takes};
 ghost use Rattle.index_json.specs.Line.{line_of};
-ghost use Rattle.index_cli.specs.Replies.{reply_text, RepliesOnly, TellsKept};
-ghost use Rattle.index_cli.specs.Telling.{TellsAsked, TellsStanding};
+ghost use Rattle.index_cli.specs.Replies.{RepliesStanding, RepliesToLine, line_reply_text, TellsKept};
+ghost use Rattle.index_cli.specs.Telling.{TellsAsked};
 ghost use Rattle.index_cli.specs.TellsCalls.{AsksKept, AsksOf};
 
 use crate::end::LineEnd;
@@ -30,7 +26,7 @@ pub enum Reply {
 impl Reply {
     /// The reply's text.
     pub fn as_bytes(&self) -> &[u8]
-        ensures { result.now ≡ reply_text self.now }
+        ensures { result.now ≡ line_reply_text self.now }
     {
         match self {
             Reply::Fixed(text) => text.as_bytes(),
@@ -48,13 +44,8 @@ pub fn reply_to<B: Books>(
     front: &[u8],
     size: u64,
 ) -> Result<Reply, LineEnd>
-    ensures reply { B.IsHonest desk.new → HasOneBearer (B.tables desk.old) → IfOk result (λ reply.
-        TellsKept size front.now (B.tables desk.old) (reply_text reply) (B.tables desk.new)) }
-    ensures asks { IfOk result (λ reply. AsksKept size front.now (reply_text reply)
-        (LeavesTables B.Books desk.old desk.new) (Takes B.Books desk.old desk.new)) }
-    ensures leaves { OnErr result (LeavesTables B.Books desk.old desk.new) }
-    ensures causes { RepliesOnly (B.failures desk.old) (B.failures desk.new) result }
-    ensures keeps { KeepsInvariants B.Books desk.old desk.new }
+    ensures { RepliesToLine B.Books desk.old desk.new result
+        (TellsKept size front.now) (AsksKept size front.now) }
 {
     if size > LONGEST_LINE {
         return Ok(Reply::Fixed(bad_body()));
@@ -64,14 +55,8 @@ pub fn reply_to<B: Books>(
 
 /// The reply to a line that is not too long.
 fn reply_to_read<B: Books>(alloc: Global, desk: &mut Desk<B>, line: &[u8]) -> Result<Reply, LineEnd>
-    ensures reply { B.IsHonest desk.new → HasOneBearer (B.tables desk.old) → IfOk result (λ reply.
-        TellsAsked by_tables (line_of line.now)
-        (B.tables desk.old) (reply_text reply) (B.tables desk.new)) }
-    ensures asks { IfOk result (λ reply. AsksOf (line_of line.now) (reply_text reply)
-        (LeavesTables B.Books desk.old desk.new) (Takes B.Books desk.old desk.new)) }
-    ensures leaves { OnErr result (LeavesTables B.Books desk.old desk.new) }
-    ensures causes { RepliesOnly (B.failures desk.old) (B.failures desk.new) result }
-    ensures keeps { KeepsInvariants B.Books desk.old desk.new }
+    ensures { RepliesToLine B.Books desk.old desk.new result
+        (TellsAsked by_tables (line_of line.now)) (AsksOf (line_of line.now)) }
 {
     let Ok(asked) = read_line(alloc, line) else {
         return Err(LineEnd::OutOfMemory);
@@ -89,10 +74,7 @@ fn standing_reply<B: Books>(
     desk: &mut Desk<B>,
     name: &[u8],
 ) -> Result<Reply, LineEnd>
-    ensures reply { B.IsHonest desk.new → IfOk result (λ reply.
-        TellsStanding by_tables (B.tables desk.old) (read_name name.now) (reply_text reply)) }
-    ensures leaves { LeavesTables B.Books desk.old desk.new }
-    ensures causes { RepliesOnly (B.failures desk.old) (B.failures desk.new) result }
+    ensures { RepliesStanding B.Books desk.old desk.new result (read_name name.now) }
 {
     match normal(alloc, name) {
         Ok(name) => known_reply(alloc, desk, &name),
@@ -107,10 +89,7 @@ fn known_reply<B: Books>(
     desk: &mut Desk<B>,
     name: &NormalName,
 ) -> Result<Reply, LineEnd>
-    ensures reply { B.IsHonest desk.new → IfOk result (λ reply.
-        TellsStanding by_tables (B.tables desk.old) (Some name.now) (reply_text reply)) }
-    ensures leaves { LeavesTables B.Books desk.old desk.new }
-    ensures causes { RepliesOnly (B.failures desk.old) (B.failures desk.new) result }
+    ensures { RepliesStanding B.Books desk.old desk.new result (Some name.now) }
 {
     let standing = match desk.standing(alloc, name) {
         Ok(standing) => standing,

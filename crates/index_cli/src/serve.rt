@@ -9,8 +9,7 @@ ghost use Rattle.index_desk.specs.Crashes.{LeavesAll, LeavesAllOf};
 ghost use Rattle.index_desk.specs.Invariants.{KeepsInvariants};
 ghost use Rattle.index_desk.specs.Looks.{LeavesTables};
 ghost use Rattle.index_desk.specs.Rules.{by_tables};
-ghost use Rattle.index_http.specs.Asks.{Takes};
-ghost use Rattle.index_cli.specs.Serving.{AnswersOne, AsksOne, IsCount, OneHistory, Serves, ServesCalls, ServesHistory};
+ghost use Rattle.index_cli.specs.Serving.{AnswersMessage, IsCount, Serves, ServesCalls, ServesHistory};
 
 use crate::end::ServeEnd;
 use index_desk::{Desk, Keeper};
@@ -34,12 +33,14 @@ const ACCEPT_TRIES: u32 = 100;
 
 const ACCEPT_PAUSE: u64 = 10;
 
-/// Answers one message of each of so many connections, one connection after the other, at a moment in Unix seconds or at
-/// that of the clock. Why one of them ended early is named on standard error, and the next is served.
+/// Answers one message of each of so many connections, one connection after the other, at a moment in Unix seconds or
+/// at that of the clock. Why one of them ended early is named on standard error, and the next is served.
+///
+/// # Errors
 ///
 /// `ReadFault` where no connection can be accepted for a second, `Clock` where the clock can't be read or stands before
-/// 1970, and `Store` where a fault has shut the store and more connections are to come: no further request of them could
-/// be answered, and a new opening goes on from what was committed.
+/// 1970, and `Store` where a fault has shut the store and more connections are to come: no further request of them
+/// could be answered, and a new opening goes on from what was committed.
 pub fn serve_connections<B: Keeper>(
     rt: &HostRuntime,
     listener: &TcpListener,
@@ -157,14 +158,7 @@ fn answer_stream<B: Keeper>(
     desk: &mut Desk<B>,
     at: u64,
 ) -> Result<(), IoEnd>
-    ensures tables { B.IsHonest desk.new → HasOneBearer (B.tables desk.old) →
-        AnswersOne by_tables at (B.tables desk.old) (B.tables desk.new) }
-    ensures history { B.IsHonest desk.new →
-        (h : History) → IsLegal h → StandsFor (B.tables desk.old) h →
-        OneHistory h at (B.tables desk.new) }
-    ensures asks { AsksOne at
-        (LeavesTables B.Books desk.old desk.new) (Takes B.Books desk.old desk.new) }
-    ensures keeps { KeepsInvariants B.Books desk.old desk.new }
+    ensures { AnswersMessage B.Books desk.old desk.new at }
 {
     let Ok(writer) = BufWriter::with_capacity(rt.alloc(), GATHERED_BYTES, stream) else {
         return Err(IoEnd::OutOfMemory);
@@ -187,14 +181,7 @@ fn answer_message<S: Source, K: Sink, B: Keeper>(
     desk: &mut Desk<B>,
     at: u64,
 ) -> Result<(), IoEnd>
-    ensures tables { B.IsHonest desk.new → HasOneBearer (B.tables desk.old) →
-        AnswersOne by_tables at (B.tables desk.old) (B.tables desk.new) }
-    ensures history { B.IsHonest desk.new →
-        (h : History) → IsLegal h → StandsFor (B.tables desk.old) h →
-        OneHistory h at (B.tables desk.new) }
-    ensures asks { AsksOne at
-        (LeavesTables B.Books desk.old desk.new) (Takes B.Books desk.old desk.new) }
-    ensures keeps { KeepsInvariants B.Books desk.old desk.new }
+    ensures { AnswersMessage B.Books desk.old desk.new at }
 {
     answer_one(alloc, site, source, sink, desk, at)
 }

@@ -12,10 +12,10 @@ use Rattle.index_rules.specs.History.{History}
 use Rattle.index_rules.specs.StandsFor.{StandsFor}
 use Rattle.index_rules.specs.Legal.{IsLegal, with_call}
 use Rattle.index_rules.proofs.StandsOn.{CarriesOn-answer}
-use Rattle.index_desk.specs.Crashes.{IsWithCall, Lasts, LastsAll, Leaves, LeavesAll, LeavesAllOf}
+use Rattle.index_desk.specs.Crashes.{IsWithCall, Lasts, LastsAll, LeavesByAnswer, LeavesAll, LeavesAllOf}
 
 -- more may be left where each of its two parts is more
-pub Leaves-weaker : (before before' with_call with_call' : Tables → Type 0) → ((T : Tables) → before T → before' T) → ((T : Tables) → with_call T → with_call' T) → (answer : Answer) (T : Tables) → Leaves before with_call answer T → Leaves before' with_call' answer T
+pub Leaves-weaker : (before before' with_call with_call' : Tables → Type 0) → ((T : Tables) → before T → before' T) → ((T : Tables) → with_call T → with_call' T) → (answer : Answer) (T : Tables) → LeavesByAnswer before with_call answer T → LeavesByAnswer before' with_call' answer T
 Leaves-weaker before before' with_call with_call' f g Accepted T left = g T left
 Leaves-weaker before before' with_call with_call' f g Already T left = f T left
 Leaves-weaker before before' with_call with_call' f g (Refused refusal) T left = f T left
@@ -91,7 +91,7 @@ LeavesAll-fault T (d ∷ calls) (Fault b ∷ answers) between call fault T' run 
 -- whatever was answered: `before` is what could be left before the call
 pub LeavesAll-push : (T : Tables) (calls : List Call) (answers : List Answer) (between : Tables) (call : Call) (answer : Answer) (before : Tables → Type 0) (honest honest' : Type 0) (T' : Tables)
     → (honest → Runs T calls answers between) → ((U : Tables) → before U → LeavesAll T calls answers U) → Lasts answer honest honest' → (honest' → honest) → before T' ⊎ honest
-    → (honest → Leaves before (IsWithCall between call) answer T') → LeavesAll T (calls ++ call ∷ []) (answers ++ answer ∷ []) T'
+    → (honest → LeavesByAnswer before (IsWithCall between call) answer T') → LeavesAll T (calls ++ call ∷ []) (answers ++ answer ∷ []) T'
 LeavesAll-push T calls answers between call Accepted before honest honest' T' runs earlier lasts back either leaves = LeavesAll-accepted T calls answers between call T' (runs (back lasts)) (leaves (back lasts))
 LeavesAll-push T calls answers between call Already before honest honest' T' runs earlier lasts back either leaves =
     LeavesAll-more T calls answers call Already T' (λ h. absurd (cc)) (earlier T' (elim either [ inl b ↦ b | inr h ↦ leaves h ]))

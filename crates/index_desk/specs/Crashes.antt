@@ -12,11 +12,11 @@ use Rattle.index_rules.specs.Legal.{IsLegal, history_after, verdict_after}
 
 -- after an acceptance it leaves what stands with the call, after a fault that or what it could leave before, and else
 -- what it could leave before
-abbrev pub Leaves : (Tables → Type 0) → (Tables → Type 0) → Answer → Tables → Type 0
-Leaves before with_call Accepted T' = with_call T'
-Leaves before with_call Already T' = before T'
-Leaves before with_call (Refused refusal) T' = before T'
-Leaves before with_call (Fault fault) T' = before T' ⊎ with_call T'
+abbrev pub LeavesByAnswer : (Tables → Type 0) → (Tables → Type 0) → Answer → Tables → Type 0
+LeavesByAnswer before with_call Accepted T' = with_call T'
+LeavesByAnswer before with_call Already T' = before T'
+LeavesByAnswer before with_call (Refused refusal) T' = before T'
+LeavesByAnswer before with_call (Fault fault) T' = before T' ⊎ with_call T'
 
 -- the tables after a call that the verdict accepts
 abbrev pub IsWithCall : Tables → Call → Tables → Type 0

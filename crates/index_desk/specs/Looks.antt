@@ -17,7 +17,7 @@ pub record LeavesTables {S : Type 0} (g : Ghosts S) (old new : S) : Type 0 where
   pub crash : (T : Tables) → g.may_leave new T → g.may_leave old T
 
 -- no table changes, only a failure of the books is told as one, and a crash leaves what it could have left before
-pub record Looks {S X : Type 0} (g : Ghosts S) (old new : S) (result : Result X Fault) : Type 0 where
+pub record ReadsTables {S X : Type 0} (g : Ghosts S) (old new : S) (result : Result X Fault) : Type 0 where
   pub unchanged : g.IsHonest new → g.tables new ≡ g.tables old
   pub kept : OnOk result (g.failures new ≡ g.failures old)
   pub store : IfErr result (λ fault. fault ≡ Store → HasFailed (g.failures old) (g.failures new))
@@ -28,11 +28,11 @@ pub record Looks {S X : Type 0} (g : Ghosts S) (old new : S) (result : Result X 
   pub crash : (T : Tables) → g.may_leave new T → g.may_leave old T
 
 -- what a look does that succeeds, and finds nothing
-abbrev pub Stays : {S : Type 0} → Ghosts S → S → S → Type 0
-Stays g old new = Looks {X = Unit {0}} g old new (Ok tt)
+abbrev pub ReadsNothing : {S : Type 0} → Ghosts S → S → S → Type 0
+ReadsNothing g old new = ReadsTables {X = Unit {0}} g old new (Ok tt)
 
 -- the same of a walk over rows: that its taker wants no more of them is no failure
-pub record LooksInWalk {S X : Type 0} (g : Ghosts S) (old new : S) (result : Result X WalkEnd) : Type 0 where
+pub record WalksTables {S X : Type 0} (g : Ghosts S) (old new : S) (result : Result X WalkEnd) : Type 0 where
   pub unchanged : g.IsHonest new → g.tables new ≡ g.tables old
   pub kept : has_fault result ≡ false → g.failures new ≡ g.failures old
   pub store : IfErr result (λ fault. fault ≡ end.Store → HasFailed (g.failures old) (g.failures new))

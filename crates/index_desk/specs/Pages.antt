@@ -10,9 +10,9 @@ use Rattle.index_desk.specs.declared.keeper.Page.{Page}
 use Rattle.index_desk.specs.declared.keeper.Page.TheVariants.{Root, Project}
 
 -- the project that a page is of: the root page is of none
-abbrev pub project_of : Page → Option Bytes
-project_of Root = None
-project_of (Project name) = Some name.now
+abbrev pub project_of_page : Page → Option Bytes
+project_of_page Root = None
+project_of_page (Project name) = Some name.now
 
 -- the bytes of a page, where there is one: of a name that is not held there is none
 abbrev pub text_in : Tables → Served → Option Bytes → Option Bytes
@@ -21,4 +21,4 @@ text_in T served (Some name) = option_map (project_page_of served name) (project
 
 -- the same by the page
 abbrev pub page_in : Tables → Served → Page → Option Bytes
-page_in T served page = text_in T served (project_of page)
+page_in T served page = text_in T served (project_of_page page)

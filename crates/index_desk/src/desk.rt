@@ -13,10 +13,10 @@ ghost use Rattle.index_rules.specs.Sound.{IsSound};
 ghost use Rattle.index_rules.specs.History.{History};
 ghost use Rattle.index_rules.specs.StandsFor.{StandsFor, body_after};
 ghost use Rattle.index_rules.specs.Legal.{CarriesOn, CarriesOnAll, IsLegal};
-ghost use Rattle.index_desk.specs.Crashes.{IsWithCall, Lasts, LastsAll, Leaves, LeavesAll, LeavesAllOf};
+ghost use Rattle.index_desk.specs.Crashes.{IsWithCall, Lasts, LastsAll, LeavesByAnswer, LeavesAll, LeavesAllOf};
 ghost use Rattle.index_desk.specs.Bodies.{AreBytesOf};
 ghost use Rattle.index_desk.specs.Invariants.{KeepsInvariants};
-ghost use Rattle.index_desk.specs.Looks.{Looks};
+ghost use Rattle.index_desk.specs.Looks.{ReadsTables};
 ghost use Rattle.index_desk.specs.Standings.{IsStandingAfter, held_with, standing_in};
 
 use crate::standing::{HeldName, Standing};
@@ -98,13 +98,13 @@ impl<B: Books> Desk<B> {
         // fault one or the other.
         ensures crash { B.IsHonest self.old → B.IsClean self.new →
             HasOneBearer (B.tables self.old) → (T : Tables) → B.may_leave self.new T →
-            Leaves (B.may_leave self.old) (IsWithCall (B.tables self.old) call) result T }
+            LeavesByAnswer (B.may_leave self.old) (IsWithCall (B.tables self.old) call) result T }
 
         // The former stand for the legal history with the call, for which the tables stood without it.
         ensures crash_history { B.IsHonest self.old → B.IsClean self.new →
             (h : History) → IsLegal h → StandsFor (B.tables self.old) h →
             (T : Tables) → B.may_leave self.new T →
-            Leaves (B.may_leave self.old) (CarriesOn h call Answer.Accepted) result T }
+            LeavesByAnswer (B.may_leave self.old) (CarriesOn h call Answer.Accepted) result T }
 
         // Of a store that was not honest it leaves nothing new.
         ensures nothing_new { (T : Tables) → B.may_leave self.new T →
@@ -123,8 +123,11 @@ impl<B: Books> Desk<B> {
         }
     }
 
-    /// Takes calls in order. Room for all answers is taken first: after its one error, `OutOfMemory`, no call
-    /// was taken.
+    /// Takes calls in order. Room for all answers is taken first.
+    ///
+    /// # Errors
+    ///
+    /// `OutOfMemory`, and then no call was taken.
     pub fn run(&mut self, alloc: Global, calls: Vec<Call>) -> Result<Vec<Answer>, Fault>
         // Each answer is the verdict at its point or a fault, and the tables are those after the accepted calls.
         ensures answers { B.IsHonest self.new → HasOneBearer (B.tables self.old) →
@@ -191,13 +194,17 @@ impl<B: Books> Desk<B> {
     }
 
     /// What stands of a name. It changes no table.
+    ///
+    /// # Errors
+    ///
+    /// `OutOfMemory` for want of memory, and `Store` where the books fail.
     pub fn standing(&mut self, alloc: Global, name: &NormalName) -> Result<Standing, Fault>
         ensures standing { B.IsHonest self.new →
             IfOk result (λ standing. standing ≡ standing_in (B.tables self.old) name.now) }
         ensures history { B.IsHonest self.new →
             IfOk result (λ standing. (h : History) → StandsFor (B.tables self.old) h →
             IsStandingAfter h name.now standing) }
-        ensures look { Looks B.Books self.old self.new result }
+        ensures look { ReadsTables B.Books self.old self.new result }
     {
         let mut view = seen_name(&mut self.books, alloc, name)?;
         match view.name.take() {
@@ -213,6 +220,10 @@ impl<B: Books> Desk<B> {
 
     /// The bytes that are kept of a file with their digest, or `None` where none are: in sound tables, where it is not
     /// undeleted. It changes no table.
+    ///
+    /// # Errors
+    ///
+    /// `OutOfMemory` for want of memory, and `Store` where the books fail.
     pub fn body(&mut self, alloc: Global, file: &FileName) -> Result<Option<Sealed>, Fault>
         ensures body { B.IsHonest self.new →
             IfOk result (λ body. body ≡ get (B.tables self.old).bodies file.now) }
@@ -225,7 +236,7 @@ impl<B: Books> Desk<B> {
         // In sound tables they have the size and the digest that the file is bound to.
         ensures bound { B.IsHonest self.new → IsSound (B.tables self.old) →
             IfOk result (AreBytesOf (B.tables self.old) file.now) }
-        ensures look { Looks B.Books self.old self.new result }
+        ensures look { ReadsTables B.Books self.old self.new result }
     {
         self.books.bytes_of(alloc, file)
     }
@@ -241,9 +252,9 @@ fn consider<B: Books>(
         let f = facts_in (B.tables books.old) call in
         let verdict = verdict_now (B.tables books.old) call in
         IfOk result (λ decision. Decides decision verdict (effect call.at call.request f)) }
-    ensures look { Looks B.Books books.old books.new result }
+    ensures look { ReadsTables B.Books books.old books.new result }
 {
-    match seen(books, alloc, &call) {
+    match view_of_call(books, alloc, &call) {
         Ok(view) => {
             let decision = decide(alloc, call, &view);
             drop(view);
@@ -257,10 +268,10 @@ fn consider<B: Books>(
 }
 
 /// What a call's keys name. It changes no table.
-fn seen<B: Books>(books: &mut B, alloc: Global, call: &Call) -> Result<View, Fault>
+fn view_of_call<B: Books>(books: &mut B, alloc: Global, call: &Call) -> Result<View, Fault>
     ensures found { B.IsHonest books.new →
         IfOk result (Sees (B.tables books.old) (keys_of call.now)) }
-    ensures look { Looks B.Books books.old books.new result }
+    ensures look { ReadsTables B.Books books.old books.new result }
 {
     let keys = call.keys(alloc)?;
     books.view(alloc, &keys)
@@ -278,7 +289,7 @@ fn settle<B: Books>(books: &mut B, alloc: Global, decision: Result<Decision, Sto
     ensures crash { B.IsHonest books.old → (verdict : Verdict) (change : Change) →
         Decides decision verdict change → (T : Tables) → B.may_leave books.new T →
         let after = means change (B.tables books.old) in
-        Leaves (B.may_leave books.old) (λ T'. (verdict ≡ Accept) × (T' ≡ after)) result T }
+        LeavesByAnswer (B.may_leave books.old) (λ T'. (verdict ≡ Accept) × (T' ≡ after)) result T }
     ensures nothing_new { (T : Tables) → B.may_leave books.new T →
         B.may_leave books.old T ⊎ B.IsHonest books.old }
     ensures lasts { B.IsClean books.new →
@@ -306,7 +317,7 @@ fn seen_name<B: Books>(books: &mut B, alloc: Global, name: &NormalName) -> Resul
         IfOk result (λ view. view.name ≡ get (B.tables books.old).names name.now) }
     ensures case { B.IsHonest books.new →
         IfOk result (λ view. view.case ≡ get (B.tables books.old).cases name.now) }
-    ensures look { Looks B.Books books.old books.new result }
+    ensures look { ReadsTables B.Books books.old books.new result }
 {
     let keys = Keys::of_name(name)?;
     books.view(alloc, &keys)
@@ -339,7 +350,7 @@ fn held_name<B: Books>(
     ensures held { B.IsHonest books.new →
         let owners = owners_in (B.tables books.old) name.now in
         IfOk result (λ standing. standing ≡ held_with name.now project owners case) }
-    ensures look { Looks B.Books books.old books.new result }
+    ensures look { ReadsTables B.Books books.old books.new result }
 {
     let owners = books.owners_of(alloc, name)?;
     let name = name.clone()?;

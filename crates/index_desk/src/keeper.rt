@@ -1,7 +1,7 @@
 //! Books that may keep answers to looks at hand.
 ghost use Rattle.std.specs.Prelude.{◌≡◌, IfSome, Some};
 ghost use Rattle.std.specs.FinMap.{get};
-ghost use Rattle.index_desk.specs.Looks.{Stays};
+ghost use Rattle.index_desk.specs.Looks.{ReadsNothing};
 ghost use Rattle.index_desk.specs.Pages.{page_in};
 
 use index_digest::Sealed;
@@ -29,7 +29,7 @@ pub trait Keeper: Books {
     fn keep_body(&mut self, file: FileName, body: Sealed)
         requires { Self.IsHonest self.old →
             get (Self.tables self.old).bodies file ≡ Some body }
-        ensures { Stays Self.Books self.old self.new };
+        ensures { ReadsNothing Self.Books self.old self.new };
 
     /// The text of a page in a type, where it is kept at hand.
     fn kept_page(&self, page: Page<'_>, served: Served) -> Option<&[u8]>
@@ -40,5 +40,5 @@ pub trait Keeper: Books {
     fn keep_page(&mut self, page: Page<'_>, served: Served, text: Vec<u8>)
         requires { Self.IsHonest self.old →
             page_in (Self.tables self.old) served page ≡ Some text.items }
-        ensures { Stays Self.Books self.old self.new };
+        ensures { ReadsNothing Self.Books self.old self.new };
 }

@@ -35,7 +35,11 @@ impl Model for Sealed {
 }
 
 impl Sealed {
-    /// Keeps `bytes` where `declared` is their digest, and else hands them back.
+    /// Keeps `bytes` where `declared` is their digest.
+    ///
+    /// # Errors
+    ///
+    /// The bytes themselves, where it is not.
     pub fn new(bytes: Vec<u8>, declared: Digest256) -> Result<Sealed, Vec<u8>>
         ensures matches { IsOk result ↔ (sha256 bytes.items ≡ declared) }
         ensures kept { IfOk result (λ sealed. sealed ≡ bytes.items) }

@@ -16,7 +16,9 @@ mod fakes;
 mod faults;
 mod interruptions;
 mod lines;
+mod long_pages;
 mod replies;
+mod rows;
 mod stops;
 
 /// The SHA-256 digest of `abc`, an example of FIPS 180-4.

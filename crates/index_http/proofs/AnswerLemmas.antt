@@ -4,12 +4,11 @@ use Rattle.index_rules.specs.Maps.{Bytes}
 use Rattle.index_rules.specs.Tables.{Tables}
 use Rattle.index_desk.specs.Rules.{by_tables}
 use Rattle.index_message.specs.Requests.{Request}
-use Rattle.index_message.specs.Resources.{is_head, is_put, is_reading}
+use Rattle.index_message.specs.Resources.{is_head, is_reading}
 use Rattle.index_message.specs.declared.message.Message.{Message}
 use Rattle.index_message.specs.declared.message.Message.TheVariants.{Whole}
 use Rattle.index_http.specs.Ends.{Ends}
-use Rattle.index_http.specs.Exchanges.{Acts, RepliesTo, Shows, call_of}
-use Rattle.index_http.specs.Replies.{Reply, reply_text}
+use Rattle.index_http.specs.Exchanges.{RepliesTo, RepliesToRequest, Shows}
 use Rattle.index_http.specs.Shows.{EndsShown}
 use Rattle.index_http.specs.declared.end.IoEnd.{IoEnd}
 use Rattle.index_http.proofs.EndLemmas.{ends_map}
@@ -21,8 +20,7 @@ IsReplyTo Cause at T IsLater message text = (later : Tables) × RepliesTo by_tab
 -- what was acted is a reply of this kind
 abbrev pub IsActed : Type 0 → ℕ → Tables → (Tables → Type 0) → Request → Bytes → Bytes → Type 0
 IsActed Cause at T IsLater request body text =
-    (reply : Reply) × (later : Tables) × (text ≡ reply_text (is_head request.method) reply)
-    × Acts by_tables Cause (is_put request.method) T (call_of at request body) reply later × IsLater later
+    (later : Tables) × RepliesToRequest by_tables Cause at T request body false text later × IsLater later
 
 module _ (Cause : Type 0) (at : ℕ) (T : Tables) (IsLater : Tables → Type 0) (request : Request) (body : Bytes)
     (before after : Option Bytes) (result : Result (Unit {0}) IoEnd) where
@@ -36,4 +34,4 @@ module _ (Cause : Type 0) (at : ℕ) (T : Tables) (IsLater : Tables → Type 0) 
       → Ends (IsActed Cause at T IsLater request body) (IsLater T) before after result
       → Ends (IsReplyTo Cause at T IsLater (Whole request body)) (IsLater T) before after result
   call_ends changes ends =
-      ends_map _ _ _ _ before after result (λ text acted. (acted.1, (acted.0, acted.2, rw changes acted.3), acted.4)) (λ same. same) ends
+      ends_map _ _ _ _ before after result (λ text acted. (acted.0, rw changes acted.1, acted.2)) (λ same. same) ends

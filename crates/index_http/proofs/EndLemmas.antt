@@ -1,6 +1,7 @@
 -- A reply that was sent ends a connection.
-use Rattle.std.proofs.Common.{◌≡◌, ◌⊎◌, Bool, inl, inr, refl, sym, subst, Option, Result, Ok, Err}
+use Rattle.std.proofs.Common.{◌≡◌, ◌⊎◌, Bool, true, false, inl, inr, refl, sym, subst, Option, Result, Ok, Err}
 use Rattle.index_rules.specs.Maps.{Bytes}
+use Rattle.index_rules.specs.Tables.{Tables}
 use Rattle.index_rules.specs.declared.answer.Fault.{Fault}
 use Rattle.index_rules.specs.declared.answer.Fault.TheVariants.{Store, OutOfMemory as NoMemory}
 use Rattle.index_http.specs.Ends.{Ends}
@@ -62,3 +63,17 @@ pub ends_shown_map : (to_head : Bool) (P Q : Reply → Type 0) (Cause : Type 0) 
     → ((reply : Reply) → P reply → Q reply) → EndsShown to_head P Cause before after result → EndsShown to_head Q Cause before after result
 ends_shown_map to_head P Q Cause before after result f ends =
     ends_map (IsShown to_head P Cause) (IsShown to_head Q Cause) (Unit {0}) (Unit {0}) before after result (shown_map to_head P Q Cause f) (λ u. u) ends
+
+-- ---- the tables that stand after a reply
+
+-- where just these tables stand, the reply is one after which they do
+pub stands_ends : (IsReply : Bytes → Tables → Type 0) (IsLater : Tables → Type 0) (T T' : Tables) (before after : Option Bytes) (result : Result (Unit {0}) IoEnd)
+    → ((later : Tables) → IsLater later → T' ≡ later) → Ends (λ text. (later : Tables) × IsReply text later × IsLater later) (IsLater T) before after result
+    → Ends (λ text. IsReply text T') (T' ≡ T) before after result
+stands_ends IsReply IsLater T T' before after result same ends =
+    ends_map _ _ _ _ before after result (λ text it. subst (IsReply text) (sym (same it.0 it.2)) it.1) (λ it. same T it) ends
+
+-- what is not whole has a page
+pub has_page : (is_page is_cut : Bool) → (is_page ≡ false → is_cut ≡ false) → is_cut ≡ true → is_page ≡ true
+has_page true is_cut whole cut = refl
+has_page false is_cut whole cut = let is = whole refl in cc (is, cut)

@@ -15,8 +15,8 @@ use Rattle.index_desk.specs.Projects.{project_rows_in}
 use Rattle.index_pages.specs.Ends.{most_bytes}
 use Rattle.index_pages.specs.declared.served.Served.{Served}
 use Rattle.index_http.specs.Exchanges.{store_reply}
-use Rattle.index_http.specs.PagePasses.{MeasuresProject}
-use Rattle.index_http.specs.PageShows.{ShowsWhole, sent_behind}
+use Rattle.index_http.specs.PagePasses.{IsMeasured, MeasuresProject}
+use Rattle.index_http.specs.PageShows.{ShowsWhole, after_head}
 use Rattle.index_http.specs.Replies.{page_reply}
 use Rattle.index_http.specs.Sends.{SendsFirst, SendsText}
 use Rattle.index_http.specs.declared.end.IoEnd.{IoEnd}
@@ -30,21 +30,14 @@ rows_of_held T name held = rw held refl
 pub rows_of_none : (T : Tables) (name : Bytes) → is_held (get T.names name) ≡ false → project_rows_in T name ≡ None
 rows_of_none T name free = rw free refl
 
--- a page whose length was told is there, and has it
-pub record Measured (page : Option Bytes) (count : ℕ) : Type 0 where
-  pub bytes : Bytes
-  pub is : page ≡ Some bytes
-  pub size : count ≡ length bytes
-  pub within : count ≤ most_bytes
-
-pub measured : (page : Option Bytes) (before after count : ℕ) → MeasuresProject page before after (Ok (Some count)) → Measured page count
+pub measured : (page : Option Bytes) (before after count : ℕ) → MeasuresProject page before after (Ok (Some count)) → IsMeasured page count
 measured None before after count is = absurd (some_is_none count is)
   where
     some_is_none : (n : ℕ) → Some n ≡ None → ⊥
     some_is_none n e = cc
 measured (Some bytes) before after count (size, within) = record { bytes = bytes; is = refl; size = size; within = within }
 
-pub shows_measured : (served : Served) (page : Option Bytes) (count : ℕ) (there : Measured page count) → ShowsWhole served page (page_reply served there.bytes)
+pub shows_measured : (served : Served) (page : Option Bytes) (count : ℕ) (there : IsMeasured page count) → ShowsWhole served page (page_reply served there.bytes)
 shows_measured served page count there = subst (λ o. ShowsWhole served o (page_reply served there.bytes)) (sym there.is) (inl refl)
 
 pub unmeasured : (page : Option Bytes) (before after : ℕ) → MeasuresProject page before after (Ok None) → page ≡ None
@@ -67,7 +60,7 @@ first_behind head page count n before mid after is within short front (least, se
     rw (sum, take-append-add head page n) (rw length-append (omega (arith, least)), Appends-trans before mid after head (take n page) front sent)
 
 pub sends_behind : (head page : Bytes) (count : ℕ) (before mid after : Option Bytes) (result : Result (Unit {0}) IoEnd) → count ≡ length head → length page ≤ most_bytes → count ≤ 512
-    → Appends before mid head → SendsText page mid after result → SendsText (head ++ page) before after (sent_behind count result)
+    → Appends before mid head → SendsText page mid after result → SendsText (head ++ page) before after (after_head count result)
 sends_behind head page count before mid after (Ok done) is within short front sends = Appends-trans before mid after head page front sends
 sends_behind head page count before mid after (Err ReadFault) is within short front sends = absurd sends
 sends_behind head page count before mid after (Err OutOfMemory) is within short front sends = absurd sends

@@ -14,9 +14,9 @@ use Rattle.index_rules.specs.declared.rows.WalkEnd.{WalkEnd}
 use Rattle.index_rules.specs.declared.rows.WalkEnd.TheVariants as walk
 use Rattle.index_desk.specs.Projects.{WalksProject}
 use Rattle.index_pages.specs.Rest.{Rest}
-use Rattle.index_pages.specs.Ends.{Ends, IsCaused, Measures, SinkState, count_of}
-use Rattle.index_pages.specs.States.{EndsPage, IsFresh, IsFront, IsSteady, IsWritten, StopsLength, StopsPage, StopsText, TakesText, TextState, end_at, length_state, text_state}
-use Rattle.index_pages.specs.States.{MeasuresPage as MeasuresRows}
+use Rattle.index_pages.specs.Ends.{WritesPage, IsCaused, Measures, SinkState, count_of}
+use Rattle.index_pages.specs.States.{EndsPage, IsFresh, IsFront, IsSteady, IsWritten, StopsLength, StopsPage, StopsText, TakesText, TextState}
+use Rattle.index_pages.specs.States.{MeasuresGivenRows as MeasuresRows}
 use Rattle.index_pages.specs.declared.end.PageEnd.{PageEnd}
 use Rattle.index_pages.specs.declared.end.PageEnd.TheVariants as page_end
 use Rattle.index_pages.proofs.TakerLemmas.{walks_by}
@@ -42,10 +42,6 @@ faulty at_stop fault (Err walk.Store) e = refl
 
 -- ---- the first pass
 
--- a count of which nothing was counted yet
-pub fresh_length : {R : Type 0} (rest : Rest R) (length : ℕ) (end : Option Fault) → length ≡ 0 → end ≡ None → IsFresh (length_state rest length end)
-fresh_length rest length end none ongoing = record { none = none; ongoing = ap (option_map (end_at length)) ongoing }
-
 told : (page : Bytes) (before after : ℕ) (result : Result ℕ Fault) → Measures page result → MeasuresPage page before after result
 told page before after (Ok count) measures = measures
 told page before after (Err fault.Store) measures = inr (measures refl)
@@ -64,10 +60,6 @@ counted start now rows before after (Err walk.OutOfMemory) result fresh front ri
 counted start now rows before after (Err walk.Store) result fresh front right page stops = cc right
 
 -- ---- the second pass
-
--- a page of which nothing was written yet
-pub fresh_text : {R : Type 0} (rest : Rest R) (sink : SinkState) (written : ℕ) (end : Option PageEnd) → written ≡ 0 → end ≡ None → IsFresh (text_state rest sink written end)
-fresh_text rest sink written end none ongoing = record { none = none; ongoing = ongoing }
 
 -- what a pass sent, and whether a write of it failed
 pub record IsSent (page : Bytes) (before after : SinkState) (result : Result (Unit {0}) IoEnd) : Type 0 where
@@ -90,7 +82,7 @@ ends page before after (page_end.OutOfMemory count) sends caused = record { send
 ends page before after (page_end.Store count) sends caused = record { sends = sends; failed = λ no. cc no; steady = λ is. caused }
 ends page before after (page_end.WriteFault count) sends caused = record { sends = sends; failed = λ is. caused; steady = λ no. cc no }
 
-whole : (page : Bytes) (before after : SinkState) (result : Result ℕ PageEnd) → Ends page before after result → IsSent page before after (sent_by result)
+whole : (page : Bytes) (before after : SinkState) (result : Result ℕ PageEnd) → WritesPage page before after result → IsSent page before after (sent_by result)
 whole page before after (Ok count) ended = record { sends = ended.wrote; failed = λ no. cc no; steady = λ is. ended.steady }
 whole page before after (Err end) ended = ends page before after end (ended.within, ended.wrote) ended.caused
 
@@ -210,3 +202,13 @@ pub measured_there : (pages : Option Bytes) (page : Bytes) (before after : ℕ) 
     → pages ≡ Some page → told ≡ some_length result → MeasuresPage page before after result → MeasuresProject pages before after told
 measured_there pages page before after (Ok count) told is same measures = rw (is, same) measures
 measured_there pages page before after (Err end) told is same measures = rw (is, same) measures
+
+-- ---- a page that there may be, by the rows that there may be
+
+pub some_mapped : {A B : Type 0} (f : A → B) (given : Option A) (y : B) → option_map f given ≡ Some y → (x : A) × (given ≡ Some x) × (f x ≡ y)
+some_mapped f None y is = cc is
+some_mapped f (Some x) y is = (x, refl, cc is)
+
+pub none_mapped : {A B : Type 0} (f : A → B) (given : Option A) → option_map f given ≡ None → given ≡ None
+none_mapped f None is = refl
+none_mapped f (Some x) is = cc is

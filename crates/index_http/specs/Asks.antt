@@ -9,7 +9,7 @@ use Rattle.index_rules.specs.Maps.{Bytes}
 use Rattle.index_rules.specs.Runs.{Answers, tables_after}
 use Rattle.index_rules.specs.Tables.{Tables}
 use Rattle.index_rules.specs.Verdict.{verdict_now}
-use Rattle.index_desk.specs.Crashes.{IsWithCall, Lasts, Leaves}
+use Rattle.index_desk.specs.Crashes.{IsWithCall, Lasts, LeavesByAnswer}
 use Rattle.index_message.specs.Messages.{IsMessage}
 use Rattle.index_message.specs.Resources.{is_head, is_put, is_reading}
 use Rattle.index_message.specs.declared.message.Message.{Message}
@@ -25,7 +25,9 @@ use Rattle.index_http.specs.declared.end.IoEnd.{IoEnd}
 pub record Takes {S : Type 0} (g : Ghosts S) (old new : S) (call : Call) (answer : Answer) : Type 0 where
   pub verdict : g.IsHonest new → HasOneBearer (g.tables old) → Answers (verdict_now (g.tables old) call) answer
   pub next : g.IsHonest new → HasOneBearer (g.tables old) → g.tables new ≡ tables_after (g.tables old) call answer
-  pub crash : g.IsHonest old → g.IsClean new → HasOneBearer (g.tables old) → (T : Tables) → g.may_leave new T → Leaves (g.may_leave old) (IsWithCall (g.tables old) call) answer T
+  pub crash : g.IsHonest old → g.IsClean new → HasOneBearer (g.tables old) → (T : Tables)
+      → g.may_leave new T
+      → LeavesByAnswer (g.may_leave old) (IsWithCall (g.tables old) call) answer T
   pub nothing_new : (T : Tables) → g.may_leave new T → g.may_leave old T ⊎ g.IsHonest old
   pub lasts : g.IsClean new → Lasts answer (g.IsHonest old) (g.IsHonest new)
   pub honest : g.IsHonest new → g.IsHonest old

@@ -1,6 +1,10 @@
 -- How a connection ends.
 use Rattle.std.specs.Prelude.{◌≡◌, ℕ, Option, Result, Ok, Err}
 use Rattle.std.specs.Io.KnownBytes.{Keeps}
+use Rattle.index_io.specs.Counts.{HasFailed}
+use Rattle.index_io.specs.declared.sink.Sink.{Ghosts as Outs}
+use Rattle.index_rules.specs.declared.books.Books.{Ghosts}
+use Rattle.index_rules.specs.Facts.{HasOneBearer}
 use Rattle.index_rules.specs.Maps.{Bytes}
 use Rattle.index_rules.specs.Tables.{Tables}
 use Rattle.index_rules.specs.History.{History}
@@ -13,20 +17,33 @@ use Rattle.index_http.specs.declared.end.IoEnd.{IoEnd}
 use Rattle.index_http.specs.declared.end.IoEnd.TheVariants.{ReadFault, OutOfMemory, WriteFault, Cut}
 
 -- a reply of this kind went out, or as many of its first bytes as the end tells
-abbrev pub Sends : (Bytes → Type 0) → Option Bytes → Option Bytes → Result (Unit {0}) IoEnd → Type 0
-Sends IsReply before after result = (text : Bytes) × IsReply text × SendsText text before after result
+abbrev pub SendsReply : (Bytes → Type 0) → Option Bytes → Option Bytes → Result (Unit {0}) IoEnd → Type 0
+SendsReply IsReply before after result =
+    (text : Bytes) × IsReply text × SendsText text before after result
 
 -- a reply of this kind went out, or a front of it; where the end came before that, this holds and nothing did
 abbrev pub Ends : (Bytes → Type 0) → Type 0 → Option Bytes → Option Bytes → Result (Unit {0}) IoEnd → Type 0
-Ends IsReply Unchanged before after (Ok done) = Sends IsReply before after (Ok done)
-Ends IsReply Unchanged before after (Err (WriteFault count)) = Sends IsReply before after (Err (WriteFault count))
-Ends IsReply Unchanged before after (Err (Cut count)) = Sends IsReply before after (Err (Cut count))
+Ends IsReply Unchanged before after (Ok done) = SendsReply IsReply before after (Ok done)
+Ends IsReply Unchanged before after (Err (WriteFault count)) =
+    SendsReply IsReply before after (Err (WriteFault count))
+Ends IsReply Unchanged before after (Err (Cut count)) =
+    SendsReply IsReply before after (Err (Cut count))
 Ends IsReply Unchanged before after (Err ReadFault) = Unchanged × Keeps before after
 Ends IsReply Unchanged before after (Err OutOfMemory) = Unchanged × Keeps before after
 
 -- the tables are these, where the store is honest
 abbrev pub Stands : {S : Type 0} → (S → Type 0) → (S → Tables) → S → Tables → Type 0
 Stands is_honest tables s T = is_honest s → tables s ≡ T
+
+-- of a store that was honest, and is clean after it: a reply of this kind went out, or a front of it, by the tables before
+-- and those after it, which stand where the store is honest still; or nothing did, and the tables stand as they were
+abbrev pub RepliesBy : {S K : Type 0} → Ghosts S → Outs K → S → S → K → K → Result (Unit {0}) IoEnd
+    → (Type 0 → Tables → Bytes → Tables → Type 0) → Type 0
+RepliesBy g out old new before after result IsReply =
+    g.IsHonest old → g.IsClean new → HasOneBearer (g.tables old) →
+    Ends (λ text. (later : Tables) × IsReply (HasFailed (g.failures old) (g.failures new)) (g.tables old) text later
+    × Stands g.IsHonest g.tables new later)
+    (Stands g.IsHonest g.tables new (g.tables old)) (out.contents before) (out.contents after) result
 
 -- the tables stand for a legal history after which the connection ends so, by the history before it
 pub record EndsAfter (Cause : Type 0) (at : ℕ) (h : History) (given before after : Option Bytes) (result : Result (Unit {0}) IoEnd) (T' : Tables) : Type 0 where

@@ -37,7 +37,7 @@ use Rattle.index_pages.specs.Accept.{IsChosen}
 use Rattle.index_pages.specs.Ends.{most_bytes}
 use Rattle.index_pages.specs.Pages.{project_page_of, root_page_of}
 use Rattle.index_pages.specs.declared.served.Served.{Served}
-use Rattle.index_http.specs.Replies.{Reply, answer_reply, file_reply, json_reply, message_reply, page_reply, reply_text, to_project, to_root}
+use Rattle.index_http.specs.Replies.{Reply, answer_reply, file_reply, json_reply, message_reply, page_reply, reply_text, redirect_to_project, redirect_to_root}
 
 -- ---- what is shown
 
@@ -75,15 +75,15 @@ abbrev pub ShowsProject : {S : Type 0} → Rules S → S → Bytes → Option Se
 ShowsProject rules s name chosen reply =
     (rows : Option (List FileRow)) × rules.ProjectRows s name rows × ShowsRows name chosen rows reply
 
--- the way to the page of a project name: to its normal form (PEP 503)
-abbrev pub ShowsWay : Option Bytes → Reply → Type 0
-ShowsWay None reply = reply ≡ refusal_reply NoProject
-ShowsWay (Some name) reply = reply ≡ to_project name
+-- a redirect to the page of a project name, by its normal form (PEP 503)
+abbrev pub ShowsRedirect : Option Bytes → Reply → Type 0
+ShowsRedirect None reply = reply ≡ refusal_reply NoProject
+ShowsRedirect (Some name) reply = reply ≡ redirect_to_project name
 
 -- the page of a project whose name is given in its normal form, or not: then it is the way there (PEP 503)
 abbrev pub ShowsSpelling : {S : Type 0} → Rules S → S → List Field → Bytes → Bool → Reply → Type 0
 ShowsSpelling rules s fields name true reply = (chosen : Option Served) × IsAccepted fields chosen × ShowsProject rules s name chosen reply
-ShowsSpelling rules s fields name false reply = reply ≡ to_project name
+ShowsSpelling rules s fields name false reply = reply ≡ redirect_to_project name
 
 -- the page at what is given as a name
 abbrev pub ShowsAt : {S : Type 0} → Rules S → S → List Field → Bytes → Option Bytes → Reply → Type 0
@@ -108,9 +108,9 @@ ShowsName rules s (Some name) reply =
 
 -- what a resource shows
 abbrev pub Shows : {S : Type 0} → Rules S → S → List Field → Resource → Reply → Type 0
-Shows rules s fields resource.Simple reply = reply ≡ to_root
+Shows rules s fields resource.Simple reply = reply ≡ redirect_to_root
 Shows rules s fields resource.Root reply = (chosen : Option Served) × IsAccepted fields chosen × ShowsRoot rules s chosen reply
-Shows rules s fields (resource.Project name) reply = ShowsWay (read_name name) reply
+Shows rules s fields (resource.Project name) reply = ShowsRedirect (read_name name) reply
 Shows rules s fields (resource.ProjectPage name) reply = ShowsAt rules s fields name (read_name name) reply
 Shows rules s fields (resource.File file) reply = ShowsFile rules s file (is_some (read_file_name file)) reply
 Shows rules s fields (resource.Name name) reply = ShowsName rules s (read_name name) reply
@@ -157,14 +157,17 @@ Replies rules Cause at s request body true reply s' =
     (Shows rules s request.fields request.resource reply ⊎ ((reply ≡ store_reply) × Cause)) × (s' ≡ s)
 Replies rules Cause at s request body false reply s' = Acts rules Cause (is_put request.method) s (call_of at request body) reply s'
 
+-- its text, by whether the request only reads
+abbrev pub RepliesToRequest : {S : Type 0} → Rules S → Type 0 → ℕ → S → Request → Bytes → Bool → Bytes → S → Type 0
+RepliesToRequest rules Cause at s request body reads text s' =
+    (reply : Reply) × (text ≡ reply_text (is_head request.method) reply) × Replies rules Cause at s request body reads reply s'
+
 -- ---- messages
 
 -- the text of the reply to a message, and the state after it
 abbrev pub RepliesTo : {S : Type 0} → Rules S → Type 0 → ℕ → S → Message → Bytes → S → Type 0
 RepliesTo rules Cause at s (Faulty fault to_head) text s' = (text ≡ reply_text to_head (message_reply fault)) × (s' ≡ s)
-RepliesTo rules Cause at s (Whole request body) text s' =
-    (reply : Reply) × (text ≡ reply_text (is_head request.method) reply)
-    × Replies rules Cause at s request body (is_reading request.method) reply s'
+RepliesTo rules Cause at s (Whole request body) text s' = RepliesToRequest rules Cause at s request body (is_reading request.method) text s'
 
 -- the text of the reply to the message that an input begins with, and the state after it
 abbrev pub RepliesToInput : {S : Type 0} → Rules S → Type 0 → ℕ → S → Option Bytes → Bytes → S → Type 0

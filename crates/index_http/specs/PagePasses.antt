@@ -1,6 +1,8 @@
 -- The two passes over the rows of a page: the first counts its bytes, the second sends them.
-use Rattle.std.specs.Prelude.{◌≡◌, ◌⊎◌, ℕ, ◌<◌, ◌≤◌, Bool, false, length, Option, Some, None, Result, Ok, Err, ⊤}
+use Rattle.std.specs.Prelude.{◌≡◌, ◌⊎◌, ℕ, ◌<◌, ◌≤◌, Bool, true, false, length, Option, Some, None, Result, Ok, Err, IfOk, IfSome, is_err, ⊤}
+use Rattle.std.specs.Io.KnownBytes.{Keeps}
 use Rattle.index_io.specs.Counts.{FailsAtMostOnce, HasFailed}
+use Rattle.index_io.specs.declared.sink.Sink.{Ghosts as Outs}
 use Rattle.index_rules.specs.Maps.{Bytes}
 use Rattle.index_rules.specs.Tables.{Tables}
 use Rattle.index_rules.specs.declared.answer.Fault.{Fault}
@@ -8,9 +10,11 @@ use Rattle.index_rules.specs.declared.answer.Fault.TheVariants as fault
 use Rattle.index_rules.specs.declared.books.Books.{Ghosts}
 use Rattle.index_rules.specs.declared.rows.WalkEnd.{WalkEnd}
 use Rattle.index_rules.specs.declared.rows.WalkEnd.TheVariants as walk_end
+use Rattle.index_desk.specs.Looks.{ReadsTables}
 use Rattle.index_pages.specs.Ends.{most_bytes}
 use Rattle.index_pages.specs.declared.end.PageEnd.{PageEnd}
 use Rattle.index_pages.specs.declared.end.PageEnd.TheVariants as page_end
+use Rattle.index_http.specs.Sends.{SendsOnly, SendsText, is_cut}
 use Rattle.index_http.specs.declared.end.IoEnd.{IoEnd}
 use Rattle.index_http.specs.declared.end.IoEnd.TheVariants.{WriteFault, Cut}
 
@@ -60,3 +64,34 @@ pub record KeepsTables {S : Type 0} (g : Ghosts S) (old new : S) (has_fault : Bo
   pub clean : g.IsClean new → g.IsClean old
   pub lasts : has_fault ≡ false → g.IsHonest old → g.IsClean new → g.IsHonest new
   pub crash : (T : Tables) → g.may_leave new T → g.may_leave old T
+
+-- ---- what a pass does, of a store that was honest, and is clean after it
+
+-- the length is told so of the tables, none of which changes
+pub record MeasuresPass {S X : Type 0} (g : Ghosts S) (old new : S) (result : Result X Fault)
+    (IsTold : Tables → ℕ → ℕ → Result X Fault → Type 0) : Type 0 where
+  pub measured : g.IsHonest old → g.IsClean new → IsTold (g.tables old) (g.failures old) (g.failures new) result
+  pub keeps : KeepsTables g old new (is_err result)
+
+-- a page that was measured is there, and has this length
+pub record IsMeasured (page : Option Bytes) (count : ℕ) : Type 0 where
+  pub bytes : Bytes
+  pub is : page ≡ Some bytes
+  pub size : count ≡ length bytes
+  pub within : count ≤ most_bytes
+
+-- the page of the tables is sent, where there is one, and else nothing; no table changes
+pub record SendsPage {S K : Type 0} (g : Ghosts S) (out : Outs K) (old new : S) (before after : K)
+    (result : Result (Unit {0}) IoEnd) (page_of : Tables → Option Bytes) : Type 0 where
+  pub sent : g.IsHonest old → g.IsClean new → (page : Bytes) → page_of (g.tables old) ≡ Some page
+      → SendsText page (out.contents before) (out.contents after) result
+  pub none : g.IsHonest old → g.IsClean new → page_of (g.tables old) ≡ None
+      → Keeps (out.contents before) (out.contents after) × (result ≡ Err (Cut 0))
+  pub sends : SendsOnly out before after true result
+  pub keeps : KeepsTables g old new (is_cut result)
+
+-- a text that was gathered is that of the page of the tables, none of which changes
+pub record Gathers {S X : Type 0} (g : Ghosts S) (old new : S) (result : Result (Option X) Fault)
+    (items : X → Bytes) (page_of : Tables → Option Bytes) : Type 0 where
+  pub text : g.IsHonest old → g.IsClean new → IfOk result (λ found. IfSome found (λ text. page_of (g.tables old) ≡ Some (items text)))
+  pub look : ReadsTables g old new result

@@ -15,13 +15,13 @@ ShowsWhole served None reply = reply ≡ refusal_reply NoProject
 ShowsWhole served (Some page) reply = ShowsPage served page reply
 
 -- the end of a reply by that of its body, before which this many bytes went out
-abbrev pub behind : ℕ → IoEnd → IoEnd
-behind head ReadFault = ReadFault
-behind head OutOfMemory = OutOfMemory
-behind head (WriteFault count) = WriteFault (min (head + count) last_count)
-behind head (Cut count) = Cut (min (head + count) last_count)
+abbrev pub end_after_head : ℕ → IoEnd → IoEnd
+end_after_head head ReadFault = ReadFault
+end_after_head head OutOfMemory = OutOfMemory
+end_after_head head (WriteFault count) = WriteFault (min (head + count) last_count)
+end_after_head head (Cut count) = Cut (min (head + count) last_count)
 
 -- the same of how the body ended
-abbrev pub sent_behind : ℕ → Result (Unit {0}) IoEnd → Result (Unit {0}) IoEnd
-sent_behind head (Ok done) = Ok done
-sent_behind head (Err end) = Err (behind head end)
+abbrev pub after_head : ℕ → Result (Unit {0}) IoEnd → Result (Unit {0}) IoEnd
+after_head head (Ok done) = Ok done
+after_head head (Err end) = Err (end_after_head head end)

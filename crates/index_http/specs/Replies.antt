@@ -71,7 +71,7 @@ allow_text allowed.Requests = field_line (codes "Allow") (codes "POST")
 abbrev pub location_text : Bytes → Bytes
 location_text path = field_line (codes "Location") path
 
--- the line of the way to a project's page (PEP 503)
+-- the line of a redirect to a project's page (PEP 503)
 abbrev pub project_location : Bytes → Bytes
 project_location name = location_text (codes "/simple/" ++ (name ++ codes "/"))
 
@@ -103,16 +103,16 @@ reply_of parts = record { status = parts.status; fields = fields_text parts.fiel
 -- ---- the replies to messages and calls
 
 -- the name of a message's fault
-abbrev pub fault_name : MessageFault → Bytes
-fault_name BadHead = codes "BadHead"
-fault_name NoRoute = codes "NoRoute"
-fault_name (BadMethod allowed) = codes "BadMethod"
-fault_name BadLength = codes "BadLength"
-fault_name NoLength = codes "NoLength"
-fault_name BodyTooLarge = codes "BodyTooLarge"
-fault_name ShortBody = codes "ShortBody"
-fault_name BadBody = codes "BadBody"
-fault_name NotAcceptable = codes "NotAcceptable"
+abbrev pub message_fault_name : MessageFault → Bytes
+message_fault_name BadHead = codes "BadHead"
+message_fault_name NoRoute = codes "NoRoute"
+message_fault_name (BadMethod allowed) = codes "BadMethod"
+message_fault_name BadLength = codes "BadLength"
+message_fault_name NoLength = codes "NoLength"
+message_fault_name BodyTooLarge = codes "BodyTooLarge"
+message_fault_name ShortBody = codes "ShortBody"
+message_fault_name BadBody = codes "BadBody"
+message_fault_name NotAcceptable = codes "NotAcceptable"
 
 -- the header lines of the reply to a message with this fault: where the method is bad they list the others (RFC 9110,
 -- section 15.5.6)
@@ -132,7 +132,7 @@ unfoldable pub message_reply : MessageFault → Reply
 message_reply fault = record {
   status = status_of_fault fault;
   fields = fields_text (fields_of_fault fault);
-  body = message_text_of (fault_name fault);
+  body = message_text_of (message_fault_name fault);
 }
 
 -- the header lines of the reply to a call: 401 alone has a challenge (RFC 9110, section 15.5.2)
@@ -163,10 +163,10 @@ file_reply bytes = record { status = 200; fields = fields_text File; body = byte
 abbrev pub json_reply : Bytes → Reply
 json_reply text = record { status = 200; fields = fields_text Json; body = text }
 
--- the way to the root page (RFC 9110, section 15.4.2)
-abbrev pub to_root : Reply
-to_root = record { status = 301; fields = fields_text ToRoot; body = [] }
+-- a redirect to the root page (RFC 9110, section 15.4.2)
+abbrev pub redirect_to_root : Reply
+redirect_to_root = record { status = 301; fields = fields_text ToRoot; body = [] }
 
--- the way to a project's page (PEP 503)
-abbrev pub to_project : Bytes → Reply
-to_project name = record { status = 301; fields = project_location name; body = [] }
+-- a redirect to a project's page (PEP 503)
+abbrev pub redirect_to_project : Bytes → Reply
+redirect_to_project name = record { status = 301; fields = project_location name; body = [] }

@@ -1,7 +1,9 @@
 -- What is sent of a reply.
-use Rattle.std.specs.Prelude.{◌≡◌, ◌≢◌, ℕ, ◌≤◌, Bool, true, false, length, take, Option, Result, Ok, Err}
+use Rattle.std.specs.Prelude.{◌≡◌, ◌≢◌, ℕ, ◌<◌, ◌≤◌, Bool, true, false, length, take, Option, Result, Ok, Err, IfOk, IfErr, OnOk, OnErr}
 use Rattle.std.specs.Io.KnownBytes.{Appends}
 use Rattle.index_io.specs.Counts.{HasFailed}
+use Rattle.index_io.specs.declared.sink.Sink.{Ghosts as Outs}
+use Rattle.index_io.specs.declared.source.Source.{Ghosts as Ins}
 use Rattle.index_rules.specs.Maps.{Bytes}
 use Rattle.index_message.specs.declared.head.ReadEnd.{ReadEnd}
 use Rattle.index_message.specs.declared.head.ReadEnd.TheVariants as read_end
@@ -44,11 +46,27 @@ is_silent (Err OutOfMemory) = true
 is_silent (Err (WriteFault count)) = false
 is_silent (Err (Cut count)) = false
 
--- a write failed, or took no byte, just where the result says so; and no read failed
-pub record SendsOnly (failures_before failures_after : ℕ) (result : Result (Unit {0}) IoEnd) : Type 0 where
-  pub write_fault : is_write_fault result ≡ true → HasFailed failures_before failures_after
-  pub writes : is_write_fault result ≡ false → failures_after ≡ failures_before
+-- a write failed, or took no byte, just where the result says so; no read failed; and only a page is cut short
+pub record SendsOnly {K : Type 0} (out : Outs K) (before after : K) (has_page : Bool) (result : Result (Unit {0}) IoEnd) : Type 0 where
+  pub write_fault : is_write_fault result ≡ true → HasFailed (out.failures before) (out.failures after)
+  pub writes : is_write_fault result ≡ false → out.failures after ≡ out.failures before
   pub no_read_fault : result ≢ Err ReadFault
+  pub whole : has_page ≡ false → is_cut result ≡ false
+
+-- a head was sent with what stands behind it in a text, and its length is told; or a front of the text was
+pub record SendsHead {K : Type 0} (out : Outs K) (before after : K) (head text : Bytes) (result : Result ℕ ℕ) : Type 0 where
+  pub whole : IfOk result (λ count. (count ≡ length head) × Appends (out.contents before) (out.contents after) text)
+  pub short : IfOk result (λ count. count ≤ 512)
+  pub front : IfErr result (λ count. (count < length text) × Appends (out.contents before) (out.contents after) (take count text))
+  pub kept : OnOk result (out.failures after ≡ out.failures before)
+  pub failed : OnErr result (HasFailed (out.failures before) (out.failures after))
+
+-- a read failed, or a write failed or took no byte, just where the result says so
+pub record FailsOnly {S K : Type 0} (ins : Ins S) (out : Outs K) (old new : S) (before after : K) (result : Result (Unit {0}) IoEnd) : Type 0 where
+  pub read_fault : result ≡ Err ReadFault → HasFailed (ins.failures old) (ins.failures new)
+  pub reads : result ≢ Err ReadFault → ins.failures new ≡ ins.failures old
+  pub write_fault : is_write_fault result ≡ true → HasFailed (out.failures before) (out.failures after)
+  pub writes : is_write_fault result ≡ false → out.failures after ≡ out.failures before
 
 -- the end of a connection by that of a read
 abbrev pub io_end_of_read : ReadEnd → IoEnd

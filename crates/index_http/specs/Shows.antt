@@ -16,10 +16,11 @@ use Rattle.index_rules.specs.Tables.{Tables}
 use Rattle.index_rules.specs.declared.answer.Fault.{Fault}
 use Rattle.index_rules.specs.declared.answer.Fault.TheVariants.{Store, OutOfMemory as NoMemory}
 use Rattle.index_rules.specs.declared.books.Books.{Ghosts}
+use Rattle.index_desk.specs.Looks.{LeavesTables}
 use Rattle.index_http.specs.Ends.{Ends}
 use Rattle.index_http.specs.Exchanges.{store_reply}
 use Rattle.index_http.specs.Replies.{Reply, reply_text}
-use Rattle.index_http.specs.Sends.{SendsText}
+use Rattle.index_http.specs.Sends.{SendsOnly, SendsText}
 use Rattle.index_http.specs.declared.end.IoEnd.{IoEnd}
 use Rattle.index_http.specs.declared.end.IoEnd.TheVariants.{OutOfMemory}
 
@@ -32,13 +33,14 @@ IsShown to_head IsReply Cause text =
 abbrev pub EndsShown : Bool → (Reply → Type 0) → Type 0 → Option Bytes → Option Bytes → Result (Unit {0}) IoEnd → Type 0
 EndsShown to_head IsReply Cause before after result = Ends (IsShown to_head IsReply Cause) (Unit {0}) before after result
 
--- of a store that was honest, and is clean after it: a look ended so, for a reply of this kind by the tables
-abbrev pub ShowsBy : {S K : Type 0} → Ghosts S → Outs K → S → S → K → K → Bool → Result (Unit {0}) IoEnd
-    → (Tables → Reply → Type 0) → Type 0
-ShowsBy g out old new before after to_head result IsReply =
-    g.IsHonest old → g.IsClean new →
-    EndsShown to_head (IsReply (g.tables old)) (HasFailed (g.failures old) (g.failures new))
-    (out.contents before) (out.contents after) result
+-- a look at the desk, and the reply that it sent: of a store that was honest, and is clean after it, the reply is of this
+-- kind by the tables; no table changed; and only a page can be cut short, which no reply to `HEAD` has
+pub record ShowsBy {S K : Type 0} (g : Ghosts S) (out : Outs K) (old new : S) (before after : K) (is_page to_head : Bool)
+    (result : Result (Unit {0}) IoEnd) (IsReply : Tables → Reply → Type 0) : Type 0 where
+  pub shown : g.IsHonest old → g.IsClean new
+      → EndsShown to_head (IsReply (g.tables old)) (HasFailed (g.failures old) (g.failures new)) (out.contents before) (out.contents after) result
+  pub leaves : LeavesTables g old new
+  pub sends : SendsOnly out before after (is_page && not to_head) result
 
 -- a look that failed: a fault of the store is replied, and where memory ran out nothing went out
 abbrev pub EndsFault : Bool → Fault → Option Bytes → Option Bytes → Result (Unit {0}) IoEnd → Type 0

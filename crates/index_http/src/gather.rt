@@ -1,12 +1,10 @@
 //! Texts of short pages, gathered in one pass over their rows.
-ghost use Rattle.std.specs.Prelude.{◌≡◌, Some, IfOk, IfSome, option_map};
-ghost use Rattle.index_rules.specs.TableRows.{held_rows_in};
-ghost use Rattle.index_desk.specs.Looks.{Looks};
-ghost use Rattle.index_desk.specs.Projects.{project_rows_in};
-ghost use Rattle.index_pages.specs.Pages.{project_page_of, root_page_of};
+ghost use Rattle.std.specs.Prelude.{Some, None};
+ghost use Rattle.index_desk.specs.Pages.{text_in};
+ghost use Rattle.index_http.specs.PagePasses.{Gathers};
 
 use crate::buffer::Buffer;
-use crate::page::without_stop;
+use crate::page_passes::without_stop;
 use index_desk::Desk;
 use index_names::NormalName;
 use index_pages::{PageText, Served};
@@ -20,10 +18,8 @@ pub fn gathered_root<B: Books>(
     desk: &mut Desk<B>,
     served: Served,
 ) -> Result<Option<Vec<u8>>, Fault>
-    ensures text { B.IsHonest desk.old → B.IsClean desk.new →
-        let page = root_page_of served (held_rows_in (B.tables desk.old)) in
-        IfOk result (λ found. IfSome found (λ text. Some page ≡ Some text.items)) }
-    ensures look { Looks B.Books desk.old desk.new result }
+    ensures { Gathers B.Books desk.old desk.new result (λ text. text.items)
+        (λ T. text_in T served None) }
 {
     let mut buffer = Buffer::new(alloc);
     let mut page = PageText::root(alloc, served, &mut buffer);
@@ -43,11 +39,8 @@ pub fn gathered_project<B: Books>(
     name: &NormalName,
     served: Served,
 ) -> Result<Option<Vec<u8>>, Fault>
-    ensures text { B.IsHonest desk.old → B.IsClean desk.new →
-        let rows = project_rows_in (B.tables desk.old) name.now in
-        let page = option_map (project_page_of served name.now) rows in
-        IfOk result (λ found. IfSome found (λ text. page ≡ Some text.items)) }
-    ensures look { Looks B.Books desk.old desk.new result }
+    ensures { Gathers B.Books desk.old desk.new result (λ text. text.items)
+        (λ T. text_in T served (Some name.now)) }
 {
     let mut buffer = Buffer::new(alloc);
     let mut page = PageText::project(alloc, name, served, &mut buffer);

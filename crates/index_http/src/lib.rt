@@ -1,18 +1,18 @@
 //! One connection over HTTP: a message is read, applied or looked up, and answered.
 #![tactic(auto)]
 
-mod act;
 mod buffer;
+mod change;
+mod connection;
 mod end;
 mod gather;
-mod one;
-mod page;
-mod pages;
+mod get;
+mod page_passes;
+mod page_replies;
 mod reply;
 mod send;
-mod show;
 mod status;
 mod texts;
 
+pub use connection::answer_one;
 pub use end::IoEnd;
-pub use one::answer_one;

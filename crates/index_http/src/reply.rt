@@ -1,7 +1,7 @@
 //! Replies. None of them takes memory.
 ghost use Rattle.std.specs.Prelude.{◌≡◌, [], false};
-ghost use Rattle.index_http.specs.Exchanges.{ShowsWay, refusal_reply, store_reply};
-ghost use Rattle.index_http.specs.Replies.{answer_fields, answer_reply, fields_of_fault, file_reply, json_reply, message_reply, page_reply, reply_of, to_project, to_root};
+ghost use Rattle.index_http.specs.Exchanges.{ShowsRedirect, refusal_reply, store_reply};
+ghost use Rattle.index_http.specs.Replies.{answer_fields, answer_reply, fields_of_fault, file_reply, json_reply, message_reply, page_reply, reply_of, redirect_to_project, redirect_to_root};
 
 use crate::status::{status_of_answer, status_of_fault};
 use crate::texts::message_text;
@@ -25,9 +25,9 @@ pub enum Fields<'a> {
     Challenge,
     /// The type of JSON, and the methods that the path has.
     Allow(Allowed),
-    /// A way to the page of the names.
+    /// The location of the page of the names, for a redirect.
     ToRoot,
-    /// A way to the page of a project.
+    /// The location of the page of a project, for a redirect.
     ToProject(&'a NormalName),
 }
 
@@ -111,9 +111,9 @@ pub fn json_reply(text: &[u8]) -> Reply<'_>
     }
 }
 
-/// The way to the root page.
-pub fn to_root() -> Reply<'static>
-    ensures { reply_of result ≡ to_root }
+/// Redirects to the root page.
+pub fn redirect_to_root() -> Reply<'static>
+    ensures { reply_of result ≡ redirect_to_root }
 {
     Reply {
         status: StatusCode::MOVED_PERMANENTLY,
@@ -122,10 +122,10 @@ pub fn to_root() -> Reply<'static>
     }
 }
 
-/// The way to a project's page.
+/// Redirects to a project's page.
 #[tactic(auto, unfolding(crate::specs::Replies::fields_text))]
-pub fn to_project(name: &NormalName) -> Reply<'_>
-    ensures { reply_of result ≡ to_project name.now }
+pub fn redirect_to_project(name: &NormalName) -> Reply<'_>
+    ensures { reply_of result ≡ redirect_to_project name.now }
 {
     Reply {
         status: StatusCode::MOVED_PERMANENTLY,
@@ -134,12 +134,12 @@ pub fn to_project(name: &NormalName) -> Reply<'_>
     }
 }
 
-/// The way to the page of a project, where this is the name of one.
-pub fn way_to(name: &Option<NormalName>) -> Reply<'_>
-    ensures { ShowsWay name.now (reply_of result) }
+/// Redirects to the page of a project, where this is the name of one.
+pub fn redirect(name: &Option<NormalName>) -> Reply<'_>
+    ensures { ShowsRedirect name.now (reply_of result) }
 {
     match name {
-        Some(name) => to_project(name),
+        Some(name) => redirect_to_project(name),
         None => refusal_reply(Refusal::NoProject),
     }
 }

@@ -1,11 +1,9 @@
 //! Sending replies. Nothing here takes memory.
-ghost use Rattle.std.specs.Prelude.{◌≡◌, ◌≤◌, true, false, ◌<◌, ◌≤◌, ◌^◌, ◌+◌, ◌++◌, ℕ, length, take, decimal, IfErr, IfOk, OnErr, OnOk};
-ghost use Rattle.std.specs.Io.KnownBytes.{Appends};
+ghost use Rattle.std.specs.Prelude.{◌≡◌, ◌<◌, ◌^◌, ◌++◌, false, length};
 ghost use Rattle.http.specs.StatusCode.{code_digits};
 ghost use Rattle.index_io.specs.Bytes.{joined};
-ghost use Rattle.index_io.specs.Counts.{HasFailed};
 ghost use Rattle.index_http.specs.Replies.{fields_text, head_text, phrase_of, reply_head, reply_of, reply_text};
-ghost use Rattle.index_http.specs.Sends.{SendsOnly, SendsText, is_cut};
+ghost use Rattle.index_http.specs.Sends.{SendsHead, SendsOnly, SendsText};
 ghost use Rattle.index_http.specs.Shows.{EndsFault};
 
 use crate::end::IoEnd;
@@ -24,15 +22,8 @@ pub fn send_head<K: Sink>(
     fields: Fields<'_>,
     size: u64,
 ) -> Result<u64, u64>
-    ensures whole { let head = reply_head status (fields_text fields.entry) size in
-        IfOk result (λ count. (count ≡ length head)
-        × Appends (K.contents sink.old) (K.contents sink.new) head) }
-    ensures short { IfOk result (λ count. count ≤ 512) }
-    ensures front { let head = reply_head status (fields_text fields.entry) size in
-        IfErr result (λ count. (count < length head)
-        × Appends (K.contents sink.old) (K.contents sink.new) (take count head)) }
-    ensures kept { OnOk result (K.failures sink.new ≡ K.failures sink.old) }
-    ensures failed { OnErr result (HasFailed (K.failures sink.old) (K.failures sink.new)) }
+    ensures { let head = reply_head status (fields_text fields.entry) size in
+        SendsHead K.Sink sink.old sink.new head head result }
 {
     send_parts(sink, status, fields, size, b"")
 }
@@ -41,8 +32,7 @@ pub fn send_head<K: Sink>(
 pub fn send_reply<K: Sink>(sink: &mut K, is_head: bool, reply: Reply<'_>) -> Result<(), IoEnd>
     ensures sent { SendsText (reply_text is_head (reply_of reply.entry))
         (K.contents sink.old) (K.contents sink.new) result }
-    ensures kind { is_cut result ≡ false }
-    ensures sends { SendsOnly (K.failures sink.old) (K.failures sink.new) result }
+    ensures sends { SendsOnly K.Sink sink.old sink.new false result }
 {
     let size = reply.body.len() as u64;
     let behind = if is_head { b"".as_slice() } else { reply.body };
@@ -55,8 +45,7 @@ pub fn send_reply<K: Sink>(sink: &mut K, is_head: bool, reply: Reply<'_>) -> Res
 /// Ends a look that failed: a fault of the store is replied, and want of memory ends the connection before its reply.
 pub fn send_fault<K: Sink>(sink: &mut K, is_head: bool, fault: Fault) -> Result<(), IoEnd>
     ensures told { EndsFault is_head fault (K.contents sink.old) (K.contents sink.new) result }
-    ensures whole { is_cut result ≡ false }
-    ensures sends { SendsOnly (K.failures sink.old) (K.failures sink.new) result }
+    ensures sends { SendsOnly K.Sink sink.old sink.new false result }
 {
     match fault {
         Fault::OutOfMemory => Err(IoEnd::OutOfMemory),
@@ -72,15 +61,8 @@ fn send_parts<K: Sink>(
     size: u64,
     behind: &[u8],
 ) -> Result<u64, u64>
-    ensures whole { let head = reply_head status (fields_text fields.entry) size in
-        IfOk result (λ count. (count ≡ length head)
-        × Appends (K.contents sink.old) (K.contents sink.new) (head ++ behind.now)) }
-    ensures short { IfOk result (λ count. count ≤ 512) }
-    ensures front { let text = reply_head status (fields_text fields.entry) size ++ behind.now in
-        IfErr result (λ count. (count < length text)
-        × Appends (K.contents sink.old) (K.contents sink.new) (take count text)) }
-    ensures kept { OnOk result (K.failures sink.new ≡ K.failures sink.old) }
-    ensures failed { OnErr result (HasFailed (K.failures sink.old) (K.failures sink.new)) }
+    ensures { let head = reply_head status (fields_text fields.entry) size in
+        SendsHead K.Sink sink.old sink.new head (head ++ behind.now) result }
 {
     let mut buffer = Buffer::new();
     let digits = buffer.format(size).as_bytes();

@@ -1,7 +1,7 @@
 //! The fixed texts of replies.
 ghost use Rattle.std.specs.Prelude.{◌≡◌, ◌≤◌, ◌++◌, length};
 ghost use Rattle.index_json.specs.AnswerText.{message_text_of};
-ghost use Rattle.index_http.specs.Replies.{fault_name, fields_text, phrase_of, IsFixed};
+ghost use Rattle.index_http.specs.Replies.{message_fault_name, fields_text, phrase_of, IsFixed};
 
 use crate::reply::Fields;
 use http::StatusCode;
@@ -12,7 +12,7 @@ use index_pages::Served;
 /// The text of the answer to a message that is none which the index serves.
 #[tactic(auto, unfolding(index_json::proofs::OnLiterals::answers_on_literals))]
 pub(crate) fn message_text(fault: MessageFault) -> &'static str
-    ensures { result.now ≡ message_text_of (fault_name fault) }
+    ensures { result.now ≡ message_text_of (message_fault_name fault) }
 {
     match fault {
         MessageFault::BadHead => "{\"answer\":\"message\",\"name\":\"BadHead\"}",

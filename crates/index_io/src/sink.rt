@@ -75,7 +75,11 @@ fn write_again<W: Write>(writer: &mut W, bytes: &[u8]) -> Result<usize, Failed>
     Err(Failed)
 }
 
-/// Writes bytes. An error tells how many of them went out, before a write failed or took no byte.
+/// Writes bytes.
+///
+/// # Errors
+///
+/// How many of them went out, before a write failed or took no byte.
 pub fn write_bytes<K: Sink>(sink: &mut K, bytes: &[u8]) -> Result<(), usize>
     ensures whole { OnOk result (Appends (K.contents sink.old) (K.contents sink.new) bytes.now) }
     ensures front { IfErr result (λ count. (count < length bytes.now)
@@ -93,8 +97,11 @@ pub fn write_bytes<K: Sink>(sink: &mut K, bytes: &[u8]) -> Result<(), usize>
     Ok(())
 }
 
-/// Writes pieces one after another. An error tells how many of their bytes went out, before a write failed or took no
-/// byte.
+/// Writes pieces one after another.
+///
+/// # Errors
+///
+/// How many of their bytes went out, before a write failed or took no byte.
 pub fn write_pieces<K: Sink>(sink: &mut K, pieces: &[&[u8]]) -> Result<(), u64>
     requires { length (joined pieces.now) < 2 ^ 64 }
     ensures whole { OnOk result

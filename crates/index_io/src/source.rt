@@ -77,6 +77,10 @@ fn read_again<R: Read>(reader: &mut R, room: &mut [u8]) -> Result<usize, Failed>
 }
 
 /// The next byte, or `None` at the end of the input.
+///
+/// # Errors
+///
+/// `Failed` where a read fails.
 pub fn next_byte<S: Source>(source: &mut S) -> Result<Option<u8>, Failed>
     ensures byte { IfOk result (λ byte.
         TakesByte byte (S.remaining source.old) (S.remaining source.new)) }

@@ -9,11 +9,11 @@ use Rattle.index_digest.specs.Digest.{sha256}
 use Rattle.index_rules.specs.declared.call.Request.{Request}
 use Rattle.index_rules.specs.declared.call.Request.TheVariants.{Claim}
 use Rattle.index_json.specs.Json.{json_of, key_count, number_at, text_at}
-use Rattle.index_json.specs.Keys.{count_of, HasKeys, IsJson, IsLine, keys_at, keys_of, keys_of_standing, SaysLine, SaysRequest}
+use Rattle.index_json.specs.Keys.{distinct_key_count, HasKeys, IsJson, IsLine, members_at, members_of, members_of_standing, SaysLine, SaysRequest}
 use Rattle.index_json.specs.Line.{call_row, line_of, line_row, standing_row}
 use Rattle.index_json.specs.Object.{Object}
 use Rattle.index_json.specs.Reading.{if_whole, read_whole}
-use Rattle.index_json.specs.Requests.{request_of, request_row, user_row}
+use Rattle.index_json.specs.Requests.{request_of, request_row, request_on_user}
 use Rattle.index_json.specs.declared.line.Line.{Line}
 use Rattle.index_json.specs.declared.line.Line.TheVariants as line
 use Rattle.index_json.proofs.RequestsFound.{Found, found, left_of}
@@ -41,7 +41,7 @@ is_zero : (n : ℕ) → (n == 0) ≡ true → n ≡ 0
 is_zero n is = grind (arith, nat_tests)
 
 -- a call has two keys more than its request, and neither of them is a request's
-two_more : (at : ℕ) (token : List ℕ) (request : Request) → count_of (keys_at at token request) ≡ count_of (keys_of request) + 2
+two_more : (at : ℕ) (token : List ℕ) (request : Request) → distinct_key_count (members_at at token request) ≡ distinct_key_count (members_of request) + 2
 two_more at token (Claim name) = refl
 two_more at token request = refl
 
@@ -54,18 +54,18 @@ module _ {A : Type 0} (this : A) where
   whole_of None h = absurd (none-some this h)
   whole_of (Some end) h = let parts = cond_some (end.1.left == 0) end.0 this h in (end, refl, is_zero end.1.left parts.0, parts.1)
 
-request_found : (value : Data) (request : Request) → HasKeys value (keys_of request) → read_whole request_row value ≡ Some request
+request_found : (value : Data) (request : Request) → HasKeys value (members_of request) → read_whole request_row value ≡ Some request
 request_found value request keys =
     let it = found request value (key_count value - 1) keys.each (one_less _ _ keys.no_more) in
     rw (it.is, it.row, it.none_left) refl
 
 request_read : (value : Data) (request : Request) (a : Option (List ℕ)) → text_at (codes "do") value ≡ a
-    → read_whole request_row value ≡ Some request → HasKeys value (keys_of request)
+    → read_whole request_row value ≡ Some request → HasKeys value (members_of request)
 request_read value request None is h = absurd (none-some request (rw is at h))
 request_read value request (Some word) is h =
-    let (end, row, none, same) = whole_of request (user_row word (left_of value (key_count value - 1))) (rw is at h) in
+    let (end, row, none, same) = whole_of request (request_on_user word (left_of value (key_count value - 1))) (rw is at h) in
     let it = user_read value (key_count value - 1) end.0 end.1 word is row in
-    subst (λ (r : Request). HasKeys value (keys_of r)) same (record { each = it.each; no_more = one_more _ _ (it.few none) })
+    subst (λ (r : Request). HasKeys value (members_of r)) same (record { each = it.each; no_more = one_more _ _ (it.few none) })
 
 -- ---- a line
 
@@ -91,7 +91,7 @@ standing_read value asked at_do (Some name) is h =
 
 call_read : (value : Data) (asked : Line) (word : List ℕ) → text_at (codes "do") value ≡ Some word
     → (a : Option ℕ) (b : Option (List ℕ)) (c : Option (Request × Object))
-    → number_at (codes "at") value ≡ a → text_at (codes "token") value ≡ b → user_row word (left_of value (key_count value - 1 - 1 - 1)) ≡ c
+    → number_at (codes "at") value ≡ a → text_at (codes "token") value ≡ b → request_on_user word (left_of value (key_count value - 1 - 1 - 1)) ≡ c
     → option_and_then if_whole (call_row word (behind_word value)) ≡ Some asked → IsLine value asked
 call_read value asked word at_do None b c at_at at_token row h = absurd (none-some asked (rw at_at at h))
 call_read value asked word at_do (Some at) None c at_at at_token row h = absurd (none-some asked (rw (at_at, at_token) at h))

@@ -9,9 +9,9 @@ use Rattle.index_retention.specs.declared.attempts.Means.TheVariants.{Profile, A
 use Rattle.index_rules.specs.declared.call.Request.{Request}
 use Rattle.index_rules.specs.declared.call.Request.TheVariants.{AddUser, SetToken, SetQuota, Claim, AddOwner, RemoveOwner, Upload, Delete, BanFile, Yank, Unyank, Relinquish, Prohibit, Allow, OpenCase, RecordAttempt, Transfer, CloseCase, AnswerCase}
 use Rattle.index_json.specs.Json.{text_at}
-use Rattle.index_json.specs.Keys.{count_of, keys_of, means_text, SaysEach}
+use Rattle.index_json.specs.Keys.{distinct_key_count, members_of, means_text, SaysEach}
 use Rattle.index_json.specs.Object.{Object}
-use Rattle.index_json.specs.Requests.{kind_of, means_of, user_row}
+use Rattle.index_json.specs.Requests.{case_kind_of, means_of, request_on_user}
 use Rattle.index_json.specs.StandingText.{kind_text}
 
 -- an object of which so many keys are left to read
@@ -23,12 +23,12 @@ pub record Found (value : Data) (left : ℕ) (asked : Request) : Type 0 where
   pub word : List ℕ
   pub after : Object
   pub is : text_at (codes "do") value ≡ Some word
-  pub row : user_row word (left_of value left) ≡ Some (asked, after)
+  pub row : request_on_user word (left_of value left) ≡ Some (asked, after)
   pub other : bytes_eq word (codes "standing") ≡ false
   pub none_left : after.left ≡ 0
 
 -- the kind and the means that words of theirs say
-kind_of-text : (kind : CaseKind) → kind_of (kind_text kind) ≡ Some kind
+kind_of-text : (kind : CaseKind) → case_kind_of (kind_text kind) ≡ Some kind
 kind_of-text Continue = refl
 kind_of-text Reuse = refl
 
@@ -54,7 +54,7 @@ none_5 : (n : ℕ) → n ≤ 5 → n - 1 - 1 - 1 - 1 - 1 ≡ 0
 none_5 n few = omega (arith, few)
 
 -- each request, by its keys in the order in which its row is read
-pub found : (asked : Request) (value : Data) (left : ℕ) → SaysEach value (keys_of asked) → left ≤ count_of (keys_of asked) - 1
+pub found : (asked : Request) (value : Data) (left : ℕ) → SaysEach value (members_of asked) → left ≤ distinct_key_count (members_of asked) - 1
     → Found value left asked
 found (AddUser user office token) value left keys few = record {
   word = codes "add_user";

@@ -11,17 +11,17 @@ use Rattle.index_retention.specs.declared.attempts.Means.TheVariants.{Profile, A
 use Rattle.index_rules.specs.declared.call.Request.{Request}
 use Rattle.index_rules.specs.declared.call.Request.TheVariants.{AddUser, SetToken, SetQuota, Claim, AddOwner, RemoveOwner, Upload, Delete, BanFile, Yank, Unyank, Relinquish, Prohibit, Allow, OpenCase, RecordAttempt, Transfer, CloseCase, AnswerCase}
 use Rattle.index_json.specs.Json.{flag_at, hex_bytes, number_at, text_at}
-use Rattle.index_json.specs.Keys.{count_of, keys_of, means_text, SaysEach}
+use Rattle.index_json.specs.Keys.{distinct_key_count, members_of, means_text, SaysEach}
 use Rattle.index_json.specs.Object.{Object}
 use Rattle.index_json.specs.Reading.{Reading, ◌>>=◌, always, flag, maybe, number, text, texts}
-use Rattle.index_json.specs.Requests.{add_user_row, ban_file_row, case_row, delete_row, file_row, kind_of, means_of, name_request, name_row, open_case_row, owner_request, owner_row, record_attempt_row, set_quota_row, set_token_row, transfer_row, unyank_row, upload_row, user_row, yank_row}
+use Rattle.index_json.specs.Requests.{add_user_row, ban_file_row, request_on_case, delete_row, request_on_file, case_kind_of, means_of, name_request, request_on_name, open_case_row, owner_request, request_on_owner, record_attempt_row, set_quota_row, set_token_row, transfer_row, unyank_row, upload_row, request_on_user, yank_row}
 use Rattle.index_json.specs.StandingText.{kind_text}
 use Rattle.index_json.proofs.RequestsFound.{left_of}
 
 -- these stand at the keys of a request, of which a row took so many of an object that `after` are left
 pub record Read (value : Data) (left : ℕ) (asked : Request) (after : ℕ) : Type 0 where
-  pub each : SaysEach value (keys_of asked)
-  pub few : after ≡ 0 → left < count_of (keys_of asked)
+  pub each : SaysEach value (members_of asked)
+  pub few : after ≡ 0 → left < distinct_key_count (members_of asked)
 
 -- ---- rows of one key, of two and of three
 
@@ -132,7 +132,7 @@ by_word word this true first second end same h here there = here (same refl) h
 by_word word this false first second end same h here there = there h
 
 -- the word of a kind of case, and that of a means
-kind_word : (word : List ℕ) (kind : CaseKind) → kind_of word ≡ Some kind → word ≡ kind_text kind
+kind_word : (word : List ℕ) (kind : CaseKind) → case_kind_of word ≡ Some kind → word ≡ kind_text kind
 kind_word word kind h =
     by_word word (codes "continue") (bytes_eq word (codes "continue")) (Some Continue) _ kind (bytes_eq-Decides word (codes "continue")).0 h
     (λ same is. same ∙ ap kind_text (same_Some Continue kind is)) (λ h.
@@ -173,7 +173,7 @@ module _ (value : Data) (left : ℕ) (asked : Request) (after : Object) where
 
   open_case : open_case_row (left_of value left) ≡ Some (asked, after) → IsRow (codes "open_case")
   open_case h = λ at_do.
-      further value left (codes "kind") kind_of (λ kind. texts (codes "name") (codes "contact") >>= λ found. texts (codes "work") (codes "why") >>= λ more. always (OpenCase found.0 kind found.1 more.0 more.1)) (asked, after) _ refl h (λ word kind at_kind is_kind h.
+      further value left (codes "kind") case_kind_of (λ kind. texts (codes "name") (codes "contact") >>= λ found. texts (codes "work") (codes "why") >>= λ more. always (OpenCase found.0 kind found.1 more.0 more.1)) (asked, after) _ refl h (λ word kind at_kind is_kind h.
       four_texts value (left - 1) (Read value left) asked after (codes "name") (codes "contact") (codes "work") (codes "why") (λ name contact work why. OpenCase name kind contact work why)
       (λ name contact work why at_name at_contact at_work at_why. record {
         each = (at_do, (at_name, (at_kind ∙ ap Some (kind_word word kind is_kind), (at_contact, (at_work, (at_why, tt))))));
@@ -199,8 +199,8 @@ module _ (value : Data) (left : ℕ) (asked : Request) (after : Object) where
       }) _ _ _ refl refl refl h)
 
   -- a row of a text alone
-  of_one : (word k : List ℕ) (make : List ℕ → Request) → ((x : List ℕ) → text_at k value ≡ Some x → text_at (codes "do") value ≡ Some word → SaysEach value (keys_of (make x)))
-      → ((x : List ℕ) → count_of (keys_of (make x)) ≡ 2)
+  of_one : (word k : List ℕ) (make : List ℕ → Request) → ((x : List ℕ) → text_at k value ≡ Some x → text_at (codes "do") value ≡ Some word → SaysEach value (members_of (make x)))
+      → ((x : List ℕ) → distinct_key_count (members_of (make x)) ≡ 2)
       → (text k >>= λ x. always (make x)) (left_of value left) ≡ Some (asked, after) → IsRow word
   of_one word k make each two h = λ at_do.
       one_text value left (Read value left) asked after k make
@@ -208,8 +208,8 @@ module _ (value : Data) (left : ℕ) (asked : Request) (after : Object) where
 
   -- a row of two texts
   of_two : (word k l : List ℕ) (make : List ℕ → List ℕ → Request)
-      → ((x y : List ℕ) → text_at k value ≡ Some x → text_at l value ≡ Some y → text_at (codes "do") value ≡ Some word → SaysEach value (keys_of (make x y)))
-      → ((x y : List ℕ) → count_of (keys_of (make x y)) ≡ 3)
+      → ((x y : List ℕ) → text_at k value ≡ Some x → text_at l value ≡ Some y → text_at (codes "do") value ≡ Some word → SaysEach value (members_of (make x y)))
+      → ((x y : List ℕ) → distinct_key_count (members_of (make x y)) ≡ 3)
       → (texts k l >>= λ found. always (make found.0 found.1)) (left_of value left) ≡ Some (asked, after) → IsRow word
   of_two word k l make each three h = λ at_do.
       two_texts value left (Read value left) asked after k l make
@@ -247,7 +247,7 @@ module _ (value : Data) (left : ℕ) (asked : Request) (after : Object) where
     first_of_rows this first second h here there =
         by_word word this (bytes_eq word this) first second (asked, after) (bytes_eq-Decides word this).0 h (λ same is. here is (at_do ∙ ap Some same)) there
 
-    case_read : case_row word (left_of value left) ≡ Some (asked, after) → Row
+    case_read : request_on_case word (left_of value left) ≡ Some (asked, after) → Row
     case_read h =
         first_of_rows (codes "open_case") (open_case_row (left_of value left)) _ h open_case (λ h.
         first_of_rows (codes "record_attempt") (record_attempt_row (left_of value left)) _ h record_attempt (λ h.
@@ -256,7 +256,7 @@ module _ (value : Data) (left : ℕ) (asked : Request) (after : Object) where
         first_of_rows (codes "answer_case") (name_request AnswerCase (left_of value left)) _ h (of_one (codes "answer_case") (codes "name") AnswerCase (λ x at_x at_do. (at_do, (at_x, tt))) (λ x. refl)) (λ h.
         never (asked, after) h)))))
 
-    file_read : file_row word (left_of value left) ≡ Some (asked, after) → Row
+    file_read : request_on_file word (left_of value left) ≡ Some (asked, after) → Row
     file_read h =
         first_of_rows (codes "upload") (upload_row (left_of value left)) _ h upload (λ h.
         first_of_rows (codes "delete") (delete_row (left_of value left)) _ h (of_one (codes "delete") (codes "file") Delete (λ x at_x at_do. (at_do, (at_x, tt))) (λ x. refl)) (λ h.
@@ -265,7 +265,7 @@ module _ (value : Data) (left : ℕ) (asked : Request) (after : Object) where
         first_of_rows (codes "unyank") (unyank_row (left_of value left)) _ h (of_two (codes "unyank") (codes "name") (codes "release") Unyank (λ x y at_x at_y at_do. (at_do, (at_x, (at_y, tt)))) (λ x y. refl)) (λ h.
         case_read h)))))
 
-    owner_read : owner_row word (left_of value left) ≡ Some (asked, after) → Row
+    owner_read : request_on_owner word (left_of value left) ≡ Some (asked, after) → Row
     owner_read h =
         first_of_rows (codes "claim") (name_request Claim (left_of value left)) _ h (of_one (codes "claim") (codes "name") Claim (λ x at_x at_do. (at_do, (at_x, tt))) (λ x. refl)) (λ h.
         first_of_rows (codes "relinquish") (name_request Relinquish (left_of value left)) _ h (of_one (codes "relinquish") (codes "name") Relinquish (λ x at_x at_do. (at_do, (at_x, tt))) (λ x. refl)) (λ h.
@@ -273,14 +273,14 @@ module _ (value : Data) (left : ℕ) (asked : Request) (after : Object) where
         first_of_rows (codes "remove_owner") (owner_request RemoveOwner (left_of value left)) _ h (of_two (codes "remove_owner") (codes "name") (codes "user") RemoveOwner (λ x y at_x at_y at_do. (at_do, (at_x, (at_y, tt)))) (λ x y. refl)) (λ h.
         file_read h))))
 
-    name_read : name_row word (left_of value left) ≡ Some (asked, after) → Row
+    name_read : request_on_name word (left_of value left) ≡ Some (asked, after) → Row
     name_read h =
         first_of_rows (codes "set_quota") (set_quota_row (left_of value left)) _ h set_quota (λ h.
         first_of_rows (codes "prohibit") (name_request Prohibit (left_of value left)) _ h (of_one (codes "prohibit") (codes "name") Prohibit (λ x at_x at_do. (at_do, (at_x, tt))) (λ x. refl)) (λ h.
         first_of_rows (codes "allow") (name_request Allow (left_of value left)) _ h (of_one (codes "allow") (codes "name") Allow (λ x at_x at_do. (at_do, (at_x, tt))) (λ x. refl)) (λ h.
         owner_read h)))
 
-    pub user_read : user_row word (left_of value left) ≡ Some (asked, after) → Row
+    pub user_read : request_on_user word (left_of value left) ≡ Some (asked, after) → Row
     user_read h =
         first_of_rows (codes "add_user") (add_user_row (left_of value left)) _ h add_user (λ h.
         first_of_rows (codes "set_token") (set_token_row (left_of value left)) _ h (of_two (codes "set_token") (codes "user") (codes "token_sha256") SetToken (λ x y at_x at_y at_do. (at_do, (at_x, (at_y, tt)))) (λ x y. refl)) (λ h.

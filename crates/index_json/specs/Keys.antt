@@ -13,15 +13,15 @@ use Rattle.index_json.specs.declared.line.Line.{Line}
 use Rattle.index_json.specs.declared.line.Line.TheVariants as line
 
 -- what stands at a key: a text, true or false, a whole number of 64 bits, or bytes in hex digits
-pub data Field : Type 0 where
-  text : List ℕ → Field
-  flag : Bool → Field
-  number : ℕ → Field
-  hex : List ℕ → Field
+pub data MemberValue : Type 0 where
+  text : List ℕ → MemberValue
+  flag : Bool → MemberValue
+  number : ℕ → MemberValue
+  hex : List ℕ → MemberValue
 
 -- a key, and what stands at it
 abbrev pub Member : Type 0
-Member = List ℕ × Field
+Member = List ℕ × MemberValue
 
 -- ---- the rows
 
@@ -40,46 +40,46 @@ abbrev pub named : List ℕ → Member
 named name = (codes "name", text name)
 
 -- the keys of a request with what stands at them
-abbrev pub keys_of : Request → List Member
-keys_of (AddUser user office token) =
+abbrev pub members_of : Request → List Member
+members_of (AddUser user office token) =
     does (codes "add_user") ∷ (codes "user", text user) ∷ (codes "office", flag office) ∷ (codes "token_sha256", text token) ∷ []
-keys_of (SetToken user token) = does (codes "set_token") ∷ (codes "user", text user) ∷ (codes "token_sha256", text token) ∷ []
-keys_of (SetQuota name quota) = does (codes "set_quota") ∷ named name ∷ (codes "quota", number quota) ∷ []
-keys_of (Claim name) = does (codes "claim") ∷ named name ∷ []
-keys_of (Relinquish name) = does (codes "relinquish") ∷ named name ∷ []
-keys_of (Prohibit name) = does (codes "prohibit") ∷ named name ∷ []
-keys_of (Allow name) = does (codes "allow") ∷ named name ∷ []
-keys_of (AddOwner name user) = does (codes "add_owner") ∷ named name ∷ (codes "user", text user) ∷ []
-keys_of (RemoveOwner name user) = does (codes "remove_owner") ∷ named name ∷ (codes "user", text user) ∷ []
-keys_of (Upload file sha256 body requires) =
+members_of (SetToken user token) = does (codes "set_token") ∷ (codes "user", text user) ∷ (codes "token_sha256", text token) ∷ []
+members_of (SetQuota name quota) = does (codes "set_quota") ∷ named name ∷ (codes "quota", number quota) ∷ []
+members_of (Claim name) = does (codes "claim") ∷ named name ∷ []
+members_of (Relinquish name) = does (codes "relinquish") ∷ named name ∷ []
+members_of (Prohibit name) = does (codes "prohibit") ∷ named name ∷ []
+members_of (Allow name) = does (codes "allow") ∷ named name ∷ []
+members_of (AddOwner name user) = does (codes "add_owner") ∷ named name ∷ (codes "user", text user) ∷ []
+members_of (RemoveOwner name user) = does (codes "remove_owner") ∷ named name ∷ (codes "user", text user) ∷ []
+members_of (Upload file sha256 body requires) =
     does (codes "upload") ∷ (codes "file", text file) ∷ (codes "sha256", text sha256)
     ∷ (codes "hex", hex body) ∷ (codes "requires_python", text requires) ∷ []
-keys_of (Delete file) = does (codes "delete") ∷ (codes "file", text file) ∷ []
-keys_of (BanFile file) = does (codes "ban_file") ∷ (codes "file", text file) ∷ []
-keys_of (Yank name release reason) =
+members_of (Delete file) = does (codes "delete") ∷ (codes "file", text file) ∷ []
+members_of (BanFile file) = does (codes "ban_file") ∷ (codes "file", text file) ∷ []
+members_of (Yank name release reason) =
     does (codes "yank") ∷ named name ∷ (codes "release", text release) ∷ (codes "reason", text reason) ∷ []
-keys_of (Unyank name release) = does (codes "unyank") ∷ named name ∷ (codes "release", text release) ∷ []
-keys_of (OpenCase name kind contact work why) =
+members_of (Unyank name release) = does (codes "unyank") ∷ named name ∷ (codes "release", text release) ∷ []
+members_of (OpenCase name kind contact work why) =
     does (codes "open_case") ∷ named name ∷ (codes "kind", text (kind_text kind)) ∷ (codes "contact", text contact)
     ∷ (codes "work", text work) ∷ (codes "why", text why) ∷ []
-keys_of (RecordAttempt name means sent) =
+members_of (RecordAttempt name means sent) =
     does (codes "record_attempt") ∷ named name ∷ (codes "means", text (means_text means)) ∷ (codes "sent", flag sent) ∷ []
-keys_of (Transfer name quiet) = does (codes "transfer") ∷ named name ∷ (codes "quiet", flag quiet) ∷ []
-keys_of (CloseCase name) = does (codes "close_case") ∷ named name ∷ []
-keys_of (AnswerCase name) = does (codes "answer_case") ∷ named name ∷ []
+members_of (Transfer name quiet) = does (codes "transfer") ∷ named name ∷ (codes "quiet", flag quiet) ∷ []
+members_of (CloseCase name) = does (codes "close_case") ∷ named name ∷ []
+members_of (AnswerCase name) = does (codes "answer_case") ∷ named name ∷ []
 
 -- the keys of a call, by the bearer of this token
-abbrev pub keys_at : ℕ → List ℕ → Request → List Member
-keys_at at token request = (codes "at", number at) ∷ (codes "token", text token) ∷ keys_of request
+abbrev pub members_at : ℕ → List ℕ → Request → List Member
+members_at at token request = (codes "at", number at) ∷ (codes "token", text token) ∷ members_of request
 
 -- the keys of a question for a standing
-abbrev pub keys_of_standing : List ℕ → List Member
-keys_of_standing name = does (codes "standing") ∷ named name ∷ []
+abbrev pub members_of_standing : List ℕ → List Member
+members_of_standing name = does (codes "standing") ∷ named name ∷ []
 
 -- ---- objects
 
 -- this stands at the key of an object
-abbrev pub Says : Data → List ℕ → Field → Type 0
+abbrev pub Says : Data → List ℕ → MemberValue → Type 0
 Says value key (text bytes) = text_at key value ≡ Some bytes
 Says value key (flag is) = flag_at key value ≡ Some is
 Says value key (number n) = number_at key value ≡ Some n
@@ -91,18 +91,20 @@ SaysEach value [] = ⊤
 SaysEach value ((key, field) ∷ more) = Says value key field × SaysEach value more
 
 -- how many keys these are; one that is listed twice is one
-abbrev pub count_of : List Member → ℕ
-count_of keys = distinct_count bytes_eq (map (λ one. one.0) keys)
+abbrev pub distinct_key_count : List Member → ℕ
+distinct_key_count keys = distinct_count bytes_eq (map (λ one. one.0) keys)
 
 -- an object with just these keys, in any order: each is there, and no more are than these
 pub record HasKeys (value : Data) (keys : List Member) : Type 0 where
   pub each : SaysEach value keys
-  pub no_more : key_count value ≤ count_of keys
+  pub no_more : key_count value ≤ distinct_key_count keys
 
 -- an object with the keys of a line: of a call, of whose token the digest is kept, or of a question for a standing
 abbrev pub IsLine : Data → Line → Type 0
-IsLine value (line.Call call) = (token : List ℕ) × (call.token ≡ sha256 token) × HasKeys value (keys_at call.at token call.request)
-IsLine value (line.Standing name) = HasKeys value (keys_of_standing name)
+IsLine value (line.Call call) =
+    (token : List ℕ) × (call.token ≡ sha256 token)
+    × HasKeys value (members_at call.at token call.request)
+IsLine value (line.Standing name) = HasKeys value (members_of_standing name)
 
 -- ---- what bytes ask
 
@@ -112,7 +114,9 @@ IsJson bytes IsOne = (value : Data) × (json_of bytes ≡ Some value) × IsOne v
 
 -- the request whose keys they have, or nothing where they have those of no request
 abbrev pub SaysRequest : List ℕ → Option Request → Type 0
-SaysRequest bytes read = (request : Request) → (read ≡ Some request) ↔ IsJson bytes (λ value. HasKeys value (keys_of request))
+SaysRequest bytes read =
+    (request : Request) → (read ≡ Some request)
+    ↔ IsJson bytes (λ value. HasKeys value (members_of request))
 
 -- the line whose keys they have, or nothing where they have those of no line
 abbrev pub SaysLine : List ℕ → Option Line → Type 0

@@ -3,7 +3,7 @@ use Rattle.std.specs.Prelude.{ℕ, List, if◌then◌else◌, Option, bytes_eq, 
 use Rattle.index_digest.specs.Digest.{sha256}
 use Rattle.index_json.specs.Json.{json_of}
 use Rattle.index_json.specs.Reading.{Reading, ◌>>=◌, always, number, read_whole, text}
-use Rattle.index_json.specs.Requests.{user_row}
+use Rattle.index_json.specs.Requests.{request_on_user}
 use Rattle.index_json.specs.declared.line.Line.{Line}
 use Rattle.index_json.specs.declared.line.Line.TheVariants as line
 
@@ -12,7 +12,7 @@ abbrev pub call_row : List ℕ → Reading Line
 call_row word = do
   at ← number (codes "at")
   token ← text (codes "token")
-  request ← user_row word
+  request ← request_on_user word
   always (line.Call (record { at = at; token = sha256 token; request = request }))
 
 -- the row of a question for a standing

@@ -3,7 +3,7 @@ use Rattle.std.specs.Prelude.{ℕ, ◌-◌}
 use Rattle.serde_json.specs.Data.{Data}
 use Rattle.serde_json.specs.View.{view}
 use Rattle.index_json.specs.Json.{key_count}
-use Rattle.index_json.specs.declared.row.Row.{Row}
+use Rattle.index_json.specs.declared.object_reader.ObjectReader.{ObjectReader}
 
 -- the object, and how many of its keys are left to read
 pub record Object : Type 0 where
@@ -19,5 +19,5 @@ abbrev pub with_key_read : Object → Object
 with_key_read object = record { left = object.left - 1; value = object.value }
 
 -- the object of which a row is read
-abbrev pub object_of : Row → Object
+abbrev pub object_of : ObjectReader → Object
 object_of row = record { left = row.left; value = view row.value.now }

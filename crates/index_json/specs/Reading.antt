@@ -1,8 +1,8 @@
 -- Reading the keys of a JSON object.
 use Rattle.std.specs.Prelude.{◌≡◌, ℕ, ◌==◌, Bool, List, if◌then◌else◌, Option, Some, None, option_and_then, option_map, Result, Err, IfOk}
 use Rattle.serde_json.specs.Data.{Data}
-use Rattle.index_json.specs.declared.row.Unread.{Unread}
-use Rattle.index_json.specs.declared.row.Unread.TheVariants.{NoRow}
+use Rattle.index_json.specs.declared.object_reader.Unread.{Unread}
+use Rattle.index_json.specs.declared.object_reader.Unread.TheVariants.{NotARequest}
 use Rattle.index_json.specs.Json.{flag_at, number_at, text_at}
 use Rattle.index_json.specs.Object.{Object, whole_object, with_key_read}
 
@@ -57,9 +57,10 @@ read_whole reading value = option_and_then if_whole (reading (whole_object value
 
 -- it is what is read, and of no row where nothing is; or memory ran out
 abbrev pub Reads : {A : Type 0} → Result A Unread → Option A → Type 0
-Reads result read = IfOk result (λ found. read ≡ Some found) × (result ≡ Err NoRow → read ≡ None)
+Reads result read =
+    IfOk result (λ found. read ≡ Some found) × (result ≡ Err NotARequest → read ≡ None)
 
 -- the same, and this is the object after it
 abbrev pub ReadsTo : {A : Type 0} → Result A Unread → Option (A × Object) → Object → Type 0
 ReadsTo result read after =
-    IfOk result (λ found. read ≡ Some (found, after)) × (result ≡ Err NoRow → read ≡ None)
+    IfOk result (λ found. read ≡ Some (found, after)) × (result ≡ Err NotARequest → read ≡ None)

@@ -82,8 +82,8 @@ unyank_row = do
 -- ---- rows on retention cases
 
 -- the kind of a case, by its word
-abbrev pub kind_of : List ℕ → Option CaseKind
-kind_of word =
+abbrev pub case_kind_of : List ℕ → Option CaseKind
+case_kind_of word =
     if bytes_eq word (codes "continue") then Some Continue
     else if bytes_eq word (codes "reuse") then Some Reuse
     else None
@@ -100,7 +100,7 @@ means_of word =
 abbrev pub case_kind : Reading CaseKind
 case_kind = do
   word ← text (codes "kind")
-  maybe (kind_of word)
+  maybe (case_kind_of word)
 
 -- the means of an attempt at its key
 abbrev pub attempt_means : Reading Means
@@ -131,8 +131,8 @@ transfer_row = do
 -- ---- the row that a word names
 
 -- the row of a request on cases, by the word at `do`
-abbrev pub case_row : List ℕ → Reading Request
-case_row word = λ object.
+abbrev pub request_on_case : List ℕ → Reading Request
+request_on_case word = λ object.
     if bytes_eq word (codes "open_case") then open_case_row object
     else if bytes_eq word (codes "record_attempt") then record_attempt_row object
     else if bytes_eq word (codes "transfer") then transfer_row object
@@ -141,44 +141,44 @@ case_row word = λ object.
     else None
 
 -- the same of requests on files and releases
-abbrev pub file_row : List ℕ → Reading Request
-file_row word = λ object.
+abbrev pub request_on_file : List ℕ → Reading Request
+request_on_file word = λ object.
     if bytes_eq word (codes "upload") then upload_row object
     else if bytes_eq word (codes "delete") then delete_row object
     else if bytes_eq word (codes "ban_file") then ban_file_row object
     else if bytes_eq word (codes "yank") then yank_row object
     else if bytes_eq word (codes "unyank") then unyank_row object
-    else case_row word object
+    else request_on_case word object
 
 -- the same of requests on owners
-abbrev pub owner_row : List ℕ → Reading Request
-owner_row word = λ object.
+abbrev pub request_on_owner : List ℕ → Reading Request
+request_on_owner word = λ object.
     if bytes_eq word (codes "claim") then name_request Claim object
     else if bytes_eq word (codes "relinquish") then name_request Relinquish object
     else if bytes_eq word (codes "add_owner") then owner_request AddOwner object
     else if bytes_eq word (codes "remove_owner") then owner_request RemoveOwner object
-    else file_row word object
+    else request_on_file word object
 
 -- the same of requests on names
-abbrev pub name_row : List ℕ → Reading Request
-name_row word = λ object.
+abbrev pub request_on_name : List ℕ → Reading Request
+request_on_name word = λ object.
     if bytes_eq word (codes "set_quota") then set_quota_row object
     else if bytes_eq word (codes "prohibit") then name_request Prohibit object
     else if bytes_eq word (codes "allow") then name_request Allow object
-    else owner_row word object
+    else request_on_owner word object
 
 -- the same of requests on users
-abbrev pub user_row : List ℕ → Reading Request
-user_row word = λ object.
+abbrev pub request_on_user : List ℕ → Reading Request
+request_on_user word = λ object.
     if bytes_eq word (codes "add_user") then add_user_row object
     else if bytes_eq word (codes "set_token") then set_token_row object
-    else name_row word object
+    else request_on_name word object
 
 -- the request that a word at `do` says, with the keys of its row
 abbrev pub request_row : Reading Request
 request_row = do
   word ← text (codes "do")
-  user_row word
+  request_on_user word
 
 -- the request that bytes of JSON are, with the keys of its row alone
 unfoldable pub request_of : List ℕ → Option Request

@@ -17,8 +17,8 @@ abbrev pub whole : ℕ → Data
 whole n = number (unsigned n)
 
 -- an array of texts
-abbrev pub texts : List (List ℕ) → Data
-texts list = array (items_of (map string list))
+abbrev pub text_array : List (List ℕ) → Data
+text_array list = array (items_of (map string list))
 
 -- a name that is not held
 abbrev pub unheld_value : List ℕ → List ℕ → Data
@@ -65,7 +65,7 @@ held_value held = object
     (member (codes "case") (case_value held.case)
     (member (codes "charge") (whole held.project.charge)
     (member (codes "name") (string held.name)
-    (member (codes "owners") (texts held.owners)
+    (member (codes "owners") (text_array held.owners)
     (member (codes "quota") (whole held.project.quota)
     (member (codes "shown") (string held.project.shown)
     (member (codes "state") (string (codes "held"))
@@ -99,7 +99,7 @@ abbrev pub held_put : HeldName → Members → Members
 held_put held members =
     name_put held.name (codes "held")
     (project_put held.project
-    (put (codes "owners") (texts held.owners)
+    (put (codes "owners") (text_array held.owners)
     (put (codes "case") (case_value held.case) members)))
 
 abbrev pub standing_put : Standing → Members → Members

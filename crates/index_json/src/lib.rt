@@ -3,8 +3,8 @@
 
 mod answer;
 mod line;
+mod object_reader;
 mod request;
-mod row;
 mod standing;
 
 pub use answer::{answer_text, bad_body};

@@ -8,8 +8,8 @@ ghost use Rattle.index_json.specs.Object.{object_of};
 ghost use Rattle.index_json.specs.Reading.{Reads, ReadsTo, read_whole};
 ghost use Rattle.index_json.specs.Requests.{request_of, request_row};
 
+use crate::object_reader::{ObjectReader, Unread};
 use crate::request::request_named;
-use crate::row::{Row, Unread};
 use index_digest::Digest256;
 use index_rules::{Bytes, Call, Fault, Request};
 use serde_json::Value;
@@ -24,8 +24,12 @@ pub enum Line {
     Standing(Bytes),
 }
 
-/// What a line asks, without its line feed: a JSON object (RFC 8259) of one of the rows in `docs/FORMATS.md`.
-/// `None` is a line that asks nothing. The one fault is `OutOfMemory`.
+/// What a line asks, without its line feed: a JSON object (RFC 8259) of one of the rows in `docs/FORMATS.md`. `None` is
+/// a line that asks nothing.
+///
+/// # Errors
+///
+/// `OutOfMemory`.
 #[tactic(auto, unfolding(crate::specs::Line::line_of))]
 pub fn read_line(alloc: Global, line: &[u8]) -> Result<Option<Line>, Fault>
     // Just the line whose keys the object has, or nothing where it has those of no line.
@@ -35,13 +39,16 @@ pub fn read_line(alloc: Global, line: &[u8]) -> Result<Option<Line>, Fault>
 {
     match line_read(alloc, line) {
         Ok(line) => Ok(Some(line)),
-        Err(Unread::NoRow) => Ok(None),
+        Err(Unread::NotARequest) => Ok(None),
         Err(Unread::OutOfMemory) => Err(Fault::OutOfMemory),
     }
 }
 
 /// The request that bytes of JSON are, with the keys of its row alone. `None` where they are none.
-/// The one fault is `OutOfMemory`.
+///
+/// # Errors
+///
+/// `OutOfMemory`.
 #[tactic(auto, unfolding(crate::specs::Requests::request_of))]
 pub fn read_request(alloc: Global, bytes: &[u8]) -> Result<Option<Request>, Fault>
     // Just the request whose keys the object has, or nothing where it has those of no request.
@@ -51,7 +58,7 @@ pub fn read_request(alloc: Global, bytes: &[u8]) -> Result<Option<Request>, Faul
 {
     match request_read(alloc, bytes) {
         Ok(request) => Ok(Some(request)),
-        Err(Unread::NoRow) => Ok(None),
+        Err(Unread::NotARequest) => Ok(None),
         Err(Unread::OutOfMemory) => Err(Fault::OutOfMemory),
     }
 }
@@ -75,49 +82,49 @@ fn request_read(alloc: Global, bytes: &[u8]) -> Result<Request, Unread>
 /// The value that bytes of JSON are. Bytes that are none are of no row.
 fn parse(alloc: Global, bytes: &[u8]) -> Result<Value, Unread>
     ensures value { IfOk result (λ value. json_of bytes.now ≡ Some (view value)) }
-    ensures none { result ≡ Err Unread.NoRow → json_of bytes.now ≡ None }
+    ensures none { result ≡ Err Unread.NotARequest → json_of bytes.now ≡ None }
 {
     match Value::from_slice(alloc, bytes) {
         Ok(value) => Ok(value),
         Err(error) if error.is_memory() => Err(Unread::OutOfMemory),
-        Err(_) => Err(Unread::NoRow),
+        Err(_) => Err(Unread::NotARequest),
     }
 }
 
 fn line_in(alloc: Global, value: &Value) -> Result<Line, Unread>
     ensures { Reads result (read_whole line_row (view value.now)) }
 {
-    let mut row = Row::of(value);
-    let word = row.text("do")?;
-    let line = line_named(alloc, word, &mut row)?;
-    row.whole(line)
+    let mut object = ObjectReader::of(value);
+    let word = object.text("do")?;
+    let line = line_named(alloc, word, &mut object)?;
+    object.finish(line)
 }
 
 fn request_in(alloc: Global, value: &Value) -> Result<Request, Unread>
     ensures { Reads result (read_whole request_row (view value.now)) }
 {
-    let mut row = Row::of(value);
-    let word = row.text("do")?;
-    let request = request_named(alloc, word, &mut row)?;
-    row.whole(request)
+    let mut object = ObjectReader::of(value);
+    let word = object.text("do")?;
+    let request = request_named(alloc, word, &mut object)?;
+    object.finish(request)
 }
 
 /// What an object asks whose `do` is this word.
-fn line_named(alloc: Global, word: &str, row: &mut Row<'_>) -> Result<Line, Unread>
-    ensures { ReadsTo result (row_of_word word.now (object_of row.old)) (object_of row.new) }
+fn line_named(alloc: Global, word: &str, object: &mut ObjectReader<'_>) -> Result<Line, Unread>
+    ensures { ReadsTo result (row_of_word word.now (object_of object.old)) (object_of object.new) }
 {
     match word {
-        "standing" => row.bytes(alloc, "name").map(Line::Standing),
-        word => call_in(alloc, word, row),
+        "standing" => object.bytes(alloc, "name").map(Line::Standing),
+        word => call_in(alloc, word, object),
     }
 }
 
-fn call_in(alloc: Global, word: &str, row: &mut Row<'_>) -> Result<Line, Unread>
-    ensures { ReadsTo result (call_row word.now (object_of row.old)) (object_of row.new) }
+fn call_in(alloc: Global, word: &str, object: &mut ObjectReader<'_>) -> Result<Line, Unread>
+    ensures { ReadsTo result (call_row word.now (object_of object.old)) (object_of object.new) }
 {
-    let at = row.number("at")?;
-    let token = row.text("token")?;
-    let request = request_named(alloc, word, row)?;
+    let at = object.number("at")?;
+    let token = object.text("token")?;
+    let request = request_named(alloc, word, object)?;
     let token = Digest256::of(token.as_bytes());
     Ok(Line::Call(Call { at, token, request }))
 }

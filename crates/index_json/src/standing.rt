@@ -5,7 +5,7 @@
 ghost use Rattle.std.specs.Prelude.{◌≡◌, IfErr, IfOk, Ok, OnOk, string_bytes};
 ghost use Rattle.serde_json.specs.Data.{object, put as put_lem, string};
 ghost use Rattle.serde_json.specs.View.{members_view, view};
-ghost use Rattle.index_json.specs.StandingText.{case_value as case_value_lem, case_texts_put, case_put, held_put, kind_text as kind_text_lem, means_put, name_put, open_case_value as open_case_value_lem, project_put, standing_put, standing_text_of, standing_value as standing_value_lem, texts, times_put};
+ghost use Rattle.index_json.specs.StandingText.{case_value as case_value_lem, case_texts_put, case_put, held_put, kind_text as kind_text_lem, means_put, name_put, open_case_value as open_case_value_lem, project_put, standing_put, standing_text_of, standing_value as standing_value_lem, text_array, times_put};
 
 use index_desk::{HeldName, Standing};
 use index_names::NormalName;
@@ -14,7 +14,11 @@ use index_rules::{CaseRecord, Fault, Project, UserId};
 use serde_json::{Map, Value, put};
 use std::alloc::{AllocError, Global};
 
-/// The standing as compact JSON, with keys in byte order. The one fault is `OutOfMemory`.
+/// The standing as compact JSON, with keys in byte order.
+///
+/// # Errors
+///
+/// `OutOfMemory`.
 pub fn standing_text(alloc: Global, standing: &Standing) -> Result<String, Fault>
     ensures text { IfOk result (λ text. string_bytes text ≡ standing_text_of standing.now) }
     ensures memory { IfErr result (λ fault. fault ≡ Fault.OutOfMemory) }
@@ -120,7 +124,7 @@ fn put_text(
 }
 
 fn owners_value(alloc: Global, owners: &[UserId]) -> Result<Value, AllocError>
-    ensures { IfOk result (λ value. view value ≡ texts owners.now) }
+    ensures { IfOk result (λ value. view value ≡ text_array owners.now) }
 {
     let mut texts = Vec::new(alloc);
     for owner in owners {

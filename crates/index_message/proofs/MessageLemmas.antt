@@ -12,7 +12,7 @@ use Rattle.httparse.specs.declared.spans.RequestSpans.{RequestSpans}
 use Rattle.httparse.proofs.GrammarLemmas.{ReadsRequest-append, request_unique}
 use Rattle.index_io.specs.Bytes.{IsInput}
 use Rattle.index_message.specs.Heads.{HasHead, IsHeadAt}
-use Rattle.index_message.specs.Messages.{AwaitsBody, EndsUnfinished, FollowsHead, IsMessage, asked_by, asked_of, is_head, message_by, message_of, whole_of}
+use Rattle.index_message.specs.Messages.{AwaitsBody, EndsUnfinished, FollowsHead, IsMessage, asked_by_head, asked_of, is_head_name, message_by, message_of, whole_of}
 use Rattle.index_message.specs.Fields.{fields_of}
 use Rattle.index_message.specs.declared.fault.MessageFault.TheVariants.{ShortBody}
 use Rattle.index_message.specs.declared.message.Message.TheVariants.{Faulty}
@@ -51,11 +51,11 @@ unfinished old mid new held more fields spans found short first second awaits = 
 
 -- what the spans of a head ask for is what the head does
 pub asked_is : (held : List ℕ) (fields : List HeaderSpan) (spans : RequestSpans) (found : IsHeadAt held fields spans)
-    → asked_by (span_bytes held spans.method) (span_bytes held spans.path) (map (header_bytes held) (take spans.headers fields)) ≡ asked_of found.head
+    → asked_by_head (span_bytes held spans.method) (span_bytes held spans.path) (map (header_bytes held) (take spans.headers fields)) ≡ asked_of found.head
 asked_is held fields spans found =
-    ap (λ m. asked_by m (span_bytes held spans.path) (map (header_bytes held) (take spans.headers fields))) found.at.method
-    ∙ ap (λ t. asked_by found.head.method t (map (header_bytes held) (take spans.headers fields))) found.at.path
-    ∙ ap (asked_by found.head.method found.head.target) found.at.fields
+    ap (λ m. asked_by_head m (span_bytes held spans.path) (map (header_bytes held) (take spans.headers fields))) found.at.method
+    ∙ ap (λ t. asked_by_head found.head.method t (map (header_bytes held) (take spans.headers fields))) found.at.path
+    ∙ ap (asked_by_head found.head.method found.head.target) found.at.fields
 
 -- a whole body makes a request
 with_enough : (head : RequestHead) (rest body : List ℕ) (asked : Asked) → asked.length ≤ length rest → take asked.length rest ≡ body
@@ -65,7 +65,7 @@ with_enough head rest body asked enough is =
 
 -- a part of it makes none
 with_less : (head : RequestHead) (rest : List ℕ) (asked : Asked) → length rest < asked.length
-    → message_by head rest (Ok asked) ≡ Faulty ShortBody (is_head head.method)
+    → message_by head rest (Ok asked) ≡ Faulty ShortBody (is_head_name head.method)
 with_less head rest asked less =
     let short : nat_le asked.length (length rest) ≡ false = grind (arith, nat_tests) in rw short refl
 
@@ -87,7 +87,7 @@ at_end (Some left) end = end
 -- the fault of a body that did not come whole
 pub follows_short : (held more : List ℕ) (new : Option (List ℕ)) (fields : List HeaderSpan) (spans : RequestSpans) (found : IsHeadAt held fields spans) (asked : Asked)
     → asked_of found.head ≡ Ok asked → length (drop spans.len held ++ more) < asked.length → IsAtEnd new
-    → Faulty ShortBody (is_head found.head.method) ≡ message_of found.head ((drop spans.len held ++ more) ++ unwrap_or new [])
+    → Faulty ShortBody (is_head_name found.head.method) ≡ message_of found.head ((drop spans.len held ++ more) ++ unwrap_or new [])
 follows_short held more new fields spans found asked is less end =
     let front = drop spans.len held ++ more in
     let all : front ++ unwrap_or new [] ≡ front = ap (λ rest. front ++ rest) (at_end new end) ∙ append-nil front in

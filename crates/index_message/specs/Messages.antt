@@ -44,16 +44,16 @@ with_fields fields (Err fault) = Err fault
 with_fields fields (Ok target) = with_length target (body_length target.1 fields)
 
 -- what the name of a method, a target and fields ask for together: the first fault in this order, or a request
-abbrev pub asked_by : Bytes → Bytes → List Field → Result Asked MessageFault
-asked_by name target fields = with_fields fields (target_by name (resource_of target))
+abbrev pub asked_by_head : Bytes → Bytes → List Field → Result Asked MessageFault
+asked_by_head name target fields = with_fields fields (target_by name (resource_of target))
 
 -- what a head asks for
 abbrev pub asked_of : RequestHead → Result Asked MessageFault
-asked_of head = asked_by head.method head.target (fields_of head)
+asked_of head = asked_by_head head.method head.target (fields_of head)
 
 -- the name of the method is `HEAD`, whose reply has no body (RFC 9110, section 9.3.2)
-abbrev pub is_head : Bytes → Bool
-is_head name = bytes_eq name (codes "HEAD")
+abbrev pub is_head_name : Bytes → Bool
+is_head_name name = bytes_eq name (codes "HEAD")
 
 -- the message of a request with these fields and this body
 abbrev pub whole_of : Asked → List Field → Bytes → Message
@@ -61,9 +61,10 @@ whole_of asked fields body = Whole (record { method = asked.method; resource = a
 
 -- the message that a head and the bytes behind it are, by what the head asks for
 abbrev pub message_by : RequestHead → Bytes → Result Asked MessageFault → Message
-message_by head rest (Err fault) = Faulty fault (is_head head.method)
+message_by head rest (Err fault) = Faulty fault (is_head_name head.method)
 message_by head rest (Ok asked) =
-    if nat_le asked.length (length rest) then whole_of asked (fields_of head) (take asked.length rest) else Faulty ShortBody (is_head head.method)
+    if nat_le asked.length (length rest) then whole_of asked (fields_of head)
+    (take asked.length rest) else Faulty ShortBody (is_head_name head.method)
 
 -- the message that a head and the bytes behind it are
 abbrev pub message_of : RequestHead → Bytes → Message

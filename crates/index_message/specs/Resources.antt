@@ -107,8 +107,9 @@ abbrev pub is_file_of_other : Bytes → Bytes → Bool
 is_file_of_other project file = option_map_or (λ spelled. not (bytes_eq spelled.project project)) (read_file_name file) false
 
 -- a file of this project: one of another project is not found there
-abbrev pub file_in : Bytes → Bytes → Option Resource
-file_in project file = if is_file_of_other project file then None else Some (resource.File file)
+abbrev pub file_of_project : Bytes → Bytes → Option Resource
+file_of_project project file =
+    if is_file_of_other project file then None else Some (resource.File file)
 
 -- what a route leads to, with the segments behind the path's first word
 abbrev pub resource_on : Route → Bytes → Option Resource
@@ -116,7 +117,7 @@ resource_on route.Simple tail = Some resource.Simple
 resource_on route.Root tail = Some resource.Root
 resource_on route.Project tail = Some (resource.Project (first_segment tail))
 resource_on route.ProjectPage tail = Some (resource.ProjectPage (first_segment tail))
-resource_on route.File tail = file_in (first_segment tail) (second_segment tail)
+resource_on route.File tail = file_of_project (first_segment tail) (second_segment tail)
 resource_on route.Name tail = Some (resource.Name (first_segment tail))
 resource_on route.Requests tail = Some resource.Requests
 

@@ -5,7 +5,7 @@ ghost use Rattle.httparse.specs.Spans.{IsHeaderWithin, IsRequestWithin, IsWithin
 ghost use Rattle.index_io.specs.Bytes.{IsInput};
 ghost use Rattle.index_message.specs.Heads.{IsHeadAt, longest_head};
 ghost use Rattle.index_message.specs.Lengths.{longest_upload};
-ghost use Rattle.index_message.specs.Messages.{AwaitsBody, EndsUnfinished, FollowsHead, IsMessage, TakesBody, asked_by, is_head, whole_of};
+ghost use Rattle.index_message.specs.Messages.{AwaitsBody, EndsUnfinished, FollowsHead, IsMessage, TakesBody, asked_by_head, is_head_name, whole_of};
 ghost use Rattle.index_message.specs.Reads.{ReadsOnly, TakesAtMost};
 ghost use Rattle.index_message.specs.declared.message.Message.TheVariants.{Faulty};
 
@@ -15,14 +15,17 @@ use crate::length::body_length;
 use crate::message::Message;
 use crate::request::{Asked, Request};
 use crate::site::Site;
-use crate::target::target;
+use crate::target::resolve_target;
 use httparse::spans::{EMPTY_HEADER_SPAN, HeaderSpan, RequestSpans};
 use index_io::Source;
 use index_rules::Bytes;
 use std::alloc::{AllocError, Global};
 
 /// Reads the message that an input begins with, and at most 16,384 bytes for its head and 16,777,216 for its body.
-/// `ReadFault` where a read fails.
+///
+/// # Errors
+///
+/// `ReadFault` where a read fails, and `OutOfMemory` for want of memory.
 pub fn read_message<S: Source>(
     alloc: Global,
     site: &Site,
@@ -71,18 +74,18 @@ fn read_rest<S: Source>(
     let fields = &fields[..spans.headers];
     let asked = match what_is_asked(alloc, site, head, fields, &spans)? {
         Ok(asked) => asked,
-        Err(fault) => return Ok(faulty(head, &spans, fault)),
+        Err(fault) => return Ok(faulty_message(head, &spans, fault)),
     };
     match read_body(alloc, source, &head[spans.len..], asked.length)? {
-        Some(body) => whole(alloc, asked, bytes, fields, body),
-        None => Ok(faulty(head, &spans, MessageFault::ShortBody)),
+        Some(body) => whole_message(alloc, asked, bytes, fields, body),
+        None => Ok(faulty_message(head, &spans, MessageFault::ShortBody)),
     }
 }
 
-/// The message of a head with a fault.
-fn faulty(head: &[u8], spans: &RequestSpans, fault: MessageFault) -> Message
+/// The message of a head with a fault, by the first of its faults.
+fn faulty_message(head: &[u8], spans: &RequestSpans, fault: MessageFault) -> Message
     requires { IsWithin (length head.now) spans.now.method }
-    ensures { result ≡ Faulty fault (is_head (span_bytes head.now spans.now.method)) }
+    ensures { result ≡ Faulty fault (is_head_name (span_bytes head.now spans.now.method)) }
 {
     Message::Faulty {
         fault,
@@ -103,10 +106,10 @@ fn what_is_asked(
     requires path { IsWithin (length head.now) spans.now.path }
     ensures bound { IfOk result (λ asked. IfOk asked (λ asked. asked.length ≤ longest_upload)) }
     ensures asked { IfOk result (λ asked. asked
-        ≡ asked_by (span_bytes head.now spans.now.method) (span_bytes head.now spans.now.path)
+        ≡ asked_by_head (span_bytes head.now spans.now.method) (span_bytes head.now spans.now.path)
         (map (header_bytes head.now) fields.now)) }
 {
-    let (resource, method) = match target(
+    let (resource, method) = match resolve_target(
         alloc,
         site,
         spans.method.of(head),
@@ -154,7 +157,7 @@ fn read_body<S: Source>(
 }
 
 /// The message of a request and its body.
-fn whole(
+fn whole_message(
     alloc: Global,
     asked: Asked,
     bytes: Vec<u8>,

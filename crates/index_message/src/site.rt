@@ -26,7 +26,11 @@ pub struct Site {
 }
 
 impl Site {
-    /// The routes. The one fault is `OutOfMemory`.
+    /// The routes.
+    ///
+    /// # Errors
+    ///
+    /// `OutOfMemory`.
     pub fn new(alloc: Global) -> Result<Site, Fault>
         ensures memory { IfErr result (λ fault. fault ≡ Fault.OutOfMemory) }
     {

@@ -3,7 +3,7 @@ ghost use Rattle.std.specs.Prelude.{◌≡◌, ◌<◌, ◌==◌, Err, Ok, Some,
 ghost use Rattle.std.specs.List.{after_first, before_first};
 ghost use Rattle.percent_encoding.specs.Percent.{percent_decode};
 ghost use Rattle.index_message.specs.Messages.{target_by};
-ghost use Rattle.index_message.specs.Resources.{file_in as file_in_lem, resource_at as resource_at_lem, resource_of as resource_of_lem, resource_on as resource_on_lem, is_file_of_other as is_file_of_other_lem, tail_of as tail_of_lem};
+ghost use Rattle.index_message.specs.Resources.{file_of_project as file_of_project_lem, resource_at as resource_at_lem, resource_of as resource_of_lem, resource_on as resource_on_lem, is_file_of_other as is_file_of_other_lem, tail_of as tail_of_lem};
 
 use crate::fault::MessageFault;
 use crate::resource::{Method, Resource};
@@ -13,7 +13,7 @@ use index_rules::Bytes;
 use std::alloc::{AllocError, Global};
 
 /// The resource of a target, with the method of this name: each error has its place in the order of the faults.
-pub fn target(
+pub fn resolve_target(
     alloc: Global,
     site: &Site,
     method: &[u8],
@@ -75,21 +75,21 @@ fn resource_on(alloc: Global, route: Route, tail: &str) -> Result<Option<Resourc
     Ok(Some(match route {
         Route::Simple => Resource::Simple,
         Route::Root => Resource::Root,
-        Route::Project => Resource::Project(decoded(alloc, first)?),
-        Route::ProjectPage => Resource::ProjectPage(decoded(alloc, first)?),
-        Route::File => return file_in(alloc, first, second),
-        Route::Name => Resource::Name(decoded(alloc, first)?),
+        Route::Project => Resource::Project(percent_decoded(alloc, first)?),
+        Route::ProjectPage => Resource::ProjectPage(percent_decoded(alloc, first)?),
+        Route::File => return file_of_project(alloc, first, second),
+        Route::Name => Resource::Name(percent_decoded(alloc, first)?),
         Route::Requests => Resource::Requests,
     }))
 }
 
 /// A file of a project, by the segments of both.
-fn file_in(alloc: Global, project: &str, file: &str) -> Result<Option<Resource>, AllocError>
+fn file_of_project(alloc: Global, project: &str, file: &str) -> Result<Option<Resource>, AllocError>
     ensures { IfOk result (λ found.
-        found ≡ file_in_lem (percent_decode project.now) (percent_decode file.now)) }
+        found ≡ file_of_project_lem (percent_decode project.now) (percent_decode file.now)) }
 {
-    let project = decoded(alloc, project)?;
-    let file = decoded(alloc, file)?;
+    let project = percent_decoded(alloc, project)?;
+    let file = percent_decoded(alloc, file)?;
     if is_file_of_other(alloc, project.as_slice(), file.as_slice())? {
         Ok(None)
     } else {
@@ -109,7 +109,7 @@ fn is_file_of_other(alloc: Global, project: &[u8], file: &[u8]) -> Result<bool, 
 }
 
 /// A segment with its escapes read (RFC 3986, section 2.1).
-fn decoded(alloc: Global, segment: &str) -> Result<Bytes, AllocError>
+fn percent_decoded(alloc: Global, segment: &str) -> Result<Bytes, AllocError>
     ensures { IfOk result (λ bytes. bytes ≡ percent_decode segment.now) }
 {
     let mut bytes = Vec::new(alloc);

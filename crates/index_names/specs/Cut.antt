@@ -8,7 +8,7 @@ use Rattle.index_names.specs.FileName.{Spelled}
 use Rattle.index_names.specs.Spelling.{WheelCut}
 
 -- the name and the version of a cut are such, and what is read are their project, their release and the kind
-pub record IsReadAs (cut : Cut) (spelled : Option Spelled) : Type 0 where
+pub record IsCutReadAs (cut : Cut) (spelled : Option Spelled) : Type 0 where
   pub value : spelled ≡ Some (record { project = normal_form cut.name.now; release = named_release cut.version.now; kind = cut.kind })
   pub name : IsTrue (is_project_name cut.name.now)
   pub version : IsTrue (is_version_text cut.version.now)
@@ -16,7 +16,7 @@ pub record IsReadAs (cut : Cut) (spelled : Option Spelled) : Type 0 where
 -- nothing is read where there is no cut
 abbrev pub IsCutOf : Option Cut → Option Spelled → Type 0
 IsCutOf None spelled = spelled ≡ None
-IsCutOf (Some cut) spelled = IsReadAs cut spelled
+IsCutOf (Some cut) spelled = IsCutReadAs cut spelled
 
 -- the parts of a wheel name as texts
 abbrev pub wheel_cut : WheelParts → WheelCut

@@ -74,7 +74,9 @@ impl FileName {
     /// name without `-`), a version text, where there are six a build tag, then the python, abi and platform tags. A
     /// source archive's name ends with `.tar.gz`. Before that stand a project name, a `-` and a version text.
     ///
-    /// `BadFileName` exactly where the bytes are no such name; else `OutOfMemory` is the one error.
+    /// # Errors
+    ///
+    /// `BadFileName` exactly where the bytes are no such name, else `OutOfMemory`.
     pub fn read(alloc: Global, bytes: &[u8]) -> Result<FileName, NameFault>
         ensures text { IfOk result (λ name. name ≡ bytes.now) }
         ensures read { OnOk result (IsSome (read_file_name bytes.now)) }

@@ -75,10 +75,12 @@ pub fn is_name(bytes: &[u8]) -> bool
         && bytes[bytes.len() - 1].is_ascii_alphanumeric()
 }
 
-/// The normal form of a project name (PEP 503, "Normalized Names"): in lower case, with one `-` for each run of
-/// `-`, `_` and `.`.
+/// The normal form of a project name (PEP 503, "Normalized Names"): in lower case, with one `-` for each run of `-`,
+/// `_` and `.`.
 ///
-/// `BadName` exactly where the bytes are no project name; else `OutOfMemory` is the one error.
+/// # Errors
+///
+/// `BadName` exactly where the bytes are no project name, else `OutOfMemory`.
 #[tactic(auto, unfolding(crate::specs::Project::read_name))]
 pub fn normal(alloc: Global, bytes: &[u8]) -> Result<NormalName, NameFault>
     ensures normal { IfOk result (λ name. read_name bytes.now ≡ Some name) }

@@ -62,11 +62,13 @@ impl Release {
     }
 }
 
-/// The release that a version text names: the text in lower case. A version text is 1 to 64 ASCII letters, digits,
-/// `.`, `_`, `+` and `!`, of which the first and the last are letters or digits (this index's own rule; it holds the
+/// The release that a version text names: the text in lower case. A version text is 1 to 64 ASCII letters, digits, `.`,
+/// `_`, `+` and `!`, of which the first and the last are letters or digits (this index's own rule; it holds the
 /// versions of PEP 440 with `-` written as `_`, as PEP 427, "Escaping and Unicode", writes them).
 ///
-/// `BadRelease` exactly where the bytes are no version text; else `OutOfMemory` is the one error.
+/// # Errors
+///
+/// `BadRelease` exactly where the bytes are no version text, else `OutOfMemory`.
 #[tactic(auto, unfolding(crate::specs::Release::read_release))]
 pub fn release_key(alloc: Global, bytes: &[u8]) -> Result<Release, NameFault>
     ensures release { IfOk result (λ release. read_release bytes.now ≡ Some release) }

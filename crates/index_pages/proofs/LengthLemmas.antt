@@ -5,8 +5,8 @@ use Rattle.index_rules.specs.Maps.{Bytes}
 use Rattle.index_rules.specs.declared.answer.Fault.{Fault}
 use Rattle.index_rules.specs.declared.answer.Fault.TheVariants as fault
 use Rattle.index_pages.specs.Rest.{Rest, IsNext}
-use Rattle.index_pages.specs.Ends.{Closes, Ends, Measures, SendsRow, SendsRowFront, SinkState, count_of}
-use Rattle.index_pages.specs.States.{MeasuresPage, StopsLength, StopsText, end_at, ended_at, length_state, no_sink}
+use Rattle.index_pages.specs.Ends.{Closes, WritesPage, Measures, SendsRow, SendsRowFront, SinkState, count_of}
+use Rattle.index_pages.specs.States.{MeasuresGivenRows, StopsLength, StopsText, end_at, ended_at, length_state, no_sink}
 use Rattle.index_pages.specs.declared.end.PageEnd.{PageEnd}
 use Rattle.index_pages.proofs.TextLemmas.{broken_of, front_of_row, page_ends, sends_row}
 
@@ -43,7 +43,7 @@ stops_length rest row later old new None after stops stays = record {
 }
 stops_length rest row later old new (Some end) after stops stays = record { stopped = λ ongoing. cc ongoing; ended = λ some. stays some }
 
-measured : (length : ℕ) (page : Bytes) (before after : SinkState) (result : Result ℕ Fault) → Ends page before after (ended_at length result) → Measures page result
+measured : (length : ℕ) (page : Bytes) (before after : SinkState) (result : Result ℕ Fault) → WritesPage page before after (ended_at length result) → Measures page result
 measured length page before after (Ok count) ends = (ends.size, ends.within)
 measured length page before after (Err end) ends = λ store. ends.past length (ap (end_at length) store)
 
@@ -60,7 +60,7 @@ ongoing_of length (Some end) is = cc is
 pub measures : {R : Type 0} (rest : Rest R) (length : ℕ) (end : Option Fault) (result : Result ℕ Fault)
     → ((fault : Fault) → end ≡ Some fault → result ≡ Err fault)
     → (end ≡ None → Closes (rest []) no_sink no_sink length (ended_at length result))
-    → MeasuresPage (length_state rest length end) result
+    → MeasuresGivenRows (length_state rest length end) result
 measures rest length end result ended closed start rows fresh given =
     measured length (start.rest rows) start.sink no_sink result
     (page_ends (length_state rest length end) no_sink (ended_at length result) (told length end result ended) (λ is. closed (ongoing_of length end is)) start rows fresh given)

@@ -8,7 +8,7 @@ use Rattle.std.proofs.KnownBytes.{Appends-nil, Appends-trans}
 use Rattle.index_rules.specs.Maps.{Bytes}
 use Rattle.index_rules.specs.Rows.{Took, StoppedAt, WasGiven}
 use Rattle.index_pages.specs.Rest.{Rest, IsNext}
-use Rattle.index_pages.specs.Ends.{Closes, Ends, IsCaused, Passes, Sends, SendsRow, SendsRowFront, SinkState, count_of, most_bytes}
+use Rattle.index_pages.specs.Ends.{Closes, WritesPage, IsCaused, StoreOnlyIfTooLong, Sends, SendsRow, SendsRowFront, SinkState, count_of, most_bytes}
 use Rattle.index_pages.specs.States.{TextState, TakesText, StopsText, IsFresh, IsFront}
 use Rattle.index_pages.specs.declared.end.PageEnd.{PageEnd}
 
@@ -97,7 +97,7 @@ whole : {R : Type 0} (start : TextState R) (rows : List R) (now : TextState R) (
 whole start rows now taken = ap start.rest (sym (append-nil rows)) ∙ taken.next []
 
 ends_closed : {R : Type 0} (rows : List R) (start now : TextState R) (after : SinkState) (result : Result ℕ PageEnd) → IsFresh start → Taken start rows now
-    → Closes (now.rest []) now.sink after now.written result → Ends (start.rest rows) start.sink after result
+    → Closes (now.rest []) now.sink after now.written result → WritesPage (start.rest rows) start.sink after result
 ends_closed rows start now after (Ok n) fresh taken h =
     let last = now.rest [] in
     let all = all_given rows start now last n after fresh taken h.sends in
@@ -129,7 +129,7 @@ pub record Broken {R : Type 0} (start : TextState R) (rows : List R) (now : Text
   pub is : now.end ≡ Some end
   pub count : count_of end ≡ now.written
   pub front : IsFront start.rest rows start.sink.contents now.sink.contents now.written
-  pub past : (more : List R) → Passes end (length (start.rest (rows ++ more)))
+  pub past : (more : List R) → StoreOnlyIfTooLong end (length (start.rest (rows ++ more)))
   pub caused : IsCaused end start.sink.failures now.sink.failures
 
 pub broken_of : {R : Type 0} (rows : List R) (start now : TextState R) → IsFresh start → StoppedAt TakesText StopsText rows start now → Broken start rows now
@@ -178,7 +178,7 @@ steady_of now start rows fresh (inl h) ongoing = (taken_of rows start now fresh.
 steady_of now start rows fresh (inr h) ongoing = let broken = broken_of rows start now fresh h in cc (ongoing, broken.is)
 
 ends_broken : {R : Type 0} (rows : List R) (start now : TextState R) (after : SinkState) (result : Result ℕ PageEnd) → (broken : Broken start rows now)
-    → result ≡ Err broken.end → after ≡ now.sink → Ends (start.rest rows) start.sink after result
+    → result ≡ Err broken.end → after ≡ now.sink → WritesPage (start.rest rows) start.sink after result
 ends_broken rows start now after result broken e same =
     let front = broken.front in
     let left = front.begins [] in
@@ -190,7 +190,7 @@ ends_broken rows start now after result broken e same =
 -- the page is finished
 pub page_ends : {R : Type 0} (now : TextState R) (after : SinkState) (result : Result ℕ PageEnd)
     → ((end : PageEnd) → now.end ≡ Some end → (result ≡ Err end) × (after ≡ now.sink)) → (now.end ≡ None → Closes (now.rest []) now.sink after now.written result)
-    → (start : TextState R) (rows : List R) → IsFresh start → WasGiven TakesText StopsText rows start now → Ends (start.rest rows) start.sink after result
+    → (start : TextState R) (rows : List R) → IsFresh start → WasGiven TakesText StopsText rows start now → WritesPage (start.rest rows) start.sink after result
 page_ends now after result ended closed start rows fresh (inl h) =
     let taken = taken_of rows start now fresh.ongoing h in
     ends_closed rows start now after result fresh taken (closed taken.ongoing)

@@ -24,8 +24,8 @@ count_of (Store n) = n
 count_of (WriteFault n) = n
 
 -- `Store` is told only of a page that is too long
-abbrev pub Passes : PageEnd → ℕ → Type 0
-Passes end length = (n : ℕ) → end ≡ Store n → most_bytes < length
+abbrev pub StoreOnlyIfTooLong : PageEnd → ℕ → Type 0
+StoreOnlyIfTooLong end length = (n : ℕ) → end ≡ Store n → most_bytes < length
 
 -- `WriteFault` is told only where a write failed, and where another end is told none did
 abbrev pub IsCaused : PageEnd → ℕ → ℕ → Type 0
@@ -48,7 +48,7 @@ pub record SendsAll (before after : SinkState) (old new : ℕ) (text : Bytes) : 
 pub record SendsFront (before after : SinkState) (old : ℕ) (end : PageEnd) (text : Bytes) : Type 0 where
   pub size : ℕ
   pub sends : Sends before after old (count_of end) (take size text)
-  pub past : Passes end (old + length text)
+  pub past : StoreOnlyIfTooLong end (old + length text)
   pub caused : IsCaused end before.failures after.failures
 
 -- the text that follows the first bytes of a page went out, or a front of it
@@ -68,7 +68,7 @@ pub record SendsRowFront {R : Type 0} (rest : Rest R) (row : R) (before after : 
   pub bytes : Bytes
   pub sends : Sends before after old (count_of end) bytes
   pub begins : (rows : List R) → (left : Bytes) × (rest (row ∷ rows) ≡ bytes ++ left)
-  pub past : (rows : List R) → Passes end (old + length (rest (row ∷ rows)))
+  pub past : (rows : List R) → StoreOnlyIfTooLong end (old + length (rest (row ∷ rows)))
   pub caused : IsCaused end before.failures after.failures
 
 -- ---- whole pages
@@ -84,13 +84,13 @@ pub record IsWhole (page : Bytes) (before after : SinkState) (count : ℕ) : Typ
 pub record IsCut (page : Bytes) (before after : SinkState) (end : PageEnd) : Type 0 where
   pub wrote : Appends before.contents after.contents (take (count_of end) page)
   pub within : count_of end ≤ length page
-  pub past : Passes end (length page)
+  pub past : StoreOnlyIfTooLong end (length page)
   pub caused : IsCaused end before.failures after.failures
 
 -- the page was written whole, or as many of its first bytes as the end tells
-abbrev pub Ends : Bytes → SinkState → SinkState → Result ℕ PageEnd → Type 0
-Ends page before after (Ok count) = IsWhole page before after count
-Ends page before after (Err end) = IsCut page before after end
+abbrev pub WritesPage : Bytes → SinkState → SinkState → Result ℕ PageEnd → Type 0
+WritesPage page before after (Ok count) = IsWhole page before after count
+WritesPage page before after (Err end) = IsCut page before after end
 
 -- the length of the page, or why it has none: `Store` is told only of a page that is too long
 abbrev pub Measures : Bytes → Result ℕ Fault → Type 0

@@ -1,5 +1,6 @@
 -- A page that is written row by row, as contracts see it.
 use Rattle.std.specs.Prelude.{◌≡◌, ℕ, ◌<◌, List, ◌++◌, length, Option, Some, None, IsSome, Result, Ok, Err, option_map}
+use Rattle.std.specs.Borrow.{MutBor}
 use Rattle.std.specs.Io.KnownBytes.{Appends}
 use Rattle.index_io.specs.declared.sink.Sink.{Ghosts}
 use Rattle.index_rules.specs.Maps.{Bytes}
@@ -10,9 +11,10 @@ use Rattle.index_rules.specs.declared.rows.FileRow.{FileRow}
 use Rattle.index_rules.specs.declared.rows.NameRow.{NameRow}
 use Rattle.index_pages.specs.Parts.{project_rest, root_rest}
 use Rattle.index_pages.specs.Rest.{Rest}
-use Rattle.index_pages.specs.Ends.{SinkState, SendsRow, SendsRowFront, count_of, most_bytes, Ends, Measures}
+use Rattle.index_pages.specs.Ends.{SinkState, SendsRow, SendsRowFront, count_of, most_bytes, WritesPage, Measures}
 use Rattle.index_pages.specs.declared.end.PageEnd.{PageEnd}
 use Rattle.index_pages.specs.declared.end.PageEnd.TheVariants.{OutOfMemory, Store}
+use Rattle.index_pages.specs.declared.length.PageLength.{PageLength}
 use Rattle.index_pages.specs.declared.project.ProjectPage.{ProjectPage}
 use Rattle.index_pages.specs.declared.root.RootPage.{RootPage}
 use Rattle.index_pages.specs.declared.text.PageText.{PageText}
@@ -37,25 +39,34 @@ abbrev pub root_left : RootPage → Bytes → Rest NameRow
 root_left page name = root_rest page.as_json page.is_started
 
 -- the same of the page of a project
-abbrev pub project_left : ProjectPage → Bytes → Rest FileRow
-project_left page project = project_rest page.as_json project page.is_started page.releases.keys
+abbrev pub project_page_rest : ProjectPage → Bytes → Rest FileRow
+project_page_rest page project =
+    project_rest page.as_json project page.is_started page.releases.keys
 
 -- a page, by what one of its kind still has before it
 abbrev pub page_state : {K P R X : Type 0} → Ghosts K → (P → Bytes → Rest X) → PageText K P R → TextState X
 page_state g rest page = text_state (rest page.page page.name.now) (state_of g page.sink.now) page.written page.end
 
+-- the text of a row went out between these states of its page, of which so many bytes were then written
+abbrev pub SendsRowOf : {R : Type 0} → TextState R → R → TextState R → ℕ → Type 0
+SendsRowOf before row after written = SendsRow before.rest row after.rest before.sink after.sink before.written written
+
+-- a front of it went out, and the page ended so
+abbrev pub CutsRowOf : {R : Type 0} → TextState R → R → TextState R → PageEnd → Type 0
+CutsRowOf before row after end = SendsRowFront before.rest row before.sink after.sink before.written end
+
 -- a row was taken: its text went out
 pub record TakesText {R : Type 0} (before : TextState R) (row : R) (after : TextState R) : Type 0 where
   pub ongoing : before.end ≡ None
   pub goes_on : after.end ≡ None
-  pub sends : SendsRow before.rest row after.rest before.sink after.sink before.written after.written
+  pub sends : SendsRowOf before row after after.written
 
 -- the page ended within a row
 pub record EndsAtRow {R : Type 0} (before : TextState R) (row : R) (after : TextState R) : Type 0 where
   pub end : PageEnd
   pub is : after.end ≡ Some end
   pub count : count_of end ≡ after.written
-  pub sends : SendsRowFront before.rest row before.sink after.sink before.written end
+  pub sends : CutsRowOf before row after end
 
 -- a row was not taken: the page ended within it, or had ended before and is what it was
 pub record StopsText {R : Type 0} (before : TextState R) (row : R) (after : TextState R) : Type 0 where
@@ -67,13 +78,21 @@ pub record IsFresh {R : Type 0} (start : TextState R) : Type 0 where
   pub none : start.written ≡ 0
   pub ongoing : start.end ≡ None
 
+-- a page that writes to this sink, which is as it was: nothing was written, and by any rows it is the whole page of these
+pub record Begins {K P R X : Type 0} (g : Ghosts K) (rest : P → Bytes → Rest X) (page : PageText K P R) (into : MutBor K) (whole : Rest X) : Type 0 where
+  pub sink : page.sink.ghost_name ≡ into.ghost_name
+  pub kept : page.sink.now ≡ into.now
+  pub whole_page : (rows : List X) → (page_state g rest page).rest rows ≡ whole rows
+  pub fresh : IsFresh (page_state g rest page)
+
 -- where these rows were given to a fresh page, what was made of it is so
 abbrev pub AfterRows : {R : Type 0} → TextState R → (TextState R → List R → Type 0) → Type 0
 AfterRows {R} now P = (start : TextState R) (rows : List R) → IsFresh start → WasGiven TakesText StopsText rows start now → P start rows
 
 -- the page of the rows that were given is written, or as many of its first bytes as the end tells
 abbrev pub EndsPage : {R : Type 0} → TextState R → SinkState → Result ℕ PageEnd → Type 0
-EndsPage now after result = AfterRows now (λ start rows. Ends (start.rest rows) start.sink after result)
+EndsPage now after result =
+    AfterRows now (λ start rows. WritesPage (start.rest rows) start.sink after result)
 
 -- so many bytes were written, and the page of any rows that begin with these begins with them
 pub record IsFront {R : Type 0} (page : Rest R) (rows : List R) (before after : Option Bytes) (count : ℕ) : Type 0 where
@@ -115,9 +134,18 @@ ended_at count (Err fault) = Err (end_at count fault)
 abbrev pub length_state : {R : Type 0} → Rest R → ℕ → Option Fault → TextState R
 length_state rest length end = text_state rest no_sink length (option_map (end_at length) end)
 
+-- a count, by what a page of its kind still has before it
+abbrev pub count_state : {P X : Type 0} → (P → Bytes → Rest X) → PageLength P → TextState X
+count_state rest page = length_state (rest page.page page.name.now) page.length page.end
+
+-- a count of which nothing was counted, and by any rows it is that of the whole page of these
+pub record BeginsCount {P X : Type 0} (rest : P → Bytes → Rest X) (page : PageLength P) (whole : Rest X) : Type 0 where
+  pub whole_page : (rows : List X) → (count_state rest page).rest rows ≡ whole rows
+  pub fresh : IsFresh (count_state rest page)
+
 -- the length of the page of the rows that were given
-abbrev pub MeasuresPage : {R : Type 0} → TextState R → Result ℕ Fault → Type 0
-MeasuresPage now result = AfterRows now (λ start rows. Measures (start.rest rows) result)
+abbrev pub MeasuresGivenRows : {R : Type 0} → TextState R → Result ℕ Fault → Type 0
+MeasuresGivenRows now result = AfterRows now (λ start rows. Measures (start.rest rows) result)
 
 -- where a row was not taken there is no length, and `Store` is told only where every page that begins with these rows is too long
 abbrev pub StopsLength : {R : Type 0} → TextState R → Result ℕ Fault → Type 0

@@ -1,12 +1,9 @@
 //! The length of a page, row by row.
-ghost use Rattle.std.specs.Prelude.{◌≡◌, List, [], false, Err, None, Some, IfErr, IfOk, IsSome, IsTrue, length as text_length};
+ghost use Rattle.std.specs.Prelude.{◌≡◌, [], false, Err, None, Some, IfErr, IfOk, IsTrue, length as text_length};
 ghost use Rattle.index_rules.specs.Maps.{Bytes};
-ghost use Rattle.index_rules.specs.declared.rows.FileRow.{FileRow as FileRowData};
-ghost use Rattle.index_rules.specs.declared.rows.NameRow.{NameRow as NameRowData};
-ghost use Rattle.index_pages.specs.Ends.{Closes, SendsRow, SendsRowFront};
+ghost use Rattle.index_pages.specs.Ends.{Closes};
 ghost use Rattle.index_pages.specs.Pages.{project_page_of, root_page_of};
-ghost use Rattle.index_pages.specs.Parts.{project_rest, root_rest};
-ghost use Rattle.index_pages.specs.States.{end_at, ended_at, length_state, no_sink, MeasuresPage, StopsLength};
+ghost use Rattle.index_pages.specs.States.{count_state, end_at, ended_at, no_sink, project_page_rest, root_left, BeginsCount, CutsRowOf, MeasuresGivenRows, SendsRowOf, StopsLength, StopsText, TakesText};
 
 use crate::page::Page;
 use crate::pieces::Count;
@@ -31,9 +28,7 @@ impl PageLength<'static, RootPage> {
     /// The length of the page of the names, of which nothing was counted. It takes rows of names. It takes no memory
     /// itself.
     pub fn root(served: Served) -> PageLength<'static, RootPage>
-        ensures page { (rows : List NameRowData)
-            → root_rest result.page.as_json result.page.is_started rows ≡ root_page_of served rows }
-        ensures none { (result.length ≡ 0) × (result.end ≡ None) }
+        ensures { BeginsCount root_left result (root_page_of served) }
     {
         PageLength::new("", RootPage::new(served))
     }
@@ -47,10 +42,7 @@ impl<'p> PageLength<'p, ProjectPage> {
         name: &'p NormalName,
         served: Served,
     ) -> PageLength<'p, ProjectPage>
-        ensures page { (rows : List FileRowData) → let page = result.page in
-            project_rest page.as_json result.name.now page.is_started page.releases.keys rows
-            ≡ project_page_of served name.now rows }
-        ensures none { (result.length ≡ 0) × (result.end ≡ None) }
+        ensures { BeginsCount project_page_rest result (project_page_of served name.now) }
     {
         PageLength::new(name.text(), ProjectPage::new(alloc, served))
     }
@@ -59,8 +51,7 @@ impl<'p> PageLength<'p, ProjectPage> {
 impl<'p, P: Page> PageLength<'p, P> {
     /// A page of which nothing was counted.
     fn new(name: &'p str, page: P) -> PageLength<'p, P>
-        ensures page { (result.page ≡ page) × (result.name.now ≡ name.now) }
-        ensures none { (result.length ≡ 0) × (result.end ≡ None) }
+        ensures { BeginsCount P.rest result (P.rest page name.now) }
     {
         PageLength {
             name,
@@ -70,13 +61,15 @@ impl<'p, P: Page> PageLength<'p, P> {
         }
     }
 
-    /// How many bytes the page of the rows that were given has. `Store` where they are more than
-    /// 9,223,372,036,854,775,807; the other fault is `OutOfMemory`. Where a row was not taken it is the fault at that row.
+    /// How many bytes the page of the rows that were given has.
+    ///
+    /// # Errors
+    ///
+    /// `Store` where they are more than 9,223,372,036,854,775,807, else `OutOfMemory`. Where a row was not taken it is
+    /// the fault at that row.
     pub fn finish(self) -> Result<u64, Fault>
-        ensures page { let rest = P.rest self.entry.page self.entry.name.now in
-            MeasuresPage (length_state rest self.entry.length self.entry.end) result }
-        ensures stopped { let rest = P.rest self.entry.page self.entry.name.now in
-            StopsLength (length_state rest self.entry.length self.entry.end) result }
+        ensures page { MeasuresGivenRows (count_state P.rest self.entry) result }
+        ensures stopped { StopsLength (count_state P.rest self.entry) result }
         ensures ended { (end : _) → self.entry.end ≡ Some end → result ≡ Err end }
     {
         self.close()
@@ -103,15 +96,10 @@ impl<'p, P: Page> PageLength<'p, P> {
 
     /// Counts the text of a row, or answers `false` where there is no count.
     fn take_row(&mut self, row: &P::Row) -> bool
-        ensures taken { IsTrue result → (self.old.end ≡ None) × (self.new.end ≡ None)
-            × SendsRow (P.rest self.old.page self.old.name.now) row.now
-            (P.rest self.new.page self.new.name.now) no_sink no_sink
-            self.old.length self.new.length }
-        ensures stopped { result ≡ false → self.old.end ≡ None → (end : _)
-            × (self.new.end ≡ Some end) × (self.new.length ≡ self.old.length)
-            × SendsRowFront (P.rest self.old.page self.old.name.now) row.now no_sink no_sink
-            self.old.length (end_at self.old.length end) }
-        ensures ended { IsSome self.old.end → (result ≡ false) × (self.new ≡ self.old) }
+        ensures taken { IsTrue result → TakesText (count_state P.rest self.old) row.now
+            (count_state P.rest self.new) }
+        ensures stopped { result ≡ false → StopsText (count_state P.rest self.old) row.now
+            (count_state P.rest self.new) }
     {
         if self.end.is_some() {
             return false;
@@ -131,12 +119,10 @@ impl<'p, P: Page> PageLength<'p, P> {
     /// The length with the text of a row.
     fn add_row(&mut self, row: &P::Row) -> Result<u64, Fault>
         ensures kept { (self.new.length ≡ self.old.length) × (self.new.end ≡ self.old.end) }
-        ensures sent { IfOk result (λ length.
-            SendsRow (P.rest self.old.page self.old.name.now) row.now
-            (P.rest self.new.page self.new.name.now) no_sink no_sink self.old.length length) }
-        ensures stopped { IfErr result (λ end.
-            SendsRowFront (P.rest self.old.page self.old.name.now) row.now no_sink no_sink
-            self.old.length (end_at self.old.length end)) }
+        ensures sent { IfOk result (SendsRowOf (count_state P.rest self.old) row.now
+            (count_state P.rest self.new)) }
+        ensures stopped { IfErr result (λ end. CutsRowOf (count_state P.rest self.old) row.now
+            (count_state P.rest self.new) (end_at self.old.length end)) }
     {
         let mut count = Count { bytes: 0 };
         self.page.append_row(self.name, row, &mut count)?;
@@ -145,20 +131,13 @@ impl<'p, P: Page> PageLength<'p, P> {
 }
 
 impl NameTaker for PageLength<'_, RootPage> {
-    ghost use Rattle.index_pages.specs.Parts.{root_rest};
-    ghost use Rattle.index_pages.specs.States.{length_state, StopsText, TakesText};
+    ghost use Rattle.index_pages.specs.States.{count_state, root_left, StopsText, TakesText};
 
     ghost takes = { λ before row after.
-        TakesText (length_state (root_rest before.page.as_json before.page.is_started)
-        before.length before.end) row
-        (length_state (root_rest after.page.as_json after.page.is_started)
-        after.length after.end) };
+        TakesText (count_state root_left before) row (count_state root_left after) };
 
     ghost stops = { λ before row after.
-        StopsText (length_state (root_rest before.page.as_json before.page.is_started)
-        before.length before.end) row
-        (length_state (root_rest after.page.as_json after.page.is_started)
-        after.length after.end) };
+        StopsText (count_state root_left before) row (count_state root_left after) };
 
     fn take(&mut self, row: &NameRow) -> bool {
         self.take_row(row)
@@ -166,20 +145,13 @@ impl NameTaker for PageLength<'_, RootPage> {
 }
 
 impl FileTaker for PageLength<'_, ProjectPage> {
-    ghost use Rattle.index_pages.specs.Parts.{project_rest};
-    ghost use Rattle.index_pages.specs.States.{length_state, StopsText, TakesText};
+    ghost use Rattle.index_pages.specs.States.{count_state, project_page_rest, StopsText, TakesText};
 
     ghost takes = { λ before row after.
-        TakesText (length_state (project_rest before.page.as_json before.name.now
-        before.page.is_started before.page.releases.keys) before.length before.end) row
-        (length_state (project_rest after.page.as_json after.name.now
-        after.page.is_started after.page.releases.keys) after.length after.end) };
+        TakesText (count_state project_page_rest before) row (count_state project_page_rest after) };
 
     ghost stops = { λ before row after.
-        StopsText (length_state (project_rest before.page.as_json before.name.now
-        before.page.is_started before.page.releases.keys) before.length before.end) row
-        (length_state (project_rest after.page.as_json after.name.now
-        after.page.is_started after.page.releases.keys) after.length after.end) };
+        StopsText (count_state project_page_rest before) row (count_state project_page_rest after) };
 
     fn take(&mut self, row: &FileRow) -> bool {
         self.take_row(row)

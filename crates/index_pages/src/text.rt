@@ -1,11 +1,8 @@
 //! A page that is written row by row.
-ghost use Rattle.std.specs.Prelude.{◌≡◌, ◌+◌, ◌<◌, ◌≤◌, List, [], false, Err, None, Some, IfErr, IfOk, IfSome, IsSome, IsTrue};
-ghost use Rattle.index_rules.specs.declared.rows.FileRow.{FileRow as FileRowData};
-ghost use Rattle.index_rules.specs.declared.rows.NameRow.{NameRow as NameRowData};
-ghost use Rattle.index_pages.specs.Ends.{count_of, most_bytes, Closes, SendsRow, SendsRowFront};
+ghost use Rattle.std.specs.Prelude.{◌≡◌, ◌+◌, ◌<◌, ◌≤◌, [], false, Err, None, Some, IfErr, IfOk, IfSome, IsTrue};
+ghost use Rattle.index_pages.specs.Ends.{most_bytes, Closes};
 ghost use Rattle.index_pages.specs.Pages.{project_page_of, root_page_of};
-ghost use Rattle.index_pages.specs.Parts.{project_rest, root_rest};
-ghost use Rattle.index_pages.specs.States.{page_state, state_of, EndsPage, IsSteady, IsWritten, StopsPage};
+ghost use Rattle.index_pages.specs.States.{page_state, project_page_rest, root_left, state_of, Begins, CutsRowOf, EndsPage, IsSteady, IsWritten, SendsRowOf, StopsPage, StopsText, TakesText};
 
 use crate::end::PageEnd;
 use crate::page::Page;
@@ -41,11 +38,7 @@ impl<'a, K: Sink> PageText<'a, 'static, K, RootPage, Vec<u8>> {
         served: Served,
         sink: &'a mut K,
     ) -> PageText<'a, 'static, K, RootPage, Vec<u8>>
-        ensures sink { result.sink.ghost_name ≡ sink.entry.ghost_name }
-        ensures kept { result.sink.now ≡ sink.old }
-        ensures page { (rows : List NameRowData)
-            → root_rest result.page.as_json result.page.is_started rows ≡ root_page_of served rows }
-        ensures none { (result.written ≡ 0) × (result.end ≡ None) }
+        ensures { Begins K.Sink root_left result sink.entry (root_page_of served) }
     {
         PageText::new(alloc, "", RootPage::new(served), sink)
     }
@@ -59,12 +52,8 @@ impl<'a, 'p, K: Sink> PageText<'a, 'p, K, ProjectPage, Vec<u8>> {
         served: Served,
         sink: &'a mut K,
     ) -> PageText<'a, 'p, K, ProjectPage, Vec<u8>>
-        ensures sink { result.sink.ghost_name ≡ sink.entry.ghost_name }
-        ensures kept { result.sink.now ≡ sink.old }
-        ensures page { (rows : List FileRowData) → let page = result.page in
-            project_rest page.as_json result.name.now page.is_started page.releases.keys rows
-            ≡ project_page_of served name.now rows }
-        ensures none { (result.written ≡ 0) × (result.end ≡ None) }
+        ensures { Begins K.Sink project_page_rest result sink.entry
+            (project_page_of served name.now) }
     {
         PageText::new(alloc, name.text(), ProjectPage::new(alloc, served), sink)
     }
@@ -78,10 +67,7 @@ impl<'a, 'p, K: Sink, P: Page> PageText<'a, 'p, K, P, Vec<u8>> {
         page: P,
         sink: &'a mut K,
     ) -> PageText<'a, 'p, K, P, Vec<u8>>
-        ensures sink { result.sink.ghost_name ≡ sink.entry.ghost_name }
-        ensures kept { result.sink.now ≡ sink.old }
-        ensures page { (result.page ≡ page) × (result.name.now ≡ name.now) }
-        ensures none { (result.written ≡ 0) × (result.end ≡ None) }
+        ensures { Begins K.Sink P.rest result sink.entry (P.rest page name.now) }
     {
         PageText {
             sink,
@@ -124,6 +110,8 @@ impl<'a, 'p, K: Sink, P: Page> PageText<'a, 'p, K, P, Vec<u8>> {
 
     /// Writes what stands behind the rows, and tells how many bytes the page has.
     ///
+    /// # Errors
+    ///
     /// The end tells why the page was not finished and how many of its bytes went out: `OutOfMemory`; `Store` where it
     /// would have more than 9,223,372,036,854,775,807 bytes; `WriteFault` where a write failed or took no byte. Where a
     /// row was not taken it is the end of that row, and nothing more is written.
@@ -163,17 +151,10 @@ impl<'a, 'p, K: Sink, P: Page> PageText<'a, 'p, K, P, Vec<u8>> {
     /// Writes the text of a row, or answers `false` where it could not be written whole.
     fn take_row(&mut self, row: &P::Row) -> bool
         ensures sink { self.new.sink.ghost_name ≡ self.old.sink.ghost_name }
-        ensures taken { IsTrue result → (self.old.end ≡ None) × (self.new.end ≡ None)
-            × SendsRow (P.rest self.old.page self.old.name.now) row.now
-            (P.rest self.new.page self.new.name.now)
-            (state_of K.Sink self.old.sink.now) (state_of K.Sink self.new.sink.now)
-            self.old.written self.new.written }
-        ensures stopped { result ≡ false → self.old.end ≡ None → (end : _)
-            × (self.new.end ≡ Some end) × (count_of end ≡ self.new.written)
-            × SendsRowFront (P.rest self.old.page self.old.name.now) row.now
-            (state_of K.Sink self.old.sink.now) (state_of K.Sink self.new.sink.now)
-            self.old.written end }
-        ensures ended { IsSome self.old.end → (result ≡ false) × (self.new ≡ self.old) }
+        ensures taken { IsTrue result → TakesText (page_state K.Sink P.rest self.old) row.now
+            (page_state K.Sink P.rest self.new) }
+        ensures stopped { result ≡ false → StopsText (page_state K.Sink P.rest self.old) row.now
+            (page_state K.Sink P.rest self.new) }
     {
         if self.end.is_some() {
             return false;
@@ -195,15 +176,10 @@ impl<'a, 'p, K: Sink, P: Page> PageText<'a, 'p, K, P, Vec<u8>> {
     fn send_row(&mut self, row: &P::Row) -> Result<u64, PageEnd>
         ensures sink { self.new.sink.ghost_name ≡ self.old.sink.ghost_name }
         ensures kept { (self.new.written ≡ self.old.written) × (self.new.end ≡ self.old.end) }
-        ensures sent { IfOk result (λ written.
-            SendsRow (P.rest self.old.page self.old.name.now) row.now
-            (P.rest self.new.page self.new.name.now)
-            (state_of K.Sink self.old.sink.now) (state_of K.Sink self.new.sink.now)
-            self.old.written written) }
-        ensures stopped { IfErr result (λ end.
-            SendsRowFront (P.rest self.old.page self.old.name.now) row.now
-            (state_of K.Sink self.old.sink.now) (state_of K.Sink self.new.sink.now)
-            self.old.written end) }
+        ensures sent { IfOk result (SendsRowOf (page_state K.Sink P.rest self.old) row.now
+            (page_state K.Sink P.rest self.new)) }
+        ensures stopped { IfErr result (CutsRowOf (page_state K.Sink P.rest self.old) row.now
+            (page_state K.Sink P.rest self.new)) }
     {
         self.room.clear();
         match self.page.append_row(self.name, row, &mut self.room) {
@@ -232,17 +208,17 @@ impl<K: Sink> NameTaker for PageText<'_, '_, K, RootPage, Vec<u8>> {
 
 impl<K: Sink> FileTaker for PageText<'_, '_, K, ProjectPage, Vec<u8>> {
     ghost use Rattle.std.specs.Prelude.{◌≡◌};
-    ghost use Rattle.index_pages.specs.States.{page_state, project_left, StopsText, TakesText};
+    ghost use Rattle.index_pages.specs.States.{page_state, project_page_rest, StopsText, TakesText};
 
     ghost takes = { λ before row after.
         (after.sink.ghost_name ≡ before.sink.ghost_name)
-        × TakesText (page_state K.Sink project_left before) row
-        (page_state K.Sink project_left after) };
+        × TakesText (page_state K.Sink project_page_rest before) row
+        (page_state K.Sink project_page_rest after) };
 
     ghost stops = { λ before row after.
         (after.sink.ghost_name ≡ before.sink.ghost_name)
-        × StopsText (page_state K.Sink project_left before) row
-        (page_state K.Sink project_left after) };
+        × StopsText (page_state K.Sink project_page_rest before) row
+        (page_state K.Sink project_page_rest after) };
 
     fn take(&mut self, row: &FileRow) -> bool {
         self.take_row(row)

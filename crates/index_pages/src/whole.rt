@@ -10,7 +10,11 @@ use index_names::NormalName;
 use index_rules::{Fault, FileRow, NameRow};
 use std::alloc::{AllocError, Global};
 
-/// The page of the held names among these, which stand in the order of the rows. The one fault is `OutOfMemory`.
+/// The page of the held names among these, which stand in the order of the rows.
+///
+/// # Errors
+///
+/// `OutOfMemory`.
 pub fn root_page(alloc: Global, rows: &[NameRow], served: Served) -> Result<Vec<u8>, Fault>
     ensures page { IfOk result (λ text. text.items ≡ root_page_of served rows.now) }
     ensures memory { IfErr result (λ fault. fault ≡ Fault.OutOfMemory) }
@@ -21,7 +25,11 @@ pub fn root_page(alloc: Global, rows: &[NameRow], served: Served) -> Result<Vec<
     Ok(text)
 }
 
-/// The page of a project with these files, which stand in the order of the rows. The one fault is `OutOfMemory`.
+/// The page of a project with these files, which stand in the order of the rows.
+///
+/// # Errors
+///
+/// `OutOfMemory`.
 pub fn project_page(
     alloc: Global,
     name: &NormalName,

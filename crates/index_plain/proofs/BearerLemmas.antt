@@ -7,7 +7,7 @@ use Rattle.index_rules.specs.declared.records.UserRecord.{UserRecord}
 use Rattle.index_rules.specs.Maps.{Bytes, Map, Pairs, same, bytes_cmp, pair_cmp}
 use Rattle.index_rules.proofs.OwnerLists.{same-is}
 use Rattle.index_rules.proofs.KeyLemmas.{same-refl, cases_same, get-put, has-put, has-without}
-use Rattle.index_plain.specs.Bearers.{bears, AreBearers}
+use Rattle.index_plain.specs.Bearers.{is_bearer, AreBearers}
 
 -- whether the token of a user who may be known has this digest
 abbrev has_token : Bytes → Option UserRecord → Bool
@@ -35,36 +35,36 @@ added false true is h = h refl
 -- ---- a change of one user
 
 module _ (users : Map UserRecord) where
-  unknown : (user token : Bytes) → option_map (λ (known : UserRecord). known.token) (get users user) ≡ None → bears users token user ≡ false
+  unknown : (user token : Bytes) → option_map (λ (known : UserRecord). known.token) (get users user) ≡ None → is_bearer users token user ≡ false
   unknown user token = elim (get users user) as (λ at. option_map (λ (known : UserRecord). known.token) at ≡ None → has_token token at ≡ false) [
     | None ↦ λ _. refl
     | Some known ↦ λ e. absurd (false≢true (sym (ap is_some e)))
   ]
 
-  has_former : (user former token : Bytes) → option_map (λ (known : UserRecord). known.token) (get users user) ≡ Some former → bears users token user ≡ same token former
+  has_former : (user former token : Bytes) → option_map (λ (known : UserRecord). known.token) (get users user) ≡ Some former → is_bearer users token user ≡ same token former
   has_former user former token = elim (get users user) as (λ at. option_map (λ (known : UserRecord). known.token) at ≡ Some former → has_token token at ≡ same token former) [
     | None ↦ λ e. absurd (false≢true (ap is_some e))
     | Some known ↦ λ e. let is : known.token ≡ former = cc in ap (same token) is
   ]
 
   module _ (user : Bytes) (known : UserRecord) where
-    bears-put : (token q : Bytes) → bears (insert users user known) token q ≡ cond (same q user) (same token known.token) (bears users token q)
+    bears-put : (token q : Bytes) → is_bearer (insert users user known) token q ≡ cond (same q user) (same token known.token) (is_bearer users token q)
     bears-put token q = ap (has_token token) (get-put users user known q)
-        ∙ elim (same q user) as (λ b. has_token token (cond b (Some known) (get users q)) ≡ cond b (same token known.token) (bears users token q)) [ true ↦ refl | false ↦ refl ]
+        ∙ elim (same q user) as (λ b. has_token token (cond b (Some known) (get users q)) ≡ cond b (same token known.token) (is_bearer users token q)) [ true ↦ refl | false ↦ refl ]
 
     -- the token stays
     pub bearers_stay : (bearers : Pairs) → option_map (λ (account : UserRecord). account.token) (get users user) ≡ Some known.token → AreBearers users bearers → AreBearers (insert users user known) bearers
-    bearers_stay bearers token_is are token q = are token q ∙ elim (cases_same q user) as (λ _. bears users token q ≡ bears (insert users user known) token q) [
-      | inl is ↦ ap (bears users token) is ∙ has_former user known.token token token_is
-          ∙ sym (bears-put token q ∙ ap (λ b. cond b (same token known.token) (bears users token q)) (ap (λ x. same x user) is ∙ same-refl user))
-      | inr other ↦ sym (bears-put token q ∙ ap (λ b. cond b (same token known.token) (bears users token q)) other)
+    bearers_stay bearers token_is are token q = are token q ∙ elim (cases_same q user) as (λ _. is_bearer users token q ≡ is_bearer (insert users user known) token q) [
+      | inl is ↦ ap (is_bearer users token) is ∙ has_former user known.token token token_is
+          ∙ sym (bears-put token q ∙ ap (λ b. cond b (same token known.token) (is_bearer users token q)) (ap (λ x. same x user) is ∙ same-refl user))
+      | inr other ↦ sym (bears-put token q ∙ ap (λ b. cond b (same token known.token) (is_bearer users token q)) other)
     ]
 
     -- the user is new
     pub bearers_add : (bearers : Pairs) → option_map (λ (account : UserRecord). account.token) (get users user) ≡ None → AreBearers users bearers → AreBearers (insert users user known) (insert bearers (known.token, user) tt)
     bearers_add bearers none are token q =
         has-put bearers known.token user token q ∙ ap (cond (same token known.token && same q user) true) (are token q)
-        ∙ added (same token known.token) (same q user) (bears users token q) (λ h. ap (bears users token) (same-is q user h) ∙ unknown user token none)
+        ∙ added (same token known.token) (same q user) (is_bearer users token q) (λ h. ap (is_bearer users token) (same-is q user h) ∙ unknown user token none)
         ∙ sym (bears-put token q)
 
     -- the user had another token
@@ -73,13 +73,13 @@ module _ (users : Map UserRecord) where
     bearers_move bearers former had other are token q =
         has-without (insert bearers (known.token, user) tt) former user token q
         ∙ ap (cond (same token former && same q user) false) (has-put bearers known.token user token q ∙ ap (cond (same token known.token && same q user) true) (are token q))
-        ∙ moved (same token former) (same token known.token) (same q user) (bears users token q)
-        (λ h. ap (bears users token) (same-is q user h) ∙ has_former user former token had)
+        ∙ moved (same token former) (same token known.token) (same q user) (is_bearer users token q)
+        (λ h. ap (is_bearer users token) (same-is q user h) ∙ has_former user former token had)
         (λ h. ap (λ x. same x known.token) (same-is token former h) ∙ other)
         ∙ sym (bears-put token q)
 
     -- what a new token has of the user before
-    pub not_there : (bearers : Pairs) → AreBearers users bearers → bears users known.token user ≡ false → get bearers (known.token, user) ≡ None
+    pub not_there : (bearers : Pairs) → AreBearers users bearers → is_bearer users known.token user ≡ false → get bearers (known.token, user) ≡ None
     not_there bearers are none = is_none (get bearers (known.token, user)) (are known.token user ∙ none)
       where
         is_none : (at : Option (Unit {0})) → is_some at ≡ false → at ≡ None
@@ -99,7 +99,7 @@ module _ (users : Map UserRecord) where
 pub bearers_none : (users : Map UserRecord) (bearers : Pairs) → users ≡ empty → bearers ≡ empty → AreBearers users bearers
 bearers_none users bearers no_users no_bearers token user =
     ap (λ (m : Pairs). contains_key m (token, user)) no_bearers ∙ ap is_some (get-empty pair_cmp (token, user))
-    ∙ sym (ap (λ (m : Map UserRecord). bears m token user) no_users ∙ ap (has_token token) (get-empty bytes_cmp user))
+    ∙ sym (ap (λ (m : Map UserRecord). is_bearer m token user) no_users ∙ ap (has_token token) (get-empty bytes_cmp user))
 
 -- the same ones
 pub bearers_same : (users users' : Map UserRecord) (bearers bearers' : Pairs) → users' ≡ users → bearers' ≡ bearers → AreBearers users bearers → AreBearers users' bearers'

@@ -9,12 +9,13 @@ use Rattle.index_plain.specs.Trees.{map_of}
 use Rattle.index_plain.specs.Pairs.{pairs_of}
 
 -- whether this user is known, and the token has this digest
-abbrev pub bears : Map UserRecord → Bytes → Bytes → Bool
-bears users token user = option_map_or (λ known. same token known.token) (get users user) false
+abbrev pub is_bearer : Map UserRecord → Bytes → Bytes → Bool
+is_bearer users token user = option_map_or (λ known. same token known.token) (get users user) false
 
 -- the pairs are the digest of each user's token with that user, and no others
 abbrev pub AreBearers : Map UserRecord → Pairs → Type 0
-AreBearers users bearers = (token user : Bytes) → contains_key bearers (token, user) ≡ bears users token user
+AreBearers users bearers =
+    (token user : Bytes) → contains_key bearers (token, user) ≡ is_bearer users token user
 
 -- the pairs of a digest and a user that a map of maps has
 abbrev pub bearers_of : BTreeMap Bytes (BTreeMap Bytes (Unit {0})) → Pairs

@@ -1,8 +1,8 @@
 -- The tables that the ordered maps hold.
-use Rattle.std.specs.Prelude.{◌≡◌, ℕ, Bool, true, false, Result, OnOk, OnErr}
-use Rattle.index_io.specs.Counts.{next_count}
+use Rattle.std.specs.Prelude.{◌≡◌, ℕ, Bool, true, false, Result, OnOk, OnErr, ⊤}
 use Rattle.index_rules.specs.declared.change.Change.{Change}
 use Rattle.index_rules.specs.declared.change.Change.TheVariants.{SetQuota, Claim, AddOwner, RemoveOwner, Upload, Delete, BanFile, Yank, Unyank, Relinquish, Prohibit, Allow, OpenCase, RecordAttempt, Transfer, CloseCase, AnswerCase}
+use Rattle.index_rules.specs.Calls as calls
 use Rattle.index_rules.specs.Maps.{bytes_cmp}
 use Rattle.index_rules.specs.Tables.{Tables}
 use Rattle.index_rules.specs.Effect.{means}
@@ -11,8 +11,8 @@ use Rattle.index_plain.specs.Trees.{map_of}
 use Rattle.index_plain.specs.Pairs.{pairs_of}
 
 -- the tables that are kept here
-abbrev pub tables_of : PlainBooks → Tables
-tables_of b = record {
+abbrev pub plain_tables : PlainBooks → Tables
+plain_tables b = record {
   users = map_of bytes_cmp b.accounts.users;
   names = map_of bytes_cmp b.names;
   owners = pairs_of bytes_cmp bytes_cmp (map_of bytes_cmp b.owners);
@@ -23,24 +23,28 @@ tables_of b = record {
   bans = map_of bytes_cmp b.bans;
 }
 
--- the tables afterwards are what the change means
-abbrev pub Writes : Change → PlainBooks → PlainBooks → Type 0
-Writes change old new = tables_of new ≡ means change (tables_of old)
-
 -- how many calls answered a fault
 abbrev pub failures_of : PlainBooks → ℕ
 failures_of b = b.failures
 
--- a change was made, or where memory ran out no table was changed; it is not counted here
-pub record Makes {E : Type 0} (change : Change) (old new : PlainBooks) (result : Result (Unit {0}) E) : Type 0 where
-  pub written : OnOk result (Writes change old new)
-  pub unchanged : OnErr result (tables_of new ≡ tables_of old)
+-- the tables have become these, and no failure is counted
+pub record Becomes (T : Tables) (old new : PlainBooks) : Type 0 where
+  pub tables : plain_tables new ≡ T
   pub failures : failures_of new ≡ failures_of old
 
--- a look changed no table, and one that failed was counted
-pub record LooksUp (old new : PlainBooks) (succeeds : Bool) : Type 0 where
-  pub unchanged : tables_of new ≡ tables_of old
-  pub failures : failures_of new ≡ next_count (failures_of old) succeeds
+-- so the change is made
+abbrev pub Writes : Change → PlainBooks → PlainBooks → Type 0
+Writes change old new = Becomes (means change (plain_tables old)) old new
+
+-- a change was made, or where memory ran out no table was changed; it is not counted here
+pub record Makes {E : Type 0} (change : Change) (old new : PlainBooks) (result : Result (Unit {0}) E) : Type 0 where
+  pub written : OnOk result (plain_tables new ≡ means change (plain_tables old))
+  pub unchanged : OnErr result (plain_tables new ≡ plain_tables old)
+  pub failures : failures_of new ≡ failures_of old
+
+-- what the trait says of a look, of these books: they are always honest, and a crash leaves nothing of them
+abbrev pub LooksUp : (old new : PlainBooks) (succeeds : Bool) → Type 0
+LooksUp = calls.LooksUp plain_tables (λ books. ⊤) (λ books. ⊤) (λ books T. ⊥) failures_of
 
 -- a change of a release: of its files, or of its yank
 abbrev pub is_of_release : Change → Bool

@@ -1,5 +1,5 @@
 -- Ordered maps of std as finite maps.
-use Rattle.std.specs.Prelude.{Option, Some, None}
+use Rattle.std.specs.Prelude.{◌≡◌, Option, Some, None, Result, OnOk, OnErr}
 use Rattle.std.specs.declared.cmp.Ordering.{Ordering}
 use Rattle.std.specs.BTreeMap.{BTreeMap}
 use Rattle.std.specs.FinMap.{FinMap, from_entries, insert, remove}
@@ -12,3 +12,12 @@ map_of R m = from_entries m.entries
 abbrev pub with_at : {K X : Type 0} {R : K → K → Ordering} → FinMap R X → K → Option X → FinMap R X
 with_at m k None = remove m k
 with_at m k (Some x) = insert m k x
+
+-- a map has become this one, or stays as it was where memory ran out
+pub record TurnsTo {M A E : Type 0} (old new made : M) (result : Result A E) : Type 0 where
+  pub written : OnOk result (new ≡ made)
+  pub unchanged : OnErr result (new ≡ old)
+
+-- so it has this value at the key
+abbrev pub Puts : {K X A E : Type 0} {R : K → K → Ordering} → FinMap R X → FinMap R X → K → X → Result A E → Type 0
+Puts old new key value result = TurnsTo old new (insert old key value) result

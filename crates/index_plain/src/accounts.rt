@@ -1,8 +1,8 @@
 //! The users, and who bears which token.
-ghost use Rattle.std.specs.Prelude.{◌≡◌, None, OnOk, OnErr, false, option_map};
-ghost use Rattle.std.specs.FinMap.{empty, get, insert};
+ghost use Rattle.std.specs.Prelude.{◌≡◌, None, false, option_map};
+ghost use Rattle.std.specs.FinMap.{empty, get};
 ghost use Rattle.index_rules.specs.Maps.{bytes_cmp, same};
-ghost use Rattle.index_plain.specs.Trees.{map_of};
+ghost use Rattle.index_plain.specs.Trees.{Puts, map_of};
 ghost use Rattle.index_plain.specs.Bearers.{AreBearers, bearers_of};
 
 use crate::{pairs, table};
@@ -47,10 +47,8 @@ impl Accounts {
         user: &UserId,
         known: UserRecord,
     ) -> Result<(), AllocError>
-        ensures written { let before = map_of bytes_cmp self.old.users in
-            OnOk result (map_of bytes_cmp self.new.users ≡ insert before user.now known) }
-        ensures unchanged { let before = map_of bytes_cmp self.old.users in
-            OnErr result (map_of bytes_cmp self.new.users ≡ before) }
+        ensures { let before = map_of bytes_cmp self.old.users in
+            Puts before (map_of bytes_cmp self.new.users) user.now known result }
     {
         match self.token_of(user) {
             Some(former) if former == known.token => table::put(&mut self.users, user, known),
@@ -81,10 +79,8 @@ impl Accounts {
         requires former { let before = get (map_of bytes_cmp self.old.users) user.now in
             option_map (λ account. account.token) before ≡ Some former }
         requires other { same former known.token ≡ false }
-        ensures written { let before = map_of bytes_cmp self.old.users in
-            OnOk result (map_of bytes_cmp self.new.users ≡ insert before user.now known) }
-        ensures unchanged { let before = map_of bytes_cmp self.old.users in
-            OnErr result (map_of bytes_cmp self.new.users ≡ before) }
+        ensures { let before = map_of bytes_cmp self.old.users in
+            Puts before (map_of bytes_cmp self.new.users) user.now known result }
     {
         put_both(alloc, &mut self.users, &mut self.bearers, user, known)?;
         pairs::remove(&mut self.bearers, &former, user);
@@ -102,14 +98,10 @@ fn put_both(
 ) -> Result<(), AllocError>
     requires { let before = bearers_of bearers.old in
         get before (known.token, user.now) ≡ None }
-    ensures written { let before = map_of bytes_cmp users.old in
-        OnOk result (map_of bytes_cmp users.new ≡ insert before user.now known) }
-    ensures bearer_written { let before = bearers_of bearers.old in
-        OnOk result (bearers_of bearers.new
-        ≡ insert before (known.token, user.now) tt) }
-    ensures unchanged { OnErr result (map_of bytes_cmp users.new ≡ map_of bytes_cmp users.old) }
-    ensures bearers_unchanged { let before = bearers_of bearers.old in
-        OnErr result (bearers_of bearers.new ≡ before) }
+    ensures user { let before = map_of bytes_cmp users.old in
+        Puts before (map_of bytes_cmp users.new) user.now known result }
+    ensures bearer { let before = bearers_of bearers.old in
+        Puts before (bearers_of bearers.new) (known.token, user.now) tt result }
 {
     pairs::put(alloc, bearers, &known.token, user, ())?;
     match table::put(users, user, known) {

@@ -1,7 +1,7 @@
 //! A table by pairs, as a map of maps: what stands at a first key goes with one call.
-ghost use Rattle.std.specs.Prelude.{◌≡◌, MatchOption, IsSome, None, OnOk, OnErr, option_copied};
+ghost use Rattle.std.specs.Prelude.{◌≡◌, MatchOption, IsSome, None, option_copied};
 ghost use Rattle.std.specs.FinMap.{get, insert, remove};
-ghost use Rattle.index_plain.specs.Trees.{map_of};
+ghost use Rattle.index_plain.specs.Trees.{Puts, TurnsTo, map_of};
 ghost use Rattle.index_plain.specs.Pairs.{pairs_of, without_first};
 
 use crate::key::Key;
@@ -57,11 +57,9 @@ pub fn put<A: Key, B: Key, V: Drop>(
     second: &B,
     value: V,
 ) -> Result<(), AllocError>
-    ensures written { let before = pairs_of A.cmp B.cmp (map_of A.cmp map.old) in
-        OnOk result (pairs_of A.cmp B.cmp (map_of A.cmp map.new)
-        ≡ insert before (first.now, second.now) value) }
-    ensures unchanged { let before = pairs_of A.cmp B.cmp (map_of A.cmp map.old) in
-        OnErr result (pairs_of A.cmp B.cmp (map_of A.cmp map.new) ≡ before) }
+    ensures { let before = pairs_of A.cmp B.cmp (map_of A.cmp map.old) in
+        let after = pairs_of A.cmp B.cmp (map_of A.cmp map.new) in
+        Puts before after (first.now, second.now) value result }
 {
     match map.get_mut(first) {
         Some(inner) => table::put(inner, second, value),
@@ -77,11 +75,10 @@ pub fn put_alone<A: Key, B: Key, V: Drop>(
     second: &B,
     value: V,
 ) -> Result<(), AllocError>
-    ensures written { let before = pairs_of A.cmp B.cmp (map_of A.cmp map.old) in
-        OnOk result (pairs_of A.cmp B.cmp (map_of A.cmp map.new)
-        ≡ insert (without_first A.cmp B.cmp first.now before) (first.now, second.now) value) }
-    ensures unchanged { let before = pairs_of A.cmp B.cmp (map_of A.cmp map.old) in
-        OnErr result (pairs_of A.cmp B.cmp (map_of A.cmp map.new) ≡ before) }
+    ensures { let before = pairs_of A.cmp B.cmp (map_of A.cmp map.old) in
+        let after = pairs_of A.cmp B.cmp (map_of A.cmp map.new) in
+        let rest = without_first A.cmp B.cmp first.now before in
+        TurnsTo before after (insert rest (first.now, second.now) value) result }
 {
     let alone = table::one(alloc, second, value)?;
     table::put(map, first, alone)

@@ -60,17 +60,19 @@ impl PlainBooks {
     ghost use Rattle.index_rules.specs.Sound.{IsSound};
     ghost use Rattle.index_rules.specs.History.{begins};
     ghost use Rattle.index_rules.specs.StandsFor.{StandsFor};
-    ghost use Rattle.index_plain.specs.Plain.{LooksUp, failures_of, tables_of};
+    ghost use Rattle.index_plain.specs.Plain.{LooksUp, failures_of, plain_tables};
 
     /// A new index with one user, who is of the office and whose token has this SHA-256 digest.
     ///
-    /// `BadFirstUser` exactly where the bytes are no user id, or the digest is that of the empty text; else
-    /// `OutOfMemory` is the one error.
+    /// # Errors
+    ///
+    /// `BadFirstUser` exactly where the bytes are no user id, or the digest is that of the empty text, else
+    /// `OutOfMemory`.
     pub fn new(alloc: Global, user: &[u8], token: Digest256) -> Result<PlainBooks, OpenFault>
-        ensures tables { IfOk result (λ books. tables_of books ≡ first_tables user.now token) }
-        ensures sound { IfOk result (λ books. IsSound (tables_of books)) }
+        ensures tables { IfOk result (λ books. plain_tables books ≡ first_tables user.now token) }
+        ensures sound { IfOk result (λ books. IsSound (plain_tables books)) }
         ensures history { let h = begins user.now token in
-            IfOk result (λ books. StandsFor (tables_of books) h) }
+            IfOk result (λ books. StandsFor (plain_tables books) h) }
         ensures failures { IfOk result (λ books. failures_of books ≡ 0) }
         ensures bad_first_user { let bad = IsErrOf result OpenFault.BadFirstUser in
             bad ↔ IsBadFirstUser user.now token }
@@ -81,7 +83,7 @@ impl PlainBooks {
     }
 
     fn opened(alloc: Global, user: &[u8], token: Digest256) -> Result<PlainBooks, OpenFault>
-        ensures tables { IfOk result (λ books. tables_of books ≡ first_tables user.now token) }
+        ensures tables { IfOk result (λ books. plain_tables books ≡ first_tables user.now token) }
         ensures failures { IfOk result (λ books. failures_of books ≡ 0) }
         ensures bad_first_user { let bad = IsErrOf result OpenFault.BadFirstUser in
             bad ↔ IsBadFirstUser user.now token }
@@ -133,9 +135,9 @@ impl Books for PlainBooks {
     ghost use Rattle.index_rules.specs.Facts.{Sees};
     ghost use Rattle.index_rules.specs.Effect.{means};
     ghost use Rattle.index_rules.specs.TableRows.{file_rows_in, held_rows_in, name_rows_in};
-    ghost use Rattle.index_plain.specs.Plain.{LooksUp, failures_of, tables_of};
+    ghost use Rattle.index_plain.specs.Plain.{LooksUp, failures_of, plain_tables};
 
-    ghost tables = { tables_of };
+    ghost tables = { plain_tables };
 
     ghost IsHonest = { λ books. ⊤ };
 
@@ -150,7 +152,7 @@ impl Books for PlainBooks {
     }
 
     fn view(&mut self, alloc: Global, keys: &Keys) -> Result<View, Fault>
-        ensures found { IfOk result (Sees (tables_of self.old) keys.now) }
+        ensures found { IfOk result (Sees (plain_tables self.old) keys.now) }
         ensures looks { LooksUp self.old self.new (is_ok result) }
         ensures memory { IfErr result (λ fault. fault ≡ Fault.OutOfMemory) }
     {
@@ -161,8 +163,9 @@ impl Books for PlainBooks {
     }
 
     fn write(&mut self, alloc: Global, change: Change) -> Result<(), Fault>
-        ensures written { OnOk result (tables_of self.new ≡ means change (tables_of self.old)) }
-        ensures unchanged { OnErr result (tables_of self.new ≡ tables_of self.old) }
+        ensures written { OnOk result
+            (plain_tables self.new ≡ means change (plain_tables self.old)) }
+        ensures unchanged { OnErr result (plain_tables self.new ≡ plain_tables self.old) }
         ensures failures { failures_of self.new ≡ next_count (failures_of self.old) (is_ok result) }
         ensures memory { IfErr result (λ fault. fault ≡ Fault.OutOfMemory) }
     {
@@ -173,7 +176,8 @@ impl Books for PlainBooks {
     }
 
     fn owners_of(&mut self, alloc: Global, name: &NormalName) -> Result<Owners, Fault>
-        ensures found { IfOk result (λ owners. owners ≡ owners_in (tables_of self.old) name.now) }
+        ensures found { IfOk result
+            (λ owners. owners ≡ owners_in (plain_tables self.old) name.now) }
         ensures looks { LooksUp self.old self.new (is_ok result) }
         ensures memory { IfErr result (λ fault. fault ≡ Fault.OutOfMemory) }
     {
@@ -184,7 +188,7 @@ impl Books for PlainBooks {
     }
 
     fn bytes_of(&mut self, _alloc: Global, file: &FileName) -> Result<Option<Sealed>, Fault>
-        ensures found { IfOk result (λ body. body ≡ get (tables_of self.old).bodies file.now) }
+        ensures found { IfOk result (λ body. body ≡ get (plain_tables self.old).bodies file.now) }
         ensures looks { LooksUp self.old self.new (is_ok result) }
         ensures memory { IfErr result (λ fault. fault ≡ Fault.OutOfMemory) }
     {
@@ -195,7 +199,7 @@ impl Books for PlainBooks {
     }
 
     fn names(&mut self, alloc: Global) -> Result<Vec<NameRow>, Fault>
-        ensures found { IfOk result (λ rows. rows.items ≡ name_rows_in (tables_of self.old)) }
+        ensures found { IfOk result (λ rows. rows.items ≡ name_rows_in (plain_tables self.old)) }
         ensures looks { LooksUp self.old self.new (is_ok result) }
         ensures memory { IfErr result (λ fault. fault ≡ Fault.OutOfMemory) }
     {
@@ -206,7 +210,7 @@ impl Books for PlainBooks {
     }
 
     fn files_of(&mut self, alloc: Global, name: &NormalName) -> Result<Vec<FileRow>, Fault>
-        ensures found { let T = tables_of self.old in
+        ensures found { let T = plain_tables self.old in
             IfOk result (λ rows. rows.items ≡ file_rows_in T name.now) }
         ensures looks { LooksUp self.old self.new (is_ok result) }
         ensures memory { IfErr result (λ fault. fault ≡ Fault.OutOfMemory) }
@@ -218,7 +222,7 @@ impl Books for PlainBooks {
     }
 
     fn walk_held<K: NameTaker>(&mut self, _alloc: Global, taker: &mut K) -> Result<(), WalkEnd>
-        ensures walked { let rows = held_rows_in (tables_of self.old) in
+        ensures walked { let rows = held_rows_in (plain_tables self.old) in
             Walks K.takes K.stops rows taker.old taker.new result }
         ensures looks { LooksUp self.old self.new (not (has_fault result)) }
         ensures memory { IfErr result (λ end. end ≢ WalkEnd.Store) }
@@ -234,7 +238,7 @@ impl Books for PlainBooks {
         name: &NormalName,
         taker: &mut K,
     ) -> Result<(), WalkEnd>
-        ensures walked { let rows = file_rows_in (tables_of self.old) name.now in
+        ensures walked { let rows = file_rows_in (plain_tables self.old) name.now in
             Walks K.takes K.stops rows taker.old taker.new result }
         ensures looks { LooksUp self.old self.new (not (has_fault result)) }
         ensures memory { IfErr result (λ end. end ≢ WalkEnd.Store) }

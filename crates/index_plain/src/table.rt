@@ -1,9 +1,9 @@
 //! A table as one ordered map.
 #![tactic(auto, using(crate::proofs::TreeLemmas::trees))]
 
-ghost use Rattle.std.specs.Prelude.{◌≡◌, IfOk, MatchOption, OnOk, OnErr, IsSome, option_and_then, option_copied};
+ghost use Rattle.std.specs.Prelude.{◌≡◌, IfOk, MatchOption, IsSome, option_and_then, option_copied};
 ghost use Rattle.std.specs.FinMap.{empty, get, insert, remove};
-ghost use Rattle.index_plain.specs.Trees.{map_of, with_at};
+ghost use Rattle.index_plain.specs.Trees.{Puts, map_of, with_at};
 
 use crate::key::Key;
 use std::alloc::{AllocError, Global};
@@ -68,9 +68,7 @@ pub fn remove<K: Key, V: Drop>(map: &mut BTreeMap<K, V>, key: &K)
 
 /// Puts a value at a key, in place of the one that stood there. Without memory the map stays as it was.
 pub fn put<K: Key, V: Drop>(map: &mut BTreeMap<K, V>, key: &K, value: V) -> Result<(), AllocError>
-    ensures written { let before = map_of K.cmp map.old in
-        OnOk result (map_of K.cmp map.new ≡ insert before key.now value) }
-    ensures unchanged { OnErr result (map_of K.cmp map.new ≡ map_of K.cmp map.old) }
+    ensures { Puts (map_of K.cmp map.old) (map_of K.cmp map.new) key.now value result }
 {
     replace(map, key, value)?;
     Ok(())
@@ -83,9 +81,7 @@ pub fn replace<K: Key, V: Drop>(
     value: V,
 ) -> Result<Option<V>, AllocError>
     ensures former { IfOk result (λ former. former ≡ get (map_of K.cmp map.old) key.now) }
-    ensures written { let before = map_of K.cmp map.old in
-        OnOk result (map_of K.cmp map.new ≡ insert before key.now value) }
-    ensures unchanged { OnErr result (map_of K.cmp map.new ≡ map_of K.cmp map.old) }
+    ensures put { Puts (map_of K.cmp map.old) (map_of K.cmp map.new) key.now value result }
 {
     Ok(map.insert(key.clone()?, value)?)
 }
@@ -116,12 +112,9 @@ pub fn put_both<K: Key, V: Drop, L: Key, W: Drop>(
     other_key: &L,
     other_value: W,
 ) -> Result<(), AllocError>
-    ensures written { let before = map_of K.cmp map.old in
-        OnOk result (map_of K.cmp map.new ≡ insert before key.now value) }
-    ensures other_written { let before = map_of L.cmp other.old in
-        OnOk result (map_of L.cmp other.new ≡ insert before other_key.now other_value) }
-    ensures unchanged { OnErr result (map_of K.cmp map.new ≡ map_of K.cmp map.old) }
-    ensures other_unchanged { OnErr result (map_of L.cmp other.new ≡ map_of L.cmp other.old) }
+    ensures put { Puts (map_of K.cmp map.old) (map_of K.cmp map.new) key.now value result }
+    ensures other_put { let before = map_of L.cmp other.old in
+        Puts before (map_of L.cmp other.new) other_key.now other_value result }
 {
     let former = replace(map, key, value)?;
     match put(other, other_key, other_value) {

@@ -1,7 +1,7 @@
 //! What is kept of the last looks.
 ghost use Rattle.std.specs.Prelude.{◌≡◌, IfOk, IfSome, true};
 ghost use Rattle.std.specs.List.{Contains};
-ghost use Rattle.index_desk.specs.Pages.{project_of};
+ghost use Rattle.index_desk.specs.Pages.{project_of_page};
 
 use index_desk::Page;
 use index_digest::Sealed;
@@ -38,8 +38,8 @@ pub(crate) struct KeptPage {
 }
 
 /// The project that a page is of.
-pub(crate) fn project_of(page: Page<'_>) -> Result<Option<NormalName>, AllocError>
-    ensures { IfOk result (λ project. project ≡ project_of page.entry) }
+pub(crate) fn project_of_page(page: Page<'_>) -> Result<Option<NormalName>, AllocError>
+    ensures { IfOk result (λ project. project ≡ project_of_page page.entry) }
 {
     match page {
         Page::Root => Ok(None),
@@ -53,7 +53,7 @@ pub(crate) fn page_of<'a>(
     page: Page<'_>,
     served: Served,
 ) -> Option<&'a KeptPage>
-    ensures { IfSome result (λ kept. (kept.now.project ≡ project_of page.entry)
+    ensures { IfSome result (λ kept. (kept.now.project ≡ project_of_page page.entry)
         × ((kept.now.served ≡ served) × Contains pages.now kept.now)) }
 {
     for kept in pages {
@@ -66,7 +66,7 @@ pub(crate) fn page_of<'a>(
 
 /// Whether a page is of this project.
 fn is_of(project: &Option<NormalName>, page: Page<'_>) -> bool
-    ensures { result ≡ true → project.now ≡ project_of page.entry }
+    ensures { result ≡ true → project.now ≡ project_of_page page.entry }
 {
     match (project, page) {
         (None, Page::Root) => true,

@@ -3,7 +3,7 @@ ghost use Rattle.std.specs.Prelude.{◌≡◌, []};
 ghost use Rattle.std.specs.List.{All};
 ghost use Rattle.index_recent.specs.Kept.{IsKeptBody, IsKeptPage};
 
-use crate::kept::{KeptBody, KeptPage, body_of, page_of, project_of};
+use crate::kept::{KeptBody, KeptPage, body_of, page_of, project_of_page};
 use index_desk::{Keeper, Page};
 use index_digest::Sealed;
 use index_names::{FileName, NormalName};
@@ -170,7 +170,7 @@ impl<B: Books> Keeper for Recent<B> {
             drop(text);
             return;
         }
-        let Ok(project) = project_of(page) else {
+        let Ok(project) = project_of_page(page) else {
             drop(text);
             return;
         };

@@ -29,10 +29,6 @@ Finds (Ok (Some found)) verdict need = (verdict ≡ Accept) × (found ≡ need)
 Finds (Err (stop.Refused refusal)) verdict need = verdict ≡ Refuse refusal
 Finds (Err stop.OutOfMemory) verdict need = verdict ≡ Accept
 
--- the caller is the one in view
-abbrev pub IsOfCaller : Context → Type 0
-IsOfCaller context = context.view.now.caller ≡ Some context.caller.now
-
 -- the verdict by these refusals, on what is in view
 abbrev pub verdict_seen : Context → List Refusal → Request → Verdict
 verdict_seen context refusals request =

@@ -12,6 +12,7 @@ pub mod Effect
 pub mod Decided
 pub mod Rows
 pub mod Walks
+pub mod Calls
 pub mod Runs
 pub mod Sound
 pub mod TableRows

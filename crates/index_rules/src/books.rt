@@ -1,13 +1,13 @@
 //! The tables behind a trait.
-ghost use Rattle.std.specs.Prelude.{◌≡◌, ◌⊎◌, ℕ, List, IfOk, OnOk, OnErr, is_ok, false, not};
+ghost use Rattle.std.specs.Prelude.{◌≡◌, ◌⊎◌, ℕ, List, IfOk, OnOk, OnErr, is_ok, not};
 ghost use Rattle.std.specs.FinMap.{get};
-ghost use Rattle.index_io.specs.Counts.{next_count};
 ghost use Rattle.index_rules.specs.declared.rows.FileRow.{FileRow as FileRowData};
 ghost use Rattle.index_rules.specs.declared.rows.NameRow.{NameRow as NameRowData};
 ghost use Rattle.index_rules.specs.Tables.{Tables, owners_in};
 ghost use Rattle.index_rules.specs.Facts.{Sees};
 ghost use Rattle.index_rules.specs.Effect.{means};
 ghost use Rattle.index_rules.specs.TableRows.{file_rows_in, held_rows_in, name_rows_in};
+ghost use Rattle.index_rules.specs.Calls.{Calls, LooksUp};
 ghost use Rattle.index_rules.specs.Walks.{Walks, has_fault};
 
 use crate::answer::Fault;
@@ -45,12 +45,8 @@ pub trait Books {
     /// The records that the keys name. It changes no table.
     fn view(&mut self, alloc: Global, keys: &Keys) -> Result<View, Fault>
         ensures found { IsHonest self.new → IfOk result (Sees (tables self.old) keys.now) }
-        ensures unchanged { IsHonest self.new → tables self.new ≡ tables self.old }
-        ensures honest { IsHonest self.new → IsHonest self.old }
-        ensures clean { IsClean self.new → IsClean self.old }
-        ensures lasts { OnOk result (IsHonest self.old → IsClean self.new → IsHonest self.new) }
-        ensures crash { (T : Tables) → may_leave self.new T → may_leave self.old T }
-        ensures failures { failures self.new ≡ next_count (failures self.old) (is_ok result) };
+        ensures looks { LooksUp tables IsHonest IsClean may_leave failures
+            self.old self.new (is_ok result) };
 
     /// Writes a change. After a fault the tables are what they were, and a crash may leave them as they were or with
     /// the change.
@@ -58,59 +54,41 @@ pub trait Books {
         ensures written { IsHonest self.new
             → OnOk result (tables self.new ≡ means change (tables self.old)) }
         ensures unchanged { IsHonest self.new → OnErr result (tables self.new ≡ tables self.old) }
-        ensures honest { IsHonest self.new → IsHonest self.old }
-        ensures clean { IsClean self.new → IsClean self.old }
         ensures lasts { OnOk result (IsClean self.new → IsHonest self.new) }
         ensures crash { (T : Tables) → may_leave self.new T →
             may_leave self.old T ⊎ (IsHonest self.old × (T ≡ means change (tables self.old))) }
         ensures alone { IsHonest self.old → OnOk result ((T : Tables) → may_leave self.new T →
             T ≡ means change (tables self.old)) }
-        ensures failures { failures self.new ≡ next_count (failures self.old) (is_ok result) };
+        ensures call { Calls IsHonest IsClean failures self.old self.new (is_ok result) };
 
     /// The owners of a name in byte order. It changes no table.
     fn owners_of(&mut self, alloc: Global, name: &NormalName) -> Result<Owners, Fault>
         ensures found { IsHonest self.new
             → IfOk result (λ owners. owners ≡ owners_in (tables self.old) name.now) }
-        ensures unchanged { IsHonest self.new → tables self.new ≡ tables self.old }
-        ensures honest { IsHonest self.new → IsHonest self.old }
-        ensures clean { IsClean self.new → IsClean self.old }
-        ensures lasts { OnOk result (IsHonest self.old → IsClean self.new → IsHonest self.new) }
-        ensures crash { (T : Tables) → may_leave self.new T → may_leave self.old T }
-        ensures failures { failures self.new ≡ next_count (failures self.old) (is_ok result) };
+        ensures looks { LooksUp tables IsHonest IsClean may_leave failures
+            self.old self.new (is_ok result) };
 
     /// The bytes that are kept of a file, or `None` where none are: in sound tables, where it is not undeleted. It changes
     /// no table.
     fn bytes_of(&mut self, alloc: Global, file: &FileName) -> Result<Option<Sealed>, Fault>
         ensures found { IsHonest self.new
             → IfOk result (λ body. body ≡ get (tables self.old).bodies file.now) }
-        ensures unchanged { IsHonest self.new → tables self.new ≡ tables self.old }
-        ensures honest { IsHonest self.new → IsHonest self.old }
-        ensures clean { IsClean self.new → IsClean self.old }
-        ensures lasts { OnOk result (IsHonest self.old → IsClean self.new → IsHonest self.new) }
-        ensures crash { (T : Tables) → may_leave self.new T → may_leave self.old T }
-        ensures failures { failures self.new ≡ next_count (failures self.old) (is_ok result) };
+        ensures looks { LooksUp tables IsHonest IsClean may_leave failures
+            self.old self.new (is_ok result) };
 
     /// The held names and the prohibited ones with their records, in byte order. It changes no table.
     fn names(&mut self, alloc: Global) -> Result<Vec<NameRow>, Fault>
         ensures found { IsHonest self.new
             → IfOk result (λ rows. rows.items ≡ name_rows_in (tables self.old)) }
-        ensures unchanged { IsHonest self.new → tables self.new ≡ tables self.old }
-        ensures honest { IsHonest self.new → IsHonest self.old }
-        ensures clean { IsClean self.new → IsClean self.old }
-        ensures lasts { OnOk result (IsHonest self.old → IsClean self.new → IsHonest self.new) }
-        ensures crash { (T : Tables) → may_leave self.new T → may_leave self.old T }
-        ensures failures { failures self.new ≡ next_count (failures self.old) (is_ok result) };
+        ensures looks { LooksUp tables IsHonest IsClean may_leave failures
+            self.old self.new (is_ok result) };
 
     /// The undeleted files of a name, in byte order. It changes no table.
     fn files_of(&mut self, alloc: Global, name: &NormalName) -> Result<Vec<FileRow>, Fault>
         ensures found { IsHonest self.new
             → IfOk result (λ rows. rows.items ≡ file_rows_in (tables self.old) name.now) }
-        ensures unchanged { IsHonest self.new → tables self.new ≡ tables self.old }
-        ensures honest { IsHonest self.new → IsHonest self.old }
-        ensures clean { IsClean self.new → IsClean self.old }
-        ensures lasts { OnOk result (IsHonest self.old → IsClean self.new → IsHonest self.new) }
-        ensures crash { (T : Tables) → may_leave self.new T → may_leave self.old T }
-        ensures failures { failures self.new ≡ next_count (failures self.old) (is_ok result) };
+        ensures looks { LooksUp tables IsHonest IsClean may_leave failures
+            self.old self.new (is_ok result) };
 
     /// Hands the held names to a taker one at a time, in byte order, until it wants no more. It changes no table.
     ///
@@ -122,14 +100,8 @@ pub trait Books {
             Walks K.takes K.stops rows taker.old taker.new result }
         ensures given { (rows : List NameRowData) ×
             Walks K.takes K.stops rows taker.old taker.new result }
-        ensures unchanged { IsHonest self.new → tables self.new ≡ tables self.old }
-        ensures honest { IsHonest self.new → IsHonest self.old }
-        ensures clean { IsClean self.new → IsClean self.old }
-        ensures lasts { has_fault result ≡ false →
-            IsHonest self.old → IsClean self.new → IsHonest self.new }
-        ensures crash { (T : Tables) → may_leave self.new T → may_leave self.old T }
-        ensures failures { let is_right = not (has_fault result) in
-            failures self.new ≡ next_count (failures self.old) is_right };
+        ensures looks { LooksUp tables IsHonest IsClean may_leave failures
+            self.old self.new (not (has_fault result)) };
 
     /// Hands the undeleted files of a name to a taker one at a time, in byte order, until it wants no more. It changes
     /// no table.
@@ -147,14 +119,8 @@ pub trait Books {
             Walks K.takes K.stops rows taker.old taker.new result }
         ensures given { (rows : List FileRowData) ×
             Walks K.takes K.stops rows taker.old taker.new result }
-        ensures unchanged { IsHonest self.new → tables self.new ≡ tables self.old }
-        ensures honest { IsHonest self.new → IsHonest self.old }
-        ensures clean { IsClean self.new → IsClean self.old }
-        ensures lasts { has_fault result ≡ false →
-            IsHonest self.old → IsClean self.new → IsHonest self.new }
-        ensures crash { (T : Tables) → may_leave self.new T → may_leave self.old T }
-        ensures failures { let is_right = not (has_fault result) in
-            failures self.new ≡ next_count (failures self.old) is_right };
+        ensures looks { LooksUp tables IsHonest IsClean may_leave failures
+            self.old self.new (not (has_fault result)) };
 
     /// An honest store is clean.
     ghost honest_is_clean: { (books : Self) → IsHonest books → IsClean books };

@@ -25,6 +25,10 @@ impl Bytes {
     }
 
     /// A copy of some bytes.
+    ///
+    /// # Errors
+    ///
+    /// `AllocError` for want of memory.
     pub fn copy_of(alloc: Global, bytes: &[u8]) -> Result<Bytes, AllocError>
         ensures { IfOk result (λ copy. copy ≡ bytes.now) }
     {

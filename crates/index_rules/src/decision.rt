@@ -5,7 +5,7 @@ ghost use Rattle.index_rules.specs.Requests.{is_upload, keys_of};
 ghost use Rattle.index_rules.specs.Facts.{HasOneBearer, Sees, facts_in, facts_seen};
 ghost use Rattle.index_rules.specs.Verdict.{verdict_now, verdict_on};
 ghost use Rattle.index_rules.specs.Effect.{effect};
-ghost use Rattle.index_rules.specs.Decided.{Decides, DecidesIn, IsOfCaller};
+ghost use Rattle.index_rules.specs.Decided.{Decides, DecidesIn};
 
 use crate::answer::Refusal;
 use crate::call::{Call, Request};
@@ -55,8 +55,12 @@ impl From<AllocError> for Stop {
     }
 }
 
-/// The decision on a call by the records that its keys name: the least refusal that applies, else `Already`
-/// where it is so already, else the change that the call makes.
+/// The decision on a call by the records that its keys name: `Already` where it is so already, else the change that the
+/// call makes.
+///
+/// # Errors
+///
+/// `Refused` with the least refusal that applies, or `OutOfMemory`.
 pub fn decide(alloc: Global, call: Call, view: &View) -> Result<Decision, Stop>
     // By what the view has it is the verdict, and the change is the effect.
     ensures seen { let facts = facts_seen view.now call.request in
@@ -92,7 +96,6 @@ fn judge(alloc: Global, call: Call, view: &View) -> Result<Decision, Stop>
 
 /// The decision on a request whose moment and token are in order. An upload's body moves on into its change.
 fn decide_in(context: &Context<'_>, request: Request) -> Result<Decision, Stop>
-    requires { IsOfCaller context.now }
     ensures { DecidesIn context.now request result }
 {
     match request {
@@ -112,7 +115,6 @@ fn decide_in(context: &Context<'_>, request: Request) -> Result<Decision, Stop>
 
 /// The decision on a request that is no upload.
 fn decide_on(context: &Context<'_>, request: &Request) -> Result<Decision, Stop>
-    requires caller { IsOfCaller context.now }
     requires no_upload { is_upload request.now ≡ false }
     ensures { DecidesIn context.now request.now result }
 {

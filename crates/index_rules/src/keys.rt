@@ -43,6 +43,10 @@ impl Drop for Keys {
 
 impl Keys {
     /// This name alone.
+    ///
+    /// # Errors
+    ///
+    /// `AllocError` for want of memory.
     pub fn of_name(name: &NormalName) -> Result<Keys, Fault>
         ensures keys { IfOk result (λ keys. keys ≡ keys_of_name name.now) }
         ensures memory { IfErr result (λ fault. fault ≡ Fault.OutOfMemory) }
@@ -61,6 +65,10 @@ impl Keys {
 
 impl Call {
     /// The readable parts of the call, each there or not.
+    ///
+    /// # Errors
+    ///
+    /// `AllocError` for want of memory.
     pub fn keys(&self, alloc: Global) -> Result<Keys, Fault>
         ensures keys { IfOk result (λ keys. keys ≡ keys_of self.now) }
         ensures memory { IfErr result (λ fault. fault ≡ Fault.OutOfMemory) }

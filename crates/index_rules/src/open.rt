@@ -57,8 +57,9 @@ impl From<AllocError> for OpenFault {
 
 /// The first user of a new index, who is of the office and whose token has this SHA-256 digest.
 ///
-/// `BadFirstUser` exactly where the bytes are no user id, or the digest is that of the empty text; else `OutOfMemory`
-/// is the one error.
+/// # Errors
+///
+/// `BadFirstUser` exactly where the bytes are no user id, or the digest is that of the empty text, else `OutOfMemory`.
 #[tactic(auto, unfolding(crate::specs::Users::read_user))]
 pub fn first_user(
     alloc: Global,

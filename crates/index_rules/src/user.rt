@@ -71,7 +71,11 @@ impl From<AllocError> for UserFault {
 }
 
 impl UserId {
-    /// The user id that these bytes are. `BadUser` where they are none.
+    /// The user id that these bytes are.
+    ///
+    /// # Errors
+    ///
+    /// `BadUser` exactly where they are none, else `OutOfMemory`.
     #[tactic(auto, unfolding(crate::specs::Users::read_user))]
     pub fn read(alloc: Global, bytes: &[u8]) -> Result<UserId, UserFault>
         ensures id { IfOk result (λ id. read_user bytes.now ≡ Some id) }

@@ -8,9 +8,9 @@ use Rattle.sqlite_keyed.proofs.ListLemmas.{all_weaker}
 use Rattle.sqlite.specs.State.{State}
 use Rattle.index_sql_schema.specs.Index.{version_in}
 use Rattle.index_sql_schema.specs.RecordRows.{IsRecordIn, AreRecords, AreRecordsIn, AreRecordsOf}
-use Rattle.index_sql_schema.specs.Stages.{IsStage, stage, no_tables}
+use Rattle.index_sql_schema.specs.CreateSteps.{IsStage, stage, no_tables}
 use Rattle.index_sql_schema.proofs.CreateLemmas.{staged_index}
-use Rattle.index_sql_writes.specs.Inside.{Makes}
+use Rattle.index_sql_writes.specs.Transaction.{MakesInTransaction}
 
 told_none : (made : State) → IsStage 9 made → version_in made.now.trees ≡ None
 unfolding digits
@@ -23,7 +23,7 @@ no_rows made st =
     (all_weaker (λ (t : Table). made.now.trees t.tree ≡ []) (λ (t : Table). AreRecordsIn made.now.trees t.tree) (λ t none. subst (AllByRecursion (IsRecordIn t.tree)) (sym none) tt) (stage 9).tables st.empty)
 
 -- so they are an index, which tells no version
-pub made_all : (first made : State) → made.committed ≡ first.committed → IsStage 9 made → Makes (λ _. no_tables) (λ _. None) first made
+pub made_all : (first made : State) → made.committed ≡ first.committed → IsStage 9 made → MakesInTransaction (λ _. no_tables) (λ _. None) first made
 made_all first made same st =
     let it = staged_index made st in
     record { ready = record { is_open = st.is_open; inside = st.inside; index = it.0 }; tables = it.1; committed = same; version = told_none made st; records = λ _. no_rows made st }

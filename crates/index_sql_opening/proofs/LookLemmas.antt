@@ -11,15 +11,16 @@ use Rattle.sqlite_tied.specs.Compute.{everything}
 use Rattle.sqlite.specs.Listing.{understood}
 use Rattle.sqlite.proofs.Callers.{IsPlain, survives_begin}
 use Rattle.sqlite.proofs.StateLemmas.{survives_then, survives_weaker}
-use Rattle.index_sql_schema.specs.Stays.{Stays}
+use Rattle.index_sql_schema.specs.Unchanged.{IsUnchangedIfOpen}
 use Rattle.index_sql_schema.specs.FirstVersion.{IsAnyVersion}
 use Rattle.index_sql_schema.specs.StatementTexts.{select_version_text}
 use Rattle.index_sql_schema.proofs.StateLemmas.{shown_same}
 use Rattle.index_sql_schema.proofs.StayLemmas.{unchanged_stays, shown_open, refused_stays}
 use Rattle.index_sql_schema.proofs.SelectVersion as select_version
 use Rattle.index_sql_schema.specs.Schema.{index_schema}
-use Rattle.index_sql_schema.specs.Looks.{Looks}
+use Rattle.index_sql_schema.specs.Looks.{QueriesOnly}
 use Rattle.index_sql_schema.proofs.PlainLemmas.{commits_nowhere}
+use Rattle.index_sql_opening.specs.Making.{IsAtRest}
 use Rattle.index_sql_opening.specs.Versions.{begun}
 
 plain_text : IsPlain (understood index_schema select_version_text)
@@ -30,7 +31,7 @@ plain_text = (refl, refl)
 
 module _ {S : Type 0} (g : Ghosts S) (old new : Held S) (known : IsTrue (state g old).is_open → IsAnyVersion (state g old).now) (ended : new.in_transaction ≡ false)
     (survives : Survives (state g old) (state g new) (CommitsShowing select_version_text [] (state g old))) where
-  looks_by : (did : Bool) → (HasCleanDisk (state g new) → Stays (state g old) (state g new)) → (IsTrue did → HasCleanDisk (state g new) → IsTrue (state g new).is_open) → Looks g old new did
+  looks_by : (did : Bool) → (HasCleanDisk (state g new) → IsUnchangedIfOpen (state g old) (state g new)) → (IsTrue did → HasCleanDisk (state g new) → IsTrue (state g new).is_open) → QueriesOnly g old new did
   looks_by did stays is_open = record {
     outside = λ _. ended;
     was_clean = λ clean. omega (arith, survives.clean);
@@ -42,15 +43,15 @@ module _ {S : Type 0} (g : Ghosts S) (old new : Held S) (known : IsTrue (state g
     survives = survives_weaker (state g old) (state g new) _ _ (λ _ db. commits_nowhere index_schema select_version_text [] (state g old) db plain_text) survives;
   }
 
-  pub looks_shown : (rows : List Row) → (HasCleanDisk (state g new) → Shown select_version_text [] (state g old) (state g new) rows) → (did : Bool) → Looks g old new did
+  pub looks_shown : (rows : List Row) → (HasCleanDisk (state g new) → Shown select_version_text [] (state g old) (state g new) rows) → (did : Bool) → QueriesOnly g old new did
   looks_shown rows shown did = looks_by did
       (λ clean. unchanged_stays (state g old) (state g new) (shown_same select_version_text [] (state g old) (state g new) rows (select_version.is_plain (state g old).now (known (shown_open (state g old) (state g new) select_version_text [] rows (shown clean)).0)) (shown clean)))
       (λ it clean. (shown_open (state g old) (state g new) select_version_text [] rows (shown clean)).1)
 
-  pub looks_refused : (e : Error) (did : Bool) → did ≡ false → (IsTrue (state g old).is_open → (state g old).now ≡ (state g old).committed)
-      → (HasCleanDisk (state g new) → FailsToQuery select_version_text [] (state g old) (state g new) e) → Looks g old new did
-  looks_refused e did failed settled fails = looks_by did
-      (λ clean. refused_stays (state g old) (state g new) select_version_text [] e settled (fails clean))
+  pub looks_refused : (e : Error) (did : Bool) → did ≡ false → IsAtRest g old
+      → (HasCleanDisk (state g new) → FailsToQuery select_version_text [] (state g old) (state g new) e) → QueriesOnly g old new did
+  looks_refused e did failed rest fails = looks_by did
+      (λ clean. refused_stays (state g old) (state g new) select_version_text [] e (rest.settled (omega (arith, survives.clean))) (fails clean))
       (λ it. absurd (cc))
 
 -- ---- inside a transaction, under any schema
@@ -88,10 +89,10 @@ module _ (old new : State) where
   refused_keeps sql params e (inr late) = unchanged_keeps late.5
 
 -- a transaction that is dropped, after what commits nothing
-pub looks_dropped : {S : Type 0} (g : Ghosts S) (old start mid new : Held S) → start ≡ begun old → (IsTrue (state g old).is_open → (state g old).now ≡ (state g old).committed)
+pub looks_dropped : {S : Type 0} (g : Ghosts S) (old start mid new : Held S) → start ≡ begun old → IsAtRest g old
     → (HasCleanDisk (state g mid) → KeepsCommit (state g start) (state g mid)) → Survives (state g start) (state g mid) (λ _. ⊥)
-    → new.in_transaction ≡ false → (HasCleanDisk (state g new) → IsRolledBack (state g mid) (state g new)) → Survives (state g mid) (state g new) (λ _. ⊥) → Looks g old new false
-looks_dropped g old start mid new is settled kept_start ran_start ended undone dropped =
+    → new.in_transaction ≡ false → (HasCleanDisk (state g new) → IsRolledBack (state g mid) (state g new)) → Survives (state g mid) (state g new) (λ _. ⊥) → QueriesOnly g old new false
+looks_dropped g old start mid new is rest kept_start ran_start ended undone dropped =
     let kept : HasCleanDisk (state g mid) → KeepsCommit (state g (begun old)) (state g mid) = subst (λ h. HasCleanDisk (state g mid) → KeepsCommit (state g h) (state g mid)) is kept_start in
     let ran : Survives (state g (begun old)) (state g mid) (λ _. ⊥) = subst (λ h. Survives (state g h) (state g mid) (λ _. ⊥)) is ran_start in
     let before : HasCleanDisk (state g new) → HasCleanDisk (state g mid) = λ clean. omega (arith, dropped.clean) in
@@ -102,7 +103,7 @@ looks_dropped g old start mid new is settled kept_start ran_start ended undone d
       outside = λ _. ended;
       was_clean = first;
       was_open = was;
-      now_is = λ clean o. ((undone clean).undone o).0 ∙ same clean o ∙ sym (settled (was clean o));
+      now_is = λ clean o. ((undone clean).undone o).0 ∙ same clean o ∙ sym (rest.settled (first clean) (was clean o));
       committed_is = λ clean o. ((undone clean).undone o).1 ∙ same clean o;
       lasts = λ it. absurd (cc);
       same = λ it. absurd (cc);

@@ -5,19 +5,19 @@ use Rattle.sqlite_trees.specs.declared.store.Store.{Ghosts}
 use Rattle.sqlite.specs.Held.{Held, state}
 use Rattle.sqlite.specs.Listing.{understood}
 use Rattle.sqlite.specs.State.{State, ExecutesInside}
-use Rattle.index_sql_opening.specs.Migrated.{IsReadyFirst}
+use Rattle.index_sql_opening.specs.Migrated.{IsMigrating}
 use Rattle.index_sql_opening.specs.NewAsks.{Unlimited}
 use Rattle.index_sql_opening.proofs.SureTexts.{table_sure}
 use Rattle.index_sql_schema.specs.FirstVersion.{IsFirstVersion, first_version_schema, without_bans}
-use Rattle.index_sql_schema.specs.Index.{as_told}
+use Rattle.index_sql_schema.specs.Index.{same_version}
 use Rattle.index_sql_schema.specs.Schema.{index_schema}
 use Rattle.index_sql_schema.specs.StatementTexts.{update_version_text}
 use Rattle.index_sql_schema.specs.TableTexts.{bans_text}
 use Rattle.index_sql_schema.proofs.BanTable.{creates_bans, first_eight}
-use Rattle.index_sql_writes.specs.Inside.{Makes}
+use Rattle.index_sql_writes.specs.Transaction.{MakesInTransaction}
 use Rattle.index_sql_writes.proofs.AskLemmas.{IsWrite}
 
-pub bans_made : (old new : State) (count : ℕ) → IsReadyFirst old → ExecutesInside 0 bans_text [] old new (Ok count) → Makes without_bans as_told old new
+pub bans_made : (old new : State) (count : ℕ) → IsMigrating old → ExecutesInside 0 bans_text [] old new (Ok count) → MakesInTransaction without_bans same_version old new
 bans_made old new count ready ran =
     let it = creates_bans old new count ready.first ran.0 in
     record { ready = record { is_open = ran.1.is_open; inside = ran.1.mode; index = it.index }; tables = it.tables; committed = ran.1.committed_is; version = it.version; records = it.records }
@@ -32,5 +32,5 @@ version_sure = (omega arith, refl, refl, refl, tt)
 
 -- a transaction on a database of version 1 begins fit
 pub begins_first : {S : Type 0} (g : Ghosts S) (old : Held S) → (IsTrue (state g old).is_open → IsFirstVersion (state g old).now) → IsTrue (state g old).is_open → (state g old).step_limit ≡ None
-    → Unlimited IsReadyFirst (state g (record old { in_transaction = true }))
+    → Unlimited IsMigrating (state g (record old { in_transaction = true }))
 begins_first g old first opened unlimited = (record { is_open = opened; inside = refl; first = first opened }, unlimited)

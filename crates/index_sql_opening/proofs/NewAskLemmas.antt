@@ -1,14 +1,26 @@
 -- The tables of a new index, made as SQL answers.
-use Rattle.std.proofs.Common.{◌≡◌, ◌∙◌, inl, inr, ℕ, suc, true, List, [], ◌∷◌, ◌++◌, None, Ok, Err, IsTrue, arith, refl}
+use Rattle.std.proofs.Common.{◌≡◌, ◌∙◌, ℕ, true, List, [], ◌∷◌, ◌++◌, None, Ok, Err, Result, IsTrue, refl}
+use Rattle.std.specs.Borrow.{MutBor}
 use Rattle.sqlite_trees.specs.declared.store.Store.{Ghosts}
+use Rattle.sqlite_schema.specs.declared.schema.Schema.{Schema}
 use Rattle.sqlite.specs.declared.error.Error.{Error}
 use Rattle.sqlite.specs.Held.{Held, state}
-use Rattle.sqlite.specs.State.{State, HasCleanDisk, Survives}
-use Rattle.index_sql_schema.specs.Stages.{IsStage}
-use Rattle.index_sql_writes.specs.Asks.{Ask, AnswersAll, AnswersAsk, CanAsk, FailsAs}
-use Rattle.index_sql_writes.proofs.GoingLemmas.{HasAsked, alone, asked_fails, asked_more, asked_none}
-use Rattle.index_sql_opening.specs.NewAsks.{Unlimited, text_ask}
-use Rattle.index_sql_opening.specs.Created.{IsBlank}
+use Rattle.sqlite.specs.State.{State, ExecutesInside}
+use Rattle.index_rules.specs.declared.records.UserRecord.{UserRecord}
+use Rattle.index_rules.specs.Maps.{Bytes}
+use Rattle.index_sql_schema.specs.Index.{same_version}
+use Rattle.index_sql_schema.specs.CreateSteps.{IsStage, no_tables}
+use Rattle.index_sql_writes.specs.Asks.{Ask, CanAsk}
+use Rattle.index_sql_writes.specs.Transaction.{MakesInTransaction}
+use Rattle.index_sql_writes.specs.Statements.{put_user_ask}
+use Rattle.index_sql_writes.specs.Steps.{RunsStatement, TakesStep}
+use Rattle.index_sql_writes.specs.Writes.{puts_user}
+use Rattle.index_sql_writes.proofs.AskLemmas.{IsWrite, goes}
+use Rattle.index_sql_writes.proofs.GoingLemmas.{goes_alone}
+use Rattle.index_sql_writes.proofs.InTurn.{makes_then}
+use Rattle.index_sql_writes.proofs.TakenLemmas.{step_alone, steps_then}
+use Rattle.index_sql_opening.specs.NewAsks.{CreatesTables, StepsFrom, Unlimited, table_asks, text_ask}
+use Rattle.index_sql_opening.specs.Created.{Advances, IsBlank, one_user}
 use Rattle.index_sql_opening.proofs.FillLemmas.{made_all, no_rows}
 
 -- a transaction on a blank database begins without a table
@@ -18,57 +30,44 @@ begins_blank g old blank opened unlimited =
     let it = blank opened in
     (record { is_open = opened; inside = refl; schema = it.schema; sound = it.sound; empty = tt }, unlimited)
 
-module _ {first mid : State} {xs : List Ask} (before : HasAsked xs first mid) where
-  -- one more is asked
-  pub one_more : {last : State} (ask : Ask) → AnswersAsk ask mid.now (Ok last.now) → Survives mid last (λ _. ⊥) → HasAsked (xs ++ (ask ∷ [])) first last
-  one_more {last} ask did survives = asked_more xs (ask ∷ []) first mid last before (alone ask mid.now (Ok last.now) did) survives
+-- a statement without parameters, on tables of such a schema, is a step of its text
+pub text_taken : {S : Type 0} (g : Ghosts S) (Begins : State → Type 0) (Does : State → State → Type 0) (schema : Schema) (sql : List ℕ) (old new : MutBor (Held S)) (r : Result (Unit {0}) Error) → IsWrite schema sql 0
+    → (Begins (state g old.now) → IsTrue (state g old.now).is_open × ((state g old.now).in_transaction ≡ true) × ((state g old.now).now.schema ≡ schema))
+    → ((count : ℕ) → Begins (state g old.now) → ExecutesInside 0 sql [] (state g old.now) (state g new.now) (Ok count) → Does (state g old.now) (state g new.now))
+    → RunsStatement g sql [] old new r → StepsFrom g Begins Does (text_ask sql ∷ []) old new r
+text_taken g Begins Does schema sql old new (Ok done) sure fit does run = record {
+  uncommitted = run.uncommitted;
+  made = λ clean begins.
+      let ran = run.ran clean (fit begins).1 in
+      does ran.0 begins ran.1;
+  asked = λ clean can.
+      let it = fit can.0 in
+      let ran = run.ran clean it.1 in
+      goes_alone (text_ask sql) (state g old.now) (state g new.now) (Ok ran.0) (goes schema sql [] sure (state g old.now) (state g new.now) it.2 it.0 can.1 (Ok ran.0) ran.1);
+}
+text_taken g Begins Does schema sql old new (Err e) sure fit does run = record {
+  uncommitted = run.uncommitted;
+  made = λ clean. tt;
+  asked = λ clean can.
+      let it = fit can.0 in
+      goes_alone {A = ℕ} (text_ask sql) (state g old.now) (state g new.now) (Err e) (goes schema sql [] sure (state g old.now) (state g new.now) it.2 it.0 can.1 (Err e) (run.ran clean it.1));
+}
 
-  -- or all fail as it does, whatever else was to be asked
-  pub one_fails : (last : State) (ask : Ask) (zs : List Ask) (e : Error) → FailsAs (AnswersAsk ask mid.now) mid last e → FailsAs (AnswersAll (xs ++ (ask ∷ zs)) first.now) first last e
-  one_fails last ask zs e fails =
-      asked_fails xs (ask ∷ []) zs first mid last e before (λ store. elim (fails store) [ inl fault ↦ inl fault | inr refuses ↦ inr (refuses.0, alone ask mid.now (Err refuses.0) refuses.1) ])
-
--- so far these were asked, and so many tables are made
-pub record HasMade (asks : List Ask) (n : ℕ) (first now : State) : Type 0 where
-  pub stage : IsStage n now
-  pub asked : HasAsked asks first now
-
-pub made_none : {s : State} (n : ℕ) → IsStage n s → HasCleanDisk s → HasMade [] n s s
-made_none {s} n stage clean = record { stage = stage; asked = asked_none s }
-
-module _ {xs : List Ask} {n : ℕ} {first mid last : State} (unlimited : first.step_limit ≡ None) (before : HasCleanDisk mid → HasMade xs n first mid) (survives : Survives mid last (λ _. ⊥)) where
-  earlier : HasCleanDisk last → HasMade xs n first mid
-  earlier clean = before (omega (arith, clean, survives.clean))
-
-  can : HasCleanDisk last → Unlimited (IsStage n) mid
-  can clean = ((earlier clean).stage, (earlier clean).asked.limit ∙ unlimited)
-
-  -- the next ones are asked
-  pub asked_next : (ys : List Ask) (m : ℕ) → (HasCleanDisk last → IsStage n mid → IsStage m last × (last.committed ≡ mid.committed)) → (HasCleanDisk last → Unlimited (IsStage n) mid → AnswersAll ys mid.now (Ok last.now)) → HasCleanDisk last → HasMade (xs ++ ys) m first last
-  asked_next ys m makes answers clean = record {
-    stage = (makes clean (earlier clean).stage).0;
-    asked = asked_more xs ys first mid last (earlier clean).asked (answers clean (can clean)) survives;
-  }
-
-  -- or all fail as they do, whatever else was to be asked
-  pub fails_next : (ys zs : List Ask) (e : Error) → (HasCleanDisk last → Unlimited (IsStage n) mid → FailsAs (AnswersAll ys mid.now) mid last e) → HasCleanDisk last → FailsAs (AnswersAll (xs ++ (ys ++ zs)) first.now) first last e
-  fails_next ys zs e fails clean = asked_fails xs ys zs first mid last e (earlier clean).asked (fails clean (can clean))
-
-  -- the same of one table
-  pub made_next : (sql : List ℕ) → (HasCleanDisk last → IsStage n mid → IsStage (suc n) last × (last.committed ≡ mid.committed)) → (HasCleanDisk last → Unlimited (IsStage n) mid → AnswersAsk (text_ask sql) mid.now (Ok last.now))
-      → HasCleanDisk last → HasMade (xs ++ (text_ask sql ∷ [])) (suc n) first last
-  made_next sql makes answers clean = record {
-    stage = (makes clean (earlier clean).stage).0;
-    asked = one_more (earlier clean).asked (text_ask sql) (answers clean (can clean)) survives;
-  }
-
-  pub not_made : (sql : List ℕ) (zs : List Ask) (e : Error) → (HasCleanDisk last → Unlimited (IsStage n) mid → FailsAs (AnswersAsk (text_ask sql) mid.now) mid last e) → HasCleanDisk last → FailsAs (AnswersAll (xs ++ (text_ask sql ∷ zs)) first.now) first last e
-  not_made sql zs e fails clean = one_fails (earlier clean).asked last (text_ask sql) zs e (fails clean (can clean))
+-- more tables are made after these
+pub more_tables : {S A B : Type 0} (g : Ghosts S) {n m k : ℕ} (xs ys : List Ask) {first mid last : MutBor (Held S)} {a : A} → StepsFrom g (IsStage n) (Advances m) xs first mid (Ok a)
+    → (r : Result B Error) → StepsFrom g (IsStage m) (Advances k) ys mid last r → StepsFrom g (IsStage n) (Advances k) (xs ++ ys) first last r
+more_tables g {k = k} xs ys one = steps_then g xs (Advances k) ys (λ can. can.0) (λ did. did.0) (λ can did limit. (did.0, limit ∙ can.1)) (λ did more. (more.0, more.1 ∙ did.1)) one
 
 -- then rows can be put
-pub can_put : (first now : State) (xs : List Ask) → first.step_limit ≡ None → HasMade xs 9 first now → CanAsk now
-can_put first now xs unlimited made = record {
-  ready = (made_all now now refl made.stage).ready;
-  records = no_rows now made.stage;
-  unlimited = made.asked.limit ∙ unlimited;
-}
+can_put : (s : State) → IsStage 9 s → s.step_limit ≡ None → CanAsk s
+can_put s made unlimited = record { ready = (made_all s s refl made).ready; records = no_rows s made; unlimited = unlimited }
+
+-- and the first user
+pub first_user : {S A B : Type 0} (g : Ghosts S) (user : Bytes) (account : UserRecord) {first mid last : MutBor (Held S)} {a : A} → CreatesTables g 0 9 first mid (Ok a) → (r : Result B Error)
+    → TakesStep g (puts_user user account) (put_user_ask user account) mid last r
+    → StepsFrom g (IsStage 0) (MakesInTransaction (λ _. one_user user account) (λ _. None)) (table_asks 0 9 ++ (put_user_ask user account ∷ [])) first last r
+first_user g user account {first = first} {mid = mid} {last = last} made r put =
+    let empty = λ (did : Advances 9 (state g first.now) (state g mid.now)). made_all (state g first.now) (state g mid.now) did.1 did.0 in
+    steps_then g (table_asks 0 9) (MakesInTransaction (λ _. one_user user account) (λ _. None)) (put_user_ask user account ∷ []) (λ can. can.0) (λ did. (empty did).ready) (λ can did limit. can_put (state g mid.now) did.0 (limit ∙ can.1))
+    (λ did more. makes_then (λ _. no_tables) (puts_user user account) (λ _. None) same_version _ _ _ (empty did) more) made r
+    (step_alone g (puts_user user account) (put_user_ask user account) mid last r put)

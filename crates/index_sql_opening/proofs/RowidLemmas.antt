@@ -13,19 +13,19 @@ use Rattle.sqlite_schema.specs.declared.schema.Schema.{Schema}
 use Rattle.sqlite_catalog.specs.Listing.{IsSound}
 use Rattle.sqlite_catalog.proofs.LayoutLemmas.{laid_out, objects_rise}
 use Rattle.sqlite_keyed.proofs.ListLemmas.{all_both, all_weaker}
-use Rattle.index_sql_schema.specs.Index.{rowid_in, IsWhole, AreRows}
+use Rattle.index_sql_schema.specs.Index.{rowid_in, HasRowid, AreRows}
 use Rattle.index_sql_schema.proofs.EditLemmas.{as_int, Differ}
 
-below_differs : (a b : Row) → IsWhole a → IsWhole b → value_cmp (rowid a) (rowid b) ≡ Less → Differ a b
+below_differs : (a b : Row) → HasRowid a → HasRowid b → value_cmp (rowid a) (rowid b) ≡ Less → Differ a b
 below_differs a b p q less =
     let by : int_cmp (rowid_in a) (rowid_in b) ≡ Less = sym (value_cmp-Int (rowid_in a) (rowid_in b)) ∙ sym (ap₂ value_cmp (as_int (rowid a) p) (as_int (rowid b) q)) ∙ less in
     grind (arith, ints)
 
-rising_rows : (rows : List Row) → IsTable rows → AllByRecursion IsWhole rows → AreRows rows
+rising_rows : (rows : List Row) → IsTable rows → AllByRecursion HasRowid rows → AreRows rows
 rising_rows [] table whole = (tt, tt)
 rising_rows (r ∷ rows) table whole =
     let more = rising_rows rows table.1 whole.1 in
-    ((all_both IsWhole (λ b. value_cmp (rowid r) (rowid b) ≡ Less) (Differ r) (λ b w less. below_differs r b whole.0 w less) rows whole.1 table.0, more.0), whole)
+    ((all_both HasRowid (λ b. value_cmp (rowid r) (rowid b) ≡ Less) (Differ r) (λ b w less. below_differs r b whole.0 w less) rows whole.1 table.0, more.0), whole)
 
 -- no rowid comes twice in any table of a sound schema
 pub numbered_from : (schema : Schema) (v : View) → IsListed (v.trees catalog_tree) v.shape v.reals → IsOrdered v.shape v.trees → IsSound schema v.trees → AllByRecursion (λ (t : Table). AreRows (v.trees t.tree)) schema.tables

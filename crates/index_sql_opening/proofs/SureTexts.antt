@@ -4,7 +4,7 @@ use Rattle.std.specs.Fmt.{digits}
 use Rattle.sqlite_tied.specs.Compute.{everything}
 use Rattle.sqlite.specs.Listing.{understood}
 use Rattle.index_sql_schema.specs.Schema.{index_schema}
-use Rattle.index_sql_schema.specs.Stages.{all_texts, stage}
+use Rattle.index_sql_schema.specs.CreateSteps.{all_texts, stage}
 use Rattle.index_sql_schema.specs.StatementTexts.{put_version_text}
 use Rattle.index_sql_schema.specs.TableTexts.{meta_text, users_text, names_text, owners_text, files_text, blobs_text, yanks_text, cases_text, bans_text}
 use Rattle.index_sql_writes.proofs.AskLemmas.{IsWrite}

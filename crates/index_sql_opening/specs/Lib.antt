@@ -3,3 +3,4 @@ pub mod NewAsks
 pub mod Names
 pub mod Versions
 pub mod Migrated
+pub mod Making

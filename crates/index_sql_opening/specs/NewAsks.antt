@@ -1,15 +1,18 @@
 -- What the making of a new index asks of SQL.
 use Rattle.std.specs.Prelude.{◌≡◌, ℕ, List, [], ◌∷◌, ◌++◌, None, Result, map, take, drop}
+use Rattle.std.specs.Borrow.{MutBor}
 use Rattle.sqlite_trees.specs.declared.store.Store.{Ghosts}
 use Rattle.sqlite.specs.declared.error.Error.{Error}
 use Rattle.sqlite.specs.Held.{Held}
 use Rattle.sqlite.specs.State.{State}
 use Rattle.index_rules.specs.declared.records.UserRecord.{UserRecord}
 use Rattle.index_rules.specs.Maps.{Bytes}
-use Rattle.index_sql_schema.specs.Stages.{IsStage, all_texts}
+use Rattle.index_sql_schema.specs.CreateSteps.{IsStage, all_texts}
 use Rattle.index_sql_schema.specs.StatementTexts.{put_version_text}
-use Rattle.index_sql_writes.specs.Asks.{Ask, Statement, AnswersAll, GoesAs}
+use Rattle.index_sql_writes.specs.Asks.{Ask, Statement, AnswersAll}
 use Rattle.index_sql_writes.specs.Statements.{put_user_ask}
+use Rattle.index_sql_writes.specs.Steps.{TakesSteps}
+use Rattle.index_sql_opening.specs.Created.{Advances}
 
 -- one text, without parameters
 abbrev pub text_ask : List ℕ → Ask
@@ -31,6 +34,10 @@ asks_of_new user account = table_asks 0 9 ++ (put_user_ask user account ∷ put_
 abbrev pub Unlimited : (State → Type 0) → State → Type 0
 Unlimited Is s = Is s × (s.step_limit ≡ None)
 
--- where so many tables are made, the next ones go by their texts
-abbrev pub GoesByTexts : {S A : Type 0} → Ghosts S → ℕ → ℕ → Held S → Held S → Result A Error → Type 0
-GoesByTexts g from to = GoesAs g (Unlimited (IsStage from)) (AnswersAll (table_asks from to))
+-- steps on a transaction that is such, which make this of it and ask these of SQL
+abbrev pub StepsFrom : {S A : Type 0} → Ghosts S → (State → Type 0) → (State → State → Type 0) → List Ask → MutBor (Held S) → MutBor (Held S) → Result A Error → Type 0
+StepsFrom g Begins Makes asks = TakesSteps g Begins Makes (Unlimited Begins) (AnswersAll asks)
+
+-- so many tables are made where so many were
+abbrev pub CreatesTables : {S A : Type 0} → Ghosts S → ℕ → ℕ → MutBor (Held S) → MutBor (Held S) → Result A Error → Type 0
+CreatesTables g from to = StepsFrom g (IsStage from) (Advances to) (table_asks from to)

@@ -2,6 +2,7 @@
 ghost use Rattle.std.specs.Prelude.{◌≡◌, false, IsTrue};
 ghost use Rattle.sqlite.specs.Held.{state};
 ghost use Rattle.sqlite.specs.State.{IsLive};
+ghost use Rattle.index_sql_opening.specs.Making.{IsBySchema};
 ghost use Rattle.index_sql_schema.specs.Schema.{index_schema};
 ghost use Rattle.index_sql_schema.specs.Index.{IsIndex};
 ghost use Rattle.index_sql_schema.specs.FirstVersion.{first_version_schema, IsFirstVersion};
@@ -12,17 +13,13 @@ use sqlite::{Alter, Connection};
 /// the rowids of each table rise, so none comes twice.
 ///
 /// It is taken by value, since only then is what a connection keeps true of itself known.
-pub fn known<S: Alter>(conn: Connection<S>) -> Connection<S>
+pub fn expose_invariants<S: Alter>(conn: Connection<S>) -> Connection<S>
     ensures same { result ≡ conn }
     ensures live { IsLive (state S.Store conn) }
     ensures settled { conn.in_transaction ≡ false → IsTrue (state S.Store conn).is_open
         → (state S.Store conn).now ≡ (state S.Store conn).committed }
-    ensures index { IsTrue (state S.Store conn).is_open
-        → (state S.Store conn).now.schema ≡ index_schema
-        → IsIndex (state S.Store conn).now }
-    ensures first_version { IsTrue (state S.Store conn).is_open
-        → (state S.Store conn).now.schema ≡ first_version_schema
-        → IsFirstVersion (state S.Store conn).now }
+    ensures index { IsBySchema S.Store index_schema IsIndex conn }
+    ensures first_version { IsBySchema S.Store first_version_schema IsFirstVersion conn }
 {
     let _outside = conn.is_autocommit();
     conn

@@ -11,9 +11,9 @@ mod same;
 mod tables;
 mod versions;
 
-pub use connections::known;
+pub use connections::expose_invariants;
 pub use migration::migrate;
-pub use names::{has_all_tables, has_any_table, has_meta, has_table};
+pub use names::{has_any_table, has_meta, has_table, has_version_1_tables};
 pub use new_index::fill_new;
 pub use recognition::{is_blank, is_first_version, is_ours};
 pub use versions::{read_version, told_version};

@@ -67,7 +67,7 @@ pub fn has_any_table(schema: &Schema) -> bool
 }
 
 /// Whether the schema has a table by each name of version 1. An index has one named `bans` too.
-pub fn has_all_tables(schema: &Schema) -> bool
+pub fn has_version_1_tables(schema: &Schema) -> bool
     ensures found { result ≡ has_all_of schema.now first_version_schema.tables }
 {
     has_table(schema, b"meta")

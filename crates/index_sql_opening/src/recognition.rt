@@ -1,11 +1,9 @@
 //! Schemas that are compared with those of an index. Where `is_ours` or `is_first_version` is false, nothing is known.
-ghost use Rattle.std.specs.Prelude.{◌≡◌, ◌↔◌, ℕ, false, IsTrue, IfOk, OnOk};
+ghost use Rattle.std.specs.Prelude.{◌≡◌, ◌↔◌, false, IsTrue, IfOk};
 ghost use Rattle.sqlite.specs.Held.{state};
-ghost use Rattle.sqlite.specs.State.{HasCleanDisk};
 ghost use Rattle.sqlite.specs.Steps.{over_memory};
-ghost use Rattle.index_sql_opening.specs.Created.{IsBlank};
+ghost use Rattle.index_sql_opening.specs.Making.{MakesTables};
 ghost use Rattle.index_sql_schema.specs.Schema.{index_schema, no_schema};
-ghost use Rattle.index_sql_schema.specs.Stages.{stage};
 ghost use Rattle.index_sql_schema.specs.FirstVersion.{first_version_schema};
 
 use crate::same::Same;
@@ -21,30 +19,38 @@ pub fn is_blank<S: Alter>(conn: &Connection<S>) -> bool
     schema.tables.is_empty() && schema.indexes.is_empty() && schema.views.is_empty()
 }
 
-/// Whether the schema is that of an index, which is made in memory: that fails for want of memory alone.
+/// Whether the schema is that of an index, which is made in memory.
+///
+/// # Errors
+///
+/// `AllocError` for want of memory.
 pub fn is_ours<S: Alter>(alloc: Global, conn: &Connection<S>) -> Result<bool, AllocError>
     ensures schema { IfOk result (λ it. IsTrue it
         → (state S.Store conn.now).now.schema ≡ index_schema) }
 {
-    match ours(alloc) {
+    match index_in_memory(alloc) {
         Ok(ours) => Ok(conn.schema().same(ours.schema())),
         Err(_) => Err(AllocError),
     }
 }
 
 /// Whether the schema is that of version 1, which is made in memory too.
+///
+/// # Errors
+///
+/// `AllocError` for want of memory.
 pub fn is_first_version<S: Alter>(alloc: Global, conn: &Connection<S>) -> Result<bool, AllocError>
     ensures schema { IfOk result (λ it. IsTrue it
         → (state S.Store conn.now).now.schema ≡ first_version_schema) }
 {
-    match first_version(alloc) {
+    match first_version_in_memory(alloc) {
         Ok(first) => Ok(conn.schema().same(first.schema())),
         Err(_) => Err(AllocError),
     }
 }
 
 /// A database in memory with the tables of an index.
-fn ours(alloc: Global) -> Result<Connection<MemStore>, Error>
+fn index_in_memory(alloc: Global) -> Result<Connection<MemStore>, Error>
     ensures schema { IfOk result (λ ours. (state over_memory ours).now.schema ≡ index_schema) }
 {
     let mut conn = Connection::open_in_memory(alloc)?;
@@ -53,7 +59,7 @@ fn ours(alloc: Global) -> Result<Connection<MemStore>, Error>
 }
 
 /// A database in memory with the tables of version 1.
-fn first_version(alloc: Global) -> Result<Connection<MemStore>, Error>
+fn first_version_in_memory(alloc: Global) -> Result<Connection<MemStore>, Error>
     ensures schema { IfOk result (λ first.
         (state over_memory first).now.schema ≡ first_version_schema) }
 {
@@ -65,10 +71,7 @@ fn first_version(alloc: Global) -> Result<Connection<MemStore>, Error>
 /// Makes the tables of an index.
 fn commit_tables<S: Alter>(conn: &mut Connection<S>) -> Result<(), Error>
     requires { conn.old.in_transaction ≡ false }
-    ensures made { HasCleanDisk (state S.Store conn.new)
-        → OnOk result (IsTrue (state S.Store conn.old).is_open
-        → IsBlank (state S.Store conn.old).now
-        → (state S.Store conn.new).now.schema ≡ stage 9) }
+    ensures made { MakesTables S.Store 9 conn.old conn.new result }
 {
     let mut tx = conn.transaction();
     make_tables(&mut tx)?;
@@ -79,10 +82,7 @@ fn commit_tables<S: Alter>(conn: &mut Connection<S>) -> Result<(), Error>
 /// Makes the tables of version 1.
 fn commit_first_version<S: Alter>(conn: &mut Connection<S>) -> Result<(), Error>
     requires { conn.old.in_transaction ≡ false }
-    ensures made { HasCleanDisk (state S.Store conn.new)
-        → OnOk result (IsTrue (state S.Store conn.old).is_open
-        → IsBlank (state S.Store conn.old).now
-        → (state S.Store conn.new).now.schema ≡ stage 8) }
+    ensures made { MakesTables S.Store 8 conn.old conn.new result }
 {
     let mut tx = conn.transaction();
     make_first_version(&mut tx)?;

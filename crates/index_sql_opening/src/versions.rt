@@ -3,12 +3,13 @@ ghost use Rattle.std.specs.Prelude.{◌≡◌, true, false, is_ok, IsTrue, IfErr
 ghost use Rattle.sqlite.specs.Held.{state};
 ghost use Rattle.sqlite.specs.State.{HasCleanDisk};
 ghost use Rattle.sqlite_value.specs.Order.{column};
+ghost use Rattle.index_sql_opening.specs.Making.{IsAtRest};
 ghost use Rattle.index_sql_opening.specs.Versions.{first_number, FailsToTell, Tells, begun};
-ghost use Rattle.index_sql_schema.specs.Looks.{Looks};
+ghost use Rattle.index_sql_schema.specs.Looks.{QueriesOnly};
 ghost use Rattle.index_sql_schema.specs.Reasons.{StoreForReason};
 ghost use Rattle.index_sql_schema.specs.Records.{number_in};
 ghost use Rattle.index_sql_schema.specs.Index.{version_in};
-ghost use Rattle.index_sql_writes.specs.Inside.{IsUncommitted};
+ghost use Rattle.index_sql_writes.specs.Transaction.{IsUncommitted};
 ghost use Rattle.index_sql_schema.specs.FirstVersion.{IsAnyVersion};
 
 use index_rules::Fault;
@@ -21,16 +22,15 @@ use sqlite::{Alter, Connection, Row, Transaction};
 /// from 0 to 18,446,744,073,709,551,615 is told as 0.
 ///
 /// # Errors
+///
 /// `OutOfMemory` for want of memory, and `Store` where the store fails.
 pub fn read_version<S: Alter>(conn: &mut Connection<S>) -> Result<Option<u64>, Fault>
-    requires outside { conn.old.in_transaction ≡ false }
+    requires rest { IsAtRest S.Store conn.old }
     requires version { IsTrue (state S.Store conn.old).is_open
         → IsAnyVersion (state S.Store conn.old).now }
-    requires settled { IsTrue (state S.Store conn.old).is_open
-        → (state S.Store conn.old).now ≡ (state S.Store conn.old).committed }
     ensures found { HasCleanDisk (state S.Store conn.new)
         → IfOk result (λ version. version ≡ version_in (state S.Store conn.old).now.trees) }
-    ensures looks { Looks S.Store conn.old conn.new (is_ok result) }
+    ensures looks { QueriesOnly S.Store conn.old conn.new (is_ok result) }
     ensures reason { HasCleanDisk (state S.Store conn.new)
         → StoreForReason S.Store conn.old conn.new result }
 {
@@ -45,16 +45,15 @@ pub fn read_version<S: Alter>(conn: &mut Connection<S>) -> Result<Option<u64>, F
 /// Nothing is known of what a query does to such a database, so it runs in a transaction that is dropped.
 ///
 /// # Errors
+///
 /// `OutOfMemory` for want of memory, and `Store` where the query fails by anything else.
 pub fn told_version<S: Alter>(conn: &mut Connection<S>) -> Result<Option<u64>, Fault>
-    requires outside { conn.old.in_transaction ≡ false }
-    requires settled { IsTrue (state S.Store conn.old).is_open
-        → (state S.Store conn.old).now ≡ (state S.Store conn.old).committed }
+    requires rest { IsAtRest S.Store conn.old }
     ensures told { HasCleanDisk (state S.Store conn.new)
         → IfOk result (Tells S.Store (begun conn.old)) }
     ensures fails { HasCleanDisk (state S.Store conn.new)
         → IfErr result (λ fault. fault ≡ Fault.Store → FailsToTell S.Store (begun conn.old)) }
-    ensures looks { Looks S.Store conn.old conn.new false }
+    ensures looks { QueriesOnly S.Store conn.old conn.new false }
 {
     let mut tx = conn.transaction();
     query_version(&mut tx)
@@ -63,12 +62,11 @@ pub fn told_version<S: Alter>(conn: &mut Connection<S>) -> Result<Option<u64>, F
 /// The version that `meta` tells inside a transaction.
 fn query_version<S: Alter>(tx: &mut Transaction<'_, S>) -> Result<Option<u64>, Fault>
     requires inside { tx.old.conn.now.in_transaction ≡ true }
-    ensures same_reference { tx.new.conn.ghost_name ≡ tx.old.conn.ghost_name }
     ensures told { HasCleanDisk (state S.Store tx.new.conn.now)
         → IfOk result (Tells S.Store tx.old.conn.now) }
     ensures fails { HasCleanDisk (state S.Store tx.new.conn.now)
         → IfErr result (λ fault. fault ≡ Fault.Store → FailsToTell S.Store tx.old.conn.now) }
-    ensures uncommitted { IsUncommitted S.Store tx.old.conn.now tx.new.conn.now }
+    ensures uncommitted { IsUncommitted S.Store tx.old.conn tx.new.conn }
 {
     match tx.query_all(SELECT_VERSION, &[]) {
         Ok(rows) => Ok(first_number(rows.as_slice())),

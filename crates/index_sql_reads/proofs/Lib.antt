@@ -1,5 +1,4 @@
-pub mod FindLemmas
-pub mod SeenLemmas
+pub mod FindsLemmas
 pub mod WalkLemmas
 pub mod QueryLemmas
 pub mod EndLemmas

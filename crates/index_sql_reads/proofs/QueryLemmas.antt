@@ -23,9 +23,9 @@ use Rattle.index_rules.proofs.WalkLemmas.{EndsEarly-within}
 use Rattle.index_sql_schema.specs.Schema.{index_schema}
 use Rattle.index_sql_schema.specs.Records.{tables_in}
 use Rattle.index_sql_schema.specs.Index.{IsIndex}
-use Rattle.index_sql_schema.specs.Stays.{Stays}
+use Rattle.index_sql_schema.specs.Unchanged.{IsUnchangedIfOpen}
 use Rattle.index_sql_schema.proofs.StayLemmas.{shown_open, unchanged_stays, undone_stays}
-use Rattle.index_sql_schema.specs.Looks.{IsKept, Looks}
+use Rattle.index_sql_schema.specs.Looks.{IsIndexConnection, QueriesOnly}
 use Rattle.index_sql_schema.specs.RecordRows.{AreRecords}
 use Rattle.index_sql_schema.specs.Sure.{IsSure}
 use Rattle.index_sql_schema.specs.Reasons.{HasReason}
@@ -39,8 +39,8 @@ is_faulty fault.OutOfMemory = refl
 is_faulty fault.Store = refl
 
 -- and it is no success
-pub looks_faulty : {S : Type 0} (g : Ghosts S) (old now : Held S) (f : Fault) (end : WalkEnd) → end ≡ walk_end_of f → Looks g old now false → Looks g old now (not (is_fault end))
-looks_faulty g old now f end is looks = subst (λ did. Looks g old now (not did)) (sym (ap is_fault is ∙ is_faulty f)) looks
+pub looks_faulty : {S : Type 0} (g : Ghosts S) (old now : Held S) (f : Fault) (end : WalkEnd) → end ≡ walk_end_of f → QueriesOnly g old now false → QueriesOnly g old now (not (is_fault end))
+looks_faulty g old now f end is looks = subst (λ did. QueriesOnly g old now (not did)) (sym (ap is_fault is ∙ is_faulty f)) looks
 
 was_false : (b : Bool) → IsTrue (not b) → b ≡ false
 was_false true it = absurd (cc)
@@ -86,7 +86,7 @@ module _ {S : Type 0} (g : Ghosts S) where
     ended = λ clean. tt;
   }
     where
-      either : Fails (state g mid) (state g now) ⊥ e ⊎ IsUnchanged (state g mid) (state g now) → Stays (state g mid) (state g now) ⊎ ((error : Error) × Fails (state g mid) (state g now) ⊥ error)
+      either : Fails (state g mid) (state g now) ⊥ e ⊎ IsUnchanged (state g mid) (state g now) → IsUnchangedIfOpen (state g mid) (state g now) ⊎ ((error : Error) × Fails (state g mid) (state g now) ⊥ error)
       either (inl fails) = inr (e, fails)
       either (inr same) = inl (unchanged_stays (state g mid) (state g now) same)
 
@@ -127,7 +127,7 @@ module _ {S : Type 0} (g : Ghosts S) where
 
 -- ---- a query from its start to its last look
 
-module _ {S : Type 0} (g : Ghosts S) (sql : List ℕ) (params : Row) (plain : IsPlain (understood index_schema sql)) (old : Held S) (kept : IsKept g old) where
+module _ {S : Type 0} (g : Ghosts S) (sql : List ℕ) (params : Row) (plain : IsPlain (understood index_schema sql)) (old : Held S) (kept : IsIndexConnection g old) where
   pub begins : (now : Held S) → now.in_transaction ≡ false → Survives (state g old) (state g now) (CommitsShowing sql params (state g old)) → (HasCleanDisk (state g now) → HasBegun g sql params old now)
       → IsGiving g sql params old now []
   begins now outside survives begun = record {
@@ -142,17 +142,17 @@ module _ {S : Type 0} (g : Ghosts S) (sql : List ℕ) (params : Row) (plain : Is
           begun_plain g sql params old now (subst (λ s. IsPlain (understood s sql)) (sym schema) plain) (inr h)
 
   -- an error undoes nothing, since all is committed
-  pub handed_looks : (mid now : Held S) (result : Result (Unit {0}) WalkEnd) → HasStayed g sql params old mid → IsLastLook g mid now result → Looks g old now (not (has_fault result))
+  pub handed_looks : (mid now : Held S) (result : Result (Unit {0}) WalkEnd) → HasStayed g sql params old mid → IsLastLook g mid now result → QueriesOnly g old now (not (has_fault result))
   handed_looks mid now result it last =
       looks_by g old now sql params plain kept (last.mode it.outside) (survives_then (state g old) (state g mid) (state g now) _ _ _ (λ _ db may. may) (λ _ db none. absurd none) it.survives last.survives)
       (not (has_fault result)) (λ clean. stays clean (last.kept clean)) (λ did clean. (last.same (was_false (has_fault result) did) clean).0.is_open)
     where
-      stays : HasCleanDisk (state g now) → Stays (state g mid) (state g now) ⊎ ((e : Error) × Fails (state g mid) (state g now) ⊥ e) → Stays (state g old) (state g now)
+      stays : HasCleanDisk (state g now) → IsUnchangedIfOpen (state g mid) (state g now) ⊎ ((e : Error) × Fails (state g mid) (state g now) ⊥ e) → IsUnchangedIfOpen (state g old) (state g now)
       stays clean kept_or =
           let before = clean_before (state g mid) (state g now) _ last.survives clean in
           let was = (it.same before).0 in
           let committed = kept.committed (clean_before (state g old) (state g mid) _ it.survives before) was.was_open in
-          let then : Stays (state g mid) (state g now) = elim kept_or [
+          let then : IsUnchangedIfOpen (state g mid) (state g now) = elim kept_or [
             | inl left ↦ left
             | inr fails ↦ undone_stays (state g mid) (state g now) (λ o. was.now_is ∙ committed ∙ sym was.committed_is) fails.1.3
           ] in record {
@@ -170,7 +170,7 @@ module _ {S : Type 0} (g : Ghosts S) (sql : List ℕ) (params : Row) (plain : Is
       inr (mid, it.stayed.same before, it.gave before)
 
   -- rows that were given are a look
-  looks_giving : (mid : Held S) (rows : List Row) → IsGiving g sql params old mid rows → Looks g old mid true
+  looks_giving : (mid : Held S) (rows : List Row) → IsGiving g sql params old mid rows → QueriesOnly g old mid true
   looks_giving mid rows it =
       looks_by g old mid sql params plain kept it.stayed.outside it.stayed.survives true (λ clean. unchanged_stays (state g old) (state g mid) (it.stayed.same clean)) (λ did clean. (it.stayed.same clean).0.is_open)
 
@@ -187,7 +187,7 @@ module _ {S : Type 0} (g : Ghosts S) (sql : List ℕ) (params : Row) (plain : Is
       gave : HasGiven g sql params mid rows
       gave = it.gave before
 
-      looks : Looks g old mid true
+      looks : QueriesOnly g old mid true
       looks = looks_giving mid rows it
 
       by : FailsAfter g IsRow sql params mid now rows → HasReason (state g old) (state g now) ⊎ GivesUnread g IsRow sql params old
@@ -196,7 +196,7 @@ module _ {S : Type 0} (g : Ghosts S) (sql : List ℕ) (params : Row) (plain : Is
 
 -- ---- a walk over all rows of the tables
 
-module _ {S : Type 0} (g : Ghosts S) (sql : List ℕ) (params : Row) (ends : (db : Database) (ps : Row) → EndsIn (command_of (understood index_schema sql)) db ps) (held : Held S) (kept : IsKept g held)
+module _ {S : Type 0} (g : Ghosts S) (sql : List ℕ) (params : Row) (ends : (db : Database) (ps : Row) → EndsIn (command_of (understood index_schema sql)) db ps) (held : Held S) (kept : IsIndexConnection g held)
     (clean : HasCleanDisk (state g held)) {R : Type 0} (read : Row → R) (rows_of : Tables → List R)
     (selects : (old new : State) (rows : List Row) → IsIndex old.now → Shown sql params old new rows → map read rows ≡ rows_of (tables_in old.now.trees)) where
   abbrev all : List R

@@ -7,7 +7,7 @@ use Rattle.sqlite.specs.declared.error.Error.{Error}
 use Rattle.sqlite.specs.Given.{HasGiven, Advances}
 use Rattle.sqlite.specs.Held.{Held, state}
 use Rattle.sqlite.specs.State.{HasCleanDisk, IsUnchanged, Fails, FailsToQuery, Survives, Shown, CommitsShowing}
-use Rattle.index_sql_schema.specs.Stays.{Stays}
+use Rattle.index_sql_schema.specs.Unchanged.{IsUnchangedIfOpen}
 use Rattle.index_sql_schema.specs.Faults.{fault_by}
 use Rattle.index_sql_schema.specs.Reasons.{HasReason}
 use Rattle.index_rules.specs.declared.answer.Fault.TheVariants as fault
@@ -41,7 +41,8 @@ module _ {S : Type 0} (g : Ghosts S) where
   pub record IsLastLook (old new : Held S) (result : Result (Unit {0}) WalkEnd) : Type 0 where
     pub mode : old.in_transaction ≡ false → new.in_transaction ≡ false
     pub survives : Survives (state g old) (state g new) (λ _. ⊥)
-    pub kept : HasCleanDisk (state g new) → Stays (state g old) (state g new) ⊎ ((error : Error) × Fails (state g old) (state g new) ⊥ error)
+    pub kept : HasCleanDisk (state g new) → IsUnchangedIfOpen (state g old) (state g new)
+        ⊎ ((error : Error) × Fails (state g old) (state g new) ⊥ error)
     pub same : has_fault result ≡ false → HasCleanDisk (state g new) → IsUnchanged (state g old) (state g new)
     pub ended : HasCleanDisk (state g new) → OnOk result (Advances g old new None)
 

@@ -1,4 +1,5 @@
-pub mod Held
+pub mod ConnectionTables
+pub mod Finds
 pub mod Sealed
 pub mod Seen
 pub mod Handed

@@ -1,14 +1,16 @@
 //! The bytes that are kept of a file.
-ghost use Rattle.std.specs.Prelude.{◌≡◌, is_ok, option_map, slice_get, IfOk, IsOk, IsOkUnless};
+ghost use Rattle.std.specs.Prelude.{◌≡◌, is_ok, option_map, slice_get, IfOk, IsOk};
 ghost use Rattle.std.specs.List.{AllByRecursion};
 ghost use Rattle.std.specs.FinMap.{get};
 ghost use Rattle.sqlite.specs.Held.{state};
 ghost use Rattle.sqlite.specs.State.{HasCleanDisk};
 ghost use Rattle.index_sql_schema.specs.Records.{body_in};
-ghost use Rattle.index_sql_schema.specs.Looks.{Looks};
+ghost use Rattle.index_sql_schema.specs.Looks.{QueriesOnly};
 ghost use Rattle.index_sql_schema.specs.Reasons.{FailsForReason};
 ghost use Rattle.index_sql_schema.specs.RecordRows.{IsBodyRow};
-ghost use Rattle.index_sql_reads.specs.Held.{tables_of};
+ghost use Rattle.index_sql_records.specs.Reads.{ReadsOwned};
+ghost use Rattle.index_sql_reads.specs.Finds.{FindsInTables};
+ghost use Rattle.index_sql_reads.specs.ConnectionTables.{tables_of};
 ghost use Rattle.index_sql_reads.specs.Sealed.{digest_in, IsBoundTo};
 
 use crate::files::find_file;
@@ -21,7 +23,12 @@ use index_sql_schema::{IndexConnection, look};
 use sqlite::{Alter, Row, params};
 use std::alloc::Global;
 
-/// The bytes that are kept of a file, if any are. `Store` where they have not the digest that the file is bound to.
+/// The bytes that are kept of a file, if any are.
+///
+/// # Errors
+///
+/// `OutOfMemory` for want of memory, and `Store` where the store fails or they have not the digest that the file is
+/// bound to.
 pub fn find_body<S: Alter>(
     alloc: Global,
     conn: &mut IndexConnection<S>,
@@ -31,7 +38,7 @@ pub fn find_body<S: Alter>(
         it ≡ get (tables_of S.Store conn.old).bodies file.now) }
     ensures bound { HasCleanDisk (state S.Store conn.new)
         → IfOk result (IsBoundTo (digest_in (tables_of S.Store conn.old) file.now)) }
-    ensures looks { Looks S.Store conn.old conn.new (is_ok result) }
+    ensures looks { QueriesOnly S.Store conn.old conn.new (is_ok result) }
     ensures reason { let T = tables_of S.Store conn.old in
         IsBoundTo (digest_in T file.now) (get T.bodies file.now)
         → FailsForReason S.Store conn.old conn.new result }
@@ -47,10 +54,7 @@ fn find_digest<S: Alter>(
     conn: &mut IndexConnection<S>,
     file: &FileName,
 ) -> Result<Option<Digest256>, Fault>
-    ensures found { HasCleanDisk (state S.Store conn.new) → IfOk result (λ it.
-        it ≡ digest_in (tables_of S.Store conn.old) file.now) }
-    ensures looks { Looks S.Store conn.old conn.new (is_ok result) }
-    ensures reason { FailsForReason S.Store conn.old conn.new result }
+    ensures { FindsInTables S.Store conn.old conn.new result (λ T it. it ≡ digest_in T file.now) }
 {
     match find_file(alloc, conn, file)? {
         Some(known) => Ok(Some(known.digest)),
@@ -64,11 +68,8 @@ fn find_bytes<S: Alter>(
     conn: &mut IndexConnection<S>,
     file: &FileName,
 ) -> Result<Option<Vec<u8>>, Fault>
-    ensures found { HasCleanDisk (state S.Store conn.new) → IfOk result (λ it.
-        option_map (λ bytes. bytes.items) it
-        ≡ get (tables_of S.Store conn.old).bodies file.now) }
-    ensures looks { Looks S.Store conn.old conn.new (is_ok result) }
-    ensures reason { FailsForReason S.Store conn.old conn.new result }
+    ensures { FindsInTables S.Store conn.old conn.new result
+        (λ T it. option_map (λ bytes. bytes.items) it ≡ get T.bodies file.now) }
 {
     let rows = look(conn, SELECT_BODY, params![file.text()])?;
     first_body(alloc, rows.as_slice())
@@ -76,9 +77,8 @@ fn find_bytes<S: Alter>(
 
 /// The bytes in the first row, if there is a row.
 fn first_body(alloc: Global, rows: &[Row]) -> Result<Option<Vec<u8>>, Fault>
-    ensures value { IfOk result (λ it. option_map (λ bytes. bytes.items) it
-        ≡ option_map body_in (slice_get rows.now 0)) }
-    ensures complete { AllByRecursion IsBodyRow rows.now → IsOkUnless result Fault.OutOfMemory }
+    ensures { ReadsOwned result (AllByRecursion IsBodyRow rows.now) (λ it.
+        option_map (λ bytes. bytes.items) it ≡ option_map body_in (slice_get rows.now 0)) }
 {
     match rows.first() {
         Some(row) => Ok(Some(body(alloc, row)?)),

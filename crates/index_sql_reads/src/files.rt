@@ -1,14 +1,10 @@
 //! Look-ups of files and releases.
-ghost use Rattle.std.specs.Prelude.{◌≡◌, is_ok, IfOk};
+ghost use Rattle.std.specs.Prelude.{◌≡◌};
 ghost use Rattle.std.specs.FinMap.{get};
-ghost use Rattle.sqlite.specs.Held.{state};
-ghost use Rattle.sqlite.specs.State.{HasCleanDisk};
 ghost use Rattle.index_rules.specs.Facts.{has_release_in, is_banned_in, yank_in};
-ghost use Rattle.index_sql_schema.specs.Looks.{Looks};
-ghost use Rattle.index_sql_schema.specs.Reasons.{FailsForReason};
-ghost use Rattle.index_sql_reads.specs.Held.{tables_of};
+ghost use Rattle.index_sql_reads.specs.Finds.{FindsInTables};
 
-use crate::shown::{first, has_row};
+use crate::from_row::{first, has_row};
 use index_names::{FileName, NormalName, Release};
 use index_rules::{Fault, FileRecord};
 use index_sql_schema::statement_texts::{SELECT_BAN, SELECT_FILE, SELECT_RELEASE, SELECT_YANK};
@@ -23,10 +19,7 @@ pub(crate) fn find_file<S: Alter>(
     conn: &mut IndexConnection<S>,
     file: &FileName,
 ) -> Result<Option<FileRecord>, Fault>
-    ensures found { HasCleanDisk (state S.Store conn.new) → IfOk result (λ it.
-        it ≡ get (tables_of S.Store conn.old).files file.now) }
-    ensures looks { Looks S.Store conn.old conn.new (is_ok result) }
-    ensures reason { FailsForReason S.Store conn.old conn.new result }
+    ensures { FindsInTables S.Store conn.old conn.new result (λ T it. it ≡ get T.files file.now) }
 {
     let rows = look(conn, SELECT_FILE, params![file.text()])?;
     first(alloc, rows.as_slice())
@@ -37,10 +30,8 @@ pub(crate) fn is_banned<S: Alter>(
     conn: &mut IndexConnection<S>,
     file: &FileName,
 ) -> Result<bool, Fault>
-    ensures found { HasCleanDisk (state S.Store conn.new) → IfOk result (λ it.
-        it ≡ is_banned_in (tables_of S.Store conn.old) file.now) }
-    ensures looks { Looks S.Store conn.old conn.new (is_ok result) }
-    ensures reason { FailsForReason S.Store conn.old conn.new result }
+    ensures { FindsInTables S.Store conn.old conn.new result
+        (λ T it. it ≡ is_banned_in T file.now) }
 {
     let rows = look(conn, SELECT_BAN, params![file.text()])?;
     Ok(has_row(rows.as_slice()))
@@ -53,10 +44,8 @@ pub(crate) fn find_yank<S: Alter>(
     name: &NormalName,
     release: &Release,
 ) -> Result<Option<Text>, Fault>
-    ensures found { HasCleanDisk (state S.Store conn.new) → IfOk result (λ it.
-        it ≡ yank_in (tables_of S.Store conn.old) name.now release.now) }
-    ensures looks { Looks S.Store conn.old conn.new (is_ok result) }
-    ensures reason { FailsForReason S.Store conn.old conn.new result }
+    ensures { FindsInTables S.Store conn.old conn.new result
+        (λ T it. it ≡ yank_in T name.now release.now) }
 {
     let rows = look(conn, SELECT_YANK, params![name.text(), release.text()])?;
     first(alloc, rows.as_slice())
@@ -68,10 +57,8 @@ pub(crate) fn has_release<S: Alter>(
     name: &NormalName,
     release: &Release,
 ) -> Result<bool, Fault>
-    ensures found { HasCleanDisk (state S.Store conn.new) → IfOk result (λ it.
-        it ≡ has_release_in (tables_of S.Store conn.old) name.now release.now) }
-    ensures looks { Looks S.Store conn.old conn.new (is_ok result) }
-    ensures reason { FailsForReason S.Store conn.old conn.new result }
+    ensures { FindsInTables S.Store conn.old conn.new result
+        (λ T it. it ≡ has_release_in T name.now release.now) }
 {
     let rows = look(conn, SELECT_RELEASE, params![name.text(), release.text()])?;
     Ok(has_row(rows.as_slice()))

@@ -1,19 +1,19 @@
 //! Look-ups in the tables of an index in SQLite, and walks over them, which hand over one row at a time.
 #![tactic(auto)]
 
-mod at_keys;
 mod body;
+mod by_optional_key;
 mod files;
+mod from_row;
 mod hand;
-mod listed;
+mod lists;
 mod projects;
 mod rows;
-mod seen;
-mod shown;
 mod users;
+mod views;
 mod walk;
 
 pub use body::find_body;
-pub use listed::{files_of, names, owners_of};
-pub use seen::view;
+pub use lists::{files_of, names, owners_of};
+pub use views::view;
 pub use walk::{walk_files, walk_held};

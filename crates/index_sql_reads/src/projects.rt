@@ -1,13 +1,9 @@
 //! Look-ups of names.
-ghost use Rattle.std.specs.Prelude.{◌≡◌, is_ok, IfOk};
+ghost use Rattle.std.specs.Prelude.{◌≡◌};
 ghost use Rattle.std.specs.FinMap.{get};
-ghost use Rattle.sqlite.specs.Held.{state};
-ghost use Rattle.sqlite.specs.State.{HasCleanDisk};
-ghost use Rattle.index_sql_schema.specs.Looks.{Looks};
-ghost use Rattle.index_sql_schema.specs.Reasons.{FailsForReason};
-ghost use Rattle.index_sql_reads.specs.Held.{tables_of};
+ghost use Rattle.index_sql_reads.specs.Finds.{FindsInTables};
 
-use crate::shown::first;
+use crate::from_row::first;
 use index_names::NormalName;
 use index_rules::{CaseRecord, Fault, NameRecord};
 use index_sql_schema::statement_texts::{SELECT_CASE, SELECT_NAME};
@@ -21,10 +17,7 @@ pub(crate) fn find_name<S: Alter>(
     conn: &mut IndexConnection<S>,
     name: &NormalName,
 ) -> Result<Option<NameRecord>, Fault>
-    ensures found { HasCleanDisk (state S.Store conn.new) → IfOk result (λ it.
-        it ≡ get (tables_of S.Store conn.old).names name.now) }
-    ensures looks { Looks S.Store conn.old conn.new (is_ok result) }
-    ensures reason { FailsForReason S.Store conn.old conn.new result }
+    ensures { FindsInTables S.Store conn.old conn.new result (λ T it. it ≡ get T.names name.now) }
 {
     let rows = look(conn, SELECT_NAME, params![name.text()])?;
     first(alloc, rows.as_slice())
@@ -36,10 +29,7 @@ pub(crate) fn find_case<S: Alter>(
     conn: &mut IndexConnection<S>,
     name: &NormalName,
 ) -> Result<Option<CaseRecord>, Fault>
-    ensures found { HasCleanDisk (state S.Store conn.new) → IfOk result (λ it.
-        it ≡ get (tables_of S.Store conn.old).cases name.now) }
-    ensures looks { Looks S.Store conn.old conn.new (is_ok result) }
-    ensures reason { FailsForReason S.Store conn.old conn.new result }
+    ensures { FindsInTables S.Store conn.old conn.new result (λ T it. it ≡ get T.cases name.now) }
 {
     let rows = look(conn, SELECT_CASE, params![name.text()])?;
     first(alloc, rows.as_slice())

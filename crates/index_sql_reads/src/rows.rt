@@ -8,7 +8,7 @@ ghost use Rattle.sqlite.specs.State.{HasCleanDisk};
 ghost use Rattle.sqlite.specs.Values.{bound};
 ghost use Rattle.index_sql_schema.specs.Schema.{index_schema};
 ghost use Rattle.index_sql_schema.specs.Faults.{fault_by};
-ghost use Rattle.index_sql_schema.specs.Looks.{IsKept, Looks};
+ghost use Rattle.index_sql_schema.specs.Looks.{IsIndexConnection, QueriesOnly};
 ghost use Rattle.index_sql_schema.specs.Sure.{IsSure};
 ghost use Rattle.index_rules.specs.Walks.{Walks, has_fault, walk_end_of};
 ghost use Rattle.index_sql_reads.specs.Handed.{HasHanded, IsOf, QueryEndsForReason};
@@ -23,6 +23,7 @@ use std::alloc::Global;
 /// Hands the rows that a query shows to a taker one at a time, until it wants no more. The tables stay as they are.
 ///
 /// # Errors
+///
 /// `Stopped` exactly where the taker refused a row. `OutOfMemory` for want of memory, and `Store` where the store fails,
 /// a row is no record, or there are 18,446,744,073,709,551,615 rows or more.
 pub(crate) fn walk<S: Alter, K, H: Hand<K>>(
@@ -33,12 +34,11 @@ pub(crate) fn walk<S: Alter, K, H: Hand<K>>(
     taker: &mut K,
 ) -> Result<(), WalkEnd>
     requires plain { IsPlain (understood index_schema query.now) }
-    ensures kept { IsKept S.Store conn.old }
-    ensures handed { (rows : List RowData)
-        × Walks H.takes H.stops rows taker.old taker.new result
+    ensures kept { IsIndexConnection S.Store conn.old }
+    ensures handed { (rows : List RowData) × Walks H.takes H.stops rows taker.old taker.new result
         × (HasCleanDisk (state S.Store conn.new)
         → IsOf S.Store query.now (bound params.now) conn.old rows result) }
-    ensures looks { Looks S.Store conn.old conn.new (not (has_fault result)) }
+    ensures looks { QueriesOnly S.Store conn.old conn.new (not (has_fault result)) }
     ensures reason { IsSure query.now (bound params.now) → QueryEndsForReason S.Store H.is_row
         query.now (bound params.now) conn.old conn.new result }
 {

@@ -2,7 +2,7 @@
 ghost use Rattle.std.specs.Prelude.{◌≡◌, not, List};
 ghost use Rattle.sqlite.specs.Held.{state};
 ghost use Rattle.sqlite.specs.State.{HasCleanDisk};
-ghost use Rattle.index_sql_schema.specs.Looks.{Looks};
+ghost use Rattle.index_sql_schema.specs.Looks.{QueriesOnly};
 ghost use Rattle.index_rules.specs.declared.rows.FileRow.{FileRow as FileRowData};
 ghost use Rattle.index_rules.specs.declared.rows.NameRow.{NameRow as NameRowData};
 ghost use Rattle.index_rules.specs.Walks.{Walks, has_fault};
@@ -21,6 +21,7 @@ use std::alloc::Global;
 /// Hands the held names to a taker one at a time, in byte order, until it wants no more. The tables stay as they are.
 ///
 /// # Errors
+///
 /// `Stopped` exactly where the taker answered `false`. `OutOfMemory` for want of memory, and `Store` where the store
 /// fails, a row is no name, or there are 18,446,744,073,709,551,615 of them or more. Whatever the store does, the taker
 /// is given some rows in this way, and nothing else is done to it.
@@ -34,7 +35,7 @@ pub fn walk_held<S: Alter, K: NameTaker>(
         Walks K.takes K.stops rows taker.old taker.new result }
     ensures given { (rows : List NameRowData) ×
         Walks K.takes K.stops rows taker.old taker.new result }
-    ensures looks { Looks S.Store conn.old conn.new (not (has_fault result)) }
+    ensures looks { QueriesOnly S.Store conn.old conn.new (not (has_fault result)) }
     ensures reason { let rows = held_rows_of S.Store conn.old in
         EndsForReason S.Store conn.old conn.new rows result }
 {
@@ -45,6 +46,7 @@ pub fn walk_held<S: Alter, K: NameTaker>(
 /// as they are.
 ///
 /// # Errors
+///
 /// `Stopped` exactly where the taker answered `false`. `OutOfMemory` for want of memory, and `Store` where the store
 /// fails, a row is no file, or there are 18,446,744,073,709,551,615 of them or more. Whatever the store does, the taker
 /// is given some rows in this way, and nothing else is done to it.
@@ -59,7 +61,7 @@ pub fn walk_files<S: Alter, K: FileTaker>(
         Walks K.takes K.stops rows taker.old taker.new result }
     ensures given { (rows : List FileRowData) ×
         Walks K.takes K.stops rows taker.old taker.new result }
-    ensures looks { Looks S.Store conn.old conn.new (not (has_fault result)) }
+    ensures looks { QueriesOnly S.Store conn.old conn.new (not (has_fault result)) }
     ensures reason { let rows = file_rows_of S.Store conn.old name.now in
         EndsForReason S.Store conn.old conn.new rows result }
 {

@@ -1,1 +1,2 @@
-pub mod Bare
+pub mod ProhibitedRow
+pub mod Reads

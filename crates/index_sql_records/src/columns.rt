@@ -1,11 +1,13 @@
 //! Columns of a row, each read as a value of one type. Where a column holds no such value, that is `Fault::Store`.
-ghost use Rattle.std.specs.Prelude.{◌≡◌, ◌↔◌, pos, [], IsOk, IsOkUnless, IsTrue, IfOk, MatchOption, ⊤, if◌then◌else◌};
+ghost use Rattle.std.specs.Prelude.{◌≡◌, ◌↔◌, pos, [], IsSome, IsTrue, IsUtf8, MatchOption, ⊤, if◌then◌else◌};
 ghost use Rattle.sqlite_value.specs.declared.value.Value.TheVariants.{Null as NullValue, Int as IntValue, Text as TextValue, Blob as BlobValue};
 ghost use Rattle.sqlite_value.specs.Order.{column};
+ghost use Rattle.index_names.specs.FileName.{read_file_name};
 ghost use Rattle.index_names.specs.Project.{IsNormalName};
 ghost use Rattle.index_names.specs.Release.{IsRelease};
 ghost use Rattle.index_rules.specs.Users.{IsUserId};
-ghost use Rattle.index_sql_schema.specs.RecordRows.{IsBlobOf, IsDigestBlob, IsFileText, IsFlag, IsNull, IsNumber, IsNumberIfAny, IsText, IsTextIfAny, IsTextOf};
+ghost use Rattle.index_sql_schema.specs.RecordRows.{IsBlobOf, IsDigestBlob, IsFlag, IsNull, IsNumber, IsNumberIfAny, IsTextIfAny, IsTextOf};
+ghost use Rattle.index_sql_records.specs.Reads.{ReadsRow, ReadsOwned, ReadsText};
 
 use index_digest::Digest256;
 use index_names::{FileName, NameFault, NormalName, Release, normal, release_key};
@@ -17,9 +19,8 @@ use std::alloc::Global;
 
 /// The bytes of a text.
 fn text_bytes(row: &Row, at: usize) -> Result<&[u8], Fault>
-    ensures text { IfOk result (λ it. column row.now at ≡ TextValue it.now) }
-    ensures complete { IsTextOf (λ _. ⊤) (column row.now at) → IsOk result }
-    ensures fault { IsOkUnless result Fault.Store }
+    ensures { ReadsRow result (IsTextOf (λ _. ⊤) (column row.now at))
+        (λ it. column row.now at ≡ TextValue it.now) }
 {
     match row.get_ref(at) {
         Ok(ValueRef::Text(bytes)) => Ok(bytes),
@@ -29,9 +30,8 @@ fn text_bytes(row: &Row, at: usize) -> Result<&[u8], Fault>
 
 /// The bytes of a blob.
 pub(crate) fn blob(row: &Row, at: usize) -> Result<&[u8], Fault>
-    ensures blob { IfOk result (λ it. column row.now at ≡ BlobValue it.now) }
-    ensures complete { IsBlobOf (λ _. ⊤) (column row.now at) → IsOk result }
-    ensures fault { IsOkUnless result Fault.Store }
+    ensures { ReadsRow result (IsBlobOf (λ _. ⊤) (column row.now at))
+        (λ it. column row.now at ≡ BlobValue it.now) }
 {
     match row.get_ref(at) {
         Ok(ValueRef::Blob(bytes)) => Ok(bytes),
@@ -41,9 +41,8 @@ pub(crate) fn blob(row: &Row, at: usize) -> Result<&[u8], Fault>
 
 /// A whole number that isn't negative.
 pub(crate) fn number(row: &Row, at: usize) -> Result<u64, Fault>
-    ensures number { IfOk result (λ it. column row.now at ≡ IntValue (pos it)) }
-    ensures complete { IsNumber (column row.now at) → IsOk result }
-    ensures fault { IsOkUnless result Fault.Store }
+    ensures { ReadsRow result (IsNumber (column row.now at))
+        (λ it. column row.now at ≡ IntValue (pos it)) }
 {
     match row.get_ref(at) {
         Ok(ValueRef::Int(number)) => match u64::try_from(number) {
@@ -56,11 +55,9 @@ pub(crate) fn number(row: &Row, at: usize) -> Result<u64, Fault>
 
 /// Such a number, or nothing where there is NULL.
 pub(crate) fn number_if_any(row: &Row, at: usize) -> Result<Option<u64>, Fault>
-    ensures number { IfOk result (λ it. MatchOption it
+    ensures { ReadsRow result (IsNumberIfAny row.now at) (λ it. MatchOption it
         (column row.now at ≡ NullValue)
         (λ number. column row.now at ≡ IntValue (pos number))) }
-    ensures complete { IsNumberIfAny row.now at → IsOk result }
-    ensures fault { IsOkUnless result Fault.Store }
 {
     match row.get_ref(at) {
         Ok(ValueRef::Null) => Ok(None),
@@ -70,9 +67,8 @@ pub(crate) fn number_if_any(row: &Row, at: usize) -> Result<Option<u64>, Fault>
 
 /// 0 for no, or 1 for yes.
 pub(crate) fn flag(row: &Row, at: usize) -> Result<bool, Fault>
-    ensures flag { IfOk result (λ it. column row.now at ≡ IntValue (pos (if it then 1 else 0))) }
-    ensures complete { IsFlag (column row.now at) → IsOk result }
-    ensures fault { IsOkUnless result Fault.Store }
+    ensures { ReadsRow result (IsFlag (column row.now at))
+        (λ it. column row.now at ≡ IntValue (pos (if it then 1 else 0))) }
 {
     match number(row, at)? {
         0 => Ok(false),
@@ -83,9 +79,8 @@ pub(crate) fn flag(row: &Row, at: usize) -> Result<bool, Fault>
 
 /// A SHA-256 digest: a blob of 32 bytes.
 pub(crate) fn digest(row: &Row, at: usize) -> Result<Digest256, Fault>
-    ensures digest { IfOk result (λ it. column row.now at ≡ BlobValue it) }
-    ensures complete { IsDigestBlob (column row.now at) → IsOk result }
-    ensures fault { IsOkUnless result Fault.Store }
+    ensures { ReadsRow result (IsDigestBlob (column row.now at))
+        (λ it. column row.now at ≡ BlobValue it) }
 {
     let blob = blob(row, at)?;
     if blob.len() != 32 {
@@ -98,8 +93,7 @@ pub(crate) fn digest(row: &Row, at: usize) -> Result<Digest256, Fault>
 
 /// A text.
 pub(crate) fn text(alloc: Global, row: &Row, at: usize) -> Result<Text, Fault>
-    ensures text { IfOk result (λ it. column row.now at ≡ TextValue it) }
-    ensures complete { IsText (column row.now at) → IsOkUnless result Fault.OutOfMemory }
+    ensures { ReadsText IsUtf8 (column row.now at) result }
 {
     match str::from_utf8(text_bytes(row, at)?) {
         Ok(text) => Ok(Text::new(String::from_str(alloc, text)?)),
@@ -109,10 +103,9 @@ pub(crate) fn text(alloc: Global, row: &Row, at: usize) -> Result<Text, Fault>
 
 /// Such a text, or nothing where there is NULL.
 pub(crate) fn text_if_any(alloc: Global, row: &Row, at: usize) -> Result<Option<Text>, Fault>
-    ensures text { IfOk result (λ it. MatchOption it
+    ensures { ReadsOwned result (IsTextIfAny row.now at) (λ it. MatchOption it
         (column row.now at ≡ NullValue)
         (λ text. column row.now at ≡ TextValue text)) }
-    ensures complete { IsTextIfAny row.now at → IsOkUnless result Fault.OutOfMemory }
 {
     match row.get_ref(at) {
         Ok(ValueRef::Null) => Ok(None),
@@ -123,9 +116,7 @@ pub(crate) fn text_if_any(alloc: Global, row: &Row, at: usize) -> Result<Option<
 /// A user id.
 #[tactic(auto, unfolding(index_rules::specs::Users::read_user))]
 pub(crate) fn user(alloc: Global, row: &Row, at: usize) -> Result<UserId, Fault>
-    ensures user { IfOk result (λ it. column row.now at ≡ TextValue it) }
-    ensures complete { IsTextOf IsUserId (column row.now at)
-        → IsOkUnless result Fault.OutOfMemory }
+    ensures { ReadsText IsUserId (column row.now at) result }
 {
     match UserId::read(alloc, text_bytes(row, at)?) {
         Ok(user) => Ok(user),
@@ -136,9 +127,7 @@ pub(crate) fn user(alloc: Global, row: &Row, at: usize) -> Result<UserId, Fault>
 
 /// A name in its normal form. In another spelling it is none.
 pub(crate) fn name(alloc: Global, row: &Row, at: usize) -> Result<NormalName, Fault>
-    ensures name { IfOk result (λ it. column row.now at ≡ TextValue it) }
-    ensures complete { IsTextOf IsNormalName (column row.now at)
-        → IsOkUnless result Fault.OutOfMemory }
+    ensures { ReadsText IsNormalName (column row.now at) result }
 {
     let bytes = text_bytes(row, at)?;
     match normal(alloc, bytes) {
@@ -150,9 +139,7 @@ pub(crate) fn name(alloc: Global, row: &Row, at: usize) -> Result<NormalName, Fa
 
 /// A release in lower case. In another spelling it is none.
 pub(crate) fn release(alloc: Global, row: &Row, at: usize) -> Result<Release, Fault>
-    ensures release { IfOk result (λ it. column row.now at ≡ TextValue it) }
-    ensures complete { IsTextOf IsRelease (column row.now at)
-        → IsOkUnless result Fault.OutOfMemory }
+    ensures { ReadsText IsRelease (column row.now at) result }
 {
     let bytes = text_bytes(row, at)?;
     match release_key(alloc, bytes) {
@@ -164,8 +151,7 @@ pub(crate) fn release(alloc: Global, row: &Row, at: usize) -> Result<Release, Fa
 
 /// The name of a wheel or a source archive.
 pub(crate) fn file_name(alloc: Global, row: &Row, at: usize) -> Result<FileName, Fault>
-    ensures file { IfOk result (λ it. column row.now at ≡ TextValue it) }
-    ensures complete { IsFileText (column row.now at) → IsOkUnless result Fault.OutOfMemory }
+    ensures { ReadsText (λ bytes. IsSome (read_file_name bytes)) (column row.now at) result }
 {
     match FileName::read(alloc, text_bytes(row, at)?) {
         Ok(file) => Ok(file),

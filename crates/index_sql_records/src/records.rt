@@ -1,9 +1,10 @@
 //! Records, from rows that show each column in the place that it has in its table. Each of these functions answers
 //! `Fault::Store` where the row is no record, and `Fault::OutOfMemory` where there is no memory for what it owns.
-ghost use Rattle.std.specs.Prelude.{◌≡◌, IfOk, IsOk, IsOkUnless, IsTrue};
+ghost use Rattle.std.specs.Prelude.{◌≡◌, IfOk, IsTrue};
 ghost use Rattle.index_sql_schema.specs.Records.{user_in, project_in, name_in, file_in, case_in, body_in, reason_in, kind_by, number_in, tally_in};
 ghost use Rattle.sqlite_value.specs.Order.{column};
-ghost use Rattle.index_sql_records.specs.Bare.{bare_project};
+ghost use Rattle.index_sql_records.specs.ProhibitedRow.{empty_project};
+ghost use Rattle.index_sql_records.specs.Reads.{ReadsRow, ReadsOwned};
 ghost use Rattle.index_sql_schema.specs.RecordRows.{IsBareRow, IsBodyRow, IsCaseRow, IsFileRow, IsKind, IsNameRow, IsProjectRow, IsTallyRow, IsUserRow, IsYankRow};
 
 use crate::columns::{
@@ -16,36 +17,40 @@ use index_text::Text;
 use sqlite::Row;
 use std::alloc::Global;
 
-/// A row of users. `Store` where the office's column isn't 0 or 1, or the token's is no blob of 32 bytes.
+/// A row of users.
+///
+/// # Errors
+///
+/// `Store` where the office's column isn't 0 or 1, or the token's is no blob of 32 bytes.
 pub fn user_record(row: &Row) -> Result<UserRecord, Fault>
-    ensures record { IfOk result (λ it. it ≡ user_in row.now) }
-    ensures complete { IsUserRow row.now → IsOk result }
-    ensures fault { IsOkUnless result Fault.Store }
+    ensures { ReadsRow result (IsUserRow row.now) (λ it. it ≡ user_in row.now) }
 {
     let office = flag(row, 2)?;
     let token = digest(row, 3)?;
     Ok(UserRecord { office, token })
 }
 
-/// A row of names. `Store` where the state is neither 1 (held) nor 2 (prohibited), where the numbers of a held name don't
-/// fit together, or where a prohibited one has any.
+/// A row of names.
+///
+/// # Errors
+///
+/// `Store` where the state is neither 1 (held) nor 2 (prohibited), where the numbers of a held name don't fit together,
+/// or where a prohibited one has any; `OutOfMemory` for want of memory.
 pub fn name_record(alloc: Global, row: &Row) -> Result<NameRecord, Fault>
-    ensures record { IfOk result (λ it. it ≡ name_in row.now) }
+    ensures read { ReadsOwned result (IsNameRow row.now) (λ it. it ≡ name_in row.now) }
     ensures bare { IfOk result (λ it. it ≡ NameRecord.Prohibited
-        → project_in row.now ≡ bare_project) }
-    ensures complete { IsNameRow row.now → IsOkUnless result Fault.OutOfMemory }
+        → project_in row.now ≡ empty_project) }
 {
     match number(row, 2)? {
         1 => Ok(NameRecord::Held(project(alloc, row)?)),
-        2 if is_bare(row) => Ok(NameRecord::Prohibited),
+        2 if is_empty_project(row) => Ok(NameRecord::Prohibited),
         _ => Err(Fault::Store),
     }
 }
 
 /// The row of a held name. `Store` where its numbers don't fit together.
 fn project(alloc: Global, row: &Row) -> Result<Project, Fault>
-    ensures record { IfOk result (λ it. it ≡ project_in row.now) }
-    ensures complete { IsProjectRow row.now → IsOkUnless result Fault.OutOfMemory }
+    ensures { ReadsOwned result (IsProjectRow row.now) (λ it. it ≡ project_in row.now) }
 {
     let quota = number(row, 4)?;
     let charge = number(row, 5)?;
@@ -59,8 +64,8 @@ fn project(alloc: Global, row: &Row) -> Result<Project, Fault>
 }
 
 /// Whether the row of a name has nothing of a held one.
-fn is_bare(row: &Row) -> bool
-    ensures bare { IsTrue result → project_in row.now ≡ bare_project }
+fn is_empty_project(row: &Row) -> bool
+    ensures bare { IsTrue result → project_in row.now ≡ empty_project }
     ensures complete { IsBareRow row.now → IsTrue result }
 {
     is_empty_text(row, 3)
@@ -70,10 +75,13 @@ fn is_bare(row: &Row) -> bool
         && is_null(row, 7)
 }
 
-/// A row of files. `Store` where a column holds no name, release, digest, size, text or flag.
+/// A row of files.
+///
+/// # Errors
+///
+/// `Store` where a column holds no name, release, digest, size, text or flag, and `OutOfMemory` for want of memory.
 pub fn file_record(alloc: Global, row: &Row) -> Result<FileRecord, Fault>
-    ensures record { IfOk result (λ it. it ≡ file_in row.now) }
-    ensures complete { IsFileRow row.now → IsOkUnless result Fault.OutOfMemory }
+    ensures { ReadsOwned result (IsFileRow row.now) (λ it. it ≡ file_in row.now) }
 {
     let digest = digest(row, 4)?;
     let size = number(row, 5)?;
@@ -91,11 +99,14 @@ pub fn file_record(alloc: Global, row: &Row) -> Result<FileRecord, Fault>
     })
 }
 
-/// A row of cases. `Store` where the kind is neither 1 (continue) nor 2 (reuse), where the candidate's column holds no
-/// user id, or where its attempts don't fit together.
+/// A row of cases.
+///
+/// # Errors
+///
+/// `Store` where the kind is neither 1 (continue) nor 2 (reuse), where the candidate's column holds no user id, or
+/// where its attempts don't fit together; `OutOfMemory` for want of memory.
 pub fn case_record(alloc: Global, row: &Row) -> Result<CaseRecord, Fault>
-    ensures record { IfOk result (λ it. it ≡ case_in row.now) }
-    ensures complete { IsCaseRow row.now → IsOkUnless result Fault.OutOfMemory }
+    ensures { ReadsOwned result (IsCaseRow row.now) (λ it. it ≡ case_in row.now) }
 {
     let kind = case_kind(row)?;
     let opened = number(row, 7)?;
@@ -116,9 +127,8 @@ pub fn case_record(alloc: Global, row: &Row) -> Result<CaseRecord, Fault>
 }
 
 fn case_kind(row: &Row) -> Result<CaseKind, Fault>
-    ensures kind { IfOk result (λ it. it ≡ kind_by (number_in (column row.now 2))) }
-    ensures complete { IsKind (column row.now 2) → IsOk result }
-    ensures fault { IsOkUnless result Fault.Store }
+    ensures { ReadsRow result (IsKind (column row.now 2))
+        (λ it. it ≡ kind_by (number_in (column row.now 2))) }
 {
     match number(row, 2)? {
         1 => Ok(CaseKind::Continue),
@@ -130,9 +140,7 @@ fn case_kind(row: &Row) -> Result<CaseKind, Fault>
 /// The attempts of a row of cases. `Store` where more than 1,000 are recorded, where more are sent than recorded, or where
 /// there is a first moment and none was sent, or none and one was.
 fn case_state(row: &Row) -> Result<CaseState, Fault>
-    ensures tally { IfOk result (λ it. it ≡ tally_in row.now) }
-    ensures complete { IsTallyRow row.now → IsOk result }
-    ensures fault { IsOkUnless result Fault.Store }
+    ensures { ReadsRow result (IsTallyRow row.now) (λ it. it ≡ tally_in row.now) }
 {
     let attempts = number(row, 8)?;
     let sent = number(row, 9)?;
@@ -147,17 +155,23 @@ fn case_state(row: &Row) -> Result<CaseState, Fault>
 }
 
 /// The bytes in a row of blobs.
+///
+/// # Errors
+///
+/// `Store` where the column holds no blob, and `OutOfMemory` for want of memory.
 pub fn body(alloc: Global, row: &Row) -> Result<Vec<u8>, Fault>
-    ensures body { IfOk result (λ it. it.items ≡ body_in row.now) }
-    ensures complete { IsBodyRow row.now → IsOkUnless result Fault.OutOfMemory }
+    ensures { ReadsOwned result (IsBodyRow row.now) (λ it. it.items ≡ body_in row.now) }
 {
     Ok(Vec::from_slice(alloc, blob(row, 2)?)?)
 }
 
 /// The reason in a row of yanks. It may be empty.
+///
+/// # Errors
+///
+/// `Store` where the column holds no text, and `OutOfMemory` for want of memory.
 pub fn reason(alloc: Global, row: &Row) -> Result<Text, Fault>
-    ensures reason { IfOk result (λ it. it ≡ reason_in row.now) }
-    ensures complete { IsYankRow row.now → IsOkUnless result Fault.OutOfMemory }
+    ensures { ReadsOwned result (IsYankRow row.now) (λ it. it ≡ reason_in row.now) }
 {
     text(alloc, row, 3)
 }

@@ -11,7 +11,7 @@ use Rattle.sqlite.specs.State.{State, Executes}
 use Rattle.sqlite_keyed.proofs.ListLemmas.{all_both, all-append}
 use Rattle.index_sql_schema.specs.TableTexts.{bans_text}
 use Rattle.index_sql_schema.specs.Schema.{index_schema, bans_at}
-use Rattle.index_sql_schema.specs.Stages.{stage}
+use Rattle.index_sql_schema.specs.CreateSteps.{stage}
 use Rattle.index_sql_schema.specs.FirstVersion.{first_version_schema, IsFirstVersion, without_bans}
 use Rattle.index_sql_schema.specs.Index.{AreRows, Changes, is_version}
 use Rattle.index_sql_schema.specs.Records.{number_in, tables_in}

@@ -15,7 +15,7 @@ use Rattle.sqlite_rules.specs.Action.{Work, works, max_depth, is_child_of, AreCh
 use Rattle.sqlite_rules.specs.Edit.{id_in, without_all, taken_by}
 use Rattle.sqlite_keyed.specs.Lists.{delete_where}
 use Rattle.sqlite_keyed.proofs.ListLemmas.{all_of}
-use Rattle.index_sql_schema.specs.Index.{rowid_in, IsWhole, AreRows}
+use Rattle.index_sql_schema.specs.Index.{rowid_in, HasRowid, AreRows}
 use Rattle.index_sql_schema.proofs.EditLemmas.{as_int, has_all, passed_gone}
 
 -- the children of the rows that lost their key
@@ -38,7 +38,7 @@ module _ (schema : Schema) (keys : Keys) (depth : ℕ) (child : Table) (ref : Re
       by_ids it.0 it.1 it.2
     where
       gone : (ids : List ℤ) → AreChildren db work ids → without_all (db child.tree) ids ≡ delete_where is_hit (db child.tree)
-      gone ids are = passed_gone (db child.tree) ids is_hit rows (λ id k. let it = are.sound id k in (it.0, it.1, it.2, ap id_in it.3)) (λ r k t. are.complete r (rowid_in r) k t (as_int (rowid r) (has_all IsWhole (db child.tree) r rows.1 k)))
+      gone ids are = passed_gone (db child.tree) ids is_hit rows (λ id k. let it = are.sound id k in (it.0, it.1, it.2, ap id_in it.3)) (λ r k t. are.complete r (rowid_in r) k t (as_int (rowid r) (has_all HasRowid (db child.tree) r rows.1 k)))
 
       by_ids : (ids : List ℤ) → AreChildren db work ids → ActsOn schema keys (Leads schema keys n) db work below (Ok next) ids
           → (mid : Trees) × (mid child.tree ≡ delete_where is_hit (db child.tree)) × AllByRecursion (λ (t : Table). t.tree ≢ child.tree → mid t.tree ≡ db t.tree) schema.tables × Leads schema keys n mid below (Ok next)

@@ -16,10 +16,10 @@ use Rattle.sqlite.proofs.Callers.{IsPlain, command_of, statement_of, runs_as}
 use Rattle.sqlite_keyed.proofs.ListLemmas.{all-append, all_both, all_weaker}
 use Rattle.index_sql_schema.specs.TableTexts.{meta_text, users_text, names_text, owners_text, files_text, blobs_text, yanks_text, cases_text, bans_text}
 use Rattle.index_sql_schema.specs.Schema.{meta_at, users_at, names_at, owners_at, files_at, blobs_at, yanks_at, cases_at, bans_at, index_schema}
-use Rattle.index_sql_schema.specs.Stages.{all_texts, stage, IsStage}
+use Rattle.index_sql_schema.specs.CreateSteps.{all_texts, stage, IsStage}
 use Rattle.index_sql_schema.specs.Index.{AreRows, IsIndex}
 use Rattle.index_sql_schema.specs.Records.{tables_in}
-use Rattle.index_sql_schema.specs.Stages.{no_tables}
+use Rattle.index_sql_schema.specs.CreateSteps.{no_tables}
 use Rattle.index_sql_schema.proofs.StatementLemmas.{went, same_value}
 
 -- a statement that makes this table, under this schema

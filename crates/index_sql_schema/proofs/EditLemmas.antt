@@ -21,7 +21,7 @@ use Rattle.sqlite_keyed.proofs.ListLemmas.{all_weaker, all_both, all-filter, non
 use Rattle.sqlite_keyed.proofs.KeyedLemmas.{same_int}
 use Rattle.index_sql_schema.proofs.Permutations.{all_permutation, ascending_permutation}
 use Rattle.index_sql_schema.specs.Schema.{index_schema}
-use Rattle.index_sql_schema.specs.Index.{rowid_in, IsWhole, AreRows, IsNumbered, IsIndex}
+use Rattle.index_sql_schema.specs.Index.{rowid_in, HasRowid, AreRows, IsNumbered, IsIndex}
 use Rattle.index_sql_schema.specs.RecordRows.{IsRecordIn, AreRecords, AreRecordsIn, AreRecordsOf}
 
 pub as_int : (v : Value) → IsTrue (is_int v) → v ≡ Int (id_in v)
@@ -79,16 +79,16 @@ put_fresh new (r ∷ rows) free = go (value_cmp (rowid r) (rowid new)) free (put
     go Equal f more = absurd (true≢false f)
     go Greater f more = IsPermutation-refl (new ∷ r ∷ rows)
 
-differs : (new r : Row) → IsWhole new → is_eq (value_cmp (rowid r) (rowid new)) ≡ false → IsWhole r → Differ new r
+differs : (new r : Row) → HasRowid new → is_eq (value_cmp (rowid r) (rowid new)) ≡ false → HasRowid r → Differ new r
 differs new r h apart w =
     let same : is_eq (value_cmp (rowid r) (rowid new)) ≡ int_eq (rowid_in r) (rowid_in new) = ap₂ (λ a b. is_eq (value_cmp a b)) (as_int (rowid r) w) (as_int (rowid new) h) ∙ ap is_eq (value_cmp-Int (rowid_in r) (rowid_in new)) in
     other_way r new (sym same ∙ apart)
 
-pub put_rows : (new : Row) (rows : List Row) → IsWhole new → is_taken rows new ≡ false → AreRows rows → AreRows (put_row new rows)
+pub put_rows : (new : Row) (rows : List Row) → HasRowid new → is_taken rows new ≡ false → AreRows rows → AreRows (put_row new rows)
 put_rows new rows h free are =
-    let apart = all_both _ IsWhole (Differ new) (λ r. differs new r h) rows (none_from_any _ rows free) are.1 in
+    let apart = all_both _ HasRowid (Differ new) (λ r. differs new r h) rows (none_from_any _ rows free) are.1 in
     let p = put_fresh new rows free in
-    (ascending_permutation Differ other_way (new ∷ rows) (put_row new rows) p (apart, are.0), all_permutation IsWhole (new ∷ rows) (put_row new rows) p (h, are.1))
+    (ascending_permutation Differ other_way (new ∷ rows) (put_row new rows) p (apart, are.0), all_permutation HasRowid (new ∷ rows) (put_row new rows) p (h, are.1))
 
 not_taken : (b c : Bool) → (not b && c) ≡ true → b ≡ false
 not_taken true c h = absurd (true≢false (sym h))
@@ -99,7 +99,7 @@ later_fresh true c h = absurd (true≢false (sym h))
 later_fresh false c h = h
 
 -- rows at free rowids are added to the others
-pub put_all_fresh : (news rows : List Row) → AllByRecursion IsWhole news → are_fresh rows news ≡ true → AreRows rows → IsPermutation (news ++ rows) (put_all rows news) × AreRows (put_all rows news)
+pub put_all_fresh : (news rows : List Row) → AllByRecursion HasRowid news → are_fresh rows news ≡ true → AreRows rows → IsPermutation (news ++ rows) (put_all rows news) × AreRows (put_all rows news)
 put_all_fresh [] rows h fresh are = (IsPermutation-refl rows, are)
 put_all_fresh (n ∷ news) rows h fresh are =
     let free = not_taken _ _ fresh in
@@ -117,14 +117,14 @@ pub filter_with : {A : Type 0} (P : A → Type 0) (p q : A → Bool) → ((a : A
 filter_with P p q same [] all = refl
 filter_with P p q same (x ∷ xs) all = ap₂ (λ b l. cond b (x ∷ l) l) (same x all.0) (filter_with P p q same xs all.1)
 
-pub has_is : (id : ℤ) (r : Row) → IsWhole r → has_rowid id r ≡ int_eq (rowid_in r) id
+pub has_is : (id : ℤ) (r : Row) → HasRowid r → has_rowid id r ≡ int_eq (rowid_in r) id
 has_is id r h = ap (λ v. is_eq (value_cmp v (Int id))) (as_int (rowid r) h) ∙ ap is_eq (value_cmp-Int (rowid_in r) id)
 
-without_is : (ids : List ℤ) (rows : List Row) → AllByRecursion IsWhole rows → without_all rows ids ≡ fold (without_key rowid_in) rows ids
+without_is : (ids : List ℤ) (rows : List Row) → AllByRecursion HasRowid rows → without_all rows ids ≡ fold (without_key rowid_in) rows ids
 without_is [] rows whole = refl
 without_is (id ∷ ids) rows whole =
-    ap (λ l. without_all l ids) (filter_with IsWhole (λ r. not (has_rowid id r)) (λ r. not (int_eq (rowid_in r) id)) (λ r h. ap not (has_is id r h)) rows whole)
-    ∙ without_is ids (without_key rowid_in rows id) (all-filter IsWhole (λ r. not (int_eq (rowid_in r) id)) rows whole)
+    ap (λ l. without_all l ids) (filter_with HasRowid (λ r. not (has_rowid id r)) (λ r. not (int_eq (rowid_in r) id)) (λ r h. ap not (has_is id r h)) rows whole)
+    ∙ without_is ids (without_key rowid_in rows id) (all-filter HasRowid (λ r. not (int_eq (rowid_in r) id)) rows whole)
 
 fused : {A : Type 0} (p q : A → Bool) (xs : List A) → filter (λ x. not (q x)) (filter (λ x. not (p x)) xs) ≡ filter (λ x. not (p x || q x)) xs
 fused p q [] = refl
@@ -203,13 +203,13 @@ matched_gone rows ordered p are same =
     (λ r h t. has_map rowid_in ordered r (has_permutation r (filter p rows) ordered same (has_filter p rows r h t)))
 
 pub kept_rows : (p : Row → Bool) (rows : List Row) → AreRows rows → AreRows (delete_where p rows)
-kept_rows p rows are = (ascending-filter Differ (λ r. not (p r)) rows are.0, all-filter IsWhole (λ r. not (p r)) rows are.1)
+kept_rows p rows are = (ascending-filter Differ (λ r. not (p r)) rows are.0, all-filter HasRowid (λ r. not (p r)) rows are.1)
 
 pub given_stay : (rows news : List Row) → numbered Given rows news ≡ news
 given_stay rows [] = refl
 given_stay rows (n ∷ news) = ap (λ l. n ∷ l) (given_stay (put_row n rows) news)
 
-pub are_whole : (news : List Row) → have_rowids news ≡ true → AllByRecursion IsWhole news
+pub are_whole : (news : List Row) → have_rowids news ≡ true → AllByRecursion HasRowid news
 are_whole news h = all_from_test (λ r. is_int (rowid r)) news h
 
 -- ---- all tables

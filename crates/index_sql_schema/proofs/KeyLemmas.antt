@@ -31,7 +31,7 @@ use Rattle.std.proofs.lemmas.Cmp.{nat_list_cmp_total}
 use Rattle.index_sql_schema.specs.Records.{text_key, pair_key}
 use Rattle.std.proofs.lemmas.Cmp.{eq_by_cmp_equiv}
 use Rattle.index_sql_schema.specs.Schema.{index_schema}
-use Rattle.index_sql_schema.specs.Index.{rowid_in, IsWhole, AreRows, IsIndex}
+use Rattle.index_sql_schema.specs.Index.{rowid_in, HasRowid, AreRows, IsIndex}
 use Rattle.index_sql_schema.proofs.QueryShapes.{is_param}
 use Rattle.index_sql_schema.proofs.EditLemmas.{as_int, Differ, other_way}
 use Rattle.index_sql_schema.proofs.TypedLemmas.{typed_at, present_at, as_text, as_blob, as_whole, first_part}
@@ -56,7 +56,7 @@ not_either : (a b : Bool) → (a || b) ≡ false → b ≡ false
 not_either true b h = absurd (true≢false h)
 not_either false b h = h
 
-later_differs : (x r : Row) → IsWhole x → IsWhole r → Differ x r → differ (rowid r) (rowid x) ≡ true
+later_differs : (x r : Row) → HasRowid x → HasRowid r → Differ x r → differ (rowid r) (rowid x) ≡ true
 later_differs x r a b apart =
     let back = other_way x r apart in
     ap₂ differ (as_int (rowid r) b) (as_int (rowid x) a) ∙ at_ints false Ne (id_in (rowid r)) (id_in (rowid x)) ∙ ap not back
@@ -181,7 +181,7 @@ pub text_test : (params : Row) (place param : ℕ) (r : Row) (text : List ℕ) �
 text_test params place param r text given is = rw (given, is) (at_texts false Eq (bytes (column r place)) text ∙ is_eq-slice_cmp (bytes (column r place)) text)
 
 -- the rowid against a number
-pub rowid_test : (params : Row) (param : ℕ) (r : Row) (id : ℤ) → column params param ≡ Int id → IsWhole r → eval_at params r 0 param ≡ int_eq (rowid_in r) id
+pub rowid_test : (params : Row) (param : ℕ) (r : Row) (id : ℤ) → column params param ≡ Int id → HasRowid r → eval_at params r 0 param ≡ int_eq (rowid_in r) id
 rowid_test params param r id given is = rw (given, as_int (rowid r) is) (at_ints false Eq (rowid_in r) id)
 
 -- a column of bytes against bytes

@@ -16,13 +16,13 @@ use Rattle.sqlite.proofs.Callers.{IsPlain}
 use Rattle.sqlite.proofs.StateLemmas.{survives_then, survives_weaker}
 use Rattle.index_sql_schema.specs.Schema.{index_schema}
 use Rattle.index_sql_schema.specs.Index.{IsIndex, version_in}
-use Rattle.index_sql_schema.specs.Stays.{Stays}
+use Rattle.index_sql_schema.specs.Unchanged.{IsUnchangedIfOpen}
 use Rattle.index_sql_schema.proofs.StayLemmas.{shown_open, shown_stays, refused_stays}
 use Rattle.index_sql_schema.specs.Sure.{IsSure}
 use Rattle.index_sql_schema.proofs.SureLemmas.{fails_for}
 use Rattle.index_rules.specs.declared.answer.Fault.TheVariants as fault
 use Rattle.index_sql_schema.specs.Faults.{fault_by}
-use Rattle.index_sql_schema.specs.Looks.{IsKept, Looks}
+use Rattle.index_sql_schema.specs.Looks.{IsIndexConnection, QueriesOnly}
 use Rattle.index_sql_schema.proofs.PlainLemmas.{commits_nowhere}
 use Rattle.index_sql_schema.specs.Reasons.{HasReason}
 use Rattle.index_sql_schema.specs.RecordRows.{AreRecords}
@@ -47,13 +47,13 @@ more_faults a b c less more = grind arith
 module _ {S : Type 0} (g : Ghosts S) where
   -- ---- one look
 
-  module _ (old new : Held S) (sql : List ℕ) (params : Row) (plain : IsPlain (understood index_schema sql)) (kept : IsKept g old) (ended : new.in_transaction ≡ false)
+  module _ (old new : Held S) (sql : List ℕ) (params : Row) (plain : IsPlain (understood index_schema sql)) (kept : IsIndexConnection g old) (ended : new.in_transaction ≡ false)
       (survives : Survives (state g old) (state g new) (CommitsShowing sql params (state g old))) where
     was_clean : HasCleanDisk (state g new) → HasCleanDisk (state g old)
     was_clean = clean_before (state g old) (state g new) _ survives
 
     -- of a query with this text, which leaves it as it was, or undoes it
-    pub looks_by : (did : Bool) → (HasCleanDisk (state g new) → Stays (state g old) (state g new)) → (IsTrue did → HasCleanDisk (state g new) → IsTrue (state g new).is_open) → Looks g old new did
+    pub looks_by : (did : Bool) → (HasCleanDisk (state g new) → IsUnchangedIfOpen (state g old) (state g new)) → (IsTrue did → HasCleanDisk (state g new) → IsTrue (state g new).is_open) → QueriesOnly g old new did
     looks_by did stays is_open = record {
       outside = λ _. ended;
       was_clean = was_clean;
@@ -69,12 +69,12 @@ module _ {S : Type 0} (g : Ghosts S) where
     pub index_shown : HasCleanDisk (state g new) → (rows : List Row) → Shown sql params (state g old) (state g new) rows → IsIndex (state g old).now
     index_shown clean rows shown = kept.index (was_clean clean) (shown_open (state g old) (state g new) sql params rows shown).0
 
-    pub looks_shown : (rows : List Row) → (HasCleanDisk (state g new) → Shown sql params (state g old) (state g new) rows) → Looks g old new true
+    pub looks_shown : (rows : List Row) → (HasCleanDisk (state g new) → Shown sql params (state g old) (state g new) rows) → QueriesOnly g old new true
     looks_shown rows shown = looks_by true
         (λ clean. shown_stays (state g old) (state g new) sql params rows (index_shown clean rows (shown clean)).schema plain (shown clean))
         (λ it clean. (shown_open (state g old) (state g new) sql params rows (shown clean)).1)
 
-    pub looks_refused : (e : Error) → (HasCleanDisk (state g new) → FailsToQuery sql params (state g old) (state g new) e) → Looks g old new false
+    pub looks_refused : (e : Error) → (HasCleanDisk (state g new) → FailsToQuery sql params (state g old) (state g new) e) → QueriesOnly g old new false
     looks_refused e fails = looks_by false
         (λ clean. refused_stays (state g old) (state g new) sql params e (kept.committed (was_clean clean)) (fails clean))
         (λ it. absurd (cc))
@@ -82,7 +82,7 @@ module _ {S : Type 0} (g : Ghosts S) where
   -- ---- several
 
   -- none
-  pub looks_none : (held : Held S) (did : Bool) → Looks g held held did
+  pub looks_none : (held : Held S) (did : Bool) → QueriesOnly g held held did
   looks_none held did = record {
     outside = λ outside. outside;
     was_clean = λ clean. clean;
@@ -95,7 +95,7 @@ module _ {S : Type 0} (g : Ghosts S) where
   }
 
   -- one after another
-  pub looks_then : (a b c : Held S) (did : Bool) → Looks g a b true → Looks g b c did → Looks g a c did
+  pub looks_then : (a b c : Held S) (did : Bool) → QueriesOnly g a b true → QueriesOnly g b c did → QueriesOnly g a c did
   looks_then a b c did first second = record {
     outside = λ outside. second.outside (first.outside outside);
     was_clean = λ clean. first.was_clean (second.was_clean clean);
@@ -108,7 +108,7 @@ module _ {S : Type 0} (g : Ghosts S) where
   }
 
   -- what follows looks that succeeded may fail
-  pub looks_failed : (a b : Held S) (did : Bool) → Looks g a b true → Looks g a b did
+  pub looks_failed : (a b : Held S) (did : Bool) → QueriesOnly g a b true → QueriesOnly g a b did
   looks_failed a b did it = record {
     outside = it.outside;
     was_clean = it.was_clean;
@@ -121,7 +121,7 @@ module _ {S : Type 0} (g : Ghosts S) where
   }
 
   -- an index stays one, with its version
-  pub looks_kept : (a b : Held S) (did : Bool) → IsKept g a → Looks g a b did → IsKept g b
+  pub looks_kept : (a b : Held S) (did : Bool) → IsIndexConnection g a → QueriesOnly g a b did → IsIndexConnection g b
   looks_kept a b did kept it = record {
     outside = it.outside kept.outside;
     index = λ clean o. subst IsIndex (sym (it.now_is clean o)) (kept.index (it.was_clean clean) (it.was_open clean o));
@@ -140,7 +140,7 @@ module _ {S : Type 0} (g : Ghosts S) where
   reason_of old new Unstorable it is = absurd it
 
   -- a sure query of an index that is open fails with the store
-  pub reasoned : (old new : Held S) (sql : List ℕ) (params : Row) (e : Error) → IsKept g old → HasCleanDisk (state g old) → IsSure sql params → FailsToQuery sql params (state g old) (state g new) e
+  pub reasoned : (old new : Held S) (sql : List ℕ) (params : Row) (e : Error) → IsIndexConnection g old → HasCleanDisk (state g old) → IsSure sql params → FailsToQuery sql params (state g old) (state g new) e
       → fault_by e ≡ fault.Store → HasReason (state g old) (state g new)
   reasoned old new sql params e kept clean sure fails is = elim (cases_Bool (state g old).is_open) [
     | inl opened ↦ elim (fails_for sql params (state g old) (state g new) e (kept.index clean opened).schema sure fails) [
@@ -151,7 +151,7 @@ module _ {S : Type 0} (g : Ghosts S) where
   ]
 
   -- a reason after looks that succeeded is one from the first of them on
-  pub reason_then : (a b c : Held S) → Looks g a b true → HasCleanDisk (state g b) → HasReason (state g b) (state g c) → HasReason (state g a) (state g c)
+  pub reason_then : (a b c : Held S) → QueriesOnly g a b true → HasCleanDisk (state g b) → HasReason (state g b) (state g c) → HasReason (state g a) (state g c)
   reason_then a b c it clean reason = elim (cases_Bool (state g a).is_open) [
     | inr shut ↦ inr (inl shut)
     | inl opened ↦ later it.survives (it.lasts refl clean opened) reason
@@ -163,6 +163,6 @@ module _ {S : Type 0} (g : Ghosts S) where
       later s opened (inr (inr limit)) = inr (inr (subst IsSome s.limit limit))
 
   -- so it is of what fails after them
-  pub reason_after : (a b c : Held S) (P : Type 0) → Looks g a b true → (HasCleanDisk (state g c) → HasCleanDisk (state g b)) → (HasCleanDisk (state g c) → AreRecords (state g b).now → P → HasReason (state g b) (state g c))
+  pub reason_after : (a b c : Held S) (P : Type 0) → QueriesOnly g a b true → (HasCleanDisk (state g c) → HasCleanDisk (state g b)) → (HasCleanDisk (state g c) → AreRecords (state g b).now → P → HasReason (state g b) (state g c))
       → HasCleanDisk (state g c) → AreRecords (state g a).now → P → HasReason (state g a) (state g c)
   reason_after a b c P first before fails clean records it = reason_then a b c first (before clean) (fails clean (subst AreRecords (sym (first.same refl (before clean))) records) it)

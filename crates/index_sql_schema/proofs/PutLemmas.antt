@@ -33,7 +33,7 @@ use Rattle.index_sql_schema.specs.RowMaps.{map_from}
 use Rattle.index_sql_schema.proofs.Permutations.{all_permutation}
 use Rattle.index_sql_schema.specs.Schema.{index_schema}
 use Rattle.index_sql_schema.specs.Records.{text_key, pair_key}
-use Rattle.index_sql_schema.specs.Index.{rowid_in, IsWhole, IsIndex}
+use Rattle.index_sql_schema.specs.Index.{rowid_in, HasRowid, IsIndex}
 use Rattle.index_sql_schema.specs.RecordRows.{IsRecordIn}
 use Rattle.index_sql_schema.proofs.QueryShapes.{on_conflict}
 use Rattle.index_sql_schema.proofs.EditLemmas.{as_int, Alters, altered}
@@ -78,7 +78,7 @@ module _ (at : ℕ) (table : Table) (t : TextKeyed at table) (text : List ℕ) (
       let here : Row → Bool = λ r. eq_by_cmp bytes_cmp key (text_key r) in
       let meets : (id : ℤ) (r : Row) → IsText 1 r → conflicts (Some (1 ∷ [])) index_schema.indexes table (Int id ∷ cells) r ≡ here r =
       λ id r is. it.conflicting id r ∙ or_false _ ∙ agree_texts (Int id ∷ cells) r refl is ∙ is_key key (text_key r) in
-      let turns : (made : ℤ) (r : Row) → IsText 1 r → IsWhole r → here r ≡ true → updated table cells project made r ≡ Int (rowid_in r) ∷ cells =
+      let turns : (made : ℤ) (r : Row) → IsText 1 r → HasRowid r → here r ≡ true → updated table cells project made r ≡ Int (rowid_in r) ∷ cells =
       λ made r is whole k. becomes made r (as_int (rowid r) whole) (is ∙ ap Text ((bytes_eq-Decides (text_key r) key).0 (is_key key (text_key r) ∙ k))) in
       let did = puts_row at table t.is t.low text cells it.is_plain old new count h cells here terms project width (1 ∷ []) (record {
         compiled = it.compiled;
@@ -88,7 +88,7 @@ module _ (at : ℕ) (table : Table) (t : TextKeyed at table) (text : List ℕ) (
         cast_again = it.cast_again;
         meets = λ id. all_weaker (IsText 1) (λ r. conflicts (Some (1 ∷ [])) index_schema.indexes table (Int id ∷ cells) r ≡ here r) (meets id) rows (t.texts old.now h);
         short = once nat_list_cmp_total exact_bytes text_key value table.tree t.apart old.now h key;
-        casts = λ made. all_both (IsText 1) IsWhole (λ r. here r ≡ true → updated table cells project made r ≡ Int (rowid_in r) ∷ cells) (turns made) rows (t.texts old.now h) (are_rows at table t.is old.now h).1;
+        casts = λ made. all_both (IsText 1) HasRowid (λ r. here r ≡ true → updated table cells project made r ≡ Int (rowid_in r) ∷ cells) (turns made) rows (t.texts old.now h) (are_rows at table t.is old.now h).1;
         none = it.none;
       }) ran in
       let is = put_is nat_list_cmp_total exact_bytes text_key value table.tree t.apart old.now new.now did.1 (Int did.0.0 ∷ cells) did.0.1 in
@@ -110,7 +110,7 @@ module _ (at : ℕ) (table : Table) (t : PairKeyed at table) (text : List ℕ) (
       let meets : (id : ℤ) (r : Row) → IsPair r → conflicts (Some (1 ∷ 2 ∷ [])) index_schema.indexes table (Int id ∷ pair_cells) r ≡ here r =
       λ id r is. it.conflicting id r ∙ or_false _ ∙ agree_pairs (Int id ∷ pair_cells) r (refl, refl) is ∙ is_pair_key first second (pair_key r) in
       let same : (r : Row) → here r ≡ true → pair_key r ≡ (first, second) = λ r k. sym (exact_pair (first, second) (pair_key r) (tied _ k)) in
-      let turns : (made : ℤ) (r : Row) → IsPair r → IsWhole r → here r ≡ true → updated table pair_cells project made r ≡ Int (rowid_in r) ∷ pair_cells =
+      let turns : (made : ℤ) (r : Row) → IsPair r → HasRowid r → here r ≡ true → updated table pair_cells project made r ≡ Int (rowid_in r) ∷ pair_cells =
       λ made r is whole k. becomes made r (as_int (rowid r) whole) (is.0 ∙ ap (λ p. Text p.0) (same r k)) (is.1 ∙ ap (λ p. Text p.1) (same r k)) in
       let did = puts_row at table t.is t.low text pair_cells it.is_plain old new count h pair_cells here terms project width (1 ∷ 2 ∷ []) (record {
         compiled = it.compiled;
@@ -120,7 +120,7 @@ module _ (at : ℕ) (table : Table) (t : PairKeyed at table) (text : List ℕ) (
         cast_again = it.cast_again;
         meets = λ id. all_weaker IsPair (λ r. conflicts (Some (1 ∷ 2 ∷ [])) index_schema.indexes table (Int id ∷ pair_cells) r ≡ here r) (meets id) rows (t.pairs old.now h);
         short = once pair_total exact_pair pair_key value table.tree t.apart old.now h (first, second);
-        casts = λ made. all_both IsPair IsWhole (λ r. here r ≡ true → updated table pair_cells project made r ≡ Int (rowid_in r) ∷ pair_cells) (turns made) rows (t.pairs old.now h) (are_rows at table t.is old.now h).1;
+        casts = λ made. all_both IsPair HasRowid (λ r. here r ≡ true → updated table pair_cells project made r ≡ Int (rowid_in r) ∷ pair_cells) (turns made) rows (t.pairs old.now h) (are_rows at table t.is old.now h).1;
         none = it.none;
       }) ran in
       let is = put_is pair_total exact_pair pair_key value table.tree t.apart old.now new.now did.1 (Int did.0.0 ∷ pair_cells) did.0.1 in

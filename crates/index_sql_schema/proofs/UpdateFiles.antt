@@ -27,7 +27,7 @@ use Rattle.index_sql_schema.proofs.RowLemmas.{same_rows, map_from-update, split_
 use Rattle.index_sql_schema.specs.Records.{text_key, file_in}
 use Rattle.index_rules.specs.Effect.{as_deleted, as_deleted_of}
 use Rattle.index_sql_schema.specs.Schema.{index_schema, files_at}
-use Rattle.index_sql_schema.specs.Index.{rowid_in, IsWhole, IsIndex, Changes}
+use Rattle.index_sql_schema.specs.Index.{rowid_in, HasRowid, IsIndex, Changes}
 use Rattle.index_sql_schema.specs.RecordRows.{IsFiledRow}
 use Rattle.index_sql_schema.proofs.QueryShapes.{plan, from_one, is_param}
 use Rattle.index_sql_schema.proofs.EditLemmas.{as_int}
@@ -78,7 +78,7 @@ no_works rs [] = refl
 no_works rs (m ∷ found) = changes_no_key (map (row_at rs) (map rowid_in (m ∷ found))) (deleted_row m) (map deleted_row found)
 
 record IsTypedRow (r : Row) : Type 0 where
-  id : IsWhole r
+  id : HasRowid r
   file : IsText 1 r
   name : IsText 2 r
   release : IsText 3 r
@@ -110,7 +110,7 @@ module _ (name : Bytes) where
       let three = all_both (IsText 1) (IsText 2) (λ r. IsText 1 r × IsText 2 r) (λ r a b. (a, b)) rs (files_keyed.texts old.now h) names in
       let five = all_both (IsText 3) (IsText 6) (λ r. IsText 3 r × IsText 6 r) (λ r a b. (a, b)) rs releases requires in
       let texts_all = all_both _ _ (λ r. (IsText 1 r × IsText 2 r) × (IsText 3 r × IsText 6 r)) (λ r a b. (a, b)) rs three five in
-      let numbers = all_both IsWhole _ (λ r. IsWhole r × (column r 5 ≡ Int (id_in (column r 5)))) (λ r a b. (a, b)) rs whole sizes in
+      let numbers = all_both HasRowid _ (λ r. HasRowid r × (column r 5 ≡ Int (id_in (column r 5)))) (λ r a b. (a, b)) rs whole sizes in
       let all = all_both _ _ IsTypedRow (λ r t n. record { id = n.0; file = t.0.0; name = t.0.1; release = t.1.0; size = n.1; requires = t.1.1 }) rs texts_all numbers in
       let tests = all_weaker (IsText 2) (λ r. list_all (holds ((Text name ∷ []) ∷ r ∷ [])) (is_param 2 0 ∷ []) ≡ of_name r) tested rs names in
       let casts = all-filter (λ r. cast_row (files_at 8) (eval_all project ((Text name ∷ []) ∷ r ∷ [])) ≡ deleted_row r) of_name rs (all_weaker IsTypedRow (λ r. cast_row (files_at 8) (eval_all project ((Text name ∷ []) ∷ r ∷ [])) ≡ deleted_row r) becomes rs all) in

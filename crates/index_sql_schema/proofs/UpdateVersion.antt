@@ -29,7 +29,7 @@ use Rattle.sqlite_typed.proofs.TestLemmas.{at_ints, last_term}
 use Rattle.index_sql_schema.proofs.RowLemmas.{split_update}
 use Rattle.index_sql_schema.specs.Records.{number_in}
 use Rattle.index_sql_schema.specs.Schema.{index_schema, meta_at}
-use Rattle.index_sql_schema.specs.Index.{rowid_in, IsWhole, IsIndex, Rewrites, is_version}
+use Rattle.index_sql_schema.specs.Index.{rowid_in, HasRowid, IsIndex, Rewrites, is_version}
 use Rattle.index_sql_schema.specs.StatementTexts.{update_version_text}
 use Rattle.index_sql_schema.proofs.QueryShapes.{plan, from_one}
 use Rattle.index_sql_schema.proofs.EditLemmas.{as_int}
@@ -71,10 +71,10 @@ no_works rs (m ∷ found) = changes_no_key (map (row_at rs) (map rowid_in (m ∷
 abbrev here : Row → Bool
 here r = int_eq (rowid_in r) (pos 1)
 
-tested : (r : Row) → IsWhole r → list_all (holds ([] ∷ r ∷ [])) tests ≡ here r
+tested : (r : Row) → HasRowid r → list_all (holds ([] ∷ r ∷ [])) tests ≡ here r
 tested r whole = rw (as_int (rowid r) whole) (last_term (at_ints false Eq (rowid_in r) (pos 1)))
 
-casts : (r : Row) → IsWhole r → IsText 2 r → cast_row (meta_at 0) (eval_all project ([] ∷ r ∷ [])) ≡ becomes r
+casts : (r : Row) → HasRowid r → IsText 2 r → cast_row (meta_at 0) (eval_all project ([] ∷ r ∷ [])) ≡ becomes r
 casts r whole is = rw (as_int (rowid r) whole, is, cast_int (rowid_in r), cast_int (pos 2), cast_null) refl
 
 -- of a row with the version the version is told
@@ -95,8 +95,8 @@ pub updates : (old new : State) (count : ℕ) → IsIndex old.now → Executes u
 updates old new count h ran =
     let rs = old.now.trees 0 in
     let whole = (are_rows 0 (meta_at 0) refl old.now h).1 in
-    let passes = all_weaker IsWhole (λ r. list_all (holds ([] ∷ r ∷ [])) tests ≡ here r) tested rs whole in
-    let all = all_both IsWhole (IsText 2) (λ r. cast_row (meta_at 0) (eval_all project ([] ∷ r ∷ [])) ≡ becomes r) casts rs whole (kind_texts index_schema refl old.now h.schema h.sound) in
+    let passes = all_weaker HasRowid (λ r. list_all (holds ([] ∷ r ∷ [])) tests ≡ here r) tested rs whole in
+    let all = all_both HasRowid (IsText 2) (λ r. cast_row (meta_at 0) (eval_all project ([] ∷ r ∷ [])) ≡ becomes r) casts rs whole (kind_texts index_schema refl old.now h.schema h.sound) in
     let it = updates_rows 0 (meta_at 0) refl (λ db. refl) update_version_text [] is_plain old new count h tests project here becomes compiled (no_works rs) (all-filter _ here rs all) (λ r _. tt) passes ran in
     let order = IsPermutation-trans _ _ _ (IsPermutation-sym _ _ it.0) (split_update here becomes rs) in
     let found = same_version (new.now.trees 0) (update_where here becomes rs) (are_rows 0 (meta_at 0) refl new.now it.1.1) order in

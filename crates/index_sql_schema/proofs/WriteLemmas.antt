@@ -38,7 +38,7 @@ use Rattle.sqlite_keyed.proofs.KeyedLemmas.{same_int}
 use Rattle.sqlite_typed.proofs.TestLemmas.{last_term}
 use Rattle.index_sql_schema.proofs.Permutations.{all_permutation}
 use Rattle.index_sql_schema.specs.Schema.{index_schema}
-use Rattle.index_sql_schema.specs.Index.{rowid_in, IsWhole, AreRows, IsIndex}
+use Rattle.index_sql_schema.specs.Index.{rowid_in, HasRowid, AreRows, IsIndex}
 use Rattle.index_sql_schema.specs.RecordRows.{IsRecordIn, AreRecordsIn}
 use Rattle.index_sql_schema.proofs.QueryShapes.{from_with, from_one, plan, on_conflict}
 use Rattle.index_sql_schema.proofs.EditLemmas.{matched_gone, kept_rows, put_all_fresh, are_whole, given_stay, KeepsOthers, numbered_after, Alters, altered, has_filter, members, one_row, has_all, as_int}
@@ -264,7 +264,7 @@ module _ (at : ℕ) (table : Table) (is : slice_get index_schema.tables at ≡ S
           let same : (x : Row) → Has rows x → here x ≡ p x = λ x k. agrees x k one in
           let filters : filter here rows ≡ r ∷ [] = members here p rows same ∙ one in
           let rests : delete_where here rows ≡ delete_where p rows = members _ _ rows (λ x k. ap not (same x k)) in
-          let tests = all_weaker IsWhole (λ x. list_all (holds (known ∷ x ∷ [])) (op2 (Compare Eq Binary) (col 1 0) (col 0 (length params)) ∷ []) ≡ here x) (λ x w. last_term (rowid_test known (length params) x (rowid_in r) (at_end params (Int (rowid_in r)) (shown table (row_with made))) w)) rows are.1 in
+          let tests = all_weaker HasRowid (λ x. list_all (holds (known ∷ x ∷ [])) (op2 (Compare Eq Binary) (col 1 0) (col 0 (length params)) ∷ []) ≡ here x) (λ x w. last_term (rowid_test known (length params) x (rowid_in r) (at_end params (Int (rowid_in r)) (shown table (row_with made))) w)) rows are.1 in
           let f : Row → Row = λ x. row_with (rowid_in x) in
           let became : cast_row table (eval_all project (known ∷ r ∷ [])) ≡ f r = has_all (λ x. p x ≡ true → cast_row table (eval_all project (given_to (rowid_in x) (row_with made) ∷ x ∷ [])) ≡ row_with (rowid_in x)) rows r (it.casts made) has passes in
           let casts = subst (AllByRecursion (λ x. cast_row table (eval_all project (known ∷ x ∷ [])) ≡ f x)) (sym filters) (became, tt) in
@@ -309,7 +309,7 @@ module _ (at : ℕ) (table : Table) (is : slice_get index_schema.tables at ≡ S
             | inr old_one ↦
                 let from = conflicting.sound old_one.0 (subst (λ l. Has l old_one.0) (sym old_one.2) (inl refl)) in
                 let r = from.0 in
-                let whole = has_all IsWhole (db table.tree) r (are_rows at table is old.now h).1 from.1 in
+                let whole = has_all HasRowid (db table.tree) r (are_rows at table is old.now h).1 from.1 in
                 let id : rowid old_one.0 ≡ Int (rowid_in r) = ap rowid from.3 ∙ as_int (rowid r) whole in
                 turns it made new.now.trees r from.1 (sym (met r from.1) ∙ from.2) old_one.3
                 (subst₂ (λ i n. Answers (record { schema = index_schema; trees = db }) q (params ++ i ∷ shown table n) old_one.3) id new_is old_one.4)

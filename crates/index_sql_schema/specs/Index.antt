@@ -18,12 +18,14 @@ abbrev pub rowid_in : Row → ℤ
 rowid_in r = id_in (rowid r)
 
 -- the row is numbered
-abbrev pub IsWhole : Row → Type 0
-IsWhole r = IsTrue (is_int (rowid r))
+abbrev pub HasRowid : Row → Type 0
+HasRowid r = IsTrue (is_int (rowid r))
 
 -- the rows are numbered, and no two have one number; in any order
 abbrev pub AreRows : List Row → Type 0
-AreRows rows = IsAscending (λ a b. int_eq (rowid_in a) (rowid_in b) ≡ false) rows × AllByRecursion IsWhole rows
+AreRows rows =
+    IsAscending (λ a b. int_eq (rowid_in a) (rowid_in b) ≡ false) rows
+    × AllByRecursion HasRowid rows
 
 -- so are those of each table
 abbrev pub IsNumbered : Trees → Type 0
@@ -52,9 +54,9 @@ pub record Rewrites (change : Tables → Tables) (told : Option ℕ → Option �
   pub records : AreRecords old → AreRecords new
 
 -- the version that was told
-abbrev pub as_told : Option ℕ → Option ℕ
-as_told version = version
+abbrev pub same_version : Option ℕ → Option ℕ
+same_version version = version
 
 -- the same, where the version stays
 abbrev pub Changes : (Tables → Tables) → Database → Database → Type 0
-Changes change = Rewrites change as_told
+Changes change = Rewrites change same_version

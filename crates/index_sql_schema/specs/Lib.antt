@@ -6,8 +6,8 @@ pub mod RecordRows
 pub mod ShownRows
 pub mod Index
 pub mod StatementTexts
-pub mod Stages
-pub mod Stays
+pub mod CreateSteps
+pub mod Unchanged
 pub mod Sure
 pub mod FirstVersion
 pub mod Faults

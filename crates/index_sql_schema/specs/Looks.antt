@@ -6,14 +6,14 @@ use Rattle.sqlite.specs.State.{HasCleanDisk, Survives}
 use Rattle.index_sql_schema.specs.Index.{IsIndex, version_in}
 
 -- it is in no transaction; on a clean disk, where it is open, it is an index that tells version 2, and all of it is committed
-pub record IsKept {S : Type 0} (g : Ghosts S) (held : Held S) : Type 0 where
+pub record IsIndexConnection {S : Type 0} (g : Ghosts S) (held : Held S) : Type 0 where
   pub outside : held.in_transaction ≡ false
   pub index : HasCleanDisk (state g held) → IsTrue (state g held).is_open → IsIndex (state g held).now
   pub committed : HasCleanDisk (state g held) → IsTrue (state g held).is_open → (state g held).now ≡ (state g held).committed
   pub version : HasCleanDisk (state g held) → IsTrue (state g held).is_open → version_in (state g held).now.trees ≡ Some 2
 
 -- A look, or several, of which `did` says that they succeeded. Each fact but the first two is one of a clean disk.
-pub record Looks {S : Type 0} (g : Ghosts S) (old new : Held S) (did : Bool) : Type 0 where
+pub record QueriesOnly {S : Type 0} (g : Ghosts S) (old new : Held S) (did : Bool) : Type 0 where
   pub outside : old.in_transaction ≡ false → new.in_transaction ≡ false
   pub was_clean : HasCleanDisk (state g new) → HasCleanDisk (state g old)
   -- it is open only if it was, and then it holds what it held

@@ -12,7 +12,7 @@ pub struct IndexConnection<S: Alter> {
 
 impl<S: Alter> Model for IndexConnection<S> {
     ghost use Rattle.sqlite.specs.Held.{Held, held_code};
-    ghost use Rattle.index_sql_schema.specs.Looks.{IsKept};
+    ghost use Rattle.index_sql_schema.specs.Looks.{IsIndexConnection};
 
     ghost Value = { Held S };
 
@@ -20,5 +20,5 @@ impl<S: Alter> Model for IndexConnection<S> {
 
     ghost view = { λ it. it.conn };
 
-    ghost invariant = { λ it. IsKept S.Store it.conn };
+    ghost invariant = { λ it. IsIndexConnection S.Store it.conn };
 }

@@ -8,7 +8,7 @@ ghost use Rattle.sqlite.specs.Values.{bound};
 ghost use Rattle.index_sql_schema.specs.Index.{IsIndex};
 ghost use Rattle.index_sql_schema.specs.Schema.{index_schema};
 ghost use Rattle.index_sql_schema.specs.Faults.{fault_by};
-ghost use Rattle.index_sql_schema.specs.Looks.{Looks};
+ghost use Rattle.index_sql_schema.specs.Looks.{QueriesOnly};
 ghost use Rattle.index_sql_schema.specs.Reasons.{StoreForReason};
 ghost use Rattle.index_sql_schema.specs.Sure.{IsSure};
 
@@ -30,6 +30,7 @@ pub fn fault_of(error: Error) -> Fault
 /// The rows that a query shows. The tables stay as they are, whatever it answers.
 ///
 /// # Errors
+///
 /// `OutOfMemory` for want of memory, else `Store`. Where the connection is open after it, it holds what it held.
 pub fn look<S: Alter>(
     conn: &mut IndexConnection<S>,
@@ -37,12 +38,11 @@ pub fn look<S: Alter>(
     params: &[ValueRef<'_>],
 ) -> Result<Vec<Row>, Fault>
     requires plain { IsPlain (understood index_schema text.now) }
-    ensures shown { HasCleanDisk (state S.Store conn.new) → IfOk result (λ rows.
-        Shown text.now (bound params.now)
-        (state S.Store conn.old) (state S.Store conn.new) rows.items) }
+    ensures shown { HasCleanDisk (state S.Store conn.new) → IfOk result (λ rows. Shown text.now
+        (bound params.now) (state S.Store conn.old) (state S.Store conn.new) rows.items) }
     ensures index { HasCleanDisk (state S.Store conn.new)
         → OnOk result (IsIndex (state S.Store conn.old).now) }
-    ensures looks { Looks S.Store conn.old conn.new (is_ok result) }
+    ensures looks { QueriesOnly S.Store conn.old conn.new (is_ok result) }
     ensures reason { IsSure text.now (bound params.now) → HasCleanDisk (state S.Store conn.new)
         → StoreForReason S.Store conn.old conn.new result }
 {

@@ -9,7 +9,7 @@ use Rattle.index_rules.specs.Tables.{Tables}
 use Rattle.index_sql_schema.specs.Index.{IsIndex, version_in}
 use Rattle.index_sql_schema.specs.Records.{tables_in}
 use Rattle.index_sql_schema.specs.RecordRows.{AreRecords}
-use Rattle.index_sql_writes.specs.Inside.{IsReady, Makes}
+use Rattle.index_sql_writes.specs.Transaction.{IsInTransaction, MakesInTransaction}
 use Rattle.index_sql_writes.specs.Changed.{HoldsIndex, IsMade}
 
 -- the trees of an index are found as one, by the schema that they list
@@ -18,9 +18,9 @@ index_held d db it is = subst HoldsIndex (sym is) (subst (λ s. IsIndex (record 
 
 -- a change made inside a transaction is made as a whole by its commit
 pub made_by_commit : {S : Type 0} (g : Ghosts S) (change : Tables → Tables) (told : Option ℕ → Option ℕ) (old start mid new : Held S) → start ≡ record old { in_transaction = true } → IsTrue (state g old).is_open → IsIndex (state g old).now
-    → (IsReady (state g start) → Makes change told (state g start) (state g mid)) → Shows (state g mid) (state g new) (state g mid).now (state g mid).now false → IsMade change told (state g old) (state g new)
+    → (IsInTransaction (state g start) → MakesInTransaction change told (state g start) (state g mid)) → Shows (state g mid) (state g new) (state g mid).now (state g mid).now false → IsMade change told (state g old) (state g new)
 made_by_commit g change told old start mid new begun opened index makes shows =
-    let made = (subst (λ h. IsReady (state g h) → Makes change told (state g h) (state g mid)) begun makes) (record { is_open = opened; inside = refl; index = index }) in
+    let made = (subst (λ h. IsInTransaction (state g h) → MakesInTransaction change told (state g h) (state g mid)) begun makes) (record { is_open = opened; inside = refl; index = index }) in
     record {
       is_open = shows.is_open;
       index = subst IsIndex (sym shows.now_is) made.ready.index;

@@ -1,4 +1,5 @@
 pub mod StepLemmas
+pub mod TakenLemmas
 pub mod InTurn
 pub mod PutRecords
 pub mod QueryLemmas

@@ -25,10 +25,9 @@ use Rattle.index_sql_schema.specs.StatementTexts.{put_user_text, put_file_text, 
 use Rattle.index_sql_schema.proofs.PutUser as user_row
 use Rattle.index_sql_schema.proofs.PutFile as file_row
 use Rattle.index_sql_schema.proofs.PutCase as case_row
-use Rattle.index_sql_writes.specs.Statements.{name_cells}
-use Rattle.index_sql_writes.specs.Writes.{puts_user, puts_file, puts_case, name_of, row_of_name, flag, kind_number}
+use Rattle.index_sql_writes.specs.Writes.{puts_user, puts_file, puts_case, name_of, row_of_name, flag_number, kind_number}
 
-flag_again : (b : Bool) → (number_in (Int (flag b)) == 1) ≡ b
+flag_again : (b : Bool) → (number_in (Int (flag_number b)) == 1) ≡ b
 flag_again true = refl
 flag_again false = refl
 
@@ -42,7 +41,7 @@ number_again (Some n) = refl
 
 -- ---- the rows of records
 
-pub flag_is : (b : Bool) → IsFlag (Int (flag b))
+pub flag_is : (b : Bool) → IsFlag (Int (flag_number b))
 flag_is true = inr refl
 flag_is false = inl refl
 
@@ -50,32 +49,32 @@ kind_is : (kind : CaseKind) → IsKind (Int (kind_number kind))
 kind_is Continue = inl refl
 kind_is Reuse = inr refl
 
-pub user_fits : (user : Bytes) (account : UserRecord) → IsUserId user → length account.token ≡ digest_length → (id : ℤ) → IsAccountRow (Int id ∷ user_row.cells user (flag account.office) account.token)
+pub user_fits : (user : Bytes) (account : UserRecord) → IsUserId user → length account.token ≡ digest_length → (id : ℤ) → IsAccountRow (Int id ∷ user_row.cells user (flag_number account.office) account.token)
 user_fits user account is token id = record { user = is; account = record { office = flag_is account.office; token = token } }
 
 pub file_fits : (file : Bytes) (known : FileRecord) → IsSome (read_file_name file) → IsNormalName known.project → IsRelease known.release → length known.digest ≡ digest_length → IsUtf8 known.requires_python
-    → (id : ℤ) → IsFiledRow (Int id ∷ file_row.cells file known.project known.release known.digest (pos known.size) known.requires_python (flag known.is_undeleted))
+    → (id : ℤ) → IsFiledRow (Int id ∷ file_row.cells file known.project known.release known.digest (pos known.size) known.requires_python (flag_number known.is_undeleted))
 file_fits file known is project release digest requires id =
     record { file = is; known = record { project = project; release = release; digest = digest; size = tt; requires_python = requires; is_undeleted = flag_is known.is_undeleted } }
 
-pub user_put : (user : Bytes) (account : UserRecord) → ((id : ℤ) → IsAccountRow (Int id ∷ user_row.cells user (flag account.office) account.token)) → (old new : State) (count : ℕ) → IsIndex old.now
-    → Executes put_user_text (user_row.cells user (flag account.office) account.token) old new (Ok count) → Changes (puts_user user account) old.now new.now
+pub user_put : (user : Bytes) (account : UserRecord) → ((id : ℤ) → IsAccountRow (Int id ∷ user_row.cells user (flag_number account.office) account.token)) → (old new : State) (count : ℕ) → IsIndex old.now
+    → Executes put_user_text (user_row.cells user (flag_number account.office) account.token) old new (Ok count) → Changes (puts_user user account) old.now new.now
 user_put user account fits old new count h ran =
-    let it = user_row.puts user (flag account.office) account.token fits old new count h ran in
+    let it = user_row.puts user (flag_number account.office) account.token fits old new count h ran in
     subst (λ office. Changes (puts_user user (record { office = office; token = account.token })) old.now new.now) (flag_again account.office) it
 
 pub file_put : (file : Bytes) (known : FileRecord)
-    → ((id : ℤ) → IsFiledRow (Int id ∷ file_row.cells file known.project known.release known.digest (pos known.size) known.requires_python (flag known.is_undeleted))) → (old new : State) (count : ℕ) → IsIndex old.now
-    → Executes put_file_text (file_row.cells file known.project known.release known.digest (pos known.size) known.requires_python (flag known.is_undeleted)) old new (Ok count)
+    → ((id : ℤ) → IsFiledRow (Int id ∷ file_row.cells file known.project known.release known.digest (pos known.size) known.requires_python (flag_number known.is_undeleted))) → (old new : State) (count : ℕ) → IsIndex old.now
+    → Executes put_file_text (file_row.cells file known.project known.release known.digest (pos known.size) known.requires_python (flag_number known.is_undeleted)) old new (Ok count)
     → Changes (puts_file file known) old.now new.now
 file_put file known fits old new count h ran =
-    let it = file_row.puts file known.project known.release known.digest (pos known.size) known.requires_python (flag known.is_undeleted) fits old new count h ran in
+    let it = file_row.puts file known.project known.release known.digest (pos known.size) known.requires_python (flag_number known.is_undeleted) fits old new count h ran in
     subst (λ live. Changes (puts_file file (record known { is_undeleted = live })) old.now new.now) (flag_again known.is_undeleted) it
 
 abbrev cells_of : Bytes → CaseRecord → Row
 cells_of name case =
     case_row.cells name (kind_number case.kind) case.candidate case.contact case.work case.why (pos case.opened) (pos case.state.attempts) (pos case.state.sent)
-    (flag case.state.profile) (flag case.state.author) (flag case.state.pages) (option_map pos case.state.first)
+    (flag_number case.state.profile) (flag_number case.state.author) (flag_number case.state.pages) (option_map pos case.state.first)
 
 pub case_fits : (name : Bytes) (case : CaseRecord) → IsNormalName name → IsUserId case.candidate → IsUtf8 case.contact → IsUtf8 case.work → IsUtf8 case.why
     → IsTally case.state.attempts case.state.sent case.state.first → (id : ℤ) → IsOpenedRow (Int id ∷ cells_of name case)
@@ -107,32 +106,32 @@ case_fits name case is candidate contact work why fit id = record {
 pub case_put : (name : Bytes) (case : CaseRecord) → ((id : ℤ) → IsOpenedRow (Int id ∷ cells_of name case)) → (old new : State) (count : ℕ) → IsIndex old.now
     → Executes put_case_text
     (case_row.cells name (kind_number case.kind) case.candidate case.contact case.work case.why (pos case.opened) (pos case.state.attempts) (pos case.state.sent)
-    (flag case.state.profile) (flag case.state.author) (flag case.state.pages) (option_map pos case.state.first)) old new (Ok count)
+    (flag_number case.state.profile) (flag_number case.state.author) (flag_number case.state.pages) (option_map pos case.state.first)) old new (Ok count)
     → Changes (puts_case name case) old.now new.now
 case_put name case fits old new count h ran =
     let it = case_row.puts name (kind_number case.kind) case.candidate case.contact case.work case.why (pos case.opened) (pos case.state.attempts) (pos case.state.sent)
-    (flag case.state.profile) (flag case.state.author) (flag case.state.pages) (option_map pos case.state.first) fits old new count h ran in
+    (flag_number case.state.profile) (flag_number case.state.author) (flag_number case.state.pages) (option_map pos case.state.first) fits old new count h ran in
     let s1 = subst (λ kind. Changes (puts_case name (record case {
       kind = kind;
       state = record case.state {
-        profile = number_in (Int (flag case.state.profile)) == 1;
-        author = number_in (Int (flag case.state.author)) == 1;
-        pages = number_in (Int (flag case.state.pages)) == 1;
+        profile = number_in (Int (flag_number case.state.profile)) == 1;
+        author = number_in (Int (flag_number case.state.author)) == 1;
+        pages = number_in (Int (flag_number case.state.pages)) == 1;
         first = number_if_any (or_null Int (option_map pos case.state.first));
       };
     })) old.now new.now) (kind_again case.kind) it in
     let s2 = subst (λ profile. Changes (puts_case name (record case {
       state = record case.state {
         profile = profile;
-        author = number_in (Int (flag case.state.author)) == 1;
-        pages = number_in (Int (flag case.state.pages)) == 1;
+        author = number_in (Int (flag_number case.state.author)) == 1;
+        pages = number_in (Int (flag_number case.state.pages)) == 1;
         first = number_if_any (or_null Int (option_map pos case.state.first));
       };
     })) old.now new.now) (flag_again case.state.profile) s1 in
     let s3 = subst (λ author. Changes (puts_case name (record case {
       state = record case.state {
         author = author;
-        pages = number_in (Int (flag case.state.pages)) == 1;
+        pages = number_in (Int (flag_number case.state.pages)) == 1;
         first = number_if_any (or_null Int (option_map pos case.state.first));
       };
     })) old.now new.now) (flag_again case.state.author) s2 in
@@ -158,9 +157,3 @@ prohibited_fits name id = inr (refl, record { shown = refl; quota = refl; charge
 -- a held name's row has its project
 pub held_again : (project : Project) → name_of (pos 1) project.shown (pos project.quota) (pos project.charge) (pos project.undeleted) (option_map pos project.last_upload) ≡ Held project
 held_again project = rw (number_again project.last_upload) refl
-
--- the cells of a held name, by the columns that a call has
-pub held_cells : (name : Bytes) (project : Project) (shown : Bytes) (quota charge undeleted : ℤ) (last : Option ℤ) → shown ≡ project.shown → quota ≡ pos project.quota → charge ≡ pos project.charge → undeleted ≡ pos project.undeleted
-    → last ≡ option_map pos project.last_upload
-    → name_cells name (pos 1) shown quota charge undeleted last ≡ name_cells name (pos 1) project.shown (pos project.quota) (pos project.charge) (pos project.undeleted) (option_map pos project.last_upload)
-held_cells name project shown quota charge undeleted last s q c u l = rw (s, q, c, u, l) refl

@@ -11,7 +11,7 @@ use Rattle.sqlite.proofs.Callers.{IsPlain}
 use Rattle.index_rules.specs.Tables.{Tables}
 use Rattle.index_sql_schema.proofs.PlainLemmas.{plain_anywhere}
 use Rattle.index_sql_schema.specs.Schema.{index_schema}
-use Rattle.index_sql_schema.specs.Index.{IsIndex, as_told, version_in}
+use Rattle.index_sql_schema.specs.Index.{IsIndex, same_version, version_in}
 use Rattle.index_sql_schema.specs.Records.{tables_in}
 use Rattle.index_sql_schema.specs.Sure.{IsSure}
 use Rattle.index_sql_schema.proofs.SureLemmas.{fails_for}
@@ -19,7 +19,7 @@ use Rattle.sqlite.specs.Rows.{Gives}
 use Rattle.index_sql_writes.specs.Asks.{CanAsk, FailsAs}
 use Rattle.index_sql_writes.proofs.AskLemmas.{by_cause}
 use Rattle.index_sql_schema.specs.RecordRows.{AreRecords}
-use Rattle.index_sql_writes.specs.Inside.{IsReady, Makes}
+use Rattle.index_sql_writes.specs.Transaction.{IsInTransaction, MakesInTransaction}
 
 -- with its parameters as they are
 pub shown_with : (sql : List ℕ) (cells params : Row) (old new : State) (rows : List Row) → params ≡ cells → Shown sql params old new rows → Shown sql cells old new rows
@@ -57,7 +57,7 @@ module _ (old new : State) where
         by_returning (Some what) (inr fails) = undone_keeps fails.3
 
   -- what changes nothing makes nothing of the tables
-  pub unchanged_makes : IsUnchanged old new → IsReady old → Makes (λ T. T) as_told old new
+  pub unchanged_makes : IsUnchanged old new → IsInTransaction old → MakesInTransaction (λ T. T) same_version old new
   unchanged_makes same ready = record {
     ready = record { is_open = same.0.is_open; inside = same.0.mode ∙ ready.inside; index = subst IsIndex (sym same.0.now_is) ready.index };
     tables = ap (λ (d : Database). tables_in d.trees) same.0.now_is;
@@ -67,7 +67,7 @@ module _ (old new : State) where
   }
 
 -- another word for what was made of these tables
-pub makes_as : (change other : Tables → Tables) (first last : State) → change (tables_in first.now.trees) ≡ other (tables_in first.now.trees) → Makes change as_told first last → Makes other as_told first last
+pub makes_as : (change other : Tables → Tables) (first last : State) → change (tables_in first.now.trees) ≡ other (tables_in first.now.trees) → MakesInTransaction change same_version first last → MakesInTransaction other same_version first last
 makes_as change other first last same made = record {
   ready = made.ready;
   tables = made.tables ∙ same;

@@ -1,5 +1,5 @@
 -- Why a change fails that is made in one transaction.
-use Rattle.std.proofs.Common.{◌≡◌, ◌⊎◌, ◌≤◌, ◌∙◌, inl, inr, ℕ, List, Option, None, Some, Result, Ok, Err, IfErr, IsSome, IsTrue, arith, false, true, refl, sym, subst, true≢false}
+use Rattle.std.proofs.Common.{◌≡◌, ◌⊎◌, ◌≤◌, ◌∙◌, inl, inr, ℕ, List, Option, None, Some, Result, Ok, Err, IfErr, IsSome, IsTrue, arith, true, refl, sym, subst, true≢false}
 use Rattle.std.specs.Prelude.{IsErrAnd}
 use Rattle.std.proofs.lemmas.Bool.{cases_Bool}
 use Rattle.sqlite_trees.specs.declared.store.Store.{Ghosts}
@@ -13,7 +13,7 @@ use Rattle.index_rules.specs.declared.answer.Fault.TheVariants as fault
 use Rattle.index_sql_schema.specs.Index.{IsIndex}
 use Rattle.index_sql_schema.specs.RecordRows.{AreRecords}
 use Rattle.index_sql_writes.specs.Asks.{Ask, AnswersAll, CanAsk, FailsAs}
-use Rattle.index_sql_writes.specs.Inside.{IsReady}
+use Rattle.index_sql_writes.specs.Transaction.{IsInTransaction}
 use Rattle.index_sql_writes.proofs.AskLemmas.{caused}
 use Rattle.index_sql_writes.specs.StepAsks.{AreRefused, FailsForRefusal}
 
@@ -48,14 +48,14 @@ module _ {S : Type 0} (g : Ghosts S) (old start : Held S) (begun : start ≡ rec
       ])
 
   -- the commit failed
-  pub fails_to_commit : (mid new : Held S) → (IsTrue (state g old).is_open → (state g old).step_limit ≡ None → Begins (state g inside)) → (Begins (state g start) → IsReady (state g mid)) → (state g start).faults ≤ (state g mid).faults
+  pub fails_to_commit : (mid new : Held S) → (IsTrue (state g old).is_open → (state g old).step_limit ≡ None → Begins (state g inside)) → (Begins (state g start) → IsInTransaction (state g mid)) → (state g start).faults ≤ (state g mid).faults
       → FailsToCommit (state g mid) (state g new) e → FailsForRefusal asks (state g old) (state g new) e
   fails_to_commit mid new begins readies counts (inl fails) = by_case new begins (λ it store.
-      let ready = (subst (λ h. Begins (state g h) → IsReady (state g mid)) begun readies) it in
+      let ready = (subst (λ h. Begins (state g h) → IsInTransaction (state g mid)) begun readies) it in
       let since = subst (λ h. (state g h).faults ≤ (state g mid).faults) begun counts in
       elim (caused (state g mid) (state g new) ⊥ e ready.is_open store fails) [ inl more ↦ inl (inl (omega (arith, more, since))) | inr none ↦ absurd none ])
   fails_to_commit mid new begins readies counts (inr outside) = by_case new begins (λ it store.
-      let ready = (subst (λ h. Begins (state g h) → IsReady (state g mid)) begun readies) it in
+      let ready = (subst (λ h. Begins (state g h) → IsInTransaction (state g mid)) begun readies) it in
       absurd (true≢false (sym ready.inside ∙ outside.1)))
 
 -- a transaction on an index begins fit

@@ -8,7 +8,7 @@ use Rattle.sqlite.specs.declared.error.Error.{Error}
 use Rattle.sqlite.specs.State.{State, Executes, ExecutesInside, KeepsCommit}
 use Rattle.index_rules.specs.Tables.{Tables}
 use Rattle.index_sql_schema.specs.Index.{IsIndex, Rewrites}
-use Rattle.index_sql_writes.specs.Inside.{IsReady, Makes}
+use Rattle.index_sql_writes.specs.Transaction.{IsInTransaction, MakesInTransaction}
 
 -- a statement inside a transaction commits nothing
 pub inside_keeps : (sql : List ℕ) (params : Row) (old new : State) (r : Result ℕ Error) → ExecutesInside 0 sql params old new r → KeepsCommit old new
@@ -28,7 +28,7 @@ keeps_by g old new sql params r outside inside = elim (cases_Bool old.in_transac
 -- a statement that changes an index so makes a step of it; `cells` are its parameters
 pub makes : (sql : List ℕ) (cells : Row) (change : Tables → Tables) (told : Option ℕ → Option ℕ) (params : Row) (old new : State) (count : ℕ)
     → (IsIndex old.now → Executes sql cells old new (Ok count) → Rewrites change told old.now new.now)
-    → IsReady old → ExecutesInside 0 sql params old new (Ok count) → params ≡ cells → Makes change told old new
+    → IsInTransaction old → ExecutesInside 0 sql params old new (Ok count) → params ≡ cells → MakesInTransaction change told old new
 makes sql cells change told params old new count changes ready ran given =
     let it = changes ready.index (subst (λ ps. Executes sql ps old new (Ok count)) given ran.0) in
     record { ready = record { is_open = ran.1.is_open; inside = ran.1.mode; index = it.index }; tables = it.tables; committed = ran.1.committed_is; version = it.version; records = it.records }

@@ -1,5 +1,6 @@
 -- What a step asks of SQL, and what SQL answers.
 use Rattle.std.specs.Prelude.{◌≡◌, ◌⊎◌, ◌<◌, ◌≤◌, ◌^◌, ℕ, false, List, [], ◌∷◌, length, Option, None, Result, Ok, Err, MatchResult}
+use Rattle.std.specs.List.{AllByRecursion}
 use Rattle.sqlite_disk.specs.Disk.{MoreFaults}
 use Rattle.sqlite_value.specs.Order.{Row, column}
 use Rattle.sqlite_value.specs.declared.value.Value.TheVariants.{Text}
@@ -22,7 +23,7 @@ use Rattle.index_sql_schema.specs.Records.{tables_in}
 use Rattle.index_sql_schema.specs.RecordRows.{AreRecords, IsFileText}
 use Rattle.index_sql_schema.specs.ShownRows.{file_shown}
 use Rattle.index_sql_schema.specs.StatementTexts.{delete_body_text}
-use Rattle.index_sql_writes.specs.Inside.{IsReady}
+use Rattle.index_sql_writes.specs.Transaction.{IsInTransaction}
 use Rattle.index_sql_writes.specs.Writes.{AreFilesOf}
 
 -- ---- what SQL answers
@@ -32,8 +33,8 @@ abbrev pub each_statement : Mode
 each_statement = record { keys = Enforced; in_doubt = false; may_wait = false }
 
 -- what SQL makes of a database by a text with these parameters, or why it refuses; the steps of its query are not limited
-abbrev pub Answers : List ℕ → Row → Database → Part Database
-Answers text params db out =
+abbrev pub AnswersStatement : List ℕ → Row → Database → Part Database
+AnswersStatement text params db out =
     (c : Compiled) × (understood db.schema text ≡ Ok c) × Then (Does None each_statement params db (text_of text c) c.returning c.command) (λ done. Gives done.1) out
 
 -- one of the numbers is above the greatest that SQL holds
@@ -42,13 +43,15 @@ HasTooMuch [] = ⊥
 HasTooMuch (number ∷ more) = (2 ^ 63 ≤ number) ⊎ HasTooMuch more
 
 -- the row shows the name of a file, as a query of one column does
-abbrev pub ShowsFile : Row → Type 0
-ShowsFile r = (0 < length r) × IsFileText (column r 0)
+abbrev pub ShowsFileName : Row → Type 0
+ShowsFileName r = (0 < length r) × IsFileText (column r 0)
 
 -- the bytes of the files that these rows show go, one after the other
-abbrev pub AnswersEach : List Row → Database → Part Database
-AnswersEach [] db = Gives db
-AnswersEach (r ∷ rows) db = Then (Answers delete_body_text (Text (file_shown r) ∷ []) db) (AnswersEach rows)
+abbrev pub AnswersBodyDeletions : List Row → Database → Part Database
+AnswersBodyDeletions [] db = Gives db
+AnswersBodyDeletions (r ∷ rows) db =
+    Then (AnswersStatement delete_body_text (Text (file_shown r) ∷ []) db)
+    (AnswersBodyDeletions rows)
 
 -- ---- what is asked
 
@@ -63,9 +66,10 @@ pub data Ask : Type 0 where
 
 -- what comes of it: a number that SQL can't hold is refused before SQL is asked
 abbrev pub AnswersAsk : Ask → Database → Part Database
-AnswersAsk (Statement text params) db out = Answers text params db out
+AnswersAsk (Statement text params) db out = AnswersStatement text params db out
 AnswersAsk (WithNumbers numbers ask) db out = (HasTooMuch numbers × Refuses (IntegralValueOutOfRange 0) out) ⊎ AnswersAsk ask db out
-AnswersAsk (BodiesOf name) db out = (rows : List Row) × AreFilesOf name (tables_in db.trees) rows × AnswersEach rows db out
+AnswersAsk (BodiesOf name) db out =
+    (rows : List Row) × AreFilesOf name (tables_in db.trees) rows × AnswersBodyDeletions rows db out
 
 -- what comes of several, one after the other, up to the first that is refused
 abbrev pub AnswersAll : List Ask → Database → Part Database
@@ -76,9 +80,19 @@ AnswersAll (ask ∷ asks) db = Then (AnswersAsk ask db) (AnswersAll asks)
 
 -- a transaction on an index is under way, whose rows are those of records, and where no query has a limit on its steps
 pub record CanAsk (s : State) : Type 0 where
-  pub ready : IsReady s
+  pub ready : IsInTransaction s
   pub records : AreRecords s.now
   pub unlimited : s.step_limit ≡ None
+
+-- the same, where each of these rows shows the name of a file
+pub record CanAskFor (rows : List Row) (s : State) : Type 0 where
+  pub can : CanAsk s
+  pub shown : AllByRecursion ShowsFileName rows
+
+-- these rows show the files of a name
+pub record AreFilesIn (s : State) (name : Bytes) (rows : List Row) : Type 0 where
+  pub files : IsInTransaction s → AreFilesOf name (tables_in s.now.trees) rows
+  pub shown : CanAsk s → AllByRecursion ShowsFileName rows
 
 -- a fault of the store comes where the disk had one, or where SQL refuses
 abbrev pub FailsAs : Part Database → State → State → Error → Type 0

@@ -1,7 +1,10 @@
 -- A change of the tables as a list of steps.
-use Rattle.std.specs.Prelude.{◌≡◌, ℕ, Option, List, [], ◌∷◌, false, IsTrue}
+use Rattle.std.specs.Prelude.{◌≡◌, ℕ, Option, List, [], ◌∷◌, false, IsTrue, OnErr, OnOk, Result}
 use Rattle.sqlite_trees.specs.Tree.{Trees}
-use Rattle.sqlite.specs.State.{State, Survives}
+use Rattle.sqlite_trees.specs.declared.store.Store.{Ghosts}
+use Rattle.sqlite.specs.Effect.{Database}
+use Rattle.sqlite.specs.Held.{Held as Connected, state}
+use Rattle.sqlite.specs.State.{State, HasCleanDisk, Survives}
 use Rattle.index_rules.specs.declared.records.NameRecord.TheVariants.{Held, Prohibited}
 use Rattle.index_rules.specs.Effect.{without_record}
 use Rattle.index_rules.specs.Tables.{Tables}
@@ -71,5 +74,21 @@ abbrev pub HoldsIndex : Trees → Type 0
 HoldsIndex db = IsIndex (record { schema = index_schema; trees = db })
 
 -- a crash leaves what could be left before, or the change as a whole, with its version, in an index; its rows are records if they were
-abbrev pub LeavesAll : (Tables → Tables) → (Option ℕ → Option ℕ) → State → State → Type 0
-LeavesAll change told old new = Survives old new (λ db. (tables_in db ≡ change (tables_in old.now.trees)) × (version_in db ≡ told (version_in old.now.trees)) × HoldsIndex db × (AreRecords old.now → AreRecordsOf index_schema.tables db))
+abbrev pub LeavesWholeChange : (Tables → Tables) → (Option ℕ → Option ℕ) → State → State → Type 0
+LeavesWholeChange change told old new =
+    Survives old new
+    (λ db. (tables_in db ≡ change (tables_in old.now.trees))
+    × (version_in db ≡ told (version_in old.now.trees)) × HoldsIndex db
+    × (AreRecords old.now → AreRecordsOf index_schema.tables db))
+
+-- What a transaction leaves that is to make this change of an open database of such a kind, and to tell this version. What it says of values is of a clean disk.
+pub record MakesAll {S A E : Type 0} (g : Ghosts S) (IsKind : Database → Type 0) (change : Tables → Tables) (told : Option ℕ → Option ℕ) (old new : Connected S) (result : Result A E) : Type 0 where
+  pub made : HasCleanDisk (state g new) → OnOk result (IsTrue (state g old).is_open → IsKind (state g old).now → IsMade change told (state g old) (state g new))
+  pub opened : HasCleanDisk (state g new) → OnOk result (IsTrue (state g new).is_open)
+  -- after an error, while the connection is open, the database is as it was committed
+  pub unchanged : HasCleanDisk (state g new) → IsTrue (state g new).is_open → IsKind (state g old).now → OnErr result (IsUndone (state g old) (state g new))
+  pub outside : new.in_transaction ≡ false
+  pub was_clean : HasCleanDisk (state g new) → HasCleanDisk (state g old)
+  pub was_open : HasCleanDisk (state g new) → IsTrue (state g new).is_open → IsTrue (state g old).is_open
+  pub crash : IsTrue (state g old).is_open → IsKind (state g old).now
+      → LeavesWholeChange change told (state g old) (state g new)

@@ -1,8 +1,9 @@
 pub mod Writes
-pub mod Inside
+pub mod Transaction
 pub mod Asks
 pub mod Statements
+pub mod Steps
 pub mod Changed
 pub mod StepAsks
-pub mod Subjects
+pub mod FileChanges
 pub mod ChangeAsks

@@ -10,8 +10,9 @@ use Rattle.index_rules.specs.declared.records.CaseRecord.{CaseRecord}
 use Rattle.index_rules.specs.Maps.{Bytes}
 use Rattle.index_rules.specs.Projects.{Project}
 use Rattle.index_sql_schema.specs.StatementTexts.{put_user_text, put_name_text, put_owner_text, put_file_text, put_body_text, put_yank_text, put_case_text, put_ban_text, delete_name_text, delete_owners_text, delete_owner_text, delete_yanks_text, delete_yank_text, delete_case_text, delete_body_text, update_files_text}
+use Rattle.index_sql_writes.specs.declared.put_case.CaseNumbers.{CaseNumbers}
 use Rattle.index_sql_writes.specs.Asks.{Ask, Statement, WithNumbers, BodiesOf}
-use Rattle.index_sql_writes.specs.Writes.{flag, kind_number}
+use Rattle.index_sql_writes.specs.Writes.{flag_number, kind_number}
 
 -- one text, by which rows are found
 abbrev by_text : List ℕ → Bytes → Ask
@@ -33,7 +34,8 @@ name_cells name standing shown quota charge undeleted last =
 -- ---- a row in place of the one with its key
 
 abbrev pub put_user_ask : Bytes → UserRecord → Ask
-put_user_ask user account = Statement put_user_text (Text user ∷ Int (flag account.office) ∷ Blob account.token ∷ [])
+put_user_ask user account =
+    Statement put_user_text (Text user ∷ Int (flag_number account.office) ∷ Blob account.token ∷ [])
 
 abbrev pub hold_name_ask : Bytes → Project → Ask
 hold_name_ask name project =
@@ -48,7 +50,9 @@ put_owner_ask = by_texts put_owner_text
 
 -- the row of a file
 abbrev pub file_cells : Bytes → FileRecord → Row
-file_cells file known = Text file ∷ Text known.project ∷ Text known.release ∷ Blob known.digest ∷ Int (pos known.size) ∷ Text known.requires_python ∷ Int (flag known.is_undeleted) ∷ []
+file_cells file known =
+    Text file ∷ Text known.project ∷ Text known.release ∷ Blob known.digest ∷ Int
+    (pos known.size) ∷ Text known.requires_python ∷ Int (flag_number known.is_undeleted) ∷ []
 
 abbrev pub put_file_ask : Bytes → FileRecord → Ask
 put_file_ask file known = WithNumbers (known.size ∷ []) (Statement put_file_text (file_cells file known))
@@ -63,11 +67,25 @@ put_yank_ask name release reason = Statement put_yank_text (Text name ∷ Text r
 abbrev pub case_numbers : CaseRecord → List ℕ
 case_numbers case = case.opened ∷ case.state.attempts ∷ case.state.sent ∷ option_to_list case.state.first
 
+-- what it has beside its texts, as SQL holds it
+abbrev pub integers_of : CaseRecord → CaseNumbers
+integers_of case = record {
+  kind = kind_number case.kind;
+  opened = pos case.opened;
+  attempts = pos case.state.attempts;
+  sent = pos case.state.sent;
+  profile = case.state.profile;
+  author = case.state.author;
+  pages = case.state.pages;
+  first = option_map pos case.state.first;
+}
+
 -- the row of a case
 abbrev pub case_cells : Bytes → CaseRecord → Row
 case_cells name case =
     Text name ∷ Int (kind_number case.kind) ∷ Text case.candidate ∷ Text case.contact ∷ Text case.work ∷ Text case.why ∷ Int (pos case.opened) ∷ Int (pos case.state.attempts) ∷ Int (pos case.state.sent)
-    ∷ Int (flag case.state.profile) ∷ Int (flag case.state.author) ∷ Int (flag case.state.pages) ∷ or_null Int (option_map pos case.state.first) ∷ []
+    ∷ Int (flag_number case.state.profile) ∷ Int (flag_number case.state.author) ∷ Int
+    (flag_number case.state.pages) ∷ or_null Int (option_map pos case.state.first) ∷ []
 
 abbrev pub put_case_ask : Bytes → CaseRecord → Ask
 put_case_ask name case = WithNumbers (case_numbers case) (Statement put_case_text (case_cells name case))

@@ -1,9 +1,13 @@
 -- What the steps ask of SQL, and why they fail.
-use Rattle.std.specs.Prelude.{◌≡◌, ◌⊎◌, List, Option, Err, map}
+use Rattle.std.specs.Prelude.{◌≡◌, ◌⊎◌, List, Option, Err, IfErr, IsTrue, Result, map}
+use Rattle.sqlite_trees.specs.declared.store.Store.{Ghosts}
 use Rattle.sqlite.specs.declared.error.Error.{Error}
 use Rattle.sqlite.specs.Effect.{Database}
-use Rattle.sqlite.specs.State.{State}
+use Rattle.sqlite.specs.Held.{Held, state}
+use Rattle.sqlite.specs.State.{State, HasCleanDisk}
 use Rattle.index_sql_schema.specs.Faults.{fault_by}
+use Rattle.index_sql_schema.specs.Index.{IsIndex}
+use Rattle.index_sql_schema.specs.RecordRows.{AreRecords}
 use Rattle.index_sql_schema.specs.Reasons.{HasReason}
 use Rattle.index_rules.specs.declared.answer.Fault.TheVariants.{Store}
 use Rattle.index_sql_writes.specs.Asks.{Ask, AnswersAll}
@@ -55,3 +59,8 @@ AreRefused asks db = (why : Option Error) × AnswersAll asks db (Err why)
 -- a fault of the store comes for a reason of the store, or where SQL refuses
 abbrev pub FailsForRefusal : List Ask → State → State → Error → Type 0
 FailsForRefusal asks old new e = fault_by e ≡ Store → HasReason old new ⊎ AreRefused asks old.now
+
+-- so it does on a clean disk, over an index whose rows are those of records
+abbrev pub FailsForAsks : {S A : Type 0} → Ghosts S → List Ask → Held S → Held S → Result A Error → Type 0
+FailsForAsks g asks old new result =
+    HasCleanDisk (state g new) → (IsTrue (state g old).is_open → IsIndex (state g old).now) → AreRecords (state g old).now → IfErr result (FailsForRefusal asks (state g old) (state g new))

@@ -106,8 +106,8 @@ row_of_name id name standing shown quota charge undeleted last =
     Int id ∷ Text name ∷ Int standing ∷ Text shown ∷ Int quota ∷ Int charge ∷ Int undeleted ∷ or_null Int last ∷ []
 
 -- 1 for true and 0 for false
-abbrev pub flag : Bool → ℤ
-flag b = if b then pos 1 else pos 0
+abbrev pub flag_number : Bool → ℤ
+flag_number b = if b then pos 1 else pos 0
 
 -- 1 for continued maintenance and 2 for reuse
 abbrev pub kind_number : CaseKind → ℤ

@@ -1,13 +1,11 @@
 //! A change of the tables in one transaction.
-ghost use Rattle.std.specs.Prelude.{◌≡◌, false, IfErr, IsTrue, OnOk, OnErr};
+ghost use Rattle.std.specs.Prelude.{◌≡◌, false};
 ghost use Rattle.sqlite.specs.Held.{state};
-ghost use Rattle.sqlite.specs.State.{HasCleanDisk};
 ghost use Rattle.index_rules.specs.Effect.{means};
-ghost use Rattle.index_sql_schema.specs.Index.{IsIndex, as_told};
-ghost use Rattle.index_sql_schema.specs.RecordRows.{AreRecords};
-ghost use Rattle.index_sql_writes.specs.Inside.{LeavesNothing};
-ghost use Rattle.index_sql_writes.specs.StepAsks.{FailsForRefusal};
-ghost use Rattle.index_sql_writes.specs.Changed.{IsMade, IsUndone, LeavesAll};
+ghost use Rattle.index_sql_schema.specs.Index.{IsIndex, same_version};
+ghost use Rattle.index_sql_writes.specs.Transaction.{IsInvisibleToCrash};
+ghost use Rattle.index_sql_writes.specs.StepAsks.{FailsForAsks};
+ghost use Rattle.index_sql_writes.specs.Changed.{MakesAll};
 ghost use Rattle.index_sql_writes.specs.ChangeAsks.{AreStepsOf, asks_of};
 
 use crate::cases::{end_case, set_case};
@@ -21,34 +19,20 @@ use crate::yanks::{unyank, yank};
 use index_rules::Change;
 use sqlite::{Alter, Connection, Error};
 
-/// Makes the change in a transaction and commits it. A fault of the store is an error, and so are a number that SQL
-/// can't hold and what the schema refuses: the tables are then what was committed before. A crash leaves that, or the
-/// whole change. A connection that was shut does none of it.
+/// Makes the change in a transaction and commits it. A crash leaves what was committed before, or the whole change. A
+/// connection that was shut does none of it.
+///
+/// # Errors
+///
+/// The error of the step or of the commit that failed: a fault of the store, a number that SQL can't hold, or what the
+/// schema refuses. The tables are then what was committed before.
 pub fn make_change<S: Alter>(conn: &mut Connection<S>, change: &Change) -> Result<(), Error>
     requires { conn.old.in_transaction ≡ false }
-    ensures made { HasCleanDisk (state S.Store conn.new)
-        → OnOk result (IsTrue (state S.Store conn.old).is_open
-        → IsIndex (state S.Store conn.old).now
-        → IsMade (means change.now) as_told (state S.Store conn.old) (state S.Store conn.new)) }
-    ensures opened { HasCleanDisk (state S.Store conn.new)
-        → OnOk result (IsTrue (state S.Store conn.new).is_open) }
-    ensures unchanged { HasCleanDisk (state S.Store conn.new)
-        → IsTrue (state S.Store conn.new).is_open → IsIndex (state S.Store conn.old).now
-        → OnErr result (IsUndone (state S.Store conn.old) (state S.Store conn.new)) }
-    ensures ended { conn.new.in_transaction ≡ false }
-    ensures was_clean { HasCleanDisk (state S.Store conn.new)
-        → HasCleanDisk (state S.Store conn.old) }
-    ensures was_open { HasCleanDisk (state S.Store conn.new)
-        → IsTrue (state S.Store conn.new).is_open
-        → IsTrue (state S.Store conn.old).is_open }
-    ensures crash { IsTrue (state S.Store conn.old).is_open → IsIndex (state S.Store conn.old).now
-        → LeavesAll (means change.now) as_told (state S.Store conn.old) (state S.Store conn.new) }
+    ensures made { MakesAll S.Store IsIndex
+        (means change.now) same_version conn.old conn.new result }
     ensures shut { (state S.Store conn.old).is_open ≡ false
-        → LeavesNothing S.Store conn.old conn.new }
-    ensures reason { HasCleanDisk (state S.Store conn.new)
-        → (IsTrue (state S.Store conn.old).is_open → IsIndex (state S.Store conn.old).now)
-        → AreRecords (state S.Store conn.old).now → IfErr result (FailsForRefusal
-        (asks_of change.now) (state S.Store conn.old) (state S.Store conn.new)) }
+        → IsInvisibleToCrash S.Store conn.old conn.new }
+    ensures reason { FailsForAsks S.Store (asks_of change.now) conn.old conn.new result }
 {
     let steps = steps_of(change);
     commit_steps(conn, steps.as_slice())

@@ -1,12 +1,11 @@
 //! Statements that take rows out, and the one that marks files as deleted. Where there is no such row, that is no
 //! error.
-ghost use Rattle.std.specs.Prelude.{◌≡◌};
-ghost use Rattle.index_sql_writes.specs.Asks.{GoesByAsk};
-ghost use Rattle.index_sql_writes.specs.Inside.{MakesIfOk, WasOpenIfOk, IsUncommitted};
+ghost use Rattle.index_sql_writes.specs.Steps.{TakesStep};
 ghost use Rattle.index_rules.specs.Effect.{without_record};
 ghost use Rattle.index_sql_writes.specs.Writes.{deletes_owners, deletes_owner, deletes_yanks, deletes_yank, deletes_case, deletes_body, marks_files};
 ghost use Rattle.index_sql_writes.specs.Statements.{delete_body_ask, delete_case_ask, delete_name_ask, delete_owner_ask, delete_owners_ask, delete_yank_ask, delete_yanks_ask, mark_files_ask};
 
+use crate::statement::run_statement;
 use index_sql_schema::statement_texts::{
     DELETE_BODY, DELETE_CASE, DELETE_NAME, DELETE_OWNER, DELETE_OWNERS, DELETE_YANK, DELETE_YANKS,
     UPDATE_FILES,
@@ -15,30 +14,18 @@ use sqlite::{Alter, Error, Transaction, params};
 
 /// The name is free: its owners, its yanks and its case go with it.
 pub(crate) fn delete_name<S: Alter>(tx: &mut Transaction<'_, S>, name: &str) -> Result<(), Error>
-    ensures same_reference { tx.new.conn.ghost_name ≡ tx.old.conn.ghost_name }
-    ensures made { MakesIfOk S.Store (without_record name.now)
-        tx.old.conn.now tx.new.conn.now result }
-    ensures uncommitted { IsUncommitted S.Store tx.old.conn.now tx.new.conn.now }
-    ensures opened { WasOpenIfOk S.Store tx.old.conn.now tx.new.conn.now result }
-    ensures asked { GoesByAsk S.Store (delete_name_ask name.now)
-        tx.old.conn.now tx.new.conn.now result }
+    ensures { TakesStep S.Store (without_record name.now) (delete_name_ask name.now)
+        tx.old.conn tx.new.conn result }
 {
-    tx.execute(DELETE_NAME, params![name])?;
-    Ok(())
+    run_statement(tx, DELETE_NAME, params![name])
 }
 
 /// The name has no owner.
 pub(crate) fn delete_owners<S: Alter>(tx: &mut Transaction<'_, S>, name: &str) -> Result<(), Error>
-    ensures same_reference { tx.new.conn.ghost_name ≡ tx.old.conn.ghost_name }
-    ensures made { MakesIfOk S.Store (deletes_owners name.now)
-        tx.old.conn.now tx.new.conn.now result }
-    ensures uncommitted { IsUncommitted S.Store tx.old.conn.now tx.new.conn.now }
-    ensures opened { WasOpenIfOk S.Store tx.old.conn.now tx.new.conn.now result }
-    ensures asked { GoesByAsk S.Store (delete_owners_ask name.now)
-        tx.old.conn.now tx.new.conn.now result }
+    ensures { TakesStep S.Store (deletes_owners name.now) (delete_owners_ask name.now)
+        tx.old.conn tx.new.conn result }
 {
-    tx.execute(DELETE_OWNERS, params![name])?;
-    Ok(())
+    run_statement(tx, DELETE_OWNERS, params![name])
 }
 
 /// The user does not own the name.
@@ -47,30 +34,18 @@ pub(crate) fn delete_owner<S: Alter>(
     name: &str,
     user: &str,
 ) -> Result<(), Error>
-    ensures same_reference { tx.new.conn.ghost_name ≡ tx.old.conn.ghost_name }
-    ensures made { MakesIfOk S.Store (deletes_owner name.now user.now)
-        tx.old.conn.now tx.new.conn.now result }
-    ensures uncommitted { IsUncommitted S.Store tx.old.conn.now tx.new.conn.now }
-    ensures opened { WasOpenIfOk S.Store tx.old.conn.now tx.new.conn.now result }
-    ensures asked { GoesByAsk S.Store (delete_owner_ask name.now user.now)
-        tx.old.conn.now tx.new.conn.now result }
+    ensures { TakesStep S.Store (deletes_owner name.now user.now)
+        (delete_owner_ask name.now user.now) tx.old.conn tx.new.conn result }
 {
-    tx.execute(DELETE_OWNER, params![name, user])?;
-    Ok(())
+    run_statement(tx, DELETE_OWNER, params![name, user])
 }
 
 /// No release of the name is yanked.
 pub(crate) fn delete_yanks<S: Alter>(tx: &mut Transaction<'_, S>, name: &str) -> Result<(), Error>
-    ensures same_reference { tx.new.conn.ghost_name ≡ tx.old.conn.ghost_name }
-    ensures made { MakesIfOk S.Store (deletes_yanks name.now)
-        tx.old.conn.now tx.new.conn.now result }
-    ensures uncommitted { IsUncommitted S.Store tx.old.conn.now tx.new.conn.now }
-    ensures opened { WasOpenIfOk S.Store tx.old.conn.now tx.new.conn.now result }
-    ensures asked { GoesByAsk S.Store (delete_yanks_ask name.now)
-        tx.old.conn.now tx.new.conn.now result }
+    ensures { TakesStep S.Store (deletes_yanks name.now) (delete_yanks_ask name.now)
+        tx.old.conn tx.new.conn result }
 {
-    tx.execute(DELETE_YANKS, params![name])?;
-    Ok(())
+    run_statement(tx, DELETE_YANKS, params![name])
 }
 
 /// The release is not yanked.
@@ -79,55 +54,32 @@ pub(crate) fn delete_yank<S: Alter>(
     name: &str,
     release: &str,
 ) -> Result<(), Error>
-    ensures same_reference { tx.new.conn.ghost_name ≡ tx.old.conn.ghost_name }
-    ensures made { MakesIfOk S.Store (deletes_yank name.now release.now)
-        tx.old.conn.now tx.new.conn.now result }
-    ensures uncommitted { IsUncommitted S.Store tx.old.conn.now tx.new.conn.now }
-    ensures opened { WasOpenIfOk S.Store tx.old.conn.now tx.new.conn.now result }
-    ensures asked { GoesByAsk S.Store (delete_yank_ask name.now release.now)
-        tx.old.conn.now tx.new.conn.now result }
+    ensures { TakesStep S.Store (deletes_yank name.now release.now)
+        (delete_yank_ask name.now release.now) tx.old.conn tx.new.conn result }
 {
-    tx.execute(DELETE_YANK, params![name, release])?;
-    Ok(())
+    run_statement(tx, DELETE_YANK, params![name, release])
 }
 
 /// The name has no open case.
 pub(crate) fn delete_case<S: Alter>(tx: &mut Transaction<'_, S>, name: &str) -> Result<(), Error>
-    ensures same_reference { tx.new.conn.ghost_name ≡ tx.old.conn.ghost_name }
-    ensures made { MakesIfOk S.Store (deletes_case name.now)
-        tx.old.conn.now tx.new.conn.now result }
-    ensures uncommitted { IsUncommitted S.Store tx.old.conn.now tx.new.conn.now }
-    ensures opened { WasOpenIfOk S.Store tx.old.conn.now tx.new.conn.now result }
-    ensures asked { GoesByAsk S.Store (delete_case_ask name.now)
-        tx.old.conn.now tx.new.conn.now result }
+    ensures { TakesStep S.Store (deletes_case name.now) (delete_case_ask name.now)
+        tx.old.conn tx.new.conn result }
 {
-    tx.execute(DELETE_CASE, params![name])?;
-    Ok(())
+    run_statement(tx, DELETE_CASE, params![name])
 }
 
 /// No bytes are kept of the file.
 pub(crate) fn delete_body<S: Alter>(tx: &mut Transaction<'_, S>, file: &str) -> Result<(), Error>
-    ensures same_reference { tx.new.conn.ghost_name ≡ tx.old.conn.ghost_name }
-    ensures made { MakesIfOk S.Store (deletes_body file.now)
-        tx.old.conn.now tx.new.conn.now result }
-    ensures uncommitted { IsUncommitted S.Store tx.old.conn.now tx.new.conn.now }
-    ensures opened { WasOpenIfOk S.Store tx.old.conn.now tx.new.conn.now result }
-    ensures asked { GoesByAsk S.Store (delete_body_ask file.now)
-        tx.old.conn.now tx.new.conn.now result }
+    ensures { TakesStep S.Store (deletes_body file.now) (delete_body_ask file.now)
+        tx.old.conn tx.new.conn result }
 {
-    tx.execute(DELETE_BODY, params![file])?;
-    Ok(())
+    run_statement(tx, DELETE_BODY, params![file])
 }
 
 /// Each file of the name is deleted.
 pub(crate) fn mark_files<S: Alter>(tx: &mut Transaction<'_, S>, name: &str) -> Result<(), Error>
-    ensures same_reference { tx.new.conn.ghost_name ≡ tx.old.conn.ghost_name }
-    ensures made { MakesIfOk S.Store (marks_files name.now) tx.old.conn.now tx.new.conn.now result }
-    ensures uncommitted { IsUncommitted S.Store tx.old.conn.now tx.new.conn.now }
-    ensures opened { WasOpenIfOk S.Store tx.old.conn.now tx.new.conn.now result }
-    ensures asked { GoesByAsk S.Store (mark_files_ask name.now)
-        tx.old.conn.now tx.new.conn.now result }
+    ensures { TakesStep S.Store (marks_files name.now) (mark_files_ask name.now)
+        tx.old.conn tx.new.conn result }
 {
-    tx.execute(UPDATE_FILES, params![name])?;
-    Ok(())
+    run_statement(tx, UPDATE_FILES, params![name])
 }

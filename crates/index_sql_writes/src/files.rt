@@ -1,7 +1,7 @@
 //! Changes of files.
 ghost use Rattle.std.specs.Prelude.{◌≡◌, true};
 ghost use Rattle.index_rules.specs.declared.change.Change.TheVariants.{Upload, Delete, BanFile};
-ghost use Rattle.index_sql_writes.specs.Subjects.{is_of_file};
+ghost use Rattle.index_sql_writes.specs.FileChanges.{is_of_file};
 ghost use Rattle.index_sql_writes.specs.ChangeAsks.{AreStepsOf};
 
 use crate::step::{Deletion, Put, Step};

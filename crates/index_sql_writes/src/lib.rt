@@ -12,6 +12,7 @@ mod number;
 mod owners;
 mod put;
 mod put_case;
+mod statement;
 mod step;
 mod steps;
 mod users;
@@ -19,3 +20,4 @@ mod yanks;
 
 pub use change::make_change;
 pub use put::put_user;
+pub use statement::run_statement;

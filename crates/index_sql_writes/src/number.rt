@@ -7,7 +7,7 @@ ghost use Rattle.index_sql_writes.specs.Asks.{HasTooMuch};
 use sqlite::Error;
 
 /// The number as SQL holds it. `IntegralValueOutOfRange` where it is above the greatest.
-pub(crate) fn whole(number: u64) -> Result<i64, Error>
+pub(crate) fn sql_integer(number: u64) -> Result<i64, Error>
     ensures whole { IfOk result (λ it. it ≡ pos number) }
     ensures too_much { IfErr result (λ error. (error ≡ IntegralValueOutOfRange 0)
         × (2 ^ 63 ≤ number)) }
@@ -19,13 +19,13 @@ pub(crate) fn whole(number: u64) -> Result<i64, Error>
 }
 
 /// The same, or `None` for `None`.
-pub(crate) fn whole_if_any(number: Option<u64>) -> Result<Option<i64>, Error>
+pub(crate) fn sql_integer_if_any(number: Option<u64>) -> Result<Option<i64>, Error>
     ensures whole { IfOk result (λ it. it ≡ option_map pos number) }
     ensures too_much { IfErr result (λ error. (error ≡ IntegralValueOutOfRange 0)
         × HasTooMuch (option_to_list number)) }
 {
     match number {
-        Some(number) => Ok(Some(whole(number)?)),
+        Some(number) => Ok(Some(sql_integer(number)?)),
         None => Ok(None),
     }
 }

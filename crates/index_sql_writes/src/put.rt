@@ -1,15 +1,16 @@
 //! Statements that put a row, in place of the one with its key if there is one. Where a number is more than SQL can
 //! hold, that is an error, and nothing is written.
-ghost use Rattle.std.specs.Prelude.{◌≡◌, ℤ};
+ghost use Rattle.std.specs.Prelude.{ℤ};
 ghost use Rattle.index_sql_schema.specs.RecordRows.{IsNameRow};
 ghost use Rattle.index_sql_schema.specs.StatementTexts.{put_name_text};
-ghost use Rattle.index_sql_writes.specs.Asks.{Answers, CanAsk, GoesAs, GoesByAsk};
-ghost use Rattle.index_sql_writes.specs.Inside.{MakesIfOk, WasOpenIfOk, IsUncommitted};
+ghost use Rattle.index_sql_writes.specs.Asks.{Statement};
+ghost use Rattle.index_sql_writes.specs.Steps.{TakesStep};
 ghost use Rattle.index_rules.specs.declared.records.NameRecord.TheVariants.{Held, Prohibited};
 ghost use Rattle.index_sql_writes.specs.Writes.{puts_user, puts_name, name_of, row_of_name, puts_owner, puts_file, puts_body, puts_yank, puts_ban};
 ghost use Rattle.index_sql_writes.specs.Statements.{hold_name_ask, name_cells, prohibit_name_ask, put_ban_ask, put_body_ask, put_file_ask, put_owner_ask, put_user_ask, put_yank_ask};
 
-use crate::number::{whole, whole_if_any};
+use crate::number::{sql_integer, sql_integer_if_any};
+use crate::statement::run_statement;
 use index_names::{FileName, NormalName, Release};
 use index_rules::{FileRecord, Project, UserId, UserRecord};
 use index_sql_schema::statement_texts::{
@@ -18,25 +19,24 @@ use index_sql_schema::statement_texts::{
 use sqlite::{Alter, Error, Transaction, params};
 
 /// The user has this record.
+///
+/// # Errors
+///
+/// The error of the statement.
 pub fn put_user<S: Alter>(
     tx: &mut Transaction<'_, S>,
     user: &UserId,
     account: &UserRecord,
 ) -> Result<(), Error>
-    ensures same_reference { tx.new.conn.ghost_name ≡ tx.old.conn.ghost_name }
-    ensures made { MakesIfOk S.Store (puts_user user.now account.now)
-        tx.old.conn.now tx.new.conn.now result }
-    ensures uncommitted { IsUncommitted S.Store tx.old.conn.now tx.new.conn.now }
-    ensures opened { WasOpenIfOk S.Store tx.old.conn.now tx.new.conn.now result }
-    ensures asked { GoesByAsk S.Store (put_user_ask user.now account.now)
-        tx.old.conn.now tx.new.conn.now result }
+    ensures { TakesStep S.Store (puts_user user.now account.now) (put_user_ask user.now account.now)
+        tx.old.conn tx.new.conn result }
 {
     let token = account.token.to_bytes();
-    tx.execute(
+    run_statement(
+        tx,
         PUT_USER,
         params![user.text(), account.office, token.as_slice()],
-    )?;
-    Ok(())
+    )
 }
 
 /// The name is held, with this record.
@@ -45,18 +45,13 @@ pub(crate) fn hold_name<S: Alter>(
     name: &NormalName,
     project: &Project,
 ) -> Result<(), Error>
-    ensures same_reference { tx.new.conn.ghost_name ≡ tx.old.conn.ghost_name }
-    ensures made { MakesIfOk S.Store (puts_name name.now (Held project.now))
-        tx.old.conn.now tx.new.conn.now result }
-    ensures uncommitted { IsUncommitted S.Store tx.old.conn.now tx.new.conn.now }
-    ensures opened { WasOpenIfOk S.Store tx.old.conn.now tx.new.conn.now result }
-    ensures asked { GoesByAsk S.Store (hold_name_ask name.now project.now)
-        tx.old.conn.now tx.new.conn.now result }
+    ensures { TakesStep S.Store (puts_name name.now (Held project.now))
+        (hold_name_ask name.now project.now) tx.old.conn tx.new.conn result }
 {
-    let quota = whole(project.quota())?;
-    let charge = whole(project.charge())?;
-    let undeleted = whole(project.undeleted())?;
-    let last = whole_if_any(project.last_upload())?;
+    let quota = sql_integer(project.quota())?;
+    let charge = sql_integer(project.charge())?;
+    let undeleted = sql_integer(project.undeleted())?;
+    let last = sql_integer_if_any(project.last_upload())?;
     put_name(
         tx,
         name,
@@ -66,8 +61,7 @@ pub(crate) fn hold_name<S: Alter>(
         charge,
         undeleted,
         last,
-    )?;
-    Ok(())
+    )
 }
 
 /// The name is prohibited.
@@ -75,16 +69,10 @@ pub(crate) fn prohibit_name<S: Alter>(
     tx: &mut Transaction<'_, S>,
     name: &NormalName,
 ) -> Result<(), Error>
-    ensures same_reference { tx.new.conn.ghost_name ≡ tx.old.conn.ghost_name }
-    ensures made { MakesIfOk S.Store (puts_name name.now Prohibited)
-        tx.old.conn.now tx.new.conn.now result }
-    ensures uncommitted { IsUncommitted S.Store tx.old.conn.now tx.new.conn.now }
-    ensures opened { WasOpenIfOk S.Store tx.old.conn.now tx.new.conn.now result }
-    ensures asked { GoesByAsk S.Store (prohibit_name_ask name.now)
-        tx.old.conn.now tx.new.conn.now result }
+    ensures { TakesStep S.Store (puts_name name.now Prohibited) (prohibit_name_ask name.now)
+        tx.old.conn tx.new.conn result }
 {
-    put_name(tx, name, 2, "", 0, 0, 0, None)?;
-    Ok(())
+    put_name(tx, name, 2, "", 0, 0, 0, None)
 }
 
 /// The row of a name.
@@ -100,21 +88,17 @@ fn put_name<S: Alter>(
 ) -> Result<(), Error>
     requires { (id : ℤ) → IsNameRow
         (row_of_name id name.now standing shown.now quota charge undeleted last) }
-    ensures same_reference { tx.new.conn.ghost_name ≡ tx.old.conn.ghost_name }
-    ensures made { MakesIfOk S.Store
+    ensures { TakesStep S.Store
         (puts_name name.now (name_of standing shown.now quota charge undeleted last))
-        tx.old.conn.now tx.new.conn.now result }
-    ensures uncommitted { IsUncommitted S.Store tx.old.conn.now tx.new.conn.now }
-    ensures opened { WasOpenIfOk S.Store tx.old.conn.now tx.new.conn.now result }
-    ensures asked { GoesAs S.Store CanAsk (Answers put_name_text
+        (Statement put_name_text
         (name_cells name.now standing shown.now quota charge undeleted last))
-        tx.old.conn.now tx.new.conn.now result }
+        tx.old.conn tx.new.conn result }
 {
-    tx.execute(
+    run_statement(
+        tx,
         PUT_NAME,
         params![name.text(), standing, shown, quota, charge, undeleted, last],
-    )?;
-    Ok(())
+    )
 }
 
 /// The user owns the name.
@@ -123,16 +107,10 @@ pub(crate) fn put_owner<S: Alter>(
     name: &NormalName,
     user: &UserId,
 ) -> Result<(), Error>
-    ensures same_reference { tx.new.conn.ghost_name ≡ tx.old.conn.ghost_name }
-    ensures made { MakesIfOk S.Store (puts_owner name.now user.now)
-        tx.old.conn.now tx.new.conn.now result }
-    ensures uncommitted { IsUncommitted S.Store tx.old.conn.now tx.new.conn.now }
-    ensures opened { WasOpenIfOk S.Store tx.old.conn.now tx.new.conn.now result }
-    ensures asked { GoesByAsk S.Store (put_owner_ask name.now user.now)
-        tx.old.conn.now tx.new.conn.now result }
+    ensures { TakesStep S.Store (puts_owner name.now user.now) (put_owner_ask name.now user.now)
+        tx.old.conn tx.new.conn result }
 {
-    tx.execute(PUT_OWNER, params![name.text(), user.text()])?;
-    Ok(())
+    run_statement(tx, PUT_OWNER, params![name.text(), user.text()])
 }
 
 /// The file has this record.
@@ -141,17 +119,13 @@ pub(crate) fn put_file<S: Alter>(
     file: &FileName,
     known: &FileRecord,
 ) -> Result<(), Error>
-    ensures same_reference { tx.new.conn.ghost_name ≡ tx.old.conn.ghost_name }
-    ensures made { MakesIfOk S.Store (puts_file file.now known.now)
-        tx.old.conn.now tx.new.conn.now result }
-    ensures uncommitted { IsUncommitted S.Store tx.old.conn.now tx.new.conn.now }
-    ensures opened { WasOpenIfOk S.Store tx.old.conn.now tx.new.conn.now result }
-    ensures asked { GoesByAsk S.Store (put_file_ask file.now known.now)
-        tx.old.conn.now tx.new.conn.now result }
+    ensures { TakesStep S.Store (puts_file file.now known.now) (put_file_ask file.now known.now)
+        tx.old.conn tx.new.conn result }
 {
-    let size = whole(known.size)?;
+    let size = sql_integer(known.size)?;
     let digest = known.digest.to_bytes();
-    tx.execute(
+    run_statement(
+        tx,
         PUT_FILE,
         params![
             file.text(),
@@ -162,8 +136,7 @@ pub(crate) fn put_file<S: Alter>(
             known.requires_python.as_str(),
             known.is_undeleted
         ],
-    )?;
-    Ok(())
+    )
 }
 
 /// These bytes are kept of the file.
@@ -172,16 +145,10 @@ pub(crate) fn put_body<S: Alter>(
     file: &FileName,
     body: &[u8],
 ) -> Result<(), Error>
-    ensures same_reference { tx.new.conn.ghost_name ≡ tx.old.conn.ghost_name }
-    ensures made { MakesIfOk S.Store (puts_body file.now body.now)
-        tx.old.conn.now tx.new.conn.now result }
-    ensures uncommitted { IsUncommitted S.Store tx.old.conn.now tx.new.conn.now }
-    ensures opened { WasOpenIfOk S.Store tx.old.conn.now tx.new.conn.now result }
-    ensures asked { GoesByAsk S.Store (put_body_ask file.now body.now)
-        tx.old.conn.now tx.new.conn.now result }
+    ensures { TakesStep S.Store (puts_body file.now body.now) (put_body_ask file.now body.now)
+        tx.old.conn tx.new.conn result }
 {
-    tx.execute(PUT_BODY, params![file.text(), body])?;
-    Ok(())
+    run_statement(tx, PUT_BODY, params![file.text(), body])
 }
 
 /// The release is yanked, for this reason.
@@ -191,27 +158,16 @@ pub(crate) fn put_yank<S: Alter>(
     release: &Release,
     reason: &str,
 ) -> Result<(), Error>
-    ensures same_reference { tx.new.conn.ghost_name ≡ tx.old.conn.ghost_name }
-    ensures made { MakesIfOk S.Store (puts_yank name.now release.now reason.now)
-        tx.old.conn.now tx.new.conn.now result }
-    ensures uncommitted { IsUncommitted S.Store tx.old.conn.now tx.new.conn.now }
-    ensures opened { WasOpenIfOk S.Store tx.old.conn.now tx.new.conn.now result }
-    ensures asked { GoesByAsk S.Store (put_yank_ask name.now release.now reason.now)
-        tx.old.conn.now tx.new.conn.now result }
+    ensures { TakesStep S.Store (puts_yank name.now release.now reason.now)
+        (put_yank_ask name.now release.now reason.now) tx.old.conn tx.new.conn result }
 {
-    tx.execute(PUT_YANK, params![name.text(), release.text(), reason])?;
-    Ok(())
+    run_statement(tx, PUT_YANK, params![name.text(), release.text(), reason])
 }
 
 /// The file is banned.
 pub(crate) fn put_ban<S: Alter>(tx: &mut Transaction<'_, S>, file: &FileName) -> Result<(), Error>
-    ensures same_reference { tx.new.conn.ghost_name ≡ tx.old.conn.ghost_name }
-    ensures made { MakesIfOk S.Store (puts_ban file.now) tx.old.conn.now tx.new.conn.now result }
-    ensures uncommitted { IsUncommitted S.Store tx.old.conn.now tx.new.conn.now }
-    ensures opened { WasOpenIfOk S.Store tx.old.conn.now tx.new.conn.now result }
-    ensures asked { GoesByAsk S.Store (put_ban_ask file.now)
-        tx.old.conn.now tx.new.conn.now result }
+    ensures { TakesStep S.Store (puts_ban file.now) (put_ban_ask file.now)
+        tx.old.conn tx.new.conn result }
 {
-    tx.execute(PUT_BAN, params![file.text()])?;
-    Ok(())
+    run_statement(tx, PUT_BAN, params![file.text()])
 }

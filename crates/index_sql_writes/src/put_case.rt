@@ -1,13 +1,14 @@
 //! The statement that puts an open case.
-ghost use Rattle.std.specs.Prelude.{◌≡◌, pos, IfErr, IfOk, OnOk, option_map};
+ghost use Rattle.std.specs.Prelude.{◌≡◌, IfErr, IfOk, OnOk};
 ghost use Rattle.sqlite.specs.declared.error.Error.TheVariants.{IntegralValueOutOfRange};
 ghost use Rattle.index_retention.specs.Attempts.{IsTally};
-ghost use Rattle.index_sql_writes.specs.Asks.{GoesByAsk, HasTooMuch};
-ghost use Rattle.index_sql_writes.specs.Inside.{MakesIfOk, WasOpenIfOk, IsUncommitted};
+ghost use Rattle.index_sql_writes.specs.Asks.{HasTooMuch};
+ghost use Rattle.index_sql_writes.specs.Steps.{TakesStep};
 ghost use Rattle.index_sql_writes.specs.Writes.{puts_case, kind_number};
-ghost use Rattle.index_sql_writes.specs.Statements.{case_numbers, put_case_ask};
+ghost use Rattle.index_sql_writes.specs.Statements.{case_numbers, integers_of, put_case_ask};
 
-use crate::number::{whole, whole_if_any};
+use crate::number::{sql_integer, sql_integer_if_any};
+use crate::statement::run_statement;
 use index_names::NormalName;
 use index_retention::CaseKind;
 use index_rules::CaseRecord;
@@ -33,16 +34,12 @@ pub(crate) fn put_case<S: Alter>(
     name: &NormalName,
     case: &CaseRecord,
 ) -> Result<(), Error>
-    ensures same_reference { tx.new.conn.ghost_name ≡ tx.old.conn.ghost_name }
-    ensures made { MakesIfOk S.Store (puts_case name.now case.now)
-        tx.old.conn.now tx.new.conn.now result }
-    ensures uncommitted { IsUncommitted S.Store tx.old.conn.now tx.new.conn.now }
-    ensures opened { WasOpenIfOk S.Store tx.old.conn.now tx.new.conn.now result }
-    ensures asked { GoesByAsk S.Store (put_case_ask name.now case.now)
-        tx.old.conn.now tx.new.conn.now result }
+    ensures { TakesStep S.Store (puts_case name.now case.now) (put_case_ask name.now case.now)
+        tx.old.conn tx.new.conn result }
 {
     let numbers = numbers_of(case)?;
-    tx.execute(
+    run_statement(
+        tx,
         PUT_CASE,
         params![
             name.text(),
@@ -59,32 +56,22 @@ pub(crate) fn put_case<S: Alter>(
             numbers.pages,
             numbers.first
         ],
-    )?;
-    Ok(())
+    )
 }
 
 /// What a case has beside its texts. `IntegralValueOutOfRange` where one is more than SQL can hold.
 fn numbers_of(case: &CaseRecord) -> Result<CaseNumbers, Error>
-    ensures numbers { IfOk result (λ it. it ≡ record {
-      kind = kind_number case.now.kind;
-      opened = pos case.now.opened;
-      attempts = pos case.now.state.attempts;
-      sent = pos case.now.state.sent;
-      profile = case.now.state.profile;
-      author = case.now.state.author;
-      pages = case.now.state.pages;
-      first = option_map pos case.now.state.first;
-    }) }
+    ensures numbers { IfOk result (λ it. it ≡ integers_of case.now) }
     ensures tally { OnOk result
         (IsTally case.now.state.attempts case.now.state.sent case.now.state.first) }
     ensures too_much { IfErr result (λ error. (error ≡ IntegralValueOutOfRange 0)
         × HasTooMuch (case_numbers case.now)) }
 {
     let state = &case.state;
-    let opened = whole(case.opened)?;
-    let attempts = whole(state.attempts())?;
-    let sent = whole(state.sent())?;
-    let first = whole_if_any(state.first())?;
+    let opened = sql_integer(case.opened)?;
+    let attempts = sql_integer(state.attempts())?;
+    let sent = sql_integer(state.sent())?;
+    let first = sql_integer_if_any(state.first())?;
     Ok(CaseNumbers {
         kind: number_of(case.kind),
         opened,

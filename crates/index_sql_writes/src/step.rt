@@ -1,7 +1,8 @@
 //! One step of a change.
-ghost use Rattle.std.specs.Prelude.{◌≡◌, ◌<◌, length};
-ghost use Rattle.index_sql_writes.specs.Inside.{MakesIfOk, WasOpenIfOk, IsUncommitted};
-ghost use Rattle.index_sql_writes.specs.Asks.{AnswersAll, CanAsk, GoesAs, GoesByAsk};
+ghost use Rattle.std.specs.Prelude.{◌<◌, length};
+ghost use Rattle.index_sql_writes.specs.Transaction.{WasOpenIfOk};
+ghost use Rattle.index_sql_writes.specs.Asks.{AnswersAll, CanAsk};
+ghost use Rattle.index_sql_writes.specs.Steps.{TakesStep, ChangesIndex};
 ghost use Rattle.index_sql_writes.specs.StepAsks.{asks_by, deletion_ask, put_ask, step_ask};
 ghost use Rattle.index_sql_writes.specs.Changed.{put_by, deletion_by, step_by, all_of};
 
@@ -73,11 +74,8 @@ pub(crate) enum Step<'a> {
 
 /// Puts a record.
 fn take_put<S: Alter>(tx: &mut Transaction<'_, S>, put: Put<'_>) -> Result<(), Error>
-    ensures same_reference { tx.new.conn.ghost_name ≡ tx.old.conn.ghost_name }
-    ensures made { MakesIfOk S.Store (put_by put.entry) tx.old.conn.now tx.new.conn.now result }
-    ensures uncommitted { IsUncommitted S.Store tx.old.conn.now tx.new.conn.now }
-    ensures opened { WasOpenIfOk S.Store tx.old.conn.now tx.new.conn.now result }
-    ensures asked { GoesByAsk S.Store (put_ask put.entry) tx.old.conn.now tx.new.conn.now result }
+    ensures { TakesStep S.Store (put_by put.entry) (put_ask put.entry)
+        tx.old.conn tx.new.conn result }
 {
     match put {
         Put::User(user, account) => put_user(tx, user, account),
@@ -94,13 +92,8 @@ fn take_put<S: Alter>(tx: &mut Transaction<'_, S>, put: Put<'_>) -> Result<(), E
 
 /// Takes out what goes.
 fn take_deletion<S: Alter>(tx: &mut Transaction<'_, S>, deletion: Deletion<'_>) -> Result<(), Error>
-    ensures same_reference { tx.new.conn.ghost_name ≡ tx.old.conn.ghost_name }
-    ensures made { MakesIfOk S.Store (deletion_by deletion.entry)
-        tx.old.conn.now tx.new.conn.now result }
-    ensures uncommitted { IsUncommitted S.Store tx.old.conn.now tx.new.conn.now }
-    ensures opened { WasOpenIfOk S.Store tx.old.conn.now tx.new.conn.now result }
-    ensures asked { GoesByAsk S.Store (deletion_ask deletion.entry)
-        tx.old.conn.now tx.new.conn.now result }
+    ensures { TakesStep S.Store (deletion_by deletion.entry) (deletion_ask deletion.entry)
+        tx.old.conn tx.new.conn result }
 {
     match deletion {
         Deletion::Name(name) => delete_name(tx, name),
@@ -116,11 +109,8 @@ fn take_deletion<S: Alter>(tx: &mut Transaction<'_, S>, deletion: Deletion<'_>) 
 
 /// Takes one step.
 fn take_step<S: Alter>(tx: &mut Transaction<'_, S>, step: &Step<'_>) -> Result<(), Error>
-    ensures same_reference { tx.new.conn.ghost_name ≡ tx.old.conn.ghost_name }
-    ensures made { MakesIfOk S.Store (step_by step.now) tx.old.conn.now tx.new.conn.now result }
-    ensures uncommitted { IsUncommitted S.Store tx.old.conn.now tx.new.conn.now }
-    ensures opened { WasOpenIfOk S.Store tx.old.conn.now tx.new.conn.now result }
-    ensures asked { GoesByAsk S.Store (step_ask step.now) tx.old.conn.now tx.new.conn.now result }
+    ensures { TakesStep S.Store (step_by step.now) (step_ask step.now)
+        tx.old.conn tx.new.conn result }
 {
     match *step {
         Step::Put(put) => take_put(tx, put),
@@ -134,13 +124,10 @@ pub(crate) fn take_steps<S: Alter>(
     tx: &mut Transaction<'_, S>,
     steps: &[Step<'_>],
 ) -> Result<(), Error>
-    ensures same_reference { tx.new.conn.ghost_name ≡ tx.old.conn.ghost_name }
-    ensures made { MakesIfOk S.Store (all_of steps.now) tx.old.conn.now tx.new.conn.now result }
-    ensures uncommitted { IsUncommitted S.Store tx.old.conn.now tx.new.conn.now }
+    ensures taken { ChangesIndex S.Store (all_of steps.now)
+        CanAsk (AnswersAll (asks_by steps.now)) tx.old.conn tx.new.conn result }
     ensures opened { 0 < length steps.now →
         WasOpenIfOk S.Store tx.old.conn.now tx.new.conn.now result }
-    ensures asked { GoesAs S.Store CanAsk (AnswersAll (asks_by steps.now))
-        tx.old.conn.now tx.new.conn.now result }
 {
     for step in steps {
         take_step(tx, step)?;

@@ -1,12 +1,12 @@
 -- What is done after a look at the version.
 use Rattle.std.proofs.lemmas.Bool.{cases_Bool}
-use Rattle.std.proofs.Common.{◌≡◌, inl, inr, ◌∙◌, ap, refl, subst, sym, true, true≢false, IsSome, IsTrue, ℕ, Option, Some, Result, Ok, Err, IfOk, IfErr}
+use Rattle.std.proofs.Common.{◌≡◌, inl, inr, ◌∙◌, ap, refl, subst, sym, true, true≢false, IsSome, IsTrue, ℕ, Option, Some, Result, Ok, Err, IfErr}
 use Rattle.sqlite_trees.specs.declared.store.Store.{Ghosts}
 use Rattle.sqlite.specs.Effect.{Database}
 use Rattle.sqlite.specs.Held.{Held, state}
 use Rattle.sqlite.specs.State.{HasCleanDisk}
 use Rattle.index_sql_writes.specs.StepAsks.{AreRefused}
-use Rattle.index_sql_schema.specs.Looks.{Looks}
+use Rattle.index_sql_schema.specs.Looks.{QueriesOnly}
 use Rattle.index_sql_schema.specs.Reasons.{HasReason}
 use Rattle.index_rules.specs.declared.open.OpenFault.{OpenFault}
 use Rattle.index_rules.specs.declared.open.OpenFault.TheVariants.{BadFirstUser, NotEmpty, NotAnIndex, OtherVersion, OutOfMemory, Store}
@@ -17,14 +17,13 @@ use Rattle.index_sql_opening.specs.Versions.{begun}
 use Rattle.index_rules.specs.declared.answer.Fault.{Fault}
 use Rattle.index_rules.specs.declared.answer.Fault.TheVariants as fault
 use Rattle.index_sql_schema.proofs.SelectVersion.{selects}
-use Rattle.index_sql_schema.specs.FirstVersion.{IsAnyVersion, IsFirstVersion, without_bans}
+use Rattle.index_sql_schema.specs.FirstVersion.{IsAnyVersion, IsFirstVersion}
 use Rattle.index_sql_schema.specs.Index.{version_in}
-use Rattle.index_sql_schema.specs.Records.{tables_in}
-use Rattle.index_sql_schema.specs.Stays.{Stays}
 use Rattle.index_sql_writes.proofs.GoingLemmas.{fault_since}
-use Rattle.index_tables.specs.Kept.{AreCurrent}
-use Rattle.index_tables.specs.Adopted.{FailsToOpen, IsFault, IsOurs, IsReason, LeavesMigrated, TellsVersion, refusal_in}
-use Rattle.index_tables.specs.Opened.{StoreForRefusal, open_fault_by}
+use Rattle.index_tables.specs.declared.opening.Unopened.{Unopened}
+use Rattle.index_tables.specs.BooksState.{IsWorking, BooksState}
+use Rattle.index_tables.specs.Adopted.{FailsToOpen, IsFault, IsOurs, IsRaised, IsReason, TellsVersion, refusal_in}
+use Rattle.index_tables.specs.Opened.{AreOpened, IsUnopened, LeavesOr, StoreForRefusal, open_fault_by}
 
 -- the version that such a database tells leaves the store to blame
 store_alone : (db : Database) → IsOurs db → refusal_in db.schema (version_in db.trees) ≡ Store
@@ -76,7 +75,7 @@ module _ {S : Type 0} (g : Ghosts S) where
     reason_failed fault.Store why is fails = subst (IsReason g held new) (sym is) (meta, inr (fails refl))
 
     -- of version 1 it may be that it is not raised, after a look at its version
-    module _ (mid : Held S) (looks : Looks g held mid true) (clean : HasCleanDisk (state g mid)) where
+    module _ (mid : Held S) (looks : QueriesOnly g held mid true) (clean : HasCleanDisk (state g mid)) where
       since : HasReason (state g mid) (state g new) → HasReason (state g held) (state g new)
       since (inl fault) = inl (fault_since (state g held) (state g mid) (state g new) looks.survives.counts fault)
       since (inr (inl shut)) = elim (cases_Bool (state g held).is_open) [
@@ -87,44 +86,55 @@ module _ {S : Type 0} (g : Ghosts S) where
 
       refused : (IsTrue (state g held).is_open → IsFirstVersion (state g held).now) → version_in (state g held).now.trees ≡ Some 1 → AreRefused asks_of_migration (state g mid).now → FailsToOpen g held new
       refused first told refuses = elim (cases_Bool (state g held).is_open) [
-        | inl opened ↦ inr (inr (first opened, told, subst (AreRefused asks_of_migration) (looks.same refl clean) refuses))
+        | inl opened ↦ inr (inr ((first opened, told), subst (AreRefused asks_of_migration) (looks.same refl clean) refuses))
         | inr shut ↦ inl (inr (inl shut))
       ]
 
-      pub reason_raised : (why : OpenFault) → (IsTrue (state g held).is_open → IsFirstVersion (state g held).now) → version_in (state g held).now.trees ≡ Some 1 → IsFault why → StoreForRefusal asks_of_migration (state g mid) (state g new) why → IsReason g held new why
+      pub reason_raised : (why : OpenFault) → (IsTrue (state g held).is_open → IsFirstVersion (state g held).now) → version_in (state g held).now.trees ≡ Some 1 → IsFault why → StoreForRefusal g asks_of_migration mid new why → IsReason g held new why
       reason_raised why first told (inl memory) reason = subst (IsReason g held new) (sym memory) meta
       reason_raised why first told (inr store) reason = subst (IsReason g held new) (sym store) (meta, inr (elim (reason store) [ inl it ↦ inl (since it) | inr refuses ↦ refused first told refuses ]))
 
-  module _ (a b c : Held S) (looks : Looks g a b true) (was_clean : HasCleanDisk (state g c) → HasCleanDisk (state g b)) where
-    pub stays_after : (HasCleanDisk (state g c) → Stays (state g b) (state g c)) → HasCleanDisk (state g c) → Stays (state g a) (state g c)
-    stays_after stays clean =
-        let it = stays clean in
-        record {
-          was_open = λ o. looks.was_open (was_clean clean) (it.was_open o);
-          now_is = λ o. it.now_is o ∙ looks.now_is (was_clean clean) (it.was_open o);
-          committed_is = λ o. it.committed_is o ∙ looks.committed_is (was_clean clean) (it.was_open o);
-        }
+  -- what is opened, or not, after a look
+  module _ (a b : Held S) (looks : QueriesOnly g a b true) where
+    works_after : IsWorking (state g a) → HasCleanDisk (state g b) → IsWorking (state g b)
+    works_after working clean = record { clean = clean; is_open = looks.lasts refl clean working.is_open }
 
-    pub migrated_after : LeavesMigrated (state g b) (state g c) → LeavesMigrated (state g a) (state g c)
-    migrated_after it honest clean db may =
+    raised_after : (c : Held S) → (HasCleanDisk (state g c) → HasCleanDisk (state g b)) → LeavesOr IsRaised (state g b) (state g c) → LeavesOr IsRaised (state g a) (state g c)
+    raised_after c was_clean it working clean db may =
         let at_b = was_clean clean in
-        let is_open = looks.lasts refl at_b honest.is_open in
-        elim (it (record { clean = at_b; is_open = is_open }) clean db may) [
+        elim (it (works_after working at_b) clean db may) [
           | inl was ↦ elim (looks.survives.crash at_b db was) [ inl before ↦ inl before | inr none ↦ absurd none ]
-          | inr made ↦ inr (subst (λ (d : Database). IsFirstVersion d × AreCurrent db × (tables_in db ≡ without_bans (tables_in d.trees))) (looks.same refl at_b) made)
+          | inr made ↦ inr (subst (λ (d : Database). IsRaised d db) (looks.same refl at_b) made)
         ]
+
+    pub opened_after : (books : BooksState S) → AreOpened g IsRaised b books → AreOpened g IsRaised a books
+    opened_after books it = record {
+      was_working = λ working. let at_b = it.was_working working in record { clean = looks.was_clean at_b.clean; is_open = looks.was_open at_b.clean at_b.is_open };
+      was_clean = λ clean. looks.was_clean (it.was_clean clean);
+      lasts = λ working clean. it.lasts (works_after working (it.was_clean clean)) clean;
+      failures = it.failures;
+      crash = raised_after books.conn it.was_clean it.crash;
+      alone = λ working T left. it.alone (works_after working (it.was_clean left.0)) T left;
+    }
+
+    pub refused_after : (refused : Unopened S) → IsTrue (has_meta (state g a).now.schema) → (IsTrue (state g a).is_open → IsFirstVersion (state g a).now) → (HasCleanDisk (state g b) → version_in (state g a).now.trees ≡ Some 1)
+        → IsFault refused.why → IsUnopened g IsRaised (StoreForRefusal g asks_of_migration) b refused → IsUnopened g IsRaised (IsReason g) a refused
+    refused_after refused meta first told fault it = record {
+      outside = it.outside;
+      was_clean = λ clean. looks.was_clean (it.was_clean clean);
+      stays = λ clean.
+          let at_b = it.was_clean clean in
+          let stays = it.stays clean in
+          record {
+            was_open = λ o. looks.was_open at_b (stays.was_open o);
+            now_is = λ o. stays.now_is o ∙ looks.now_is at_b (stays.was_open o);
+            committed_is = λ o. stays.committed_is o ∙ looks.committed_is at_b (stays.was_open o);
+          };
+      reason = λ clean. let at_b = it.was_clean clean in reason_raised a refused.conn meta b looks at_b refused.why first (told at_b) fault (it.reason clean);
+      crash = raised_after refused.conn it.was_clean it.crash;
+    }
 
 -- two facts of a refusal make a third
 pub both_refused : {A E : Type 0} {P Q R : E → Type 0} (r : Result A E) → ((e : E) → P e → Q e → R e) → IfErr r P → IfErr r Q → IfErr r R
 both_refused (Ok a) third p q = tt
 both_refused (Err e) third p q = third e p q
-
--- and three a fourth
-pub all_refused : {A E : Type 0} {P Q R T : E → Type 0} (r : Result A E) → ((e : E) → P e → Q e → R e → T e) → IfErr r P → IfErr r Q → IfErr r R → IfErr r T
-all_refused (Ok a) fourth p q s = tt
-all_refused (Err e) fourth p q s = fourth e p q s
-
--- the same of what is opened
-pub both_opened : {A E : Type 0} {P Q R : A → Type 0} (r : Result A E) → ((a : A) → P a → Q a → R a) → IfOk r P → IfOk r Q → IfOk r R
-both_opened (Ok a) third p q = third a p q
-both_opened (Err e) third p q = tt

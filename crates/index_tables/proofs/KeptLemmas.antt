@@ -1,22 +1,19 @@
 -- What a look at the connection leaves of the books.
-use Rattle.std.proofs.Common.{◌≡◌, ◌⊎◌, ◌∙◌, inl, inr, Bool, not, IsTrue, OnOk, Result, Ok, Err, Some, ap, is_ok, refl, subst, sym}
+use Rattle.std.proofs.Common.{◌≡◌, ◌⊎◌, ◌∙◌, inl, inr, Bool, IsTrue, Some, ap, subst, sym}
 use Rattle.sqlite_trees.specs.declared.store.Store.{Ghosts}
 use Rattle.sqlite.specs.Effect.{Database}
 use Rattle.sqlite.specs.Held.{Held, state}
 use Rattle.sqlite.specs.State.{HasCleanDisk}
 use Rattle.index_io.specs.Counts.{next_count}
-use Rattle.index_sql_schema.specs.Looks.{Looks}
-use Rattle.index_rules.specs.declared.answer.Fault.{Fault}
-use Rattle.index_rules.specs.declared.rows.WalkEnd.{WalkEnd}
+use Rattle.index_sql_schema.specs.Looks.{QueriesOnly}
 use Rattle.index_rules.specs.Tables.{Tables}
-use Rattle.index_rules.specs.Walks.{has_fault}
 use Rattle.index_sql_schema.specs.Index.{IsIndex, version_in}
 use Rattle.index_sql_schema.specs.RecordRows.{AreRecords}
 use Rattle.index_sql_schema.specs.Records.{tables_in}
-use Rattle.index_tables.specs.Kept.{IsHonest, Kept, Leaves}
-use Rattle.index_tables.specs.LooksUp.{LooksUp, WalksUp}
+use Rattle.index_tables.specs.BooksState.{IsHonest, BooksState, Leaves}
+use Rattle.index_tables.specs.LooksUp.{LooksUp}
 
-keeps : {S : Type 0} (g : Ghosts S) (old new : Held S) (did : Bool) → IsTrue did → Looks g old new did → IsHonest (state g old) → HasCleanDisk (state g new) → IsHonest (state g new)
+pub keeps : {S : Type 0} (g : Ghosts S) (old new : Held S) (did : Bool) → IsTrue did → QueriesOnly g old new did → IsHonest (state g old) → HasCleanDisk (state g new) → IsHonest (state g new)
 keeps g old new did right looks honest clean =
     let o = looks.lasts right clean honest.is_open in
     let same = looks.now_is clean o in
@@ -28,11 +25,7 @@ keeps g old new did right looks honest clean =
       version = subst (λ (d : Database). version_in d.trees ≡ Some 2) (sym same) honest.version;
     }
 
-pub looks_last : {A E S : Type 0} (g : Ghosts S) (old new : Held S) (r : Result A E) → Looks g old new (is_ok r) → OnOk r (IsHonest (state g old) → HasCleanDisk (state g new) → IsHonest (state g new))
-looks_last g old new (Ok a) looks = keeps g old new _ refl looks
-looks_last g old new (Err e) looks = tt
-
-looks_back : {S : Type 0} (g : Ghosts S) (old new : Held S) (did : Bool) → Looks g old new did → IsHonest (state g new) → IsHonest (state g old)
+looks_back : {S : Type 0} (g : Ghosts S) (old new : Held S) (did : Bool) → QueriesOnly g old new did → IsHonest (state g new) → IsHonest (state g old)
 looks_back g old new did looks honest =
     let same = looks.now_is honest.clean honest.is_open in
     record {
@@ -43,7 +36,7 @@ looks_back g old new did looks honest =
       version = subst (λ (d : Database). version_in d.trees ≡ Some 2) same honest.version;
     }
 
-looks_leave : {S : Type 0} (g : Ghosts S) (old new : Held S) (did : Bool) → Looks g old new did → (T : Tables) → Leaves (state g new) T → Leaves (state g old) T
+looks_leave : {S : Type 0} (g : Ghosts S) (old new : Held S) (did : Bool) → QueriesOnly g old new did → (T : Tables) → Leaves (state g new) T → Leaves (state g old) T
 looks_leave g old new did looks T (clean, (db, may, is)) = (looks.was_clean clean, (db, before (looks.survives.crash clean db may), is))
   where
     before : (state g old).may_leave db ⊎ ⊥ → (state g old).may_leave db
@@ -51,25 +44,17 @@ looks_leave g old new did looks T (clean, (db, may, is)) = (looks.was_clean clea
     before (inr none) = absurd none
 
 -- so a look at the connection, counted, is a look at the books
-pub looks_up : {A S : Type 0} (g : Ghosts S) (old new : Kept S) (r : Result A Fault) → Looks g old.conn new.conn (is_ok r) → new.failures ≡ next_count old.failures (is_ok r) → LooksUp g old new r
-looks_up g old new r looks counted = record {
-  unchanged = λ honest. ap (λ (d : Database). tables_in d.trees) (looks.now_is honest.clean honest.is_open);
-  honest = looks_back g old.conn new.conn _ looks;
-  clean = looks.was_clean;
-  lasts = looks_last g old.conn new.conn r looks;
-  crash = looks_leave g old.conn new.conn _ looks;
+pub looks_up : {S : Type 0} (g : Ghosts S) (old new : BooksState S) (did : Bool) → QueriesOnly g old.conn new.conn did → new.failures ≡ next_count old.failures did → LooksUp g old new did
+looks_up g old new did looks counted = record {
+  looks = record {
+    call = record {
+      honest = looks_back g old.conn new.conn _ looks;
+      clean = looks.was_clean;
+      failures = counted;
+    };
+    unchanged = λ honest. ap (λ (d : Database). tables_in d.trees) (looks.now_is honest.clean honest.is_open);
+    lasts = λ right. keeps g old.conn new.conn _ right looks;
+    crash = looks_leave g old.conn new.conn _ looks;
+  };
   records = λ honest records. subst AreRecords (sym (looks.now_is honest.clean honest.is_open)) records;
-  failures = counted;
-}
-
--- and so is a walk
-pub walks_up : {A S : Type 0} (g : Ghosts S) (old new : Kept S) (r : Result A WalkEnd) → Looks g old.conn new.conn (not (has_fault r)) → new.failures ≡ next_count old.failures (not (has_fault r)) → WalksUp g old new r
-walks_up g old new r looks counted = record {
-  unchanged = λ honest. ap (λ (d : Database). tables_in d.trees) (looks.now_is honest.clean honest.is_open);
-  honest = looks_back g old.conn new.conn _ looks;
-  clean = looks.was_clean;
-  lasts = λ right. keeps g old.conn new.conn _ (subst (λ faulty. IsTrue (not faulty)) (sym right) refl) looks;
-  crash = looks_leave g old.conn new.conn _ looks;
-  records = λ honest records. subst AreRecords (sym (looks.now_is honest.clean honest.is_open)) records;
-  failures = counted;
 }

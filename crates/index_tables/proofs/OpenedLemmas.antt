@@ -1,24 +1,109 @@
--- Why no index is opened that is made or raised.
-use Rattle.std.proofs.Common.{◌≡◌, ◌∙◌, inr, List, refl, sym}
+-- Books that are opened on a connection, or not.
+use Rattle.std.proofs.Common.{◌≡◌, ◌∙◌, Bool, inl, inr, false, ℕ, IsTrue, List, Option, Some, Result, Ok, Err, refl, sym}
+use Rattle.sqlite_trees.specs.Tree.{Trees}
+use Rattle.sqlite_trees.specs.declared.store.Store.{Ghosts}
 use Rattle.sqlite.specs.declared.error.Error.{Error}
-use Rattle.sqlite.specs.State.{State}
-use Rattle.index_sql_writes.specs.StepAsks.{FailsForRefusal}
+use Rattle.sqlite.specs.Effect.{Database}
+use Rattle.sqlite.specs.Held.{Held, state}
+use Rattle.sqlite.specs.State.{HasCleanDisk}
+use Rattle.index_sql_opening.specs.Making.{IsAtRest, MakesIndex}
 use Rattle.index_sql_schema.specs.Faults.{fault_by}
+use Rattle.index_sql_schema.specs.Index.{IsIndex, version_in}
+use Rattle.index_sql_schema.specs.Looks.{QueriesOnly}
+use Rattle.index_sql_schema.specs.Records.{tables_in}
+use Rattle.index_sql_writes.specs.Asks.{Ask}
 use Rattle.index_rules.specs.declared.answer.Fault.{Fault}
 use Rattle.index_rules.specs.declared.answer.Fault.TheVariants as fault
 use Rattle.index_rules.specs.declared.open.OpenFault.{OpenFault}
 use Rattle.index_rules.specs.declared.open.OpenFault.TheVariants as open_fault
-use Rattle.index_sql_writes.specs.Asks.{Ask}
-use Rattle.index_tables.specs.Opened.{StoreForOthers, StoreForRefusal, open_fault_by}
+use Rattle.index_rules.specs.Tables.{Tables}
+use Rattle.index_tables.specs.BooksState.{AreCurrent, IsHonest, IsWorking}
+use Rattle.index_tables.specs.Laws.{IsSettled, settled_at}
+use Rattle.index_tables.specs.Opened.{AreOpened, IsUnopened, LeavesOr, StoreForRefusal, open_fault_by}
+use Rattle.index_tables.proofs.KeptLemmas.{keeps}
 
 store_by : (f : Fault) → open_fault_by f ≡ open_fault.Store → f ≡ fault.Store
 store_by fault.Store same = refl
 store_by fault.OutOfMemory same = absurd (let s = same in cc)
 
-module _ (asks : List Ask) (old new : State) (e : Error) (why : OpenFault) (is : why ≡ open_fault_by (fault_by e)) (fails : FailsForRefusal asks old new e) where
-  -- it has the reason of the error
-  pub told_refused : StoreForRefusal asks old new why
-  told_refused store = fails (store_by (fault_by e) (sym is ∙ store))
+module _ {S : Type 0} (g : Ghosts S) (Made : Database → Trees → Type 0) (old new : Held S) where
+  -- books that are honest where the connection worked leave their tables alone
+  opened_by : IsSettled (state g new) → (HasCleanDisk (state g new) → HasCleanDisk (state g old)) → (HasCleanDisk (state g new) → IsTrue (state g new).is_open → IsTrue (state g old).is_open)
+      → (IsWorking (state g old) → HasCleanDisk (state g new) → IsHonest (state g new)) → LeavesOr Made (state g old) (state g new) → AreOpened g Made old (record { conn = new; failures = 0 })
+  opened_by settled was_clean was_open lasts crash = record {
+    was_working = λ working. record { clean = was_clean working.clean; is_open = was_open working.clean working.is_open };
+    was_clean = was_clean;
+    lasts = lasts;
+    failures = refl;
+    crash = crash;
+    alone = λ working T left. settled_at (lasts working left.0) settled T left;
+  }
 
-  pub told_refused_alone : StoreForOthers asks old new why
-  told_refused_alone store = inr (told_refused store)
+  -- a look leaves nothing new
+  module _ {did : Bool} (looks : QueriesOnly g old new did) (rest : IsAtRest g old) where
+    looked_crash : LeavesOr Made (state g old) (state g new)
+    looked_crash working clean db may = elim (looks.survives.crash clean db may) [ inl before ↦ inl before | inr none ↦ absurd none ]
+
+    pub looked_opened : IsTrue did → IsSettled (state g new) → (IsTrue (state g old).is_open → IsIndex (state g old).now) → (HasCleanDisk (state g new) → version_in (state g old).now.trees ≡ Some 2)
+        → AreOpened g Made old (record { conn = new; failures = 0 })
+    looked_opened right settled index told = opened_by settled looks.was_clean looks.was_open
+        (λ working clean. keeps g old new did right looks
+        (record { clean = working.clean; is_open = working.is_open; index = index working.is_open; committed = rest.settled working.clean working.is_open; version = told clean }) clean)
+        looked_crash
+
+    pub looked_refused : {Reason : Held S → Held S → OpenFault → Type 0} (why : OpenFault) → (HasCleanDisk (state g new) → Reason old new why) → IsUnopened g Made Reason old (record { why = why; conn = new })
+    looked_refused why reason = record {
+      outside = looks.outside rest.outside;
+      was_clean = looks.was_clean;
+      stays = λ clean. record { was_open = looks.was_open clean; now_is = looks.now_is clean; committed_is = looks.committed_is clean };
+      reason = reason;
+      crash = looked_crash;
+    }
+
+  -- an index is made of a database of a kind, and comes to what is made of it here
+  module _ {A : Type 0} {IsKind : Database → Type 0} {change : Tables → Tables} {told : Option ℕ → Option ℕ} {asks : List Ask}
+      (kind : HasCleanDisk (state g old) → IsTrue (state g old).is_open → IsKind (state g old).now)
+      (tells : HasCleanDisk (state g old) → IsTrue (state g old).is_open → told (version_in (state g old).now.trees) ≡ Some 2)
+      (comes : (db : Trees) → IsKind (state g old).now → AreCurrent db → tables_in db ≡ change (tables_in (state g old).now.trees) → Made (state g old).now db) where
+    made_crash : (result : Result A Error) → MakesIndex g IsKind change told asks old new result → LeavesOr Made (state g old) (state g new)
+    made_crash result it working clean db may =
+        let fit = kind working.clean working.is_open in
+        elim ((it.crash working.is_open fit).crash clean db may) [
+          | inl before ↦ inl before
+          | inr made ↦ inr (comes db fit (record { index = made.2; version = made.1 ∙ tells working.clean working.is_open }) made.0)
+        ]
+
+    pub made_opened : (done : A) → MakesIndex g IsKind change told asks old new (Ok done) → IsSettled (state g new) → AreOpened g Made old (record { conn = new; failures = 0 })
+    made_opened done it settled = opened_by settled it.was_clean it.was_open honest (made_crash (Ok done) it)
+      where
+        honest : IsWorking (state g old) → HasCleanDisk (state g new) → IsHonest (state g new)
+        honest working clean =
+            let made = it.made clean working.is_open (kind working.clean working.is_open) in
+            record { clean = clean; is_open = made.is_open; index = made.index; committed = sym made.committed; version = made.version ∙ tells working.clean working.is_open }
+
+    pub made_refused : {Reason : Held S → Held S → OpenFault → Type 0} (e : Error) → MakesIndex {A = A} g IsKind change told asks old new (Err e) → IsAtRest g old
+        → (why : OpenFault) → why ≡ open_fault_by (fault_by e) → (StoreForRefusal g asks old new why → Reason old new why) → IsUnopened g Made Reason old (record { why = why; conn = new })
+    made_refused e it rest why is weaker =
+        let fit = λ (clean : HasCleanDisk (state g new)) (o : IsTrue (state g old).is_open). kind (it.was_clean clean) o in
+        record {
+          outside = it.outside;
+          was_clean = it.was_clean;
+          stays = λ clean. record {
+            was_open = it.was_open clean;
+            now_is = λ o. let was = it.was_open clean o in (it.unchanged clean o (fit clean was)).0 ∙ sym (rest.settled (it.was_clean clean) was);
+            committed_is = λ o. (it.unchanged clean o (fit clean (it.was_open clean o))).1;
+          };
+          reason = λ clean. weaker (λ store. it.reason clean (fit clean) (store_by (fault_by e) (sym is ∙ store)));
+          crash = made_crash (Err e) it;
+        }
+
+-- a connection that is refused at once is as it was
+pub refused_at_once : {S : Type 0} (g : Ghosts S) {Made : Database → Trees → Type 0} {Reason : Held S → Held S → OpenFault → Type 0} (held : Held S) (why : OpenFault) → held.in_transaction ≡ false → (HasCleanDisk (state g held) → Reason held held why)
+    → IsUnopened g Made Reason held (record { why = why; conn = held })
+refused_at_once g held why outside reason = record {
+  outside = outside;
+  was_clean = λ clean. clean;
+  stays = λ _. record { was_open = λ o. o; now_is = λ _. refl; committed_is = λ _. refl };
+  reason = reason;
+  crash = λ _ _ db may. inl may;
+}

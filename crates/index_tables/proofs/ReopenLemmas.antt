@@ -18,7 +18,7 @@ use Rattle.sqlite.specs.Held.{Held, state, AreDatabases}
 use Rattle.sqlite.specs.State.{HasCleanDisk}
 use Rattle.sqlite.proofs.Theorems.{next_run}
 use Rattle.index_sql_writes.specs.Changed.{HoldsIndex}
-use Rattle.index_sql_reads.specs.Held.{tables_of}
+use Rattle.index_sql_reads.specs.ConnectionTables.{tables_of}
 use Rattle.index_rules.specs.Maps.{bytes_cmp}
 use Rattle.index_rules.specs.Tables.{Tables}
 use Rattle.index_rules.specs.declared.open.OpenFault.{OpenFault}
@@ -28,10 +28,11 @@ use Rattle.index_sql_schema.specs.FirstVersion.{first_version_schema}
 use Rattle.index_sql_schema.specs.Index.{IsIndex}
 use Rattle.index_sql_schema.specs.Records.{tables_in}
 use Rattle.index_sql_schema.specs.Schema.{index_schema}
-use Rattle.index_sql_schema.specs.Stages.{no_tables}
+use Rattle.index_sql_schema.specs.CreateSteps.{no_tables}
 use Rattle.index_tables.specs.declared.opening.Unopened.{Unopened}
-use Rattle.index_tables.specs.Kept.{Kept, AreCurrent, IsHonest, IsWorking, Leaves}
+use Rattle.index_tables.specs.BooksState.{BooksState, AreCurrent, IsHonest, IsWorking, Leaves}
 use Rattle.index_tables.specs.Adopted.{IsFault, IsFound, IsOurs}
+use Rattle.index_tables.specs.Opened.{AreOpened, IsUnopened}
 use Rattle.index_tables.specs.Reopened.{MayLeave, IsLeft, IsOver, OpensOnly}
 use Rattle.index_tables.specs.Laws.{IsSettled, current}
 
@@ -101,7 +102,7 @@ fault_or NotAnIndex = inr (λ is. elim is [ inl a ↦ absurd cc | inr b ↦ absu
 fault_or OtherVersion = inr (λ is. elim is [ inl a ↦ absurd cc | inr b ↦ absurd cc ])
 
 -- what is opened, where the connection is known to be over the files
-abbrev pub OpensIf : {S : Type 0} → Ghosts S → (Tables → Type 0) → Result (Kept S) (Unopened S) → Type 0
+abbrev pub OpensIf : {S : Type 0} → Ghosts S → (Tables → Type 0) → Result (BooksState S) (Unopened S) → Type 0
 OpensIf g Are (Ok books) = IsWorking (state g books.conn) → Are (tables_of g books.conn)
 OpensIf g Are (Err refused) = HasCleanDisk (state g refused.conn) → IsFault refused.why
 
@@ -120,13 +121,13 @@ module _ {D S : Type 0} {d : disk.Ghosts D} (g : Ghosts S) (old : Held (FileStor
   committed_found : (state g conn).committed.trees ≡ found
   committed_found = ap (λ (db : Database). db.trees) (sym over.opened.0.clean)
 
-  abbrev Finds : Result (Kept S) (Unopened S) → Type 0
+  abbrev Finds : Result (BooksState S) (Unopened S) → Type 0
   Finds result = IfOk result (λ books. IsWorking (state g books.conn) → IsFound (state g conn).now (tables_of g books.conn))
 
-  abbrev Again : Result (Kept S) (Unopened S) → Type 0
+  abbrev Again : Result (BooksState S) (Unopened S) → Type 0
   Again result = IfErr result (λ refused. HasCleanDisk (state g refused.conn) → IsTrue (state g conn).is_open → IsOurs (state g conn).now → IsFault refused.why)
 
-  opens_same : AreCurrent found → (result : Result (Kept S) (Unopened S)) → Finds result → Again result → OpensIf g (λ T. T ≡ tables_in found) result
+  opens_same : AreCurrent found → (result : Result (BooksState S) (Unopened S)) → Finds result → Again result → OpensIf g (λ T. T ≡ tables_in found) result
   opens_same cur (Ok books) finds again = λ honest. tables_found (state g conn).now (tables_of g books.conn) sound (finds honest) cur
   opens_same cur (Err refused) finds again = λ clean. again clean is_open (ours (state g conn).now sound cur)
 
@@ -137,7 +138,7 @@ module _ {D S : Type 0} {d : disk.Ghosts D} (g : Ghosts S) (old : Held (FileStor
         subst (λ (db : Trees). ∥ (file_state old).may_leave db ∥₁) committed_found (next_run old.store numbered databases image may (state g conn) over.found)
 
     -- at rest an honest index leaves itself
-    pub opens_rest : IsHonest (file_state old) → IsSettled (file_state old) → IsLeft old image → (result : Result (Kept S) (Unopened S)) → Finds result → Again result → OpensIf g (λ T. T ≡ tables_of over_files old) result
+    pub opens_rest : IsHonest (file_state old) → IsSettled (file_state old) → IsLeft old image → (result : Result (BooksState S) (Unopened S)) → Finds result → Again result → OpensIf g (λ T. T ≡ tables_of over_files old) result
     opens_rest honest rests left result finds again =
         let committed : found ≡ (file_state old).committed.trees = elim left [
           | inl may ↦ ∥∥₁_elim (found_left may) (Trees-set _ _) (rests found honest.is_open)
@@ -149,7 +150,7 @@ module _ {D S : Type 0} {d : disk.Ghosts D} (g : Ghosts S) (old : Held (FileStor
 
     -- during a change it leaves one of two
     pub opens_either : (A B : Tables) → HasCleanDisk (file_state old) → ((T : Tables) → Leaves (file_state old) T → IsEither A B T) → MayLeave old image
-        → (result : Result (Kept S) (Unopened S)) → Finds result → Again result → OpensIf g (λ T. ∥ IsEither A B T ∥₁) result
+        → (result : Result (BooksState S) (Unopened S)) → Finds result → Again result → OpensIf g (λ T. ∥ IsEither A B T ∥₁) result
     opens_either A B clean left may (Ok books) finds again =
         λ honest. ∥∥₁_map (found_left may) (λ can. left (tables_of g books.conn) (clean, (found, can, tables_found (state g conn).now (tables_of g books.conn) sound (finds honest))))
     opens_either A B clean left may (Err refused) finds again = λ unread. elim (fault_or refused.why) [
@@ -160,10 +161,8 @@ module _ {D S : Type 0} {d : disk.Ghosts D} (g : Ghosts S) (old : Held (FileStor
 
 -- the same, of a connection that is over the files as far as its disk is clean
 module _ {S : Type 0} (g : Ghosts S) (conn : Held S) (image : Image) (over : HasCleanDisk (state g conn) → IsOver image (state g conn)) (Are : Tables → Type 0) where
-  pub opens_if_clean : (result : Result (Kept S) (Unopened S)) → IfOk result (λ books. HasCleanDisk (state g books.conn) → HasCleanDisk (state g conn))
-      → IfErr result (λ refused. HasCleanDisk (state g refused.conn) → HasCleanDisk (state g conn))
-      → IfOk result (λ books. IsWorking (state g conn) → HasCleanDisk (state g books.conn) → IsHonest (state g books.conn))
+  pub opens_if_clean : (Made : Database → Trees → Type 0) (Reason : Held S → Held S → OpenFault → Type 0) (result : Result (BooksState S) (Unopened S)) → IfOk result (AreOpened g Made conn) → IfErr result (IsUnopened g Made Reason conn)
       → (IsOver image (state g conn) → OpensIf g Are result) → OpensOnly g Are result
-  opens_if_clean (Ok books) was_clean refused lasts opens =
-      λ clean. let before = was_clean clean in let it = over before in let honest = lasts (record { clean = before; is_open = it.opened.0.is_open }) clean in (honest, opens it (record { clean = clean; is_open = honest.is_open }))
-  opens_if_clean (Err refused) opened was_clean lasts opens = λ clean. opens (over (was_clean clean)) clean
+  opens_if_clean Made Reason (Ok books) opened refused opens =
+      λ clean. let before = opened.was_clean clean in let it = over before in let honest = opened.lasts (record { clean = before; is_open = it.opened.0.is_open }) clean in (honest, opens it (record { clean = clean; is_open = honest.is_open }))
+  opens_if_clean Made Reason (Err it) opened refused opens = λ clean. opens (over (refused.was_clean clean)) clean

@@ -1,11 +1,11 @@
 -- What a database that is there is taken for.
-use Rattle.std.specs.Prelude.{◌≡◌, ◌⊎◌, ℕ, ◌==◌, Bool, ◌&&◌, false, if◌then◌else◌, Option, Some, None, codes, IsTrue, ⊤}
+use Rattle.std.specs.Prelude.{◌≡◌, ◌⊎◌, ℕ, ◌==◌, Bool, ◌&&◌, false, if◌then◌else◌, Option, Some, None, codes, IsTrue}
 use Rattle.sqlite_trees.specs.Tree.{Trees}
 use Rattle.sqlite_trees.specs.declared.store.Store.{Ghosts}
 use Rattle.sqlite_schema.specs.declared.schema.Schema.{Schema}
 use Rattle.sqlite.specs.Effect.{Database}
 use Rattle.sqlite.specs.Held.{Held, state}
-use Rattle.sqlite.specs.State.{State, HasCleanDisk}
+use Rattle.sqlite.specs.State.{State}
 use Rattle.index_sql_opening.specs.Migrated.{asks_of_migration}
 use Rattle.index_sql_opening.specs.Names.{has_all_of, has_meta, has_table}
 use Rattle.index_sql_opening.specs.Versions.{FailsToTell, Tells, begun}
@@ -20,7 +20,7 @@ use Rattle.index_sql_schema.specs.Records.{tables_in}
 use Rattle.index_sql_schema.specs.Schema.{index_schema}
 use Rattle.index_tables.specs.declared.adopt.Kind.{Kind}
 use Rattle.index_tables.specs.declared.adopt.Kind.TheVariants as kind
-use Rattle.index_tables.specs.Kept.{AreCurrent, IsWorking}
+use Rattle.index_tables.specs.BooksState.{AreCurrent}
 
 -- it is an index that tells version 2, with these tables
 pub record IsCurrent (db : Database) (T : Tables) : Type 0 where
@@ -39,9 +39,13 @@ pub record IsFirst (db : Database) (T : Tables) : Type 0 where
   pub version : version_in db.trees ≡ Some 1
   pub tables : T ≡ without_bans (tables_in db.trees)
 
+-- it is of version 1, and tells so
+abbrev pub TellsFirst : Database → Type 0
+TellsFirst db = IsFirstVersion db × (version_in db.trees ≡ Some 1)
+
 -- it is an index, or of version 1, and tells so
 abbrev pub IsOurs : Database → Type 0
-IsOurs db = (IsIndex db × (version_in db.trees ≡ Some 2)) ⊎ (IsFirstVersion db × (version_in db.trees ≡ Some 1))
+IsOurs db = (IsIndex db × (version_in db.trees ≡ Some 2)) ⊎ TellsFirst db
 
 -- for want of memory, or by a fault of the store
 abbrev pub IsFault : OpenFault → Type 0
@@ -51,42 +55,47 @@ IsFault why = (why ≡ OutOfMemory) ⊎ (why ≡ Store)
 abbrev pub IsFound : Database → Tables → Type 0
 IsFound db T = IsCurrent db T ⊎ IsFirst db T
 
--- of an honest store, an open after a crash may find what it could find before; of version 1 it may find the index that
--- comes of it, which tells version 2
-abbrev pub LeavesMigrated : State → State → Type 0
-LeavesMigrated old new =
-    IsWorking old → HasCleanDisk new → (db : Trees) → new.may_leave db → old.may_leave db ⊎ (IsFirstVersion old.now × AreCurrent db × (tables_in db ≡ without_bans (tables_in old.now.trees)))
+-- of a database of version 1 the index is made that comes of it, which tells version 2
+abbrev pub IsRaised : Database → Trees → Type 0
+IsRaised was db = IsFirstVersion was × AreCurrent db × (tables_in db ≡ without_bans (tables_in was.trees))
 
--- the schema is that of an index of this kind
-abbrev pub IsOfKind : Schema → Kind → Type 0
-IsOfKind schema kind.Index = schema ≡ index_schema
-IsOfKind schema kind.FirstVersion = schema ≡ first_version_schema
-IsOfKind schema kind.Other = ⊤
+-- the schema is this one of ours
+abbrev pub HasSchema : Schema → Kind → Type 0
+HasSchema schema kind.Index = schema ≡ index_schema
+HasSchema schema kind.FirstVersion = schema ≡ first_version_schema
+
+-- it is an index, or of version 1
+abbrev pub IsOfKind : Database → Kind → Type 0
+IsOfKind db kind.Index = IsIndex db
+IsOfKind db kind.FirstVersion = IsFirstVersion db
 
 -- it tells this version: what its row of meta has where the tables are ours, else what the query of it shows
 abbrev pub TellsVersion : {S : Type 0} → Ghosts S → Held S → Option ℕ → Type 0
 TellsVersion g held version = ((IsTrue (state g held).is_open → IsAnyVersion (state g held).now) × (version ≡ version_in (state g held).now.trees)) ⊎ Tells g (begun held) version
 
 -- tables that are there by name, but are not as an index has them
-abbrev pub unlike : Bool → OpenFault
-unlike has_all = if has_all then Store else NotAnIndex
+abbrev pub foreign_tables_fault : Bool → OpenFault
+foreign_tables_fault has_all = if has_all then Store else NotAnIndex
 
 -- why a database is refused that tells this version, and has all tables of version 1 by name, and that of the bans
 abbrev pub refusal_by : Option ℕ → Bool → Bool → OpenFault
 refusal_by None has_first has_bans = NotAnIndex
-refusal_by (Some version) has_first has_bans = if version == 1 then unlike has_first else if version == 2 then unlike (has_first && has_bans) else OtherVersion
+refusal_by (Some version) has_first has_bans =
+    if version == 1 then foreign_tables_fault has_first else if version == 2 then foreign_tables_fault (has_first && has_bans) else OtherVersion
 
 -- the same, by its schema
 abbrev pub refusal_in : Schema → Option ℕ → OpenFault
 refusal_in schema version = refusal_by version (has_all_of schema first_version_schema.tables) (has_table schema (codes "bans"))
 
 -- it is refused for this by the version that it tells
-abbrev pub IsRefusal : {S : Type 0} → Ghosts S → Held S → OpenFault → Type 0
-IsRefusal g held why = (version : Option ℕ) × TellsVersion g held version × (why ≡ refusal_in (state g held).now.schema version)
+abbrev pub IsRefusedByVersion : {S : Type 0} → Ghosts S → Held S → OpenFault → Type 0
+IsRefusedByVersion g held why =
+    (version : Option ℕ) × TellsVersion g held version
+    × (why ≡ refusal_in (state g held).now.schema version)
 
 -- it is of version 1 and tells that, and SQL refuses a statement that makes an index of it
 abbrev pub IsNotRaised : Database → Type 0
-IsNotRaised db = IsFirstVersion db × (version_in db.trees ≡ Some 1) × AreRefused asks_of_migration db
+IsNotRaised db = TellsFirst db × AreRefused asks_of_migration db
 
 -- the store fails, the query of the version is refused, or the database is of version 1 and is not raised
 abbrev pub FailsToOpen : {S : Type 0} → Ghosts S → Held S → Held S → Type 0
@@ -95,7 +104,10 @@ FailsToOpen g old new = HasReason (state g old) (state g new) ⊎ (FailsToTell g
 -- Why no index is opened on a connection, which is left as `new`. Without a table of the version it is no index, whatever
 -- the store does.
 abbrev pub IsReason : {S : Type 0} → Ghosts S → Held S → Held S → OpenFault → Type 0
-IsReason g old new NotAnIndex = (has_meta (state g old).now.schema ≡ false) ⊎ IsRefusal g old NotAnIndex
+IsReason g old new NotAnIndex =
+    (has_meta (state g old).now.schema ≡ false) ⊎ IsRefusedByVersion g old NotAnIndex
 IsReason g old new OutOfMemory = IsTrue (has_meta (state g old).now.schema)
-IsReason g old new Store = IsTrue (has_meta (state g old).now.schema) × (IsRefusal g old Store ⊎ FailsToOpen g old new)
-IsReason g old new why = IsRefusal g old why
+IsReason g old new Store =
+    IsTrue (has_meta (state g old).now.schema)
+    × (IsRefusedByVersion g old Store ⊎ FailsToOpen g old new)
+IsReason g old new why = IsRefusedByVersion g old why

@@ -7,7 +7,7 @@ use Rattle.sqlite.specs.State.{State}
 use Rattle.index_sql_writes.proofs.CommitLemmas.{index_held}
 use Rattle.index_rules.specs.Tables.{Tables}
 use Rattle.index_sql_schema.specs.Records.{tables_in}
-use Rattle.index_tables.specs.Kept.{AreCurrent, IsHonest, Leaves}
+use Rattle.index_tables.specs.BooksState.{AreCurrent, IsHonest, Leaves}
 
 -- while it is open, a crash leaves the last commit and nothing else: a law of each store
 abbrev pub IsSettled : State → Type 0

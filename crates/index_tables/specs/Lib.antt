@@ -1,4 +1,4 @@
-pub mod Kept
+pub mod BooksState
 pub mod Laws
 pub mod LooksUp
 pub mod Opened

@@ -1,7 +1,10 @@
 -- What the opening of an index answers, and what it leaves of a connection.
 use Rattle.std.specs.Prelude.{◌≡◌, ◌≢◌, ◌⊎◌, List, Result, Ok, Err, IsTrue, false}
+use Rattle.sqlite_trees.specs.declared.store.Store.{Ghosts}
 use Rattle.sqlite_trees.specs.Tree.{Trees}
 use Rattle.sqlite_schema.specs.declared.schema.Schema.{Schema}
+use Rattle.sqlite.specs.Effect.{Database}
+use Rattle.sqlite.specs.Held.{Held, state}
 use Rattle.sqlite.specs.State.{State, HasCleanDisk}
 use Rattle.index_sql_opening.specs.Names.{has_any_of}
 use Rattle.index_sql_writes.specs.StepAsks.{AreRefused}
@@ -15,9 +18,12 @@ use Rattle.index_rules.specs.Maps.{Bytes}
 use Rattle.index_rules.specs.Tables.{Tables}
 use Rattle.index_sql_schema.specs.Records.{tables_in}
 use Rattle.index_sql_schema.specs.Schema.{index_schema, no_schema}
+use Rattle.index_sql_schema.specs.RecordRows.{AreRecords}
+use Rattle.index_sql_schema.specs.Unchanged.{IsUnchangedIfOpen}
+use Rattle.index_sql_reads.specs.ConnectionTables.{tables_of}
 use Rattle.index_sql_writes.specs.Asks.{Ask}
 use Rattle.index_tables.specs.declared.opening.Unopened.{Unopened}
-use Rattle.index_tables.specs.Kept.{AreCurrent, IsWorking}
+use Rattle.index_tables.specs.BooksState.{AreCurrent, IsHonest, IsWorking, BooksState, Leaves}
 
 -- no index was opened, for this reason
 abbrev pub IsRefusedAs : {S A : Type 0} → OpenFault → Result A (Unopened S) → Type 0
@@ -43,14 +49,48 @@ IsAmongOthers user token schema = (¬ IsBadFirstUser user token) × HasOthers sc
 
 -- a fault of the store comes for a reason of the store, or where SQL refuses one of these statements, on what those before
 -- it make of the database
-abbrev pub StoreForRefusal : List Ask → State → State → OpenFault → Type 0
-StoreForRefusal asks old new why = why ≡ open_fault.Store → HasReason old new ⊎ AreRefused asks old.now
+abbrev pub StoreForRefusal : {S : Type 0} → Ghosts S → List Ask → Held S → Held S → OpenFault → Type 0
+StoreForRefusal g asks old new why = why ≡ open_fault.Store → HasReason (state g old) (state g new) ⊎ AreRefused asks (state g old).now
 
 -- or where something else is there
-abbrev pub StoreForOthers : List Ask → State → State → OpenFault → Type 0
-StoreForOthers asks old new why = why ≡ open_fault.Store → HasOthers old.now.schema ⊎ (HasReason old new ⊎ AreRefused asks old.now)
+abbrev pub StoreForOthers : {S : Type 0} → Ghosts S → List Ask → Held S → Held S → OpenFault → Type 0
+StoreForOthers g asks old new why =
+    why ≡ open_fault.Store → HasOthers (state g old).now.schema ⊎ (HasReason (state g old) (state g new) ⊎ AreRefused asks (state g old).now)
 
--- of an honest store, an open after a crash may find what it could find before, or an index that tells version 2, with
--- these tables
-abbrev pub LeavesOr : Tables → State → State → Type 0
-LeavesOr made old new = IsWorking old → HasCleanDisk new → (db : Trees) → new.may_leave db → old.may_leave db ⊎ (AreCurrent db × (tables_in db ≡ made))
+-- of a connection that works, an open after a crash may find what it could find before, or what is made of its database
+abbrev pub LeavesOr : (Database → Trees → Type 0) → State → State → Type 0
+LeavesOr Made old new = IsWorking old → HasCleanDisk new → (db : Trees) → new.may_leave db → old.may_leave db ⊎ Made old.now db
+
+-- an index that tells version 2, with these tables, is made of it
+abbrev pub IsCreated : Tables → Database → Trees → Type 0
+IsCreated T was db = AreCurrent db × (tables_in db ≡ T)
+
+-- while they work, the books have tables of this kind
+abbrev pub HaveTables : {S : Type 0} → Ghosts S → (Tables → Type 0) → BooksState S → Type 0
+HaveTables g Are books = IsWorking (state g books.conn) → Are (tables_of g books.conn)
+
+-- and their rows are records
+abbrev pub HaveRecords : {S : Type 0} → Ghosts S → BooksState S → Type 0
+HaveRecords g books = IsWorking (state g books.conn) → AreRecords (state g books.conn).now
+
+-- Books were opened on a connection. `Made` says what may have been made of its database.
+pub record AreOpened {S : Type 0} (g : Ghosts S) (Made : Database → Trees → Type 0) (old : Held S) (books : BooksState S) : Type 0 where
+  -- they work only where the connection did, and there they are honest as far as the disk is clean
+  pub was_working : IsWorking (state g books.conn) → IsWorking (state g old)
+  pub was_clean : HasCleanDisk (state g books.conn) → HasCleanDisk (state g old)
+  pub lasts : IsWorking (state g old) → HasCleanDisk (state g books.conn) → IsHonest (state g books.conn)
+  pub failures : books.failures ≡ 0
+  -- a crash leaves what it could leave before, or what was made, and where the connection worked their tables alone
+  pub crash : LeavesOr Made (state g old) (state g books.conn)
+  pub alone : IsWorking (state g old) → (T : Tables) → Leaves (state g books.conn) T → T ≡ tables_of g books.conn
+
+-- No books were opened on a connection, for a reason of this kind, and it is given back outside a transaction.
+pub record IsUnopened {S : Type 0} (g : Ghosts S) (Made : Database → Trees → Type 0) (Reason : Held S → Held S → OpenFault → Type 0) (old : Held S) (refused : Unopened S) : Type 0 where
+  pub outside : refused.conn.in_transaction ≡ false
+  pub was_clean : HasCleanDisk (state g refused.conn) → HasCleanDisk (state g old)
+  -- on a clean disk, where it is open, its database is as it was
+  pub stays : HasCleanDisk (state g refused.conn)
+      → IsUnchangedIfOpen (state g old) (state g refused.conn)
+  pub reason : HasCleanDisk (state g refused.conn) → Reason old refused.conn refused.why
+  -- a crash leaves what it could leave before, or, where a fault came late, what was made
+  pub crash : LeavesOr Made (state g old) (state g refused.conn)

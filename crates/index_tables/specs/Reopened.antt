@@ -10,10 +10,10 @@ use Rattle.sqlite.specs.Files.{file_state}
 use Rattle.sqlite.specs.Held.{Held, state}
 use Rattle.sqlite.specs.Start.{FindsIn}
 use Rattle.sqlite.specs.State.{State, HasCleanDisk, IsLive, Opens}
-use Rattle.index_sql_reads.specs.Held.{tables_of}
+use Rattle.index_sql_reads.specs.ConnectionTables.{tables_of}
 use Rattle.index_rules.specs.Tables.{Tables}
 use Rattle.index_tables.specs.declared.opening.Unopened.{Unopened}
-use Rattle.index_tables.specs.Kept.{Kept, IsHonest}
+use Rattle.index_tables.specs.BooksState.{BooksState, IsHonest}
 use Rattle.index_tables.specs.Adopted.{IsFault}
 
 -- a crash at this moment may leave these two files
@@ -30,6 +30,6 @@ pub record IsOver (image : Image) (s : State) : Type 0 where
   pub opened : Opens s × IsLive s
 
 -- on a clean disk, an open index with such tables is there, or none for want of memory or by a fault of the store
-abbrev pub OpensOnly : {S : Type 0} → Ghosts S → (Tables → Type 0) → Result (Kept S) (Unopened S) → Type 0
+abbrev pub OpensOnly : {S : Type 0} → Ghosts S → (Tables → Type 0) → Result (BooksState S) (Unopened S) → Type 0
 OpensOnly g Are (Ok books) = HasCleanDisk (state g books.conn) → IsHonest (state g books.conn) × Are (tables_of g books.conn)
 OpensOnly g Are (Err refused) = HasCleanDisk (state g refused.conn) → IsFault refused.why

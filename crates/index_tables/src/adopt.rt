@@ -1,82 +1,59 @@
 //! The index in a database that is there.
-ghost use Rattle.std.specs.Prelude.{◌≡◌, ◌⊎◌, false, Some, IfOk, IfErr, IsTrue};
+ghost use Rattle.std.specs.Prelude.{◌≡◌, false, IfOk, IfErr, IfSome, IsTrue};
 ghost use Rattle.sqlite.specs.Held.{state};
 ghost use Rattle.sqlite.specs.State.{HasCleanDisk};
 ghost use Rattle.index_rules.specs.Facts.{HasOneBearer};
-ghost use Rattle.index_rules.specs.Tables.{Tables};
-ghost use Rattle.index_sql_schema.specs.FirstVersion.{IsFirstVersion, first_version_schema, without_bans};
-ghost use Rattle.index_sql_schema.specs.Index.{IsIndex, version_in};
-ghost use Rattle.index_sql_schema.specs.Stays.{Stays};
+ghost use Rattle.index_sql_schema.specs.FirstVersion.{first_version_schema, without_bans};
+ghost use Rattle.index_sql_opening.specs.Making.{IsAtRest};
 ghost use Rattle.index_sql_opening.specs.Migrated.{asks_of_migration};
 ghost use Rattle.index_sql_opening.specs.Names.{has_meta};
-ghost use Rattle.index_sql_reads.specs.Held.{tables_of};
-ghost use Rattle.index_tables.specs.Kept.{IsHonest, IsWorking, Leaves};
-ghost use Rattle.index_tables.specs.Opened.{IsRefusedAs, StoreForRefusal};
-ghost use Rattle.index_tables.specs.Adopted.{IsFault, IsFound, IsOfKind, IsOurs, IsReason, LeavesMigrated, refusal_by, unlike};
+ghost use Rattle.index_sql_reads.specs.ConnectionTables.{tables_of};
+ghost use Rattle.index_tables.specs.Opened.{AreOpened, HaveTables, IsRefusedAs, IsUnopened, StoreForRefusal};
+ghost use Rattle.index_tables.specs.Adopted.{HasSchema, IsFault, IsFound, IsOfKind, IsOurs, IsRaised, IsReason, TellsFirst, refusal_by, foreign_tables_fault};
 
 use crate::opening::{Unopened, open_fault_of};
 use crate::tables::SqlBooks;
 use index_rules::OpenFault;
 use index_sql_opening::{
-    has_all_tables, has_meta, has_table, is_first_version, is_ours, known, migrate, read_version,
-    told_version,
+    expose_invariants, has_meta, has_table, has_version_1_tables, is_first_version, is_ours,
+    migrate, read_version, told_version,
 };
 use index_sql_schema::{IndexConnection, fault_of};
 use sqlite::{Alter, Connection};
 use std::alloc::{AllocError, Global};
 
-/// Whose schema a database has.
+/// A schema of ours.
 #[derive(Clone, Copy)]
 pub(crate) enum Kind {
     /// That of an index.
     Index,
     /// That of version 1.
     FirstVersion,
-    /// Another.
-    Other,
 }
 
 impl<S: Alter> SqlBooks<S> {
-    /// The index in a database that is there. One of version 1 is made one of version 2, in one transaction.
+    /// The index in a database that is there. One of version 1 is made one of version 2, in one transaction. A crash
+    /// leaves what was there, or of version 1 the whole index; once it is adopted, the index alone.
     ///
-    /// `NotAnIndex` where there is no table `meta` with the columns of the version, where it has no row with id 1 and kind
-    /// `python-index`, or where a table of the version that it tells is not there by name; `OtherVersion` where that
-    /// version is neither 1 nor 2; else `OutOfMemory` for want of memory, and `Store` where the tables are not as an index
-    /// has them or the store fails. A refused database is as it was. A crash leaves what was there, or of version 1 the whole index; once it is
-    /// adopted, the index alone.
+    /// # Errors
+    ///
+    /// `NotAnIndex` where there is no table `meta` with the columns of the version, where it has no row with id 1 and
+    /// kind `python-index`, or where a table of the version that it tells is not there by name; `OtherVersion` where
+    /// that version is neither 1 nor 2; else `OutOfMemory` for want of memory, and `Store` where the tables are not as
+    /// an index has them or the store fails. A refused database is as it was.
     pub fn adopt(alloc: Global, conn: Connection<S>) -> Result<SqlBooks<S>, Unopened<S>>
         requires outside { conn.in_transaction ≡ false }
-        ensures found { IfOk result (λ books. IsWorking (state S.Store books.conn)
-            → IsFound (state S.Store conn).now (tables_of S.Store books.conn)) }
-        ensures one_bearer { IfOk result (λ books. IsWorking (state S.Store books.conn)
-            → HasOneBearer (tables_of S.Store books.conn)) }
-        ensures honest { IfOk result (λ books. IsWorking (state S.Store books.conn)
-            → IsWorking (state S.Store conn)) }
-        ensures lasts { IfOk result (λ books. IsWorking (state S.Store conn)
-            → HasCleanDisk (state S.Store books.conn) → IsHonest (state S.Store books.conn)) }
-        ensures clean { IfOk result (λ books. HasCleanDisk (state S.Store books.conn)
-            → HasCleanDisk (state S.Store conn)) }
-        ensures clean_refused { IfErr result (λ refused.
-            HasCleanDisk (state S.Store refused.conn) → HasCleanDisk (state S.Store conn)) }
-        ensures failures { IfOk result (λ books. books.failures ≡ 0) }
+        ensures found { IfOk result (HaveTables S.Store (IsFound (state S.Store conn).now)) }
+        ensures one_bearer { IfOk result (HaveTables S.Store HasOneBearer) }
+        ensures opened { IfOk result (AreOpened S.Store IsRaised conn) }
+        ensures refused { IfErr result (IsUnopened S.Store IsRaised (IsReason S.Store) conn) }
         ensures no_meta { has_meta (state S.Store conn).now.schema ≡ false
             → IsRefusedAs OpenFault.NotAnIndex result }
-        ensures reason { IfErr result (λ refused. HasCleanDisk (state S.Store refused.conn)
-            → IsReason S.Store conn refused.conn refused.why) }
         ensures again { IfErr result (λ refused. HasCleanDisk (state S.Store refused.conn)
             → IsTrue (state S.Store conn).is_open → IsOurs (state S.Store conn).now
             → IsFault refused.why) }
-        ensures refused { IfErr result (λ refused. HasCleanDisk (state S.Store refused.conn)
-            → Stays (state S.Store conn) (state S.Store refused.conn)) }
-        ensures ended { IfErr result (λ refused. refused.conn.in_transaction ≡ false) }
-        ensures alone { IfOk result (λ books. IsWorking (state S.Store conn) → (T : Tables)
-            → Leaves (state S.Store books.conn) T → T ≡ tables_of S.Store books.conn) }
-        ensures crash { IfOk result (λ books. LeavesMigrated
-            (state S.Store conn) (state S.Store books.conn)) }
-        ensures crash_refused { IfErr result (λ refused. LeavesMigrated
-            (state S.Store conn) (state S.Store refused.conn)) }
     {
-        let conn = known(conn);
+        let conn = expose_invariants(conn);
         if !has_meta(conn.schema()) {
             return Err(Unopened {
                 why: OpenFault::NotAnIndex,
@@ -84,9 +61,8 @@ impl<S: Alter> SqlBooks<S> {
             });
         }
         match kind_of(alloc, &conn) {
-            Ok(Kind::Index) => adopt_index(conn),
-            Ok(Kind::FirstVersion) => adopt_first_version(conn),
-            Ok(Kind::Other) => Err(refuse_other(conn)),
+            Ok(Some(kind)) => adopt_kind(conn, kind),
+            Ok(None) => Err(refuse_other(conn)),
             Err(AllocError) => Err(Unopened {
                 why: OpenFault::OutOfMemory,
                 conn,
@@ -95,109 +71,43 @@ impl<S: Alter> SqlBooks<S> {
     }
 }
 
-/// Whose schema it is.
-fn kind_of<S: Alter>(alloc: Global, conn: &Connection<S>) -> Result<Kind, AllocError>
-    ensures kind { IfOk result (IsOfKind (state S.Store conn.now).now.schema) }
+/// Which schema of ours it is, or `None` where it was not seen to be one.
+fn kind_of<S: Alter>(alloc: Global, conn: &Connection<S>) -> Result<Option<Kind>, AllocError>
+    ensures kind { IfOk result (λ kind.
+        IfSome kind (HasSchema (state S.Store conn.now).now.schema)) }
 {
     if is_ours(alloc, conn)? {
-        Ok(Kind::Index)
+        Ok(Some(Kind::Index))
     } else if is_first_version(alloc, conn)? {
-        Ok(Kind::FirstVersion)
+        Ok(Some(Kind::FirstVersion))
     } else {
-        Ok(Kind::Other)
+        Ok(None)
     }
 }
 
-/// The index on a connection to one.
-fn adopt_index<S: Alter>(conn: Connection<S>) -> Result<SqlBooks<S>, Unopened<S>>
-    requires outside { conn.in_transaction ≡ false }
+/// The index on a connection to one, or the one that comes of a database of version 1.
+fn adopt_kind<S: Alter>(conn: Connection<S>, kind: Kind) -> Result<SqlBooks<S>, Unopened<S>>
+    requires rest { IsAtRest S.Store conn }
     requires meta { IsTrue (has_meta (state S.Store conn).now.schema) }
-    requires index { IsTrue (state S.Store conn).is_open → IsIndex (state S.Store conn).now }
-    requires settled { IsTrue (state S.Store conn).is_open
-        → (state S.Store conn).now ≡ (state S.Store conn).committed }
-    ensures found { IfOk result (λ books. IsWorking (state S.Store books.conn)
-        → IsFound (state S.Store conn).now (tables_of S.Store books.conn)) }
-    ensures index { IfOk result (λ books. IsWorking (state S.Store books.conn)
-        → IsIndex (state S.Store books.conn).now) }
-    ensures honest { IfOk result (λ books. IsWorking (state S.Store books.conn)
-        → IsWorking (state S.Store conn)) }
-    ensures lasts { IfOk result (λ books. IsWorking (state S.Store conn)
-        → HasCleanDisk (state S.Store books.conn) → IsHonest (state S.Store books.conn)) }
-    ensures clean { IfOk result (λ books. HasCleanDisk (state S.Store books.conn)
-        → HasCleanDisk (state S.Store conn)) }
-    ensures clean_refused { IfErr result (λ refused.
-        HasCleanDisk (state S.Store refused.conn) → HasCleanDisk (state S.Store conn)) }
-    ensures failures { IfOk result (λ books. books.failures ≡ 0) }
-    ensures reason { IfErr result (λ refused. HasCleanDisk (state S.Store refused.conn)
-        → IsReason S.Store conn refused.conn refused.why) }
-    ensures refused { IfErr result (λ refused. HasCleanDisk (state S.Store refused.conn)
-        → Stays (state S.Store conn) (state S.Store refused.conn)) }
-    ensures ended { IfErr result (λ refused. refused.conn.in_transaction ≡ false) }
-    ensures crash { IfOk result (λ books. LeavesMigrated
-        (state S.Store conn) (state S.Store books.conn)) }
-    ensures crash_refused { IfErr result (λ refused. LeavesMigrated
-        (state S.Store conn) (state S.Store refused.conn)) }
+    requires kind { IsTrue (state S.Store conn).is_open → IsOfKind (state S.Store conn).now kind }
+    ensures found { IfOk result (HaveTables S.Store (IsFound (state S.Store conn).now)) }
+    ensures opened { IfOk result (AreOpened S.Store IsRaised conn) }
+    ensures refused { IfErr result (IsUnopened S.Store IsRaised (IsReason S.Store) conn) }
 {
-    let has_first = has_all_tables(conn.schema());
+    let has_first = has_version_1_tables(conn.schema());
     let has_bans = has_table(conn.schema(), b"bans");
     let mut conn = conn;
-    match read_version(&mut conn) {
-        Ok(Some(2)) => Ok(SqlBooks {
+    match (kind, read_version(&mut conn)) {
+        (Kind::Index, Ok(Some(2))) => Ok(SqlBooks {
             conn: IndexConnection { conn },
             failures: 0,
         }),
-        Ok(version) => Err(Unopened {
+        (Kind::FirstVersion, Ok(Some(1))) => migrate_and_adopt(conn),
+        (_, Ok(version)) => Err(Unopened {
             why: refusal(version, has_first, has_bans),
             conn,
         }),
-        Err(fault) => Err(Unopened {
-            why: open_fault_of(fault),
-            conn,
-        }),
-    }
-}
-
-/// The index that comes of a database of version 1.
-fn adopt_first_version<S: Alter>(conn: Connection<S>) -> Result<SqlBooks<S>, Unopened<S>>
-    requires outside { conn.in_transaction ≡ false }
-    requires meta { IsTrue (has_meta (state S.Store conn).now.schema) }
-    requires first { IsTrue (state S.Store conn).is_open
-        → IsFirstVersion (state S.Store conn).now }
-    requires settled { IsTrue (state S.Store conn).is_open
-        → (state S.Store conn).now ≡ (state S.Store conn).committed }
-    ensures found { IfOk result (λ books. IsWorking (state S.Store books.conn)
-        → IsFound (state S.Store conn).now (tables_of S.Store books.conn)) }
-    ensures index { IfOk result (λ books. IsWorking (state S.Store books.conn)
-        → IsIndex (state S.Store books.conn).now) }
-    ensures honest { IfOk result (λ books. IsWorking (state S.Store books.conn)
-        → IsWorking (state S.Store conn)) }
-    ensures lasts { IfOk result (λ books. IsWorking (state S.Store conn)
-        → HasCleanDisk (state S.Store books.conn) → IsHonest (state S.Store books.conn)) }
-    ensures clean { IfOk result (λ books. HasCleanDisk (state S.Store books.conn)
-        → HasCleanDisk (state S.Store conn)) }
-    ensures clean_refused { IfErr result (λ refused.
-        HasCleanDisk (state S.Store refused.conn) → HasCleanDisk (state S.Store conn)) }
-    ensures failures { IfOk result (λ books. books.failures ≡ 0) }
-    ensures reason { IfErr result (λ refused. HasCleanDisk (state S.Store refused.conn)
-        → IsReason S.Store conn refused.conn refused.why) }
-    ensures refused { IfErr result (λ refused. HasCleanDisk (state S.Store refused.conn)
-        → Stays (state S.Store conn) (state S.Store refused.conn)) }
-    ensures ended { IfErr result (λ refused. refused.conn.in_transaction ≡ false) }
-    ensures crash { IfOk result (λ books. LeavesMigrated
-        (state S.Store conn) (state S.Store books.conn)) }
-    ensures crash_refused { IfErr result (λ refused. LeavesMigrated
-        (state S.Store conn) (state S.Store refused.conn)) }
-{
-    let has_first = has_all_tables(conn.schema());
-    let has_bans = has_table(conn.schema(), b"bans");
-    let mut conn = conn;
-    match read_version(&mut conn) {
-        Ok(Some(1)) => raise(conn),
-        Ok(version) => Err(Unopened {
-            why: refusal(version, has_first, has_bans),
-            conn,
-        }),
-        Err(fault) => Err(Unopened {
+        (_, Err(fault)) => Err(Unopened {
             why: open_fault_of(fault),
             conn,
         }),
@@ -210,15 +120,15 @@ fn refusal(version: Option<u64>, has_first: bool, has_bans: bool) -> OpenFault
 {
     match version {
         None => OpenFault::NotAnIndex,
-        Some(1) => unlike(has_first),
-        Some(2) => unlike(has_first && has_bans),
+        Some(1) => foreign_tables_fault(has_first),
+        Some(2) => foreign_tables_fault(has_first && has_bans),
         Some(_) => OpenFault::OtherVersion,
     }
 }
 
 /// Tables that are there by name, but are not as an index has them.
-fn unlike(has_all: bool) -> OpenFault
-    ensures { result ≡ unlike has_all }
+fn foreign_tables_fault(has_all: bool) -> OpenFault
+    ensures { result ≡ foreign_tables_fault has_all }
 {
     if has_all {
         OpenFault::Store
@@ -229,20 +139,11 @@ fn unlike(has_all: bool) -> OpenFault
 
 /// A database whose tables others made, refused by the version that it tells.
 fn refuse_other<S: Alter>(conn: Connection<S>) -> Unopened<S>
-    requires outside { conn.in_transaction ≡ false }
+    requires rest { IsAtRest S.Store conn }
     requires meta { IsTrue (has_meta (state S.Store conn).now.schema) }
-    requires settled { IsTrue (state S.Store conn).is_open
-        → (state S.Store conn).now ≡ (state S.Store conn).committed }
-    ensures clean { HasCleanDisk (state S.Store result.conn)
-        → HasCleanDisk (state S.Store conn) }
-    ensures reason { HasCleanDisk (state S.Store result.conn)
-        → IsReason S.Store conn result.conn result.why }
-    ensures refused { HasCleanDisk (state S.Store result.conn)
-        → Stays (state S.Store conn) (state S.Store result.conn) }
-    ensures ended { result.conn.in_transaction ≡ false }
-    ensures crash { LeavesMigrated (state S.Store conn) (state S.Store result.conn) }
+    ensures refused { IsUnopened S.Store IsRaised (IsReason S.Store) conn result }
 {
-    let has_first = has_all_tables(conn.schema());
+    let has_first = has_version_1_tables(conn.schema());
     let has_bans = has_table(conn.schema(), b"bans");
     let mut conn = conn;
     match told_version(&mut conn) {
@@ -258,39 +159,16 @@ fn refuse_other<S: Alter>(conn: Connection<S>) -> Unopened<S>
 }
 
 /// Makes the index of a database of version 1.
-fn raise<S: Alter>(conn: Connection<S>) -> Result<SqlBooks<S>, Unopened<S>>
-    requires outside { conn.in_transaction ≡ false }
+fn migrate_and_adopt<S: Alter>(conn: Connection<S>) -> Result<SqlBooks<S>, Unopened<S>>
+    requires rest { IsAtRest S.Store conn }
     requires first { HasCleanDisk (state S.Store conn) → IsTrue (state S.Store conn).is_open
-        → IsFirstVersion (state S.Store conn).now }
-    requires settled { HasCleanDisk (state S.Store conn) → IsTrue (state S.Store conn).is_open
-        → (state S.Store conn).now ≡ (state S.Store conn).committed }
-    requires told { HasCleanDisk (state S.Store conn) → IsTrue (state S.Store conn).is_open
-        → version_in (state S.Store conn).now.trees ≡ Some 1 }
-    ensures made { IfOk result (λ books. IsWorking (state S.Store books.conn)
-        → tables_of S.Store books.conn ≡ without_bans (tables_of S.Store conn)) }
-    ensures index { IfOk result (λ books. IsWorking (state S.Store books.conn)
-        → IsIndex (state S.Store books.conn).now) }
-    ensures honest { IfOk result (λ books. IsWorking (state S.Store books.conn)
-        → IsWorking (state S.Store conn)) }
-    ensures lasts { IfOk result (λ books. IsWorking (state S.Store conn)
-        → HasCleanDisk (state S.Store books.conn) → IsHonest (state S.Store books.conn)) }
-    ensures clean { IfOk result (λ books. HasCleanDisk (state S.Store books.conn)
-        → HasCleanDisk (state S.Store conn)) }
-    ensures clean_refused { IfErr result (λ refused. HasCleanDisk (state S.Store refused.conn)
-        → HasCleanDisk (state S.Store conn)) }
-    ensures failures { IfOk result (λ books. books.failures ≡ 0) }
-    ensures fault { IfErr result (λ refused.
-        (refused.why ≡ OpenFault.OutOfMemory) ⊎ (refused.why ≡ OpenFault.Store)) }
-    ensures reason { IfErr result (λ refused. HasCleanDisk (state S.Store refused.conn)
-        → StoreForRefusal asks_of_migration
-        (state S.Store conn) (state S.Store refused.conn) refused.why) }
-    ensures refused { IfErr result (λ refused. HasCleanDisk (state S.Store refused.conn)
-        → Stays (state S.Store conn) (state S.Store refused.conn)) }
-    ensures ended { IfErr result (λ refused. refused.conn.in_transaction ≡ false) }
-    ensures crash { IfOk result (λ books. LeavesMigrated
-        (state S.Store conn) (state S.Store books.conn)) }
-    ensures crash_refused { IfErr result (λ refused. LeavesMigrated
-        (state S.Store conn) (state S.Store refused.conn)) }
+        → TellsFirst (state S.Store conn).now }
+    ensures made { IfOk result (HaveTables S.Store
+        (λ T. T ≡ without_bans (tables_of S.Store conn))) }
+    ensures fault { IfErr result (λ refused. IsFault refused.why) }
+    ensures opened { IfOk result (AreOpened S.Store IsRaised conn) }
+    ensures refused { let Reason = StoreForRefusal S.Store asks_of_migration in
+        IfErr result (IsUnopened S.Store IsRaised Reason conn) }
 {
     let mut conn = conn;
     match migrate(&mut conn) {

@@ -1,7 +1,6 @@
 //! The tables as `Books`: each call is done by the connection, and then counted.
-ghost use Rattle.std.specs.Prelude.{◌≡◌, ◌⊎◌, Err, IfErr, IfOk, List, OnErr, OnOk, is_ok};
+ghost use Rattle.std.specs.Prelude.{◌≡◌, ◌⊎◌, Err, IfErr, IfOk, List, OnErr, OnOk, is_ok, not};
 ghost use Rattle.std.specs.FinMap.{get};
-ghost use Rattle.index_io.specs.Counts.{next_count};
 ghost use Rattle.index_sql_schema.specs.Faults.{fault_by};
 ghost use Rattle.index_sql_schema.specs.Reasons.{FailsForReason};
 ghost use Rattle.index_sql_reads.specs.Sealed.{IsBoundTo, digest_in};
@@ -12,12 +11,11 @@ ghost use Rattle.index_rules.specs.Facts.{Sees};
 ghost use Rattle.index_rules.specs.TableRows.{file_rows_in, held_rows_in, name_rows_in};
 ghost use Rattle.index_rules.specs.Tables.{Tables, owners_in};
 ghost use Rattle.index_rules.specs.Walks.{Walks, has_fault};
-ghost use Rattle.index_sql_schema.specs.RecordRows.{AreRecords};
-ghost use Rattle.index_tables.specs.LooksUp.{LooksUp, WalksUp};
+ghost use Rattle.index_tables.specs.LooksUp.{Calls, KeepsRecords, LooksUp};
 ghost use Rattle.index_tables.specs.Written.{FailsToWrite};
 ghost use Rattle.index_sql_reads.specs.WalkReasons.{EndsForReason};
 
-use crate::tables::{SqlBooks, counted};
+use crate::tables::{SqlBooks, next_count};
 use index_digest::Sealed;
 use index_names::{FileName, NormalName};
 use index_rules::{
@@ -31,8 +29,8 @@ use std::alloc::Global;
 impl<S: Alter> Books for SqlBooks<S> {
     ghost use Rattle.sqlite.specs.Held.{state};
     ghost use Rattle.sqlite.specs.State.{HasCleanDisk};
-    ghost use Rattle.index_sql_reads.specs.Held.{tables_of};
-    ghost use Rattle.index_tables.specs.Kept.{IsHonest, Leaves};
+    ghost use Rattle.index_sql_reads.specs.ConnectionTables.{tables_of};
+    ghost use Rattle.index_tables.specs.BooksState.{IsHonest, Leaves};
     ghost use Rattle.index_tables.specs.Laws.{settled_at};
 
     ghost tables = { λ books. tables_of S.Store books.conn };
@@ -52,11 +50,11 @@ impl<S: Alter> Books for SqlBooks<S> {
     fn view(&mut self, alloc: Global, keys: &Keys) -> Result<View, Fault>
         ensures found { IsHonest (state S.Store self.new.conn)
             → IfOk result (Sees (tables_of S.Store self.old.conn) keys.now) }
-        ensures looks { LooksUp S.Store self.old self.new result }
+        ensures looks { LooksUp S.Store self.old self.new (is_ok result) }
         ensures reason { FailsForReason S.Store self.old.conn self.new.conn result }
     {
         let seen = index_sql_reads::view(alloc, &mut self.conn, keys);
-        self.failures = counted(self.failures, seen.is_ok());
+        self.failures = next_count(self.failures, seen.is_ok());
         seen
     }
 
@@ -66,10 +64,6 @@ impl<S: Alter> Books for SqlBooks<S> {
             (tables_of S.Store self.new.conn ≡ means change (tables_of S.Store self.old.conn)) }
         ensures unchanged { IsHonest (state S.Store self.new.conn) → OnErr result
             (tables_of S.Store self.new.conn ≡ tables_of S.Store self.old.conn) }
-        ensures honest { IsHonest (state S.Store self.new.conn)
-            → IsHonest (state S.Store self.old.conn) }
-        ensures clean { HasCleanDisk (state S.Store self.new.conn)
-            → HasCleanDisk (state S.Store self.old.conn) }
         ensures lasts { OnOk result (HasCleanDisk (state S.Store self.new.conn)
             → IsHonest (state S.Store self.new.conn)) }
         ensures crash { (T : Tables) → Leaves (state S.Store self.new.conn) T
@@ -78,34 +72,32 @@ impl<S: Alter> Books for SqlBooks<S> {
         ensures alone { IsHonest (state S.Store self.old.conn) → OnOk result ((T : Tables)
             → Leaves (state S.Store self.new.conn) T
             → T ≡ means change (tables_of S.Store self.old.conn)) }
-        ensures failures { self.new.failures ≡ next_count self.old.failures (is_ok result) }
+        ensures call { Calls S.Store self.old self.new (is_ok result) }
         // What is written can be read: its rows are records, where they were.
-        ensures records { IsHonest (state S.Store self.new.conn)
-            → AreRecords (state S.Store self.old.conn).now
-            → AreRecords (state S.Store self.new.conn).now }
+        ensures records { KeepsRecords S.Store self.old self.new }
         ensures reason { FailsToWrite S.Store change self.old.conn self.new.conn result }
     {
         let made = make_change(&mut self.conn.conn, &change);
         drop(change);
-        self.failures = counted(self.failures, made.is_ok());
-        told(made)
+        self.failures = next_count(self.failures, made.is_ok());
+        into_fault(made)
     }
 
     fn owners_of(&mut self, alloc: Global, name: &NormalName) -> Result<Owners, Fault>
         ensures found { IsHonest (state S.Store self.new.conn)
             → IfOk result (λ owners. owners ≡ owners_in (tables_of S.Store self.old.conn) name.now) }
-        ensures looks { LooksUp S.Store self.old self.new result }
+        ensures looks { LooksUp S.Store self.old self.new (is_ok result) }
         ensures reason { FailsForReason S.Store self.old.conn self.new.conn result }
     {
         let owners = index_sql_reads::owners_of(alloc, &mut self.conn, name);
-        self.failures = counted(self.failures, owners.is_ok());
+        self.failures = next_count(self.failures, owners.is_ok());
         owners
     }
 
     fn bytes_of(&mut self, alloc: Global, file: &FileName) -> Result<Option<Sealed>, Fault>
         ensures found { IsHonest (state S.Store self.new.conn)
             → IfOk result (λ body. body ≡ get (tables_of S.Store self.old.conn).bodies file.now) }
-        ensures looks { LooksUp S.Store self.old self.new result }
+        ensures looks { LooksUp S.Store self.old self.new (is_ok result) }
         // They have the digest that the file is bound to, whatever else wrote the database.
         ensures bound { IsHonest (state S.Store self.new.conn)
             → IfOk result (IsBoundTo (digest_in (tables_of S.Store self.old.conn) file.now)) }
@@ -114,18 +106,18 @@ impl<S: Alter> Books for SqlBooks<S> {
             → FailsForReason S.Store self.old.conn self.new.conn result }
     {
         let body = index_sql_reads::find_body(alloc, &mut self.conn, file);
-        self.failures = counted(self.failures, body.is_ok());
+        self.failures = next_count(self.failures, body.is_ok());
         body
     }
 
     fn names(&mut self, alloc: Global) -> Result<Vec<NameRow>, Fault>
         ensures found { IsHonest (state S.Store self.new.conn)
             → IfOk result (λ rows. rows.items ≡ name_rows_in (tables_of S.Store self.old.conn)) }
-        ensures looks { LooksUp S.Store self.old self.new result }
+        ensures looks { LooksUp S.Store self.old self.new (is_ok result) }
         ensures reason { FailsForReason S.Store self.old.conn self.new.conn result }
     {
         let rows = index_sql_reads::names(alloc, &mut self.conn);
-        self.failures = counted(self.failures, rows.is_ok());
+        self.failures = next_count(self.failures, rows.is_ok());
         rows
     }
 
@@ -133,11 +125,11 @@ impl<S: Alter> Books for SqlBooks<S> {
         ensures found { IsHonest (state S.Store self.new.conn)
             → IfOk result (λ rows.
             rows.items ≡ file_rows_in (tables_of S.Store self.old.conn) name.now) }
-        ensures looks { LooksUp S.Store self.old self.new result }
+        ensures looks { LooksUp S.Store self.old self.new (is_ok result) }
         ensures reason { FailsForReason S.Store self.old.conn self.new.conn result }
     {
         let rows = index_sql_reads::files_of(alloc, &mut self.conn, name);
-        self.failures = counted(self.failures, rows.is_ok());
+        self.failures = next_count(self.failures, rows.is_ok());
         rows
     }
 
@@ -148,12 +140,12 @@ impl<S: Alter> Books for SqlBooks<S> {
             Walks K.takes K.stops rows taker.old taker.new result }
         ensures given { (rows : List NameRowData)
             × Walks K.takes K.stops rows taker.old taker.new result }
-        ensures walks { WalksUp S.Store self.old self.new result }
+        ensures looks { LooksUp S.Store self.old self.new (not (has_fault result)) }
         ensures reason { let rows = held_rows_in (tables_of S.Store self.old.conn) in
             EndsForReason S.Store self.old.conn self.new.conn rows result }
     {
         let ended = index_sql_reads::walk_held(alloc, &mut self.conn, taker);
-        self.failures = counted(self.failures, !is_broken(&ended));
+        self.failures = next_count(self.failures, !has_fault(&ended));
         ended
     }
 
@@ -169,12 +161,12 @@ impl<S: Alter> Books for SqlBooks<S> {
             Walks K.takes K.stops rows taker.old taker.new result }
         ensures given { (rows : List FileRowData)
             × Walks K.takes K.stops rows taker.old taker.new result }
-        ensures walks { WalksUp S.Store self.old self.new result }
+        ensures looks { LooksUp S.Store self.old self.new (not (has_fault result)) }
         ensures reason { let rows = file_rows_in (tables_of S.Store self.old.conn) name.now in
             EndsForReason S.Store self.old.conn self.new.conn rows result }
     {
         let ended = index_sql_reads::walk_files(alloc, &mut self.conn, name, taker);
-        self.failures = counted(self.failures, !is_broken(&ended));
+        self.failures = next_count(self.failures, !has_fault(&ended));
         ended
     }
 
@@ -185,7 +177,7 @@ impl<S: Alter> Books for SqlBooks<S> {
 }
 
 /// An error of the database as a fault.
-fn told(made: Result<(), Error>) -> Result<(), Fault>
+fn into_fault(made: Result<(), Error>) -> Result<(), Fault>
     ensures ok { is_ok result ≡ is_ok made }
     ensures fault { IfErr made (λ error. result ≡ Err (fault_by error)) }
 {
@@ -196,7 +188,7 @@ fn told(made: Result<(), Error>) -> Result<(), Fault>
 }
 
 /// Whether a fault ended the walk.
-fn is_broken(ended: &Result<(), WalkEnd>) -> bool
+fn has_fault(ended: &Result<(), WalkEnd>) -> bool
     ensures { result ≡ has_fault ended.now }
 {
     matches!(ended, Err(WalkEnd::OutOfMemory | WalkEnd::Store))

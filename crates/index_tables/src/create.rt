@@ -1,39 +1,37 @@
 //! A new index in a database with nothing in it.
 ghost use Rattle.std.specs.Prelude.{◌≡◌, ◌≢◌, ◌⊎◌, ◌↔◌, false, IfOk, IfErr, IsTrue};
 ghost use Rattle.sqlite.specs.Held.{state};
-ghost use Rattle.sqlite.specs.State.{HasCleanDisk, IsLive};
+ghost use Rattle.sqlite.specs.State.{IsLive};
 ghost use Rattle.index_rules.specs.FirstTables.{IsBadFirstUser, first_record, first_tables};
-ghost use Rattle.index_rules.specs.Tables.{Tables};
 ghost use Rattle.index_rules.specs.Sound.{IsSound};
 ghost use Rattle.index_rules.specs.History.{begins};
 ghost use Rattle.index_rules.specs.StandsFor.{StandsFor};
-ghost use Rattle.index_sql_schema.specs.Stays.{Stays};
-ghost use Rattle.index_sql_schema.specs.Schema.{index_schema, no_schema};
+ghost use Rattle.index_sql_schema.specs.Schema.{index_schema};
 ghost use Rattle.index_sql_opening.specs.Names.{has_any_of};
-ghost use Rattle.index_sql_schema.specs.RecordRows.{AreRecords};
 ghost use Rattle.index_sql_opening.specs.NewAsks.{asks_of_new};
 ghost use Rattle.index_sql_opening.specs.Created.{one_user, IsBlank};
-ghost use Rattle.index_tables.specs.Kept.{IsHonest, IsWorking, Leaves};
-ghost use Rattle.index_sql_reads.specs.Held.{tables_of};
-ghost use Rattle.index_tables.specs.Opened.{IsAmongOthers, IsRefusedAs, IsTaken, LeavesOr, StoreForOthers};
+ghost use Rattle.index_sql_opening.specs.Making.{IsAtRest};
+ghost use Rattle.index_tables.specs.Opened.{AreOpened, HasOthers, HaveRecords, HaveTables, IsAmongOthers, IsCreated, IsRefusedAs, IsTaken, IsUnopened, StoreForOthers};
 
 use crate::opening::{Unopened, open_fault_of};
 use crate::tables::SqlBooks;
 use index_digest::Digest256;
 use index_rules::{OpenFault, UserId, UserRecord, first_user};
-use index_sql_opening::{fill_new, has_any_table, is_blank, known};
+use index_sql_opening::{expose_invariants, fill_new, has_any_table, is_blank};
 use index_sql_schema::{IndexConnection, fault_of};
 use sqlite::{Alter, Connection};
 use std::alloc::Global;
 
 impl<S: Alter> SqlBooks<S> {
-    /// A new index with one user, who is of the office and whose token has this SHA-256 digest, in one transaction.
+    /// A new index with one user, who is of the office and whose token has this SHA-256 digest, in one transaction. A
+    /// crash leaves what was there, or the whole index; once it is made, the index alone.
+    ///
+    /// # Errors
     ///
     /// `BadFirstUser` exactly where the bytes are no user id, or the digest is that of the empty text; then `NotEmpty`
-    /// exactly where there is a table by the name of one of an index; `Store` where there is anything else, or the store
-    /// fails: the disk has a fault, the connection was shut, a limit is set on the steps of its queries, or SQL refuses a
-    /// statement. A refused database is as it was. A crash leaves what was there, or the whole index; once it is made, the
-    /// index alone.
+    /// exactly where there is a table by the name of one of an index; `Store` where there is anything else, or the
+    /// store fails: the disk has a fault, the connection was shut, a limit is set on the steps of its queries, or SQL
+    /// refuses a statement. A refused database is as it was.
     pub fn create(
         alloc: Global,
         conn: Connection<S>,
@@ -41,24 +39,11 @@ impl<S: Alter> SqlBooks<S> {
         token: Digest256,
     ) -> Result<SqlBooks<S>, Unopened<S>>
         requires outside { conn.in_transaction ≡ false }
-        ensures tables { IfOk result (λ books. IsWorking (state S.Store books.conn)
-            → tables_of S.Store books.conn ≡ first_tables user.now token) }
-        ensures sound { IfOk result (λ books. IsWorking (state S.Store books.conn)
-            → IsSound (tables_of S.Store books.conn)) }
+        ensures tables { IfOk result (HaveTables S.Store (λ T. T ≡ first_tables user.now token)) }
+        ensures sound { IfOk result (HaveTables S.Store IsSound) }
         ensures history { let h = begins user.now token in
-            IfOk result (λ books. IsWorking (state S.Store books.conn)
-            → StandsFor (tables_of S.Store books.conn) h) }
-        ensures honest { IfOk result (λ books. IsWorking (state S.Store books.conn)
-            → IsWorking (state S.Store conn)) }
-        ensures lasts { IfOk result (λ books. IsWorking (state S.Store conn)
-            → HasCleanDisk (state S.Store books.conn) → IsHonest (state S.Store books.conn)) }
-        ensures clean { IfOk result (λ books. HasCleanDisk (state S.Store books.conn)
-            → HasCleanDisk (state S.Store conn)) }
-        ensures clean_refused { IfErr result (λ refused.
-            HasCleanDisk (state S.Store refused.conn) → HasCleanDisk (state S.Store conn)) }
-        ensures records { IfOk result (λ books. IsWorking (state S.Store books.conn)
-            → AreRecords (state S.Store books.conn).now) }
-        ensures failures { IfOk result (λ books. books.failures ≡ 0) }
+            IfOk result (HaveTables S.Store (λ T. StandsFor T h)) }
+        ensures records { IfOk result (HaveRecords S.Store) }
         ensures bad_first_user { IsRefusedAs OpenFault.BadFirstUser result
             ↔ IsBadFirstUser user.now token }
         ensures taken { IsRefusedAs OpenFault.NotEmpty result
@@ -67,20 +52,13 @@ impl<S: Alter> SqlBooks<S> {
             → IsRefusedAs OpenFault.NotEmpty result ⊎ IsRefusedAs OpenFault.OutOfMemory result }
         ensures among_others { IsAmongOthers user.now token (state S.Store conn).now.schema
             → IsRefusedAs OpenFault.Store result ⊎ IsRefusedAs OpenFault.OutOfMemory result }
-        ensures reason { IfErr result (λ refused. HasCleanDisk (state S.Store refused.conn)
-            → StoreForOthers (asks_of_new user.now (first_record token))
-            (state S.Store conn) (state S.Store refused.conn) refused.why) }
-        ensures refused { IfErr result (λ refused. HasCleanDisk (state S.Store refused.conn)
-            → Stays (state S.Store conn) (state S.Store refused.conn)) }
-        ensures ended { IfErr result (λ refused. refused.conn.in_transaction ≡ false) }
-        ensures alone { IfOk result (λ books. IsWorking (state S.Store conn) → (T : Tables)
-            → Leaves (state S.Store books.conn) T → T ≡ tables_of S.Store books.conn) }
-        ensures crash { IfOk result (λ books. LeavesOr (first_tables user.now token)
-            (state S.Store conn) (state S.Store books.conn)) }
-        ensures crash_refused { IfErr result (λ refused. LeavesOr (first_tables user.now token)
-            (state S.Store conn) (state S.Store refused.conn)) }
+        ensures opened { let T = first_tables user.now token in
+            IfOk result (AreOpened S.Store (IsCreated T) conn) }
+        ensures refused { let T = first_tables user.now token in
+            let asks = asks_of_new user.now (first_record token) in
+            IfErr result (IsUnopened S.Store (IsCreated T) (StoreForOthers S.Store asks) conn) }
     {
-        let conn = known(conn);
+        let conn = expose_invariants(conn);
         match first_user(alloc, user, token) {
             Ok((user, account)) => fill_blank(conn, &user, &account),
             Err(why) => Err(Unopened { why, conn }),
@@ -94,40 +72,22 @@ fn fill_blank<S: Alter>(
     user: &UserId,
     account: &UserRecord,
 ) -> Result<SqlBooks<S>, Unopened<S>>
-    requires outside { conn.in_transaction ≡ false }
+    requires rest { IsAtRest S.Store conn }
     requires live { IsLive (state S.Store conn) }
-    requires settled { IsTrue (state S.Store conn).is_open
-        → (state S.Store conn).now ≡ (state S.Store conn).committed }
-    ensures tables { IfOk result (λ books. IsWorking (state S.Store books.conn)
-        → tables_of S.Store books.conn ≡ one_user user.now account.now) }
-    ensures honest { IfOk result (λ books. IsWorking (state S.Store books.conn)
-        → IsWorking (state S.Store conn)) }
-    ensures lasts { IfOk result (λ books. IsWorking (state S.Store conn)
-        → HasCleanDisk (state S.Store books.conn) → IsHonest (state S.Store books.conn)) }
-    ensures clean { IfOk result (λ books. HasCleanDisk (state S.Store books.conn)
-        → HasCleanDisk (state S.Store conn)) }
-    ensures clean_refused { IfErr result (λ refused.
-        HasCleanDisk (state S.Store refused.conn) → HasCleanDisk (state S.Store conn)) }
-    ensures records { IfOk result (λ books. IsWorking (state S.Store books.conn)
-        → AreRecords (state S.Store books.conn).now) }
-    ensures failures { IfOk result (λ books. books.failures ≡ 0) }
+    ensures tables { IfOk result (HaveTables S.Store (λ T. T ≡ one_user user.now account.now)) }
+    ensures records { IfOk result (HaveRecords S.Store) }
     ensures first_user { IfErr result (λ refused. refused.why ≢ OpenFault.BadFirstUser) }
     ensures taken { IsRefusedAs OpenFault.NotEmpty result
         → IsTrue (has_any_of (state S.Store conn).now.schema index_schema.tables) }
     ensures not_empty { IsTrue (has_any_of (state S.Store conn).now.schema index_schema.tables)
         → IsRefusedAs OpenFault.NotEmpty result }
-    ensures among_others { has_any_of (state S.Store conn).now.schema index_schema.tables ≡ false
-        → (state S.Store conn).now.schema ≢ no_schema → IsRefusedAs OpenFault.Store result }
-    ensures reason { IfErr result (λ refused. HasCleanDisk (state S.Store refused.conn)
-        → StoreForOthers (asks_of_new user.now account.now)
-        (state S.Store conn) (state S.Store refused.conn) refused.why) }
-    ensures refused { IfErr result (λ refused. HasCleanDisk (state S.Store refused.conn)
-        → Stays (state S.Store conn) (state S.Store refused.conn)) }
-    ensures ended { IfErr result (λ refused. refused.conn.in_transaction ≡ false) }
-    ensures crash { IfOk result (λ books. LeavesOr (one_user user.now account.now)
-        (state S.Store conn) (state S.Store books.conn)) }
-    ensures crash_refused { IfErr result (λ refused. LeavesOr (one_user user.now account.now)
-        (state S.Store conn) (state S.Store refused.conn)) }
+    ensures among_others { HasOthers (state S.Store conn).now.schema
+        → IsRefusedAs OpenFault.Store result }
+    ensures opened { let T = one_user user.now account.now in
+        IfOk result (AreOpened S.Store (IsCreated T) conn) }
+    ensures refused { let T = one_user user.now account.now in
+        let asks = asks_of_new user.now account.now in
+        IfErr result (IsUnopened S.Store (IsCreated T) (StoreForOthers S.Store asks) conn) }
 {
     if has_any_table(conn.schema()) {
         return Err(Unopened {

@@ -5,9 +5,9 @@ ghost use Rattle.sqlite_wal.specs.Recovery.{Image};
 ghost use Rattle.sqlite.specs.Files.{file_state, over_files};
 ghost use Rattle.sqlite.specs.Held.{state, AreDatabases};
 ghost use Rattle.sqlite.specs.State.{HasCleanDisk};
-ghost use Rattle.index_sql_reads.specs.Held.{tables_of};
+ghost use Rattle.index_sql_reads.specs.ConnectionTables.{tables_of};
 ghost use Rattle.index_rules.specs.Tables.{Tables};
-ghost use Rattle.index_tables.specs.Kept.{IsHonest, Leaves};
+ghost use Rattle.index_tables.specs.BooksState.{IsHonest, Leaves};
 ghost use Rattle.index_tables.specs.Reopened.{MayLeave, IsLeft, IsOver, OpensOnly};
 
 use crate::opening::Unopened;

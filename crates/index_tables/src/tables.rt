@@ -2,9 +2,9 @@
 ghost use Rattle.std.specs.Prelude.{◌≡◌, false};
 ghost use Rattle.sqlite.specs.Held.{state};
 ghost use Rattle.index_io.specs.Counts.{next_count};
-ghost use Rattle.index_sql_reads.specs.Held.{tables_of};
+ghost use Rattle.index_sql_reads.specs.ConnectionTables.{tables_of};
 ghost use Rattle.index_tables.specs.Adopted.{IsCommitted};
-ghost use Rattle.index_tables.specs.Kept.{IsHonest, IsWorking};
+ghost use Rattle.index_tables.specs.BooksState.{IsHonest, IsWorking};
 
 use index_sql_schema::IndexConnection;
 use sqlite::{Alter, Connection};
@@ -20,11 +20,11 @@ pub struct SqlBooks<S: Alter> {
 }
 
 impl<S: Alter> Model for SqlBooks<S> {
-    ghost use Rattle.index_tables.specs.Kept.{Kept, kept_code};
+    ghost use Rattle.index_tables.specs.BooksState.{BooksState, books_state_code};
 
-    ghost Value = { Kept S };
+    ghost Value = { BooksState S };
 
-    ghost coded = { kept_code S.code };
+    ghost coded = { books_state_code S.code };
 
     ghost view = { λ books. record { conn = books.conn; failures = books.failures } };
 }
@@ -45,7 +45,7 @@ impl<S: Alter> SqlBooks<S> {
 }
 
 /// The count of failures after one more call, up to 18,446,744,073,709,551,615.
-pub(crate) fn counted(failures: u64, is_right: bool) -> u64
+pub(crate) fn next_count(failures: u64, is_right: bool) -> u64
     ensures { result ≡ next_count failures is_right }
 {
     if is_right {

@@ -7,8 +7,8 @@ use Rattle.index_words.specs.declared.job.Job.{Job}
 use Rattle.index_words.specs.declared.job.Job.TheVariants as job
 
 -- the text is this number in decimal digits, which may have a plus before them
-abbrev pub IsNumber : ℕ → Text → Type 0
-IsNumber n text =
+abbrev pub IsDecimalText : ℕ → Text → Type 0
+IsDecimalText n text =
     IsNumeral 10 (without_leading_plus text) × (digits_value 10 (without_leading_plus text) ≡ n)
 
 -- the option has this text
@@ -17,7 +17,7 @@ HasText id rows text = first_of id rows ≡ Some text
 
 -- the option has this number
 abbrev pub HasNumber : Text → List Row → ℕ → Type 0
-HasNumber id rows n = IsSomeAnd (first_of id rows) (IsNumber n)
+HasNumber id rows n = IsSomeAnd (first_of id rows) (IsDecimalText n)
 
 -- the option has this number of 64 bits, or is not given
 abbrev pub HasNumberOrNone : Text → List Row → Option ℕ → Type 0

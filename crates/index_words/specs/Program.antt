@@ -14,8 +14,8 @@ abbrev pub required : Text → Rule
 required name = record (option name) { required = true }
 
 -- the same option, for a whole number in a range
-abbrev pub number_in : ℕ → ℕ → Rule → Rule
-number_in least most rule = record rule { parser = Some (parser.Unsigned least most) }
+abbrev pub number_between : ℕ → ℕ → Rule → Rule
+number_between least most rule = record rule { parser = Some (parser.Unsigned least most) }
 
 -- a subcommand that needs a database
 abbrev pub database_app : Text → App
@@ -35,9 +35,9 @@ apply_app = with_rule (new_app (codes "apply")) (option (codes "db"))
 abbrev pub serve_app : App
 serve_app =
     with_rule (with_rule (with_rule (with_rule (database_app (codes "serve")) (required (codes "listen")))
-    (number_in 1 1000000 (required (codes "requests"))))
-    (number_in 0 18446744073709551615 (option (codes "at"))))
-    (number_in 0 18446744073709551615 (option (codes "keep-recent")))
+    (number_between 1 1000000 (required (codes "requests"))))
+    (number_between 0 18446744073709551615 (option (codes "at"))))
+    (number_between 0 18446744073709551615 (option (codes "keep-recent")))
 
 -- the program's name alone, which has a version and wants a subcommand after it
 abbrev pub program_app : App

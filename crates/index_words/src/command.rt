@@ -1,7 +1,7 @@
 //! The program's subcommands and their options.
 ghost use Rattle.std.specs.Prelude.{◌≡◌, false, codes, IfOk};
 ghost use Rattle.clap.specs.Words.{App, rule_of, with_subcommand};
-ghost use Rattle.index_words.specs.Program.{IsApp, number_in, option, required};
+ghost use Rattle.index_words.specs.Program.{IsApp, number_between, option, required};
 ghost use Rattle.index_words.specs.Program.{apply_app, database_app, index_app, init_app, serve_app};
 
 use clap::builder::ValueParser;
@@ -16,7 +16,7 @@ const VERSION: &str = "0.1.0 (rattle-kit-13 logic dac8208d650f15bf)";
 const DATABASE: &str = "The file of the index, an SQLite database";
 
 /// An option that may be left out.
-fn optional<'a>(alloc: Global, name: &'a str, help: &'a str) -> Arg<'a>
+fn optional_arg<'a>(alloc: Global, name: &'a str, help: &'a str) -> Arg<'a>
     ensures rule { rule_of result ≡ option name.entry.now }
     ensures local { result.global ≡ false }
 {
@@ -24,16 +24,16 @@ fn optional<'a>(alloc: Global, name: &'a str, help: &'a str) -> Arg<'a>
 }
 
 /// An option that has to be given.
-fn needed<'a>(alloc: Global, name: &'a str, help: &'a str) -> Arg<'a>
+fn required_arg<'a>(alloc: Global, name: &'a str, help: &'a str) -> Arg<'a>
     ensures rule { rule_of result ≡ required name.entry.now }
     ensures local { result.global ≡ false }
 {
-    optional(alloc, name, help).required(true)
+    optional_arg(alloc, name, help).required(true)
 }
 
 /// The same option, for a whole number in a range.
 fn whole_number<'a>(arg: Arg<'a>, least: u64, most: u64) -> Arg<'a>
-    ensures rule { rule_of result ≡ number_in least most (rule_of arg.entry) }
+    ensures rule { rule_of result ≡ number_between least most (rule_of arg.entry) }
     ensures local { result.global ≡ arg.entry.global }
 {
     arg.value_parser(ValueParser::Unsigned(least, most))
@@ -45,7 +45,7 @@ fn on_database<'a>(alloc: Global, name: &'a str, about: &'a str) -> Result<Comma
 {
     Command::new(alloc, name)
         .about(about)
-        .arg(needed(alloc, "db", DATABASE))
+        .arg(required_arg(alloc, "db", DATABASE))
 }
 
 fn init<'a>(alloc: Global) -> Result<Command<'a>, AllocError>
@@ -57,8 +57,8 @@ fn init<'a>(alloc: Global) -> Result<Command<'a>, AllocError>
         "init",
         "Makes a new index with one user, of the office",
     )?
-    .arg(needed(alloc, "user", "The id of the first user"))?
-    .arg(needed(alloc, "token-sha256", digest))
+    .arg(required_arg(alloc, "user", "The id of the first user"))?
+    .arg(required_arg(alloc, "token-sha256", digest))
 }
 
 fn apply<'a>(alloc: Global) -> Result<Command<'a>, AllocError>
@@ -66,32 +66,32 @@ fn apply<'a>(alloc: Global) -> Result<Command<'a>, AllocError>
 {
     Command::new(alloc, "apply")
         .about("Answers each line of standard input")
-        .arg(optional(alloc, "db", DATABASE))
+        .arg(optional_arg(alloc, "db", DATABASE))
 }
 
 fn requests<'a>(alloc: Global) -> Arg<'a>
-    ensures rule { rule_of result ≡ number_in 1 1000000 (required (codes "requests")) }
+    ensures rule { rule_of result ≡ number_between 1 1000000 (required (codes "requests")) }
     ensures local { result.global ≡ false }
 {
     let help = "How many connections are served, 1 to 1,000,000";
-    whole_number(needed(alloc, "requests", help), 1, 1_000_000)
+    whole_number(required_arg(alloc, "requests", help), 1, 1_000_000)
 }
 
 fn at<'a>(alloc: Global) -> Arg<'a>
-    ensures rule { rule_of result ≡ number_in 0 18446744073709551615 (option (codes "at")) }
+    ensures rule { rule_of result ≡ number_between 0 18446744073709551615 (option (codes "at")) }
     ensures local { result.global ≡ false }
 {
     let help = "The moment of every request in Unix seconds, or the clock's";
-    whole_number(optional(alloc, "at", help), 0, u64::MAX)
+    whole_number(optional_arg(alloc, "at", help), 0, u64::MAX)
 }
 
 fn keep_recent<'a>(alloc: Global) -> Arg<'a>
     ensures rule { rule_of result
-        ≡ number_in 0 18446744073709551615 (option (codes "keep-recent")) }
+        ≡ number_between 0 18446744073709551615 (option (codes "keep-recent")) }
     ensures local { result.global ≡ false }
 {
     let help = "How many bytes of files and pages are kept at hand, 0 for none, or 67,108,864";
-    whole_number(optional(alloc, "keep-recent", help), 0, u64::MAX)
+    whole_number(optional_arg(alloc, "keep-recent", help), 0, u64::MAX)
 }
 
 fn serve<'a>(alloc: Global) -> Result<Command<'a>, AllocError>
@@ -99,14 +99,14 @@ fn serve<'a>(alloc: Global) -> Result<Command<'a>, AllocError>
 {
     let help = "The address and port to listen on";
     on_database(alloc, "serve", "Answers HTTP requests, one a connection")?
-        .arg(needed(alloc, "listen", help))?
+        .arg(required_arg(alloc, "listen", help))?
         .arg(requests(alloc))?
         .arg(at(alloc))?
         .arg(keep_recent(alloc))
 }
 
 /// The command with one more subcommand, where there was room to make that.
-fn joined<'a>(
+fn add_subcommand<'a>(
     command: Command<'a>,
     made: Result<Command<'a>, AllocError>,
 ) -> Result<Command<'a>, AllocError>
@@ -128,12 +128,12 @@ pub fn index<'a>(alloc: Global) -> Result<Command<'a>, AllocError>
     let index = Command::new(alloc, "index")
         .version(VERSION)
         .subcommand_required(true);
-    let index = joined(index, init(alloc))?;
-    let index = joined(index, apply(alloc))?;
-    let index = joined(index, serve(alloc))?;
-    let index = joined(
+    let index = add_subcommand(index, init(alloc))?;
+    let index = add_subcommand(index, apply(alloc))?;
+    let index = add_subcommand(index, serve(alloc))?;
+    let index = add_subcommand(
         index,
         on_database(alloc, "report", "Prints a line for each name"),
     )?;
-    joined(index, on_database(alloc, "check", check))
+    add_subcommand(index, on_database(alloc, "check", check))
 }

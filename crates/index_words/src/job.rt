@@ -4,7 +4,7 @@ ghost use Rattle.std.specs.Prelude.{codes, map, option_map, string_bytes, IfErr,
 ghost use Rattle.clap.specs.Words.{fault_of, first_of, found_of, rows_of, subcommand_of};
 ghost use Rattle.clap.specs.Words.{subcommand_rows_of, takes};
 ghost use Rattle.index_words.specs.Program.{index_app};
-ghost use Rattle.index_words.specs.Jobs.{HasNumberOrNone, IsJob, IsNumber};
+ghost use Rattle.index_words.specs.Jobs.{HasNumberOrNone, IsJob, IsDecimalText};
 ghost use Rattle.index_words.specs.Refusals.{IsRefusal};
 
 use crate::command;
@@ -87,6 +87,10 @@ impl From<Error> for WordsEnd {
 }
 
 /// Reads the words of a command line, the program's name first.
+///
+/// # Errors
+///
+/// `Clap` where `clap` refuses the words, or was asked for help or the version; `OutOfMemory` for want of memory.
 pub fn read_words<'a>(alloc: Global, words: &'a [String]) -> Result<Job<'a>, WordsEnd>
     // The job is the subcommand that clap reads.
     ensures job { IfOk result (IsJob (subcommand_of index_app (map string_bytes words.now))) }
@@ -112,7 +116,7 @@ fn job_of<'a>(matches: &ArgMatches<'a>) -> Option<Job<'a>>
     ensures job { IfSome result (IsJob (subcommand_rows_of matches.now)) }
     ensures found { (job : Job) → IsJob (subcommand_rows_of matches.now) job → IsSome result }
 {
-    match entered(matches)? {
+    match entered_subcommand(matches)? {
         ("init", given) => init_of(given),
         ("apply", given) => Some(apply_of(given)),
         ("serve", given) => serve_of(given),
@@ -123,7 +127,7 @@ fn job_of<'a>(matches: &ArgMatches<'a>) -> Option<Job<'a>>
 }
 
 /// The subcommand that was entered, and its options.
-fn entered<'m, 'a>(matches: &'m ArgMatches<'a>) -> Option<(&'a str, &'m ArgMatches<'a>)>
+fn entered_subcommand<'m, 'a>(matches: &'m ArgMatches<'a>) -> Option<(&'a str, &'m ArgMatches<'a>)>
     ensures { option_map (λ found. (found.0.now, rows_of (found_of found.1.now))) result
         ≡ subcommand_rows_of matches.now }
 {
@@ -212,8 +216,8 @@ fn number_or_none(given: &ArgMatches<'_>, id: &str) -> Option<Option<u64>>
 
 /// A count of connections.
 fn count(text: &str) -> Option<u32>
-    ensures count { IfSome result (λ n. IsNumber n text.now × (1 ≤ n) × (n ≤ 1000000)) }
-    ensures found { (n : ℕ) → IsNumber n text.now → 1 ≤ n → n ≤ 1000000 → IsSome result }
+    ensures count { IfSome result (λ n. IsDecimalText n text.now × (1 ≤ n) × (n ≤ 1000000)) }
+    ensures found { (n : ℕ) → IsDecimalText n text.now → 1 ≤ n → n ≤ 1000000 → IsSome result }
 {
     let count = number(text)?;
     if count == 0 || count > 1_000_000 {
@@ -224,8 +228,8 @@ fn count(text: &str) -> Option<u32>
 
 /// The number that a text is.
 fn number(text: &str) -> Option<u64>
-    ensures number { IfSome result (λ n. IsNumber n text.now × (n < 2 ^ 64)) }
-    ensures found { (n : ℕ) → IsNumber n text.now → n < 2 ^ 64 → IsSome result }
+    ensures number { IfSome result (λ n. IsDecimalText n text.now × (n < 2 ^ 64)) }
+    ensures found { (n : ℕ) → IsDecimalText n text.now → n < 2 ^ 64 → IsSome result }
 {
     text.parse::<u64>().ok()
 }

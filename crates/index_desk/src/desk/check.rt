@@ -2,7 +2,7 @@
 ghost use Rattle.std.specs.Prelude.{◌≡◌, ◌==◌, IfOk, count_by, sum_by};
 ghost use Rattle.index_rules.specs.Sound.{IsSound};
 ghost use Rattle.index_desk.specs.Checks.{charge_of as charge_of_lem, is_charged_wrong_in, wrong_charges_in};
-ghost use Rattle.index_desk.specs.Looks.{Looks};
+ghost use Rattle.index_desk.specs.Looks.{ReadsTables};
 
 use super::Desk;
 use index_rules::{Books, Fault, FileRow, NameRecord, NameRow};
@@ -11,12 +11,16 @@ use std::alloc::Global;
 impl<B: Books> Desk<B> {
     /// How many names have a charge that is not the sum of the sizes of their undeleted files: none in sound tables. It
     /// changes no table.
+    ///
+    /// # Errors
+    ///
+    /// `OutOfMemory` for want of memory, and `Store` where the books fail.
     pub fn check(&mut self, alloc: Global) -> Result<u64, Fault>
         ensures count { B.IsHonest self.new →
             IfOk result (λ count. count ≡ wrong_charges_in (B.tables self.old)) }
         ensures sound { B.IsHonest self.new → IsSound (B.tables self.old) →
             IfOk result (λ count. count ≡ 0) }
-        ensures look { Looks B.Books self.old self.new result }
+        ensures look { ReadsTables B.Books self.old self.new result }
     {
         let rows = self.books.names(alloc)?;
         wrong_charges(&mut self.books, alloc, rows.as_slice())
@@ -27,7 +31,7 @@ impl<B: Books> Desk<B> {
 fn wrong_charges<B: Books>(books: &mut B, alloc: Global, rows: &[NameRow]) -> Result<u64, Fault>
     ensures count { B.IsHonest books.new → IfOk result (λ count.
         count ≡ count_by (is_charged_wrong_in (B.tables books.old)) rows.now) }
-    ensures look { Looks B.Books books.old books.new result }
+    ensures look { ReadsTables B.Books books.old books.new result }
 {
     let mut count = 0;
     for row in rows {
@@ -42,7 +46,7 @@ fn wrong_charges<B: Books>(books: &mut B, alloc: Global, rows: &[NameRow]) -> Re
 fn is_charged_wrong<B: Books>(books: &mut B, alloc: Global, row: &NameRow) -> Result<bool, Fault>
     ensures wrong { B.IsHonest books.new → IfOk result (λ wrong.
         wrong ≡ is_charged_wrong_in (B.tables books.old) row.now) }
-    ensures look { Looks B.Books books.old books.new result }
+    ensures look { ReadsTables B.Books books.old books.new result }
 {
     let files = books.files_of(alloc, &row.name)?;
     Ok(!is_sum(charge_of(row), files.as_slice()))

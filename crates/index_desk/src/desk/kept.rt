@@ -1,7 +1,7 @@
 //! What the books keep at hand.
 ghost use Rattle.std.specs.Prelude.{◌≡◌, IfSome, Some};
 ghost use Rattle.std.specs.FinMap.{get};
-ghost use Rattle.index_desk.specs.Looks.{Stays};
+ghost use Rattle.index_desk.specs.Looks.{ReadsNothing};
 ghost use Rattle.index_desk.specs.Pages.{page_in};
 
 use super::Desk;
@@ -22,7 +22,7 @@ impl<B: Keeper> Desk<B> {
     /// Keeps the bytes of a file at hand, where there is room for them. It changes no table.
     pub fn keep_body(&mut self, file: FileName, body: Sealed)
         requires { B.IsHonest self.old → get (B.tables self.old).bodies file ≡ Some body }
-        ensures { Stays B.Books self.old self.new }
+        ensures { ReadsNothing B.Books self.old self.new }
     {
         self.books.keep_body(file, body);
     }
@@ -39,7 +39,7 @@ impl<B: Keeper> Desk<B> {
     pub fn keep_page(&mut self, page: Page<'_>, served: Served, text: Vec<u8>)
         requires { B.IsHonest self.old →
             page_in (B.tables self.old) served page ≡ Some text.items }
-        ensures { Stays B.Books self.old self.new }
+        ensures { ReadsNothing B.Books self.old self.new }
     {
         self.books.keep_page(page, served, text);
     }

@@ -1,7 +1,7 @@
 //! The report: a line for each held or prohibited name.
 ghost use Rattle.std.specs.Prelude.{◌≡◌, ◌++◌, ℕ, IfErr, IfOk, OnOk, replicate};
 ghost use Rattle.index_io.specs.Counts.{FailsAtMostOnce, HasFailed};
-ghost use Rattle.index_desk.specs.Looks.{LeavesTables, Looks};
+ghost use Rattle.index_desk.specs.Looks.{LeavesTables, ReadsTables};
 ghost use Rattle.index_desk.specs.Reports.{Reports, at_left, at_right, name_columns, number_columns, report_in, report_line, report_of, state_text as state_text_lem};
 
 use super::Desk;
@@ -35,8 +35,10 @@ impl<B: Books> Desk<B> {
     /// Writes a line for each held or prohibited name, by name in byte order: the name, its state, how many undeleted
     /// files it has, its charge and its quota, the last two in bytes. It changes no table.
     ///
-    /// All of it is made before the first byte goes out. So after `OutOfMemory` and `Store` nothing was written, and
-    /// after `WriteFault` so many bytes were.
+    /// # Errors
+    ///
+    /// All of it is made before the first byte goes out. So after `OutOfMemory`, and after `Store` where the books
+    /// fail, nothing was written, and after `WriteFault` so many bytes were.
     pub fn report<S: Sink>(&mut self, alloc: Global, sink: &mut S) -> Result<(), ReportFault>
         ensures report { B.IsHonest self.new →
             let text = report_in (B.tables self.old) in
@@ -62,7 +64,7 @@ impl<B: Books> Desk<B> {
 fn report_text<B: Books>(books: &mut B, alloc: Global) -> Result<Vec<u8>, Fault>
     ensures text { B.IsHonest books.new →
         IfOk result (λ text. text.items ≡ report_in (B.tables books.old)) }
-    ensures look { Looks B.Books books.old books.new result }
+    ensures look { ReadsTables B.Books books.old books.new result }
 {
     let rows = books.names(alloc)?;
     let text = lines_of(alloc, rows.as_slice())?;

@@ -9,7 +9,7 @@ ghost use Rattle.index_rules.specs.Walks.{Walks};
 ghost use Rattle.index_rules.specs.History.{History};
 ghost use Rattle.index_rules.specs.PastNames.{is_held_now, state_after};
 ghost use Rattle.index_rules.specs.StandsFor.{StandsFor};
-ghost use Rattle.index_desk.specs.Looks.{Looks, LooksInWalk};
+ghost use Rattle.index_desk.specs.Looks.{ReadsTables, WalksTables};
 ghost use Rattle.index_desk.specs.PastRows.{AreHeldRowsAfter, AreProjectRowsAfter};
 ghost use Rattle.index_desk.specs.Projects.{WalksProject, project_rows_in};
 
@@ -20,6 +20,10 @@ use std::alloc::Global;
 
 impl<B: Books> Desk<B> {
     /// Whether a name is held. It changes no table.
+    ///
+    /// # Errors
+    ///
+    /// `OutOfMemory` for want of memory, and `Store` where the books fail.
     pub fn is_held(&mut self, alloc: Global, name: &NormalName) -> Result<bool, Fault>
         ensures held { B.IsHonest self.new →
             IfOk result (λ held. held ≡ is_held_lem (get (B.tables self.old).names name.now)) }
@@ -27,12 +31,16 @@ impl<B: Books> Desk<B> {
         // It is so after each history for which the tables stand.
         ensures history { B.IsHonest self.new → IfOk result (λ held. (h : History) →
             StandsFor (B.tables self.old) h → held ≡ is_held_now (state_after h name.now)) }
-        ensures look { Looks B.Books self.old self.new result }
+        ensures look { ReadsTables B.Books self.old self.new result }
     {
         is_held(&mut self.books, alloc, name)
     }
 
     /// The held names with their records, in byte order. It changes no table.
+    ///
+    /// # Errors
+    ///
+    /// `OutOfMemory` for want of memory, and `Store` where the books fail.
     pub fn root_rows(&mut self, alloc: Global) -> Result<Vec<NameRow>, Fault>
         ensures rows { B.IsHonest self.new →
             IfOk result (λ rows. rows.items ≡ held_rows_in (B.tables self.old)) }
@@ -40,7 +48,7 @@ impl<B: Books> Desk<B> {
         // They are the rows of the names that are held after a history for which the tables stand.
         ensures history { B.IsHonest self.new → IfOk result (λ rows. (h : History) →
             StandsFor (B.tables self.old) h → AreHeldRowsAfter h rows.items) }
-        ensures look { Looks B.Books self.old self.new result }
+        ensures look { ReadsTables B.Books self.old self.new result }
     {
         let mut rows = self.books.names(alloc)?;
         rows.retain(|row| is_held_row(row));
@@ -49,6 +57,10 @@ impl<B: Books> Desk<B> {
 
     /// The undeleted files of a held name with their records, in byte order, or `None` where the name is not held. It
     /// changes no table.
+    ///
+    /// # Errors
+    ///
+    /// `OutOfMemory` for want of memory, and `Store` where the books fail.
     pub fn project_rows(
         &mut self,
         alloc: Global,
@@ -62,7 +74,7 @@ impl<B: Books> Desk<B> {
         ensures history { B.IsHonest self.new → IfOk result (λ found. (h : History) →
             StandsFor (B.tables self.old) h →
             AreProjectRowsAfter h name.now (option_map (λ rows. rows.items) found)) }
-        ensures look { Looks B.Books self.old self.new result }
+        ensures look { ReadsTables B.Books self.old self.new result }
     {
         if !is_held(&mut self.books, alloc, name)? {
             return Ok(None);
@@ -71,8 +83,11 @@ impl<B: Books> Desk<B> {
         Ok(Some(rows))
     }
 
-    /// Hands the rows of `root_rows` to a taker one at a time, until it wants no more: then the end is `Stopped`. It
-    /// changes no table.
+    /// Hands the rows of `root_rows` to a taker one at a time, until it wants no more. It changes no table.
+    ///
+    /// # Errors
+    ///
+    /// `Stopped` where the taker wants no more, `OutOfMemory` for want of memory, and `Store` where the books fail.
     pub fn walk_root<K: NameTaker>(&mut self, alloc: Global, taker: &mut K) -> Result<(), WalkEnd>
         ensures walked { B.IsHonest self.old → B.IsClean self.new →
             let rows = held_rows_in (B.tables self.old) in
@@ -84,13 +99,17 @@ impl<B: Books> Desk<B> {
         // Whatever the store did, the taker was given some rows in this way.
         ensures given { (rows : List NameRowData) ×
             Walks K.takes K.stops rows taker.old taker.new result }
-        ensures look { LooksInWalk B.Books self.old self.new result }
+        ensures look { WalksTables B.Books self.old self.new result }
     {
         self.books.walk_held(alloc, taker)
     }
 
-    /// Hands the rows of `project_rows` to a taker one at a time, until it wants no more: then the end is `Stopped`.
-    /// `false` where the name is not held, and then nothing was handed over. It changes no table.
+    /// Hands the rows of `project_rows` to a taker one at a time, until it wants no more. `false` where the name is not
+    /// held, and then nothing was handed over. It changes no table.
+    ///
+    /// # Errors
+    ///
+    /// `Stopped` where the taker wants no more, `OutOfMemory` for want of memory, and `Store` where the books fail.
     pub fn walk_project<K: FileTaker>(
         &mut self,
         alloc: Global,
@@ -108,7 +127,7 @@ impl<B: Books> Desk<B> {
         // Whatever the store did, the taker was given some rows in this way, or nothing.
         ensures given { (rows : Option (List FileRowData)) ×
             WalksProject K.takes K.stops rows taker.old taker.new result }
-        ensures look { LooksInWalk B.Books self.old self.new result }
+        ensures look { WalksTables B.Books self.old self.new result }
     {
         if !is_held(&mut self.books, alloc, name)? {
             return Ok(false);
@@ -128,7 +147,7 @@ fn is_held_row(row: &NameRow) -> bool
 fn is_held<B: Books>(books: &mut B, alloc: Global, name: &NormalName) -> Result<bool, Fault>
     ensures held { B.IsHonest books.new →
         IfOk result (λ held. held ≡ is_held_lem (get (B.tables books.old).names name.now)) }
-    ensures look { Looks B.Books books.old books.new result }
+    ensures look { ReadsTables B.Books books.old books.new result }
 {
     let view = seen_name(books, alloc, name)?;
     Ok(matches!(view.name, Some(NameRecord::Held(_))))

@@ -1,6 +1,7 @@
 //! Each route over a database of which a file stops at one call or another: the reply is that of where none stops, or tells
 //! of a fault of the store; and a page that is too long to be gathered is cut.
-use super::replies::{HEAD_OF_LONG_PAGE, ROOT, STORE, UPLOAD, claim_long_names, tell};
+use super::long_pages::{HEAD_OF_LONG_PAGE, claim_long_names};
+use super::replies::{ROOT, STORE, UPLOAD, tell};
 use super::{ACCEPTED, CLAIM, assert_answers, desk_with_users};
 use files::{Database, File, Which, closed, new_files, opened, stopping};
 use index_desk::{Desk, Keeper};

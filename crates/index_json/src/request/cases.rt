@@ -1,37 +1,42 @@
 //! The rows of requests on retention cases (PEP 541).
 ghost use Rattle.index_json.specs.Object.{object_of};
 ghost use Rattle.index_json.specs.Reading.{ReadsTo};
-ghost use Rattle.index_json.specs.Requests.{attempt_means as attempt_means_lem, case_kind as case_kind_lem, case_row, open_case_row, record_attempt_row, transfer_row};
+ghost use Rattle.index_json.specs.Requests.{attempt_means as attempt_means_lem, case_kind as case_kind_lem, request_on_case, open_case_row, record_attempt_row, transfer_row};
 
-use crate::row::{Row, Unread};
+use crate::object_reader::{ObjectReader, Unread};
 use index_retention::{CaseKind, Means};
 use index_rules::Request;
 use std::alloc::Global;
 
 /// The request on a case of an object whose `do` is this word.
-pub fn request_named(alloc: Global, word: &str, row: &mut Row<'_>) -> Result<Request, Unread>
-    ensures { ReadsTo result (case_row word.now (object_of row.old)) (object_of row.new) }
+pub fn request_named(
+    alloc: Global,
+    word: &str,
+    object: &mut ObjectReader<'_>,
+) -> Result<Request, Unread>
+    ensures { ReadsTo result (request_on_case word.now (object_of object.old))
+        (object_of object.new) }
 {
     match word {
-        "open_case" => open_case(alloc, row),
-        "record_attempt" => record_attempt(alloc, row),
-        "transfer" => transfer(alloc, row),
-        "close_case" => row
+        "open_case" => open_case(alloc, object),
+        "record_attempt" => record_attempt(alloc, object),
+        "transfer" => transfer(alloc, object),
+        "close_case" => object
             .bytes(alloc, "name")
             .map(|name| Request::CloseCase { name }),
-        "answer_case" => row
+        "answer_case" => object
             .bytes(alloc, "name")
             .map(|name| Request::AnswerCase { name }),
-        _ => Err(Unread::NoRow),
+        _ => Err(Unread::NotARequest),
     }
 }
 
-fn open_case(alloc: Global, row: &mut Row<'_>) -> Result<Request, Unread>
-    ensures { ReadsTo result (open_case_row (object_of row.old)) (object_of row.new) }
+fn open_case(alloc: Global, object: &mut ObjectReader<'_>) -> Result<Request, Unread>
+    ensures { ReadsTo result (open_case_row (object_of object.old)) (object_of object.new) }
 {
-    let kind = case_kind(row)?;
-    let (name, contact) = row.both(alloc, "name", "contact")?;
-    let (work, why) = row.both(alloc, "work", "why")?;
+    let kind = case_kind(object)?;
+    let (name, contact) = object.two_texts(alloc, "name", "contact")?;
+    let (work, why) = object.two_texts(alloc, "work", "why")?;
     Ok(Request::OpenCase {
         name,
         kind,
@@ -41,42 +46,42 @@ fn open_case(alloc: Global, row: &mut Row<'_>) -> Result<Request, Unread>
     })
 }
 
-fn record_attempt(alloc: Global, row: &mut Row<'_>) -> Result<Request, Unread>
-    ensures { ReadsTo result (record_attempt_row (object_of row.old)) (object_of row.new) }
+fn record_attempt(alloc: Global, object: &mut ObjectReader<'_>) -> Result<Request, Unread>
+    ensures { ReadsTo result (record_attempt_row (object_of object.old)) (object_of object.new) }
 {
-    let means = attempt_means(row)?;
-    let sent = row.flag("sent")?;
-    let name = row.bytes(alloc, "name")?;
+    let means = attempt_means(object)?;
+    let sent = object.flag("sent")?;
+    let name = object.bytes(alloc, "name")?;
     Ok(Request::RecordAttempt { name, means, sent })
 }
 
-fn transfer(alloc: Global, row: &mut Row<'_>) -> Result<Request, Unread>
-    ensures { ReadsTo result (transfer_row (object_of row.old)) (object_of row.new) }
+fn transfer(alloc: Global, object: &mut ObjectReader<'_>) -> Result<Request, Unread>
+    ensures { ReadsTo result (transfer_row (object_of object.old)) (object_of object.new) }
 {
-    let quiet = row.flag("quiet")?;
-    let name = row.bytes(alloc, "name")?;
+    let quiet = object.flag("quiet")?;
+    let name = object.bytes(alloc, "name")?;
     Ok(Request::Transfer { name, quiet })
 }
 
 /// The kind of a case, as its text says.
-fn case_kind(row: &mut Row<'_>) -> Result<CaseKind, Unread>
-    ensures { ReadsTo result (case_kind_lem (object_of row.old)) (object_of row.new) }
+fn case_kind(object: &mut ObjectReader<'_>) -> Result<CaseKind, Unread>
+    ensures { ReadsTo result (case_kind_lem (object_of object.old)) (object_of object.new) }
 {
-    match row.text("kind")? {
+    match object.text("kind")? {
         "continue" => Ok(CaseKind::Continue),
         "reuse" => Ok(CaseKind::Reuse),
-        _ => Err(Unread::NoRow),
+        _ => Err(Unread::NotARequest),
     }
 }
 
 /// The means of an attempt, as its text says.
-fn attempt_means(row: &mut Row<'_>) -> Result<Means, Unread>
-    ensures { ReadsTo result (attempt_means_lem (object_of row.old)) (object_of row.new) }
+fn attempt_means(object: &mut ObjectReader<'_>) -> Result<Means, Unread>
+    ensures { ReadsTo result (attempt_means_lem (object_of object.old)) (object_of object.new) }
 {
-    match row.text("means")? {
+    match object.text("means")? {
         "profile" => Ok(Means::Profile),
         "author" => Ok(Means::Author),
         "pages" => Ok(Means::Pages),
-        _ => Err(Unread::NoRow),
+        _ => Err(Unread::NotARequest),
     }
 }

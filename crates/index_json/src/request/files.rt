@@ -3,34 +3,39 @@ ghost use Rattle.std.specs.Prelude.{◌≡◌, ◌%◌, length, Err};
 ghost use Rattle.index_json.specs.Json.{hex_bytes};
 ghost use Rattle.index_json.specs.Object.{object_of};
 ghost use Rattle.index_json.specs.Reading.{Reads, ReadsTo};
-ghost use Rattle.index_json.specs.Requests.{ban_file_row, body as body_lem, delete_row, file_row, unyank_row, upload_row, yank_row};
+ghost use Rattle.index_json.specs.Requests.{ban_file_row, body as body_lem, delete_row, request_on_file, unyank_row, upload_row, yank_row};
 
 use super::cases;
-use crate::row::{Row, Unread};
+use crate::object_reader::{ObjectReader, Unread};
 use hex::FromHexError;
 use index_rules::{Bytes, Request};
 use std::alloc::Global;
 
 /// The request of an object whose `do` is this word, which is none on users, names or owners.
-pub fn request_named(alloc: Global, word: &str, row: &mut Row<'_>) -> Result<Request, Unread>
-    ensures { ReadsTo result (file_row word.now (object_of row.old)) (object_of row.new) }
+pub fn request_named(
+    alloc: Global,
+    word: &str,
+    object: &mut ObjectReader<'_>,
+) -> Result<Request, Unread>
+    ensures { ReadsTo result (request_on_file word.now (object_of object.old))
+        (object_of object.new) }
 {
     match word {
-        "upload" => upload(alloc, row),
-        "delete" => delete(alloc, row),
-        "ban_file" => ban_file(alloc, row),
-        "yank" => yank(alloc, row),
-        "unyank" => unyank(alloc, row),
-        word => cases::request_named(alloc, word, row),
+        "upload" => upload(alloc, object),
+        "delete" => delete(alloc, object),
+        "ban_file" => ban_file(alloc, object),
+        "yank" => yank(alloc, object),
+        "unyank" => unyank(alloc, object),
+        word => cases::request_named(alloc, word, object),
     }
 }
 
-fn upload(alloc: Global, row: &mut Row<'_>) -> Result<Request, Unread>
-    ensures { ReadsTo result (upload_row (object_of row.old)) (object_of row.new) }
+fn upload(alloc: Global, object: &mut ObjectReader<'_>) -> Result<Request, Unread>
+    ensures { ReadsTo result (upload_row (object_of object.old)) (object_of object.new) }
 {
-    let body = body(alloc, row)?;
-    let requires_python = row.bytes(alloc, "requires_python")?;
-    let (file, sha256) = row.both(alloc, "file", "sha256")?;
+    let body = body(alloc, object)?;
+    let requires_python = object.bytes(alloc, "requires_python")?;
+    let (file, sha256) = object.two_texts(alloc, "file", "sha256")?;
     Ok(Request::Upload {
         file,
         sha256,
@@ -39,25 +44,27 @@ fn upload(alloc: Global, row: &mut Row<'_>) -> Result<Request, Unread>
     })
 }
 
-fn delete(alloc: Global, row: &mut Row<'_>) -> Result<Request, Unread>
-    ensures { ReadsTo result (delete_row (object_of row.old)) (object_of row.new) }
+fn delete(alloc: Global, object: &mut ObjectReader<'_>) -> Result<Request, Unread>
+    ensures { ReadsTo result (delete_row (object_of object.old)) (object_of object.new) }
 {
-    row.bytes(alloc, "file")
+    object
+        .bytes(alloc, "file")
         .map(|file| Request::Delete { file })
 }
 
-fn ban_file(alloc: Global, row: &mut Row<'_>) -> Result<Request, Unread>
-    ensures { ReadsTo result (ban_file_row (object_of row.old)) (object_of row.new) }
+fn ban_file(alloc: Global, object: &mut ObjectReader<'_>) -> Result<Request, Unread>
+    ensures { ReadsTo result (ban_file_row (object_of object.old)) (object_of object.new) }
 {
-    row.bytes(alloc, "file")
+    object
+        .bytes(alloc, "file")
         .map(|file| Request::BanFile { file })
 }
 
-fn yank(alloc: Global, row: &mut Row<'_>) -> Result<Request, Unread>
-    ensures { ReadsTo result (yank_row (object_of row.old)) (object_of row.new) }
+fn yank(alloc: Global, object: &mut ObjectReader<'_>) -> Result<Request, Unread>
+    ensures { ReadsTo result (yank_row (object_of object.old)) (object_of object.new) }
 {
-    let reason = row.bytes(alloc, "reason")?;
-    let (name, release) = row.both(alloc, "name", "release")?;
+    let reason = object.bytes(alloc, "reason")?;
+    let (name, release) = object.two_texts(alloc, "name", "release")?;
     Ok(Request::Yank {
         name,
         release,
@@ -65,29 +72,29 @@ fn yank(alloc: Global, row: &mut Row<'_>) -> Result<Request, Unread>
     })
 }
 
-fn unyank(alloc: Global, row: &mut Row<'_>) -> Result<Request, Unread>
-    ensures { ReadsTo result (unyank_row (object_of row.old)) (object_of row.new) }
+fn unyank(alloc: Global, object: &mut ObjectReader<'_>) -> Result<Request, Unread>
+    ensures { ReadsTo result (unyank_row (object_of object.old)) (object_of object.new) }
 {
-    let texts = row.both(alloc, "name", "release");
+    let texts = object.two_texts(alloc, "name", "release");
     texts.map(|(name, release)| Request::Unyank { name, release })
 }
 
 /// The body that a row's hex digits say.
-fn body(alloc: Global, row: &mut Row<'_>) -> Result<Bytes, Unread>
-    ensures { ReadsTo result (body_lem (object_of row.old)) (object_of row.new) }
+fn body(alloc: Global, object: &mut ObjectReader<'_>) -> Result<Bytes, Unread>
+    ensures { ReadsTo result (body_lem (object_of object.old)) (object_of object.new) }
 {
-    let digits = row.text("hex")?;
+    let digits = object.text("hex")?;
     bytes_of_hex(alloc, digits)
 }
 
 /// The bytes of a text of hex digits, in either case.
 fn bytes_of_hex(alloc: Global, digits: &str) -> Result<Bytes, Unread>
     ensures bytes { Reads result (hex_bytes digits.now) }
-    ensures odd { length digits.now % 2 ≡ 1 → result ≡ Err Unread.NoRow }
+    ensures odd { length digits.now % 2 ≡ 1 → result ≡ Err Unread.NotARequest }
 {
     match hex::decode(alloc, digits) {
         Ok(bytes) => Ok(Bytes::new(bytes)),
         Err(FromHexError::OutOfMemory) => Err(Unread::OutOfMemory),
-        Err(_) => Err(Unread::NoRow),
+        Err(_) => Err(Unread::NotARequest),
     }
 }

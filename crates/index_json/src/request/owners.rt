@@ -1,30 +1,37 @@
 //! The rows of requests on who owns a name.
 ghost use Rattle.index_json.specs.Object.{object_of};
 ghost use Rattle.index_json.specs.Reading.{ReadsTo};
-ghost use Rattle.index_json.specs.Requests.{owner_row};
+ghost use Rattle.index_json.specs.Requests.{request_on_owner};
 
 use super::files;
-use crate::row::{Row, Unread};
+use crate::object_reader::{ObjectReader, Unread};
 use index_rules::Request;
 use std::alloc::Global;
 
 /// The request of an object whose `do` is this word, which is none on users or by the office.
-pub fn request_named(alloc: Global, word: &str, row: &mut Row<'_>) -> Result<Request, Unread>
-    ensures { ReadsTo result (owner_row word.now (object_of row.old)) (object_of row.new) }
+pub fn request_named(
+    alloc: Global,
+    word: &str,
+    object: &mut ObjectReader<'_>,
+) -> Result<Request, Unread>
+    ensures { ReadsTo result (request_on_owner word.now (object_of object.old))
+        (object_of object.new) }
 {
     match word {
-        "claim" => row.bytes(alloc, "name").map(|name| Request::Claim { name }),
-        "relinquish" => row
+        "claim" => object
+            .bytes(alloc, "name")
+            .map(|name| Request::Claim { name }),
+        "relinquish" => object
             .bytes(alloc, "name")
             .map(|name| Request::Relinquish { name }),
         "add_owner" => {
-            let texts = row.both(alloc, "name", "user");
+            let texts = object.two_texts(alloc, "name", "user");
             texts.map(|(name, user)| Request::AddOwner { name, user })
         }
         "remove_owner" => {
-            let texts = row.both(alloc, "name", "user");
+            let texts = object.two_texts(alloc, "name", "user");
             texts.map(|(name, user)| Request::RemoveOwner { name, user })
         }
-        word => files::request_named(alloc, word, row),
+        word => files::request_named(alloc, word, object),
     }
 }

@@ -1,29 +1,34 @@
 //! The rows of requests on users.
 ghost use Rattle.index_json.specs.Object.{object_of};
 ghost use Rattle.index_json.specs.Reading.{ReadsTo};
-ghost use Rattle.index_json.specs.Requests.{add_user_row, set_token_row, user_row};
+ghost use Rattle.index_json.specs.Requests.{add_user_row, set_token_row, request_on_user};
 
 use super::names;
-use crate::row::{Row, Unread};
+use crate::object_reader::{ObjectReader, Unread};
 use index_rules::Request;
 use std::alloc::Global;
 
 /// The request of an object whose `do` is this word.
-pub fn request_named(alloc: Global, word: &str, row: &mut Row<'_>) -> Result<Request, Unread>
-    ensures { ReadsTo result (user_row word.now (object_of row.old)) (object_of row.new) }
+pub fn request_named(
+    alloc: Global,
+    word: &str,
+    object: &mut ObjectReader<'_>,
+) -> Result<Request, Unread>
+    ensures { ReadsTo result (request_on_user word.now (object_of object.old))
+        (object_of object.new) }
 {
     match word {
-        "add_user" => add_user(alloc, row),
-        "set_token" => set_token(alloc, row),
-        word => names::request_named(alloc, word, row),
+        "add_user" => add_user(alloc, object),
+        "set_token" => set_token(alloc, object),
+        word => names::request_named(alloc, word, object),
     }
 }
 
-fn add_user(alloc: Global, row: &mut Row<'_>) -> Result<Request, Unread>
-    ensures { ReadsTo result (add_user_row (object_of row.old)) (object_of row.new) }
+fn add_user(alloc: Global, object: &mut ObjectReader<'_>) -> Result<Request, Unread>
+    ensures { ReadsTo result (add_user_row (object_of object.old)) (object_of object.new) }
 {
-    let office = row.flag("office")?;
-    let (user, token) = row.both(alloc, "user", "token_sha256")?;
+    let office = object.flag("office")?;
+    let (user, token) = object.two_texts(alloc, "user", "token_sha256")?;
     Ok(Request::AddUser {
         user,
         office,
@@ -31,9 +36,9 @@ fn add_user(alloc: Global, row: &mut Row<'_>) -> Result<Request, Unread>
     })
 }
 
-fn set_token(alloc: Global, row: &mut Row<'_>) -> Result<Request, Unread>
-    ensures { ReadsTo result (set_token_row (object_of row.old)) (object_of row.new) }
+fn set_token(alloc: Global, object: &mut ObjectReader<'_>) -> Result<Request, Unread>
+    ensures { ReadsTo result (set_token_row (object_of object.old)) (object_of object.new) }
 {
-    let texts = row.both(alloc, "user", "token_sha256");
+    let texts = object.two_texts(alloc, "user", "token_sha256");
     texts.map(|(user, token)| Request::SetToken { user, token })
 }

@@ -1,8 +1,8 @@
 //! What is written where a file is uploaded, deleted or banned.
-ghost use Rattle.std.specs.Prelude.{◌≡◌, None, Option, OnOk, OnErr, Some};
+ghost use Rattle.std.specs.Prelude.{None, Option, Some};
 ghost use Rattle.index_rules.specs.declared.change.Change.TheVariants.{BanFile, Delete, Upload};
 ghost use Rattle.index_rules.specs.Maps.{Bytes};
-ghost use Rattle.index_plain.specs.Plain.{Writes, tables_of, failures_of};
+ghost use Rattle.index_plain.specs.Plain.{Makes};
 
 use crate::plain::PlainBooks;
 use crate::table;
@@ -22,10 +22,8 @@ impl PlainBooks {
         body: Sealed,
         ends_case: bool,
     ) -> Result<(), AllocError>
-        ensures written { let change = Upload name.now project file.now known body ends_case in
-            OnOk result (Writes change self.old self.new) }
-        ensures unchanged { OnErr result (tables_of self.new ≡ tables_of self.old) }
-        ensures failures { failures_of self.new ≡ failures_of self.old }
+        ensures made { let change = Upload name.now project file.now known body ends_case in
+            Makes change self.old self.new result }
     {
         let former = table::replace(&mut self.names, name, NameRecord::Held(project))?;
         match table::put_both(&mut self.files, file, known, &mut self.bodies, file, body) {
@@ -50,10 +48,7 @@ impl PlainBooks {
         file: &FileName,
         known: FileRecord,
     ) -> Result<(), AllocError>
-        ensures written { let change = Delete name.now project file.now known in
-            OnOk result (Writes change self.old self.new) }
-        ensures unchanged { OnErr result (tables_of self.new ≡ tables_of self.old) }
-        ensures failures { failures_of self.new ≡ failures_of self.old }
+        ensures made { Makes (Delete name.now project file.now known) self.old self.new result }
     {
         let held = NameRecord::Held(project);
         table::put_both(&mut self.names, name, held, &mut self.files, file, known)?;
@@ -70,10 +65,7 @@ impl PlainBooks {
         file: &FileName,
         known: FileRecord,
     ) -> Result<(), AllocError>
-        ensures written { let change = BanFile name.now project file.now known in
-            OnOk result (Writes change self.old self.new) }
-        ensures unchanged { OnErr result (tables_of self.new ≡ tables_of self.old) }
-        ensures failures { failures_of self.new ≡ failures_of self.old }
+        ensures made { Makes (BanFile name.now project file.now known) self.old self.new result }
     {
         match project {
             Some(project) => self.ban_charged(name, project, file, known),
@@ -88,10 +80,8 @@ impl PlainBooks {
         file: &FileName,
         known: FileRecord,
     ) -> Result<(), AllocError>
-        ensures written { let change = BanFile name.now (Some project) file.now known in
-            OnOk result (Writes change self.old self.new) }
-        ensures unchanged { OnErr result (tables_of self.new ≡ tables_of self.old) }
-        ensures failures { failures_of self.new ≡ failures_of self.old }
+        ensures made { let change = BanFile name.now (Some project) file.now known in
+            Makes change self.old self.new result }
     {
         let before = table::replace(&mut self.names, name, NameRecord::Held(project))?;
         match table::put_both(&mut self.files, file, known, &mut self.bans, file, ()) {
@@ -107,10 +97,8 @@ impl PlainBooks {
     }
 
     fn ban_alone(&mut self, file: &FileName, known: FileRecord) -> Result<(), AllocError>
-        ensures written { (name : Bytes)
-            → OnOk result (Writes (BanFile name None file.now known) self.old self.new) }
-        ensures unchanged { OnErr result (tables_of self.new ≡ tables_of self.old) }
-        ensures failures { failures_of self.new ≡ failures_of self.old }
+        ensures made { (name : Bytes)
+            → Makes (BanFile name None file.now known) self.old self.new result }
     {
         table::put_both(&mut self.files, file, known, &mut self.bans, file, ())?;
         table::remove(&mut self.bodies, file);

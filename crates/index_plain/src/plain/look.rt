@@ -6,7 +6,7 @@ ghost use Rattle.std.specs.BTreeMap.{IsOrdered, keys};
 ghost use Rattle.index_rules.specs.Facts.{AreOwners, IsBearer, IsBearerAs, Sees, at_both, caller_of, has_release_in, is_banned_in, of_both, yank_in};
 ghost use Rattle.index_rules.specs.Maps.{bytes_cmp};
 ghost use Rattle.index_rules.specs.Tables.{owners_in};
-ghost use Rattle.index_plain.specs.Plain.{tables_of};
+ghost use Rattle.index_plain.specs.Plain.{plain_tables};
 
 use crate::plain::PlainBooks;
 use crate::{name_files, pairs, table};
@@ -47,7 +47,7 @@ struct FilesSeen {
 impl PlainBooks {
     /// The records at the keys.
     pub(crate) fn look(&self, alloc: Global, keys: &Keys) -> Result<View, AllocError>
-        ensures { IfOk result (Sees (tables_of self.now) keys.now) }
+        ensures { IfOk result (Sees (plain_tables self.now) keys.now) }
     {
         let UsersSeen {
             caller,
@@ -81,11 +81,12 @@ impl PlainBooks {
 
     fn users_at(&self, keys: &Keys) -> Result<UsersSeen, AllocError>
         ensures caller { let k = keys.now in
-            IfOk result (λ seen. IsBearerAs caller_of (tables_of self.now) k.caller seen.caller) }
-        ensures user { let T = tables_of self.now in
+            IfOk result
+            (λ seen. IsBearerAs caller_of (plain_tables self.now) k.caller seen.caller) }
+        ensures user { let T = plain_tables self.now in
             IfOk result (λ seen. seen.user ≡ option_and_then (get T.users) keys.now.user) }
         ensures bearer { let k = keys.now in
-            let T = tables_of self.now in
+            let T = plain_tables self.now in
             IfOk result (λ seen. IsBearerAs (λ user. user.0) T k.token seen.bearer) }
     {
         let user = table::copy_at_key(&self.accounts.users, &keys.user)?;
@@ -99,13 +100,13 @@ impl PlainBooks {
     }
 
     fn files_at(&self, keys: &Keys) -> Result<FilesSeen, AllocError>
-        ensures file { let T = tables_of self.now in
+        ensures file { let T = plain_tables self.now in
             IfOk result (λ seen. seen.file ≡ option_and_then (get T.files) keys.now.file) }
-        ensures is_banned { let banned = is_banned_in (tables_of self.now) in
+        ensures is_banned { let banned = is_banned_in (plain_tables self.now) in
             IfOk result (λ seen. seen.is_banned ≡ option_map_or banned keys.now.file false) }
-        ensures yank { let T = tables_of self.now in let k = keys.now in
+        ensures yank { let T = plain_tables self.now in let k = keys.now in
             IfOk result (λ seen. seen.yank ≡ at_both (yank_in T) k.name k.release) }
-        ensures release { let T = tables_of self.now in let k = keys.now in
+        ensures release { let T = plain_tables self.now in let k = keys.now in
             IfOk result (λ seen. seen.has_release ≡ of_both (has_release_in T) k.name k.release) }
     {
         let has_release = self.has_release(&keys.name, &keys.release);
@@ -121,10 +122,11 @@ impl PlainBooks {
     }
 
     fn name_at(&self, alloc: Global, name: &Option<NormalName>) -> Result<NameSeen, AllocError>
-        ensures record { let T = tables_of self.now in
+        ensures record { let T = plain_tables self.now in
             IfOk result (λ seen. seen.record ≡ option_and_then (get T.names) name.now) }
-        ensures owners { IfOk result (λ seen. AreOwners (tables_of self.now) name.now seen.owners) }
-        ensures case { let T = tables_of self.now in
+        ensures owners { IfOk result
+            (λ seen. AreOwners (plain_tables self.now) name.now seen.owners) }
+        ensures case { let T = plain_tables self.now in
             IfOk result (λ seen. seen.case ≡ option_and_then (get T.cases) name.now) }
     {
         let case = table::copy_at_key(&self.cases, name)?;
@@ -143,7 +145,7 @@ impl PlainBooks {
         alloc: Global,
         name: &NormalName,
     ) -> Result<Owners, AllocError>
-        ensures { IfOk result (λ owners. owners ≡ owners_in (tables_of self.now) name.now) }
+        ensures { IfOk result (λ owners. owners ≡ owners_in (plain_tables self.now) name.now) }
     {
         match self.owners.get(name) {
             Some(users) => owners_from(alloc, users),
@@ -152,7 +154,7 @@ impl PlainBooks {
     }
 
     fn owners_by_key(&self, alloc: Global, name: &Option<NormalName>) -> Result<Owners, AllocError>
-        ensures { IfOk result (AreOwners (tables_of self.now) name.now) }
+        ensures { IfOk result (AreOwners (plain_tables self.now) name.now) }
     {
         match name {
             Some(name) => self.owners_by_name(alloc, name),
@@ -166,7 +168,7 @@ impl PlainBooks {
         name: &Option<NormalName>,
         release: &Option<Release>,
     ) -> Result<Option<Text>, AllocError>
-        ensures { let T = tables_of self.now in
+        ensures { let T = plain_tables self.now in
             IfOk result (λ reason. reason ≡ at_both (yank_in T) name.now release.now) }
     {
         match (name, release) {
@@ -177,7 +179,7 @@ impl PlainBooks {
 
     /// Whether a release has an undeleted file.
     fn has_release(&self, name: &Option<NormalName>, release: &Option<Release>) -> bool
-        ensures { result ≡ of_both (has_release_in (tables_of self.now)) name.now release.now }
+        ensures { result ≡ of_both (has_release_in (plain_tables self.now)) name.now release.now }
     {
         match (name, release) {
             (Some(name), Some(release)) => name_files::has_undeleted(&self.files, name, release),
@@ -187,7 +189,7 @@ impl PlainBooks {
 
     /// Whether a file is banned.
     fn is_banned(&self, file: &Option<FileName>) -> bool
-        ensures { result ≡ option_map_or (is_banned_in (tables_of self.now)) file.now false }
+        ensures { result ≡ option_map_or (is_banned_in (plain_tables self.now)) file.now false }
     {
         match file {
             Some(file) => table::find(&self.bans, file).is_some(),
@@ -198,7 +200,7 @@ impl PlainBooks {
     /// Who bears the token with this digest.
     fn bearer(&self, token: Digest256) -> Option<(&UserId, &UserRecord)>
         ensures { let bearer = option_map (λ user. (user.0.now, user.1.now)) result in
-            IsBearer (tables_of self.now) token bearer }
+            IsBearer (plain_tables self.now) token bearer }
     {
         let user = pairs::first_at(&self.accounts.bearers, &token)?;
         match table::find(&self.accounts.users, user) {
@@ -208,7 +210,7 @@ impl PlainBooks {
     }
 
     fn caller(&self, token: Option<Digest256>) -> Result<Option<Caller>, AllocError>
-        ensures { IfOk result (IsBearerAs caller_of (tables_of self.now) token) }
+        ensures { IfOk result (IsBearerAs caller_of (plain_tables self.now) token) }
     {
         let Some(token) = token else {
             return Ok(None);
@@ -223,7 +225,7 @@ impl PlainBooks {
     }
 
     fn bearer_id(&self, token: Option<Digest256>) -> Result<Option<UserId>, AllocError>
-        ensures { IfOk result (IsBearerAs (λ user. user.0) (tables_of self.now) token) }
+        ensures { IfOk result (IsBearerAs (λ user. user.0) (plain_tables self.now) token) }
     {
         let Some(token) = token else {
             return Ok(None);

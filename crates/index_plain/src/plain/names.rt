@@ -3,7 +3,7 @@ ghost use Rattle.std.specs.Prelude.{◌≡◌, true};
 ghost use Rattle.std.specs.FinMap.{remove};
 ghost use Rattle.index_rules.specs.declared.change.Change.TheVariants.{Claim, Prohibit, Relinquish, SetQuota};
 ghost use Rattle.index_rules.specs.Effect.{without_name};
-ghost use Rattle.index_plain.specs.Plain.{Makes, Writes, tables_of, failures_of, is_of_name};
+ghost use Rattle.index_plain.specs.Plain.{Becomes, Makes, Writes, plain_tables, is_of_name};
 
 use crate::plain::PlainBooks;
 use crate::{name_files, pairs, table};
@@ -59,8 +59,7 @@ impl PlainBooks {
 
     /// The name is free, and its owners, its yanks and its case go.
     fn relinquish(&mut self, name: &NormalName)
-        ensures tables { Writes (Relinquish name.now) self.old self.new }
-        ensures failures { failures_of self.new ≡ failures_of self.old }
+        ensures { Writes (Relinquish name.now) self.old self.new }
     {
         self.clear(name);
         table::remove(&mut self.names, name);
@@ -80,13 +79,13 @@ impl PlainBooks {
     /// Takes away the owners, the yanks and the case of a name.
     #[tactic(auto, using(crate::proofs::OwnerLemmas::name_gone))]
     fn clear(&mut self, name: &NormalName)
-        ensures tables { let T = tables_of self.old in
-            tables_of self.new ≡ record T {
+        ensures { let T = plain_tables self.old in
+            let left = record T {
               owners = without_name name.now T.owners;
               yanks = without_name name.now T.yanks;
               cases = remove T.cases name.now;
-            } }
-        ensures failures { failures_of self.new ≡ failures_of self.old }
+            } in
+            Becomes left self.old self.new }
     {
         pairs::clear(&mut self.owners, name);
         self.end_yanks_and_case(name);
@@ -95,12 +94,9 @@ impl PlainBooks {
     /// Takes away the yanks and the case of a name.
     #[tactic(auto, using(crate::proofs::OwnerLemmas::name_gone))]
     fn end_yanks_and_case(&mut self, name: &NormalName)
-        ensures tables { let T = tables_of self.old in
-            tables_of self.new ≡ record T {
-              yanks = without_name name.now T.yanks;
-              cases = remove T.cases name.now;
-            } }
-        ensures failures { failures_of self.new ≡ failures_of self.old }
+        ensures { let T = plain_tables self.old in
+            let yanks = without_name name.now T.yanks in
+            Becomes (record T { yanks = yanks; cases = remove T.cases name.now }) self.old self.new }
     {
         pairs::clear(&mut self.yanks, name);
         self.end_case(name);

@@ -1,7 +1,7 @@
 //! What is written where a name gets or loses an owner.
 ghost use Rattle.std.specs.Prelude.{◌≡◌, true};
 ghost use Rattle.index_rules.specs.declared.change.Change.TheVariants.{AddOwner, RemoveOwner};
-ghost use Rattle.index_plain.specs.Plain.{Makes, Writes, failures_of, is_of_owner};
+ghost use Rattle.index_plain.specs.Plain.{Makes, Writes, is_of_owner};
 
 use crate::pairs;
 use crate::plain::PlainBooks;
@@ -41,8 +41,7 @@ impl PlainBooks {
 
     /// The user owns the name no more, and the case ends.
     fn remove_owner(&mut self, name: &NormalName, user: &UserId)
-        ensures tables { Writes (RemoveOwner name.now user.now) self.old self.new }
-        ensures failures { failures_of self.new ≡ failures_of self.old }
+        ensures { Writes (RemoveOwner name.now user.now) self.old self.new }
     {
         self.end_case(name);
         pairs::remove(&mut self.owners, name, user);

@@ -1,7 +1,7 @@
 //! What is written of a release: of its files and its yank.
 ghost use Rattle.std.specs.Prelude.{◌≡◌, true};
 ghost use Rattle.index_rules.specs.declared.change.Change.TheVariants.{Unyank, Yank};
-ghost use Rattle.index_plain.specs.Plain.{Makes, Writes, failures_of, is_of_release};
+ghost use Rattle.index_plain.specs.Plain.{Makes, Writes, is_of_release};
 
 use crate::pairs;
 use crate::plain::PlainBooks;
@@ -71,8 +71,7 @@ impl PlainBooks {
 
     /// The release is yanked no more, and the case ends.
     fn remove_yank(&mut self, name: &NormalName, release: &Release)
-        ensures tables { Writes (Unyank name.now release.now) self.old self.new }
-        ensures failures { failures_of self.new ≡ failures_of self.old }
+        ensures { Writes (Unyank name.now release.now) self.old self.new }
     {
         self.end_case(name);
         pairs::remove(&mut self.yanks, name, release);

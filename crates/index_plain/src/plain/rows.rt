@@ -3,7 +3,7 @@ ghost use Rattle.std.specs.Prelude.{◌≡◌, ◌≢◌, ◌∷◌, [], IfErr, 
 ghost use Rattle.index_rules.specs.Sound.{is_undeleted_of as is_undeleted_of_lem};
 ghost use Rattle.index_rules.specs.TableRows.{file_row_in, file_rows_in, held_rows_in, is_held_row, name_row as name_row_lem, name_rows_in};
 ghost use Rattle.index_rules.specs.Walks.{Walks};
-ghost use Rattle.index_plain.specs.Plain.{tables_of};
+ghost use Rattle.index_plain.specs.Plain.{plain_tables};
 
 use crate::pairs;
 use crate::plain::PlainBooks;
@@ -14,7 +14,7 @@ use std::alloc::{AllocError, Global};
 impl PlainBooks {
     /// The held names and the prohibited ones, in byte order.
     pub(crate) fn name_rows(&self, alloc: Global) -> Result<Vec<NameRow>, AllocError>
-        ensures { IfOk result (λ rows. rows.items ≡ name_rows_in (tables_of self.now)) }
+        ensures { IfOk result (λ rows. rows.items ≡ name_rows_in (plain_tables self.now)) }
     {
         let mut rows = Vec::new(alloc);
         for (name, known) in self.names.iter() {
@@ -29,7 +29,7 @@ impl PlainBooks {
         alloc: Global,
         name: &NormalName,
     ) -> Result<Vec<FileRow>, AllocError>
-        ensures { IfOk result (λ rows. rows.items ≡ file_rows_in (tables_of self.now) name.now) }
+        ensures { IfOk result (λ rows. rows.items ≡ file_rows_in (plain_tables self.now) name.now) }
     {
         let mut rows = Vec::new(alloc);
         for (file, known) in self.files.iter() {
@@ -42,7 +42,7 @@ impl PlainBooks {
 
     /// Hands the held names to a taker, in byte order.
     pub(crate) fn hand_names<K: NameTaker>(&self, taker: &mut K) -> Result<(), WalkEnd>
-        ensures walked { let rows = held_rows_in (tables_of self.now) in
+        ensures walked { let rows = held_rows_in (plain_tables self.now) in
             Walks K.takes K.stops rows taker.old taker.new result }
         ensures memory { IfErr result (λ end. end ≢ WalkEnd.Store) }
     {
@@ -58,7 +58,7 @@ impl PlainBooks {
         name: &NormalName,
         taker: &mut K,
     ) -> Result<(), WalkEnd>
-        ensures walked { let rows = file_rows_in (tables_of self.now) name.now in
+        ensures walked { let rows = file_rows_in (plain_tables self.now) name.now in
             Walks K.takes K.stops rows taker.old taker.new result }
         ensures memory { IfErr result (λ end. end ≢ WalkEnd.Store) }
     {
@@ -76,7 +76,7 @@ impl PlainBooks {
         known: &FileRecord,
         taker: &mut K,
     ) -> Result<(), WalkEnd>
-        ensures walked { let T = tables_of self.now in
+        ensures walked { let T = plain_tables self.now in
             let row = file_row_in T name.now (file.now, known.now) in
             let rows = if is_undeleted_of_lem name.now known.now then row ∷ [] else [] in
             Walks K.takes K.stops rows taker.old taker.new result }
@@ -100,7 +100,7 @@ impl PlainBooks {
         file: &FileName,
         known: &FileRecord,
     ) -> Result<FileRow, AllocError>
-        ensures { let T = tables_of self.now in
+        ensures { let T = plain_tables self.now in
             IfOk result (λ row. row ≡ file_row_in T name.now (file.now, known.now)) }
     {
         let release = known.release.clone()?;

@@ -6,7 +6,7 @@ ghost use Rattle.index_rules.specs.Maps.{same};
 ghost use Rattle.index_rules.specs.Texts.{is_evidence as is_evidence_lem};
 ghost use Rattle.index_rules.specs.Verdict.{refusal_of};
 ghost use Rattle.index_rules.specs.Effect.{new_case as new_case_lem};
-ghost use Rattle.index_rules.specs.Decided.{DecidesIn, IsOfCaller};
+ghost use Rattle.index_rules.specs.Decided.{DecidesIn};
 
 use super::context::Context;
 use super::{Decision, Stop};
@@ -28,7 +28,6 @@ pub fn open_case(
     work: &Bytes,
     why: &Bytes,
 ) -> Result<Decision, Stop>
-    requires { IsOfCaller context.now }
     ensures { DecidesIn context.now (OpenCase name.now kind contact.now work.now why.now) result }
 {
     if !is_name(name) {
@@ -89,7 +88,6 @@ pub fn record_attempt(
     means: Means,
     sent: bool,
 ) -> Result<Decision, Stop>
-    requires { IsOfCaller context.now }
     ensures { DecidesIn context.now (RecordAttempt name.now means sent) result }
 {
     if !context.caller.office {
@@ -117,7 +115,6 @@ pub fn record_attempt(
 /// Transfers a name to the candidate of its case. Refused, in this order, as NotOffice, BadName, NoProject, NoCase,
 /// TooFewAttempts, TooEarly, RecentRelease, HomePageActive; never Already.
 pub fn transfer(context: &Context<'_>, name: &Bytes, quiet: bool) -> Result<Decision, Stop>
-    requires { IsOfCaller context.now }
     ensures { DecidesIn context.now (Transfer name.now quiet) result }
 {
     if !context.caller.office {
@@ -156,7 +153,6 @@ fn refusal_by(fault: CaseFault) -> Refusal
 /// Closes a case, for the office or its candidate. Refused, in this order, as NotOffice, BadName, NoProject,
 /// NoCase; never Already.
 pub fn close_case(context: &Context<'_>, name: &Bytes) -> Result<Decision, Stop>
-    requires { IsOfCaller context.now }
     ensures { DecidesIn context.now (CloseCase name.now) result }
 {
     if !context.caller.office && !is_candidate(context) {
@@ -189,7 +185,6 @@ fn is_candidate(context: &Context<'_>) -> bool
 /// Answers a case, for an owner, which ends it. Refused, in this order, as BadName, NoProject, NotOwner, NoCase;
 /// never Already.
 pub fn answer_case(context: &Context<'_>, name: &Bytes) -> Result<Decision, Stop>
-    requires { IsOfCaller context.now }
     ensures { DecidesIn context.now (AnswerCase name.now) result }
 {
     if !is_name(name) {

@@ -11,7 +11,7 @@ use crate::user::UserId;
 use crate::view::{Caller, View};
 use std::alloc::Global;
 
-/// What a decision rests on beside its request.
+/// What a decision rests on beside its request. The caller is the one in view.
 #[derive(Clone, Copy)]
 pub struct Context<'a> {
     pub alloc: Global,
@@ -20,6 +20,7 @@ pub struct Context<'a> {
     pub caller: &'a Caller,
     /// The records that the keys of the call name.
     pub view: &'a View,
+    ghost in_view: { view.now.caller ≡ Some caller.now },
 }
 
 impl<'a> Context<'a> {

@@ -9,7 +9,7 @@ ghost use Rattle.index_rules.specs.Texts.{is_text as is_text_lem};
 ghost use Rattle.index_rules.specs.Facts.{facts_seen};
 ghost use Rattle.index_rules.specs.Verdict.{Accept, is_other_file};
 ghost use Rattle.index_rules.specs.Effect.{as_deleted as deleted_lem, project_left as project_left_lem, upload_of, new_file};
-ghost use Rattle.index_rules.specs.Decided.{Decides, DecidesIn, DecidesOnFile, FindsProject, IsOfCaller};
+ghost use Rattle.index_rules.specs.Decided.{Decides, DecidesIn, DecidesOnFile, FindsProject};
 
 use super::context::Context;
 use super::{Decision, Stop};
@@ -36,7 +36,6 @@ pub fn upload(
     body: Bytes,
     requires_python: &Bytes,
 ) -> Result<Decision, Stop>
-    requires { IsOfCaller context.now }
     ensures { DecidesIn context.now (Upload file.now sha256.now body requires_python.now) result }
 {
     if !is_file(file) {
@@ -52,7 +51,7 @@ pub fn upload(
         return Err(Stop::Refused(Refusal::TooLarge));
     }
     match Sealed::new(body.into_vec(), digest) {
-        Ok(body) => accept(context, file, body, requires_python),
+        Ok(body) => decide_upload(context, file, body, requires_python),
         Err(body) => {
             drop(body);
             Err(Stop::Refused(Refusal::DigestMismatch))
@@ -61,13 +60,12 @@ pub fn upload(
 }
 
 /// The decision on an upload whose parts are in order.
-fn accept(
+fn decide_upload(
     context: &Context<'_>,
     file: &Bytes,
     body: Sealed,
     requires_python: &Bytes,
 ) -> Result<Decision, Stop>
-    requires caller { IsOfCaller context.now }
     requires file { IsSome (read_file file.now) }
     requires text { IsTrue (is_text_lem requires_python.now) }
     ensures { (declared : Bytes) → read_digest declared ≡ Some (sha256 body)
@@ -88,7 +86,6 @@ fn accept(
 
 /// The project with one more file of these bytes, or `None` where that file is undeleted already.
 fn project_with(context: &Context<'_>, body: &Sealed) -> Result<Option<Project>, Stop>
-    requires caller { IsOfCaller context.now }
     ensures { (declared : Bytes) → read_digest declared ≡ Some (sha256 body.now)
         → FindsProject context.now declared body.now result }
 {
@@ -131,7 +128,7 @@ fn upload_to(
     ensures { let ends_case = is_some context.now.view.now.case in
         Decides result Accept (upload_of project file.now body requires_python.now ends_case) }
 {
-    match recorded(context.alloc, file, &body, requires_python) {
+    match file_parts(context.alloc, file, &body, requires_python) {
         Ok((name, file, record)) => Ok(Decision::Change(Change::Upload {
             name,
             project,
@@ -149,7 +146,7 @@ fn upload_to(
 }
 
 /// The project, the name and the record of a file that is uploaded.
-fn recorded(
+fn file_parts(
     alloc: Global,
     file: &Bytes,
     body: &Sealed,
@@ -199,7 +196,6 @@ fn is_other(known: &FileRecord, digest: &Digest256, size: u64) -> bool
 /// Deletes a file, whose record stays. Refused, in this order, as BadFileName, NoProject, NotOwner, NoFile; Already
 /// where it is not undeleted.
 pub fn delete(context: &Context<'_>, file: &Bytes) -> Result<Decision, Stop>
-    requires { IsOfCaller context.now }
     ensures { DecidesIn context.now (Delete file.now) result }
 {
     if !is_file(file) {
@@ -232,7 +228,6 @@ pub fn delete(context: &Context<'_>, file: &Bytes) -> Result<Decision, Stop>
 /// Bans a file for good, and deletes it where it is undeleted. Refused, in this order, as NotOffice, BadFileName,
 /// NoFile; Already where it is banned.
 pub fn ban_file(context: &Context<'_>, file: &Bytes) -> Result<Decision, Stop>
-    requires { IsOfCaller context.now }
     ensures { DecidesIn context.now (BanFile file.now) result }
 {
     if !context.caller.office {

@@ -1,6 +1,6 @@
 //! Requests on a name and its quota.
 ghost use Rattle.index_rules.specs.declared.call.Request.TheVariants.{Allow, Claim, Prohibit, Relinquish, SetQuota};
-ghost use Rattle.index_rules.specs.Decided.{DecidesIn, IsOfCaller};
+ghost use Rattle.index_rules.specs.Decided.{DecidesIn};
 
 use super::context::Context;
 use super::{Decision, Stop};
@@ -14,7 +14,6 @@ use crate::records::NameRecord;
 /// Claims a free name for the caller. Refused, in this order, as BadName, NameProhibited, NameHeld; Already where
 /// the caller owns the name.
 pub fn claim(context: &Context<'_>, name: &Bytes) -> Result<Decision, Stop>
-    requires { IsOfCaller context.now }
     ensures { DecidesIn context.now (Claim name.now) result }
 {
     if !is_name(name) {
@@ -42,7 +41,6 @@ pub fn claim(context: &Context<'_>, name: &Bytes) -> Result<Decision, Stop>
 /// Sets the quota of a held name, in bytes. Refused, in this order, as NotOffice, BadName, QuotaTooLarge,
 /// NoProject, QuotaBelowCharge; Already where the quota is this one.
 pub fn set_quota(context: &Context<'_>, name: &Bytes, quota: u64) -> Result<Decision, Stop>
-    requires { IsOfCaller context.now }
     ensures { DecidesIn context.now (SetQuota name.now quota) result }
 {
     if !context.caller.office {
@@ -71,7 +69,6 @@ pub fn set_quota(context: &Context<'_>, name: &Bytes, quota: u64) -> Result<Deci
 /// Gives a held name up, which is free then. Refused, in this order, as BadName, NoProject, NotOwner, FilesRemain;
 /// never Already.
 pub fn relinquish(context: &Context<'_>, name: &Bytes) -> Result<Decision, Stop>
-    requires { IsOfCaller context.now }
     ensures { DecidesIn context.now (Relinquish name.now) result }
 {
     if !is_name(name) {
@@ -92,7 +89,6 @@ pub fn relinquish(context: &Context<'_>, name: &Bytes) -> Result<Decision, Stop>
 
 /// Prohibits a name, held or free. Refused, in this order, as NotOffice, BadName; Already where it is prohibited.
 pub fn prohibit(context: &Context<'_>, name: &Bytes) -> Result<Decision, Stop>
-    requires { IsOfCaller context.now }
     ensures { DecidesIn context.now (Prohibit name.now) result }
 {
     if !context.caller.office {
@@ -111,7 +107,6 @@ pub fn prohibit(context: &Context<'_>, name: &Bytes) -> Result<Decision, Stop>
 /// Frees a prohibited name. Refused, in this order, as NotOffice, BadName; Already where the name is not
 /// prohibited.
 pub fn allow(context: &Context<'_>, name: &Bytes) -> Result<Decision, Stop>
-    requires { IsOfCaller context.now }
     ensures { DecidesIn context.now (Allow name.now) result }
 {
     if !context.caller.office {

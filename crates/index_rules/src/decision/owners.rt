@@ -1,6 +1,6 @@
 //! Owners' requests on owners.
 ghost use Rattle.index_rules.specs.declared.call.Request.TheVariants.{AddOwner, RemoveOwner};
-ghost use Rattle.index_rules.specs.Decided.{DecidesIn, IsOfCaller};
+ghost use Rattle.index_rules.specs.Decided.{DecidesIn};
 
 use super::context::Context;
 use super::{Decision, Stop};
@@ -12,7 +12,6 @@ use crate::reading::{is_name, is_user, to_name, to_user};
 /// Makes a user one more owner of a name. Refused, in this order, as BadUser, BadName, NoUser, NoProject, NotOwner;
 /// Already where the user owns it.
 pub fn add_owner(context: &Context<'_>, name: &Bytes, user: &Bytes) -> Result<Decision, Stop>
-    requires { IsOfCaller context.now }
     ensures { DecidesIn context.now (AddOwner name.now user.now) result }
 {
     if !is_user(user) {
@@ -41,7 +40,6 @@ pub fn add_owner(context: &Context<'_>, name: &Bytes, user: &Bytes) -> Result<De
 /// Takes a user from the owners of a name. Refused, in this order, as BadUser, BadName, NoUser, NoProject,
 /// NotOwner, LastOwner; Already where the user doesn't own it.
 pub fn remove_owner(context: &Context<'_>, name: &Bytes, user: &Bytes) -> Result<Decision, Stop>
-    requires { IsOfCaller context.now }
     ensures { DecidesIn context.now (RemoveOwner name.now user.now) result }
 {
     if !is_user(user) {

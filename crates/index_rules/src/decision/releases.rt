@@ -3,7 +3,7 @@ ghost use Rattle.std.specs.Prelude.{◌≡◌, Some, false};
 ghost use Rattle.std.specs.Option.{option_map_or};
 ghost use Rattle.index_rules.specs.declared.call.Request.TheVariants.{Unyank, Yank};
 ghost use Rattle.index_rules.specs.Maps.{same};
-ghost use Rattle.index_rules.specs.Decided.{DecidesIn, IsOfCaller};
+ghost use Rattle.index_rules.specs.Decided.{DecidesIn};
 
 use super::context::Context;
 use super::{Decision, Stop};
@@ -20,7 +20,6 @@ pub fn yank(
     release: &Bytes,
     reason: &Bytes,
 ) -> Result<Decision, Stop>
-    requires { IsOfCaller context.now }
     ensures { DecidesIn context.now (Yank name.now release.now reason.now) result }
 {
     if !is_name(name) {
@@ -67,7 +66,6 @@ fn is_yanked_for(context: &Context<'_>, reason: &Bytes) -> bool
 /// Takes the yank off a release (PEP 592). Refused, in this order, as BadName, BadRelease, NoProject, NotOwner,
 /// NoRelease; Already where it is not yanked.
 pub fn unyank(context: &Context<'_>, name: &Bytes, release: &Bytes) -> Result<Decision, Stop>
-    requires { IsOfCaller context.now }
     ensures { DecidesIn context.now (Unyank name.now release.now) result }
 {
     if !is_name(name) {

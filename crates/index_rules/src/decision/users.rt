@@ -2,7 +2,7 @@
 ghost use Rattle.std.specs.Prelude.{◌≡◌, Some};
 ghost use Rattle.index_rules.specs.declared.call.Request.TheVariants.{AddUser, SetToken};
 ghost use Rattle.index_rules.specs.Verdict.{is_user_with as is_user_with_lem, is_taken as is_taken_lem};
-ghost use Rattle.index_rules.specs.Decided.{DecidesIn, IsOfCaller};
+ghost use Rattle.index_rules.specs.Decided.{DecidesIn};
 
 use super::context::Context;
 use super::{Decision, Stop};
@@ -22,7 +22,6 @@ pub fn add_user(
     office: bool,
     token: &Bytes,
 ) -> Result<Decision, Stop>
-    requires { IsOfCaller context.now }
     ensures { DecidesIn context.now (AddUser user.now office token.now) result }
 {
     if !context.caller.office {
@@ -57,7 +56,6 @@ pub fn add_user(
 /// Gives a user the digest of another token. Refused, in this order, as NotOffice, BadUser, BadDigest, NoUser,
 /// TokenTaken; Already where the user has this digest.
 pub fn set_token(context: &Context<'_>, user: &Bytes, token: &Bytes) -> Result<Decision, Stop>
-    requires { IsOfCaller context.now }
     ensures { DecidesIn context.now (SetToken user.now token.now) result }
 {
     if !context.caller.office {

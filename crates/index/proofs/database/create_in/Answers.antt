@@ -16,11 +16,11 @@ returns-in-Ok-clause-free g c =
 pub returns-in-Err-clause-refused : goal.returns-in-Err-clause-refused
 returns-in-Err-clause-refused g c = λ is_open was_open settled db may.
     let last = c.in-Err.refused.conn in
-    let stays = c.in-Err.ensures.refused (clean_if_open _ _ (g.met.S.Store.shut_if_dirty last.store) is_open) in
+    let stays = c.in-Err.ensures.refused.stays (clean_if_open _ _ (g.met.S.Store.shut_if_dirty last.store) is_open) in
     inl (g.met.S.Store.settled last.store db is_open may ∙ ap (λ (d : Database). d.trees) (stays.committed_is is_open ∙ sym settled))
 
 pub returns-in-Err-clause-clean_refused : goal.returns-in-Err-clause-clean_refused
 returns-in-Err-clause-clean_refused g c = λ is_open.
     let last = c.in-Err.refused.conn in
-    let stays = c.in-Err.ensures.refused (clean_if_open _ _ (g.met.S.Store.shut_if_dirty last.store) is_open) in
+    let stays = c.in-Err.ensures.refused.stays (clean_if_open _ _ (g.met.S.Store.shut_if_dirty last.store) is_open) in
     clean_if_open _ _ (g.met.S.Store.shut_if_dirty c.args.conn.store) (stays.was_open is_open)

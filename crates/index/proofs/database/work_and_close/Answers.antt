@@ -1,5 +1,5 @@
 use Rattle.std.proofs.lemmas.Result.{IfOk-weaker, IfErr-weaker}
-use Rattle.index.specs.Runs.{IsRaised}
+use Rattle.index_tables.specs.Adopted.{IsRaised}
 use Rattle.index.proofs.RunLemmas.{clean_before, interrupted_by, ran_by, refused_by, working_of}
 use Rattle.index.proofs.database.work_and_close.Goals as goal
 

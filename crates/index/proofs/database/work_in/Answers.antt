@@ -3,10 +3,10 @@ use Rattle.std.proofs.lemmas.Bool.{cases_Bool}
 use Rattle.sqlite.specs.Effect.{Database}
 use Rattle.sqlite.specs.Held.{state}
 use Rattle.sqlite.specs.State.{HasCleanDisk}
-use Rattle.index_sql_reads.specs.Held.{tables_of}
+use Rattle.index_sql_reads.specs.ConnectionTables.{tables_of}
 use Rattle.index_rules.specs.Facts.{HasOneBearer}
 use Rattle.index_tables.specs.Adopted.{IsCommitted, IsFound}
-use Rattle.index_tables.specs.Kept.{IsHonest, IsWorking, Kept, Leaves}
+use Rattle.index_tables.specs.BooksState.{IsHonest, IsWorking, BooksState, Leaves}
 use Rattle.index.proofs.database.work_in.Goals as goal
 
 pub returns-in-Ok-clause-worked : goal.returns-in-Ok-clause-worked
@@ -14,32 +14,32 @@ returns-in-Ok-clause-worked g c = λ working.
     let begun : c.new-desk.result.books ≡ c.in-Ok.books = search rules in
     let ended : c.into_books-in-Ok.result ≡ c.run-end.new.desk.books = search rules in
     let honest = c.into_connection.ensures.honest working in
-    let after = subst (λ held. IsHonest (state g.S.Store held)) (c.into_connection.ensures.same ∙ ap (λ (b : Kept _). b.conn) ended) honest in
-    let before = subst (λ (b : Kept _). IsHonest (state g.S.Store b.conn)) begun (c.run-end.ensures.honest after) in
+    let after = subst (λ held. IsHonest (state g.S.Store held)) (c.into_connection.ensures.same ∙ ap (λ (b : BooksState _). b.conn) ended) honest in
+    let before = subst (λ (b : BooksState _). IsHonest (state g.S.Store b.conn)) begun (c.run-end.ensures.honest after) in
     let was : IsWorking _ = record { clean = before.clean; is_open = before.is_open } in
     record {
       before = tables_of g.S.Store c.new-desk.result.books.conn;
       after = tables_of g.S.Store c.run-end.new.desk.books.conn;
-      found = subst (λ (b : Kept _). IsFound (state g.S.Store c.args.conn).now (tables_of g.S.Store b.conn)) (sym begun) (c.in-Ok.ensures.found was);
-      did = c.run-end.ensures.done after (subst (λ (b : Kept _). HasOneBearer (tables_of g.S.Store b.conn)) (sym begun) (c.in-Ok.ensures.one_bearer was));
-      committed = subst (λ (b : Kept _). IsCommitted (state g.S.Store c.into_connection.result) (tables_of g.S.Store b.conn)) ended (c.into_connection.ensures.committed honest);
+      found = subst (λ (b : BooksState _). IsFound (state g.S.Store c.args.conn).now (tables_of g.S.Store b.conn)) (sym begun) (c.in-Ok.ensures.found was);
+      did = c.run-end.ensures.done after (subst (λ (b : BooksState _). HasOneBearer (tables_of g.S.Store b.conn)) (sym begun) (c.in-Ok.ensures.one_bearer was));
+      committed = subst (λ (b : BooksState _). IsCommitted (state g.S.Store c.into_connection.result) (tables_of g.S.Store b.conn)) ended (c.into_connection.ensures.committed honest);
     }
 
 pub returns-in-Ok-clause-began : goal.returns-in-Ok-clause-began
 returns-in-Ok-clause-began g c = λ clean is_open.
     let begun : c.new-desk.result.books ≡ c.in-Ok.books = search rules in
     let ended : c.into_books-in-Ok.result ≡ c.run-end.new.desk.books = search rules in
-    let same = c.into_connection.ensures.same ∙ ap (λ (b : Kept _). b.conn) ended in
+    let same = c.into_connection.ensures.same ∙ ap (λ (b : BooksState _). b.conn) ended in
     let after = subst (λ held. HasCleanDisk (state g.S.Store held)) same clean in
-    let before = subst (λ (b : Kept _). HasCleanDisk (state g.S.Store b.conn)) begun (c.run-end.ensures.clean after) in
-    let was : IsWorking _ = record { clean = c.in-Ok.ensures.clean before; is_open = is_open } in
-    let honest = c.in-Ok.ensures.lasts was before in
+    let before = subst (λ (b : BooksState _). HasCleanDisk (state g.S.Store b.conn)) begun (c.run-end.ensures.clean after) in
+    let was : IsWorking _ = record { clean = c.in-Ok.ensures.opened.was_clean before; is_open = is_open } in
+    let honest = c.in-Ok.ensures.opened.lasts was before in
     let working : IsWorking _ = record { clean = honest.clean; is_open = honest.is_open } in
-    let honest_then = subst (λ (b : Kept _). IsHonest (state g.S.Store b.conn)) (sym begun) honest in
-    let one = subst (λ (b : Kept _). HasOneBearer (tables_of g.S.Store b.conn)) (sym begun) (c.in-Ok.ensures.one_bearer working) in
+    let honest_then = subst (λ (b : BooksState _). IsHonest (state g.S.Store b.conn)) (sym begun) honest in
+    let one = subst (λ (b : BooksState _). HasOneBearer (tables_of g.S.Store b.conn)) (sym begun) (c.in-Ok.ensures.one_bearer working) in
     record {
       before = tables_of g.S.Store c.new-desk.result.books.conn;
-      found = subst (λ (b : Kept _). IsFound (state g.S.Store c.args.conn).now (tables_of g.S.Store b.conn)) (sym begun) (c.in-Ok.ensures.found working);
+      found = subst (λ (b : BooksState _). IsFound (state g.S.Store c.args.conn).now (tables_of g.S.Store b.conn)) (sym begun) (c.in-Ok.ensures.found working);
       left = λ db may T is.
           c.run-end.ensures.crash honest_then after one T
           (subst (λ held. Leaves (state g.S.Store held) T) same (clean, (db, may, is)));
@@ -50,25 +50,25 @@ returns-in-Ok-clause-working g c = λ working.
     let begun : c.new-desk.result.books ≡ c.in-Ok.books = search rules in
     let ended : c.into_books-in-Ok.result ≡ c.run-end.new.desk.books = search rules in
     let honest = c.into_connection.ensures.honest working in
-    let after = subst (λ held. IsHonest (state g.S.Store held)) (c.into_connection.ensures.same ∙ ap (λ (b : Kept _). b.conn) ended) honest in
-    let before = subst (λ (b : Kept _). IsHonest (state g.S.Store b.conn)) begun (c.run-end.ensures.honest after) in
+    let after = subst (λ held. IsHonest (state g.S.Store held)) (c.into_connection.ensures.same ∙ ap (λ (b : BooksState _). b.conn) ended) honest in
+    let before = subst (λ (b : BooksState _). IsHonest (state g.S.Store b.conn)) begun (c.run-end.ensures.honest after) in
     let was : IsWorking _ = record { clean = before.clean; is_open = before.is_open } in
-    c.in-Ok.ensures.honest was
+    c.in-Ok.ensures.opened.was_working was
 
 pub returns-in-Ok-clause-clean : goal.returns-in-Ok-clause-clean
 returns-in-Ok-clause-clean g c = λ clean.
     let begun : c.new-desk.result.books ≡ c.in-Ok.books = search rules in
     let ended : c.into_books-in-Ok.result ≡ c.run-end.new.desk.books = search rules in
-    let after = subst (λ held. HasCleanDisk (state g.S.Store held)) (c.into_connection.ensures.same ∙ ap (λ (b : Kept _). b.conn) ended) clean in
-    c.in-Ok.ensures.clean (subst (λ (b : Kept _). HasCleanDisk (state g.S.Store b.conn)) begun (c.run-end.ensures.clean after))
+    let after = subst (λ held. HasCleanDisk (state g.S.Store held)) (c.into_connection.ensures.same ∙ ap (λ (b : BooksState _). b.conn) ended) clean in
+    c.in-Ok.ensures.opened.was_clean (subst (λ (b : BooksState _). HasCleanDisk (state g.S.Store b.conn)) begun (c.run-end.ensures.clean after))
 
 pub returns-in-Err-clause-refused : goal.returns-in-Err-clause-refused
 returns-in-Err-clause-refused g c = λ clean is_open settled db may.
-    let was : IsWorking _ = record { clean = c.in-Err.ensures.clean_refused clean; is_open = is_open } in
+    let was : IsWorking _ = record { clean = c.in-Err.ensures.refused.was_clean clean; is_open = is_open } in
     let last = c.in-Err.left.conn in
     elim (cases_Bool (state g.S.Store last).is_open) [
-      | inl still ↦ inl (g.met.S.Store.settled last.store db still may ∙ ap (λ (d : Database). d.trees) ((c.in-Err.ensures.refused clean).committed_is still ∙ sym settled))
-      | inr shut ↦ elim (c.in-Err.ensures.crash_refused was clean db may) [
+      | inl still ↦ inl (g.met.S.Store.settled last.store db still may ∙ ap (λ (d : Database). d.trees) ((c.in-Err.ensures.refused.stays clean).committed_is still ∙ sym settled))
+      | inr shut ↦ elim (c.in-Err.ensures.refused.crash was clean db may) [
         | inl left ↦ inl (g.met.S.Store.settled c.args.conn.store db is_open left ∙ ap (λ (d : Database). d.trees) (sym settled))
         | inr raised ↦ inr (shut, raised)
       ]

@@ -1,4 +1,4 @@
-use Rattle.std.proofs.Common.{◌≡◌, ◌≢◌, ◌∙◌, ◌+◌, inl, refl, Ok, Err, arith, rules}
+use Rattle.std.proofs.Common.{◌≡◌, ◌≢◌, ◌∙◌, ◌+◌, inl, inr, refl, Ok, Err, arith, rules}
 use Rattle.index_rules.proofs.StandsOn.{sound_when_legal}
 use Rattle.index_desk.proofs.InvariantLemmas.{keeps_on}
 use Rattle.index_cli.specs.declared.end.LineEnd.TheVariants.{ReadFault, WriteFault}
@@ -52,11 +52,16 @@ returns-in_err-size-clause-crash_history g c = λ honest clean h legal stands T 
     lines_crash_history h legal _ stands T _ _ _ _ _
     (returns-in_err-size-clause-crash g c honest clean (sound_when_legal h legal _ stands).one_bearer T left)
 
-pub returns-in_err-size-clause-read_fault : goal.returns-in_err-size-clause-read_fault
-returns-in_err-size-clause-read_fault g c = λ end.
-    let is : c.next_line.result ≡ Err ReadFault = search rules in
-    failed_or_spent _ _ _ _ _ _ _ _ _ c.loop-count.invariant.reads c.loop-count.invariant.charged
-    c.next_line.ensures.charged (c.next_line.ensures.read_fault is)
+pub returns-in_err-size-clause-fails : goal.returns-in_err-size-clause-fails
+returns-in_err-size-clause-fails g c = record {
+  read_fault = λ end.
+      let is : c.next_line.result ≡ Err ReadFault = search rules in
+      failed_or_spent _ _ _ _ _ _ _ _ _ c.loop-count.invariant.reads c.loop-count.invariant.charged
+      c.next_line.ensures.charged (c.next_line.ensures.read_fault is);
+  write_fault = search rules;
+  reads = search rules;
+  writes = search rules;
+}
 
 pub returns-in_err-size-clause-limit : goal.returns-in_err-size-clause-limit
 returns-in_err-size-clause-limit g c =
@@ -196,8 +201,13 @@ returns-in_default-told-clause-store g c =
           front.0 front.1,
     )
 
-pub returns-in_default-told-clause-write_fault : goal.returns-in_default-told-clause-write_fault
-returns-in_default-told-clause-write_fault g c = λ _. rw c.loop-count.invariant.writes at c.in_default-told.ensures.failed
+pub returns-in_default-told-clause-fails : goal.returns-in_default-told-clause-fails
+returns-in_default-told-clause-fails g c = record {
+  read_fault = search rules;
+  write_fault = λ _. rw c.loop-count.invariant.writes at c.in_default-told.ensures.failed;
+  reads = λ _. c.in_ok-size.ensures.kept (search rules) ∙ c.loop-count.invariant.reads;
+  writes = search rules;
+}
 
 pub returns-in_default-told-clause-limit : goal.returns-in_default-told-clause-limit
 returns-in_default-told-clause-limit g c =
@@ -264,3 +274,14 @@ pub returns-clause-store : goal.returns-clause-store
 returns-clause-store g c =
     let told = c.loop-count.invariant.faults in
     (told.0, told.1, Progress-part _ _ _ _ _ _ _ _ told.2 (TakesPart-none _))
+
+pub returns-clause-fails : goal.returns-clause-fails
+returns-clause-fails g c =
+    let all : c.loop-count.count ≡ 1099511627776 = search rules in
+    let none : c.loop-count.left ≡ 0 = omega (arith, all, c.loop-count.invariant.spent) in
+    record {
+      read_fault = λ _. inr (rw none at c.loop-count.invariant.charged);
+      write_fault = λ e. cc e;
+      reads = λ _. c.loop-count.invariant.reads;
+      writes = λ _. c.loop-count.invariant.writes;
+    }

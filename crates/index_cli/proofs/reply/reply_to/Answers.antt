@@ -1,22 +1,29 @@
-use Rattle.std.proofs.Common.{refl}
+use Rattle.std.proofs.Common.{refl, rules}
 use Rattle.std.proofs.lemmas.Result.{IfOk-weaker}
 use Rattle.index_cli.proofs.Calls.{AsksKept-long, AsksKept-read}
 use Rattle.index_cli.proofs.Progress.{TellsKept-read}
 use Rattle.index_cli.proofs.reply.reply_to.Goals as goal
 
-pub returns-then-size-gt-LONGEST_LINE-clause-asks : goal.returns-then-size-gt-LONGEST_LINE-clause-asks
-returns-then-size-gt-LONGEST_LINE-clause-asks g c =
-    AsksKept-long _ _ c.args.size _ _ c.if-size-gt-LONGEST_LINE.true
-    (record { unchanged = λ _. refl; honest = λ h. h; clean = λ h. h; crash = λ _ left. left })
+pub returns-then-size-gt-LONGEST_LINE : goal.returns-then-size-gt-LONGEST_LINE
+returns-then-size-gt-LONGEST_LINE g c = record {
+  reply = search rules;
+  asks = AsksKept-long _ _ c.args.size _ _ c.if-size-gt-LONGEST_LINE.true
+      (record { unchanged = λ _. refl; honest = λ h. h; clean = λ h. h; crash = λ _ left. left });
+  leaves = search rules;
+  causes = search rules;
+  keeps = search rules;
+}
 
-pub returns-clause-reply : goal.returns-clause-reply
-returns-clause-reply g c = λ honest one.
+pub returns : goal.returns
+returns g c =
     let short = c.if-size-gt-LONGEST_LINE.false in
-    IfOk-weaker c.reply_to_read.result _ _ (λ reply told. TellsKept-read _ _ _ _ _ short told)
-    (c.reply_to_read.ensures.reply honest one)
-
-pub returns-clause-asks : goal.returns-clause-asks
-returns-clause-asks g c =
-    let short = c.if-size-gt-LONGEST_LINE.false in
-    IfOk-weaker c.reply_to_read.result _ _ (λ reply asks. AsksKept-read c.args.front.now _ c.args.size _ _ short asks)
-    c.reply_to_read.ensures.asks
+    record {
+      reply = λ honest one.
+          IfOk-weaker c.reply_to_read.result _ _ (λ reply told. TellsKept-read _ _ _ _ _ short told)
+          (c.reply_to_read.ensures.reply honest one);
+      asks = IfOk-weaker c.reply_to_read.result _ _ (λ reply asks. AsksKept-read c.args.front.now _ c.args.size _ _ short asks)
+          c.reply_to_read.ensures.asks;
+      leaves = search rules;
+      causes = search rules;
+      keeps = search rules;
+    }

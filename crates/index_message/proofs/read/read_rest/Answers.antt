@@ -2,7 +2,7 @@ use Rattle.std.proofs.Common.{Err, ◌≡◌, ◌≤◌, ◌<◌, ◌++◌, ◌�
 use Rattle.std.proofs.lemmas.List.{take_rest}
 use Rattle.std.proofs.lemmas.Result.{IfOk-weaker}
 use Rattle.index_message.specs.Heads.{IsHeadAt}
-use Rattle.index_message.specs.Messages.{asked_of, is_head}
+use Rattle.index_message.specs.Messages.{asked_of, is_head_name}
 use Rattle.index_message.proofs.MessageLemmas.{asked_is, follows_short, follows_whole}
 use Rattle.index_message.specs.declared.fault.MessageFault.TheVariants.{ShortBody}
 use Rattle.index_message.specs.declared.message.Message.TheVariants.{Faulty}
@@ -14,15 +14,15 @@ returns-in-Some-clause-message g c =
     let asked : (found : IsHeadAt c.args.bytes.items c.args.fields.now c.args.spans) → asked_of found.head ≡ Ok c.in-Ok.asked = λ found.
     sym (asked_is _ _ _ found) ∙ sym (rw c.as_slice-head.ensures.value at c.in_ok-asked.ensures.asked) ∙ c.in-Ok.is in
     let read = rw (c.in-Some.is, c.as_slice-head.ensures.value, take_rest) at c.in_ok-body.ensures.body in
-    IfOk-weaker c.whole.result _ _
-    (λ message is found. (read.0, read.1, is ∙ follows_whole _ _ _ _ _ _ found _ (asked found) read.2.0 read.2.1)) c.whole.ensures.message
+    IfOk-weaker c.whole_message.result _ _
+    (λ message is found. (read.0, read.1, is ∙ follows_whole _ _ _ _ _ _ found _ (asked found) read.2.0 read.2.1)) c.whole_message.ensures.message
 
 pub returns-in-None-clause-message : goal.returns-in-None-clause-message
 returns-in-None-clause-message g c = λ found.
     let asked : asked_of found.head ≡ Ok c.in-Ok.asked =
     sym (asked_is _ _ _ found) ∙ sym (rw c.as_slice-head.ensures.value at c.in_ok-asked.ensures.asked) ∙ c.in-Ok.is in
     let read = rw (c.in-None.is, c.as_slice-head.ensures.value, take_rest) at c.in_ok-body.ensures.body in
-    let named : c.faulty-in-None.result ≡ Faulty ShortBody (is_head found.head.method) = rw (sym found.at.method) (rw c.as_slice-head.ensures.value at c.faulty-in-None.ensures) in
+    let named : c.faulty_message-in-None.result ≡ Faulty ShortBody (is_head_name found.head.method) = rw (sym found.at.method) (rw c.as_slice-head.ensures.value at c.faulty_message-in-None.ensures) in
     (read.0, read.1, named ∙ follows_short _ _ _ _ _ found _ asked read.2.0 read.2.1)
 
 pub returns-in-Some-clause-limit : goal.returns-in-Some-clause-limit

@@ -1,21 +1,12 @@
-use Rattle.std.proofs.Common.{[], Ok, Err, refl}
-use Rattle.sqlite.specs.Held.{state}
+use Rattle.std.proofs.Common.{[], refl}
 use Rattle.index_sql_schema.specs.Schema.{index_schema}
 use Rattle.index_sql_schema.specs.StatementTexts.{put_version_text}
 use Rattle.index_sql_schema.proofs.PutVersion.{puts}
-use Rattle.index_sql_writes.proofs.AskLemmas.{at_exit, goes}
 use Rattle.index_sql_writes.proofs.StepLemmas.{makes}
+use Rattle.index_sql_opening.proofs.NewAskLemmas.{text_taken}
 use Rattle.index_sql_opening.proofs.SureTexts.{version_sure}
 use Rattle.index_sql_opening.proofs.new_index.put_version.Goals as goal
 
-pub returns-clause-made : goal.returns-clause-made
-returns-clause-made g c clean ready = makes put_version_text [] _ _ _ _ _ c.in_ok-execute.field-0 (puts _ _ _) ready (c.in_ok-execute.ensures.runs clean ready.inside) refl
-
-pub returns-clause-asked : goal.returns-clause-asked
-returns-clause-asked g c clean can =
-    goes index_schema put_version_text [] version_sure (state g.S.Store c.args.tx.now.conn.now) (state g.S.Store c.execute.new.self.conn.now) can.0.index.schema can.0.is_open can.1 (Ok c.in_ok-execute.field-0) (c.in_ok-execute.ensures.runs clean can.0.inside)
-
-pub returns-in_err-execute-clause-asked : goal.returns-in_err-execute-clause-asked
-returns-in_err-execute-clause-asked g c clean can =
-    at_exit c.from_residual.result c.in_err-execute.field-0.0 _ _ c.from_residual.ensures.1
-    (goes index_schema put_version_text [] version_sure (state g.S.Store c.args.tx.now.conn.now) (state g.S.Store c.execute.new.self.conn.now) can.0.index.schema can.0.is_open can.1 (Err c.in_err-execute.field-0.0) (c.in_err-execute.ensures.runs clean can.0.inside))
+pub returns : goal.returns
+returns g c =
+    text_taken g.S.Store _ _ index_schema put_version_text _ _ _ version_sure (λ b. (b.is_open, b.inside, b.index.schema)) (λ count b ran. makes put_version_text [] _ _ _ _ _ count (puts _ _ _) b ran refl) c.run_statement.ensures

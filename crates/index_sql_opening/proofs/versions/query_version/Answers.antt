@@ -6,6 +6,7 @@ use Rattle.index_sql_opening.proofs.versions.query_version.Goals as goal
 
 pub returns-in-Err-clause-uncommitted : goal.returns-in-Err-clause-uncommitted
 returns-in-Err-clause-uncommitted g c = record {
+  same_reference = c.query_all.ensures.same_reference;
   kept = λ clean. refused_keeps _ _ select_version_text [] _ (c.in-Err.ensures.err clean);
   survives = search rules;
 }
@@ -20,6 +21,7 @@ returns-in-Err-clause-fails g c clean is = record {
 
 pub returns-in-Ok-clause-uncommitted : goal.returns-in-Ok-clause-uncommitted
 returns-in-Ok-clause-uncommitted g c = record {
+  same_reference = c.query_all.ensures.same_reference;
   kept = λ clean. shown_keeps _ _ select_version_text [] _ c.requires.inside (c.in-Ok.ensures.ok clean);
   survives = search rules;
 }

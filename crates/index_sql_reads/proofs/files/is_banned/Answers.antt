@@ -1,22 +1,23 @@
-use Rattle.std.proofs.Common.{[], ◌∷◌, rules, is_some, slice_get, sym, ap, ◌∙◌, subst}
+use Rattle.std.proofs.Common.{◌≡◌, [], ◌∷◌, rules, is_some, slice_get, sym, ap, ◌∙◌}
 use Rattle.sqlite_value.specs.declared.value.Value.TheVariants.{Text}
-use Rattle.sqlite.specs.Held.{state}
+use Rattle.index_rules.specs.Facts.{is_banned_in}
 use Rattle.index_sql_schema.specs.Records.{nothing_in}
 use Rattle.index_sql_schema.specs.StatementTexts.{select_ban_text}
 use Rattle.index_sql_schema.proofs.SelectBan as statement
-use Rattle.index_sql_reads.proofs.FindLemmas.{shown_with, is_some-map, at_exit, sure_with}
+use Rattle.index_sql_reads.proofs.FindsLemmas.{fails_query, finds_told, is_some-map}
 use Rattle.index_sql_reads.proofs.files.is_banned.Goals as goal
 
 pub look-requires : goal.look-requires
 look-requires g c = record { plain = statement.shown.is_plain }
 
-pub returns-clause-found : goal.returns-clause-found
-returns-clause-found g c clean =
-    let shown = shown_with select_ban_text (Text c.args.file.now ∷ []) _ (state g.S.Store c.args.conn.now) (state g.S.Store c.look.new.conn) c.in_ok-rows.rows.items (search rules) (c.in_ok-rows.ensures.shown clean) in
-    c.has_row.ensures ∙ ap (λ l. is_some (slice_get l 0)) c.as_slice.ensures.value
-    ∙ sym (is_some-map nothing_in (slice_get c.in_ok-rows.rows.items 0))
-    ∙ ap is_some (statement.selects c.args.file.now _ _ c.in_ok-rows.rows.items (c.in_ok-rows.ensures.index clean) shown)
+pub returns-in_err-rows : goal.returns-in_err-rows
+returns-in_err-rows g c =
+    fails_query g.S.Store select_ban_text (Text c.args.file.now ∷ []) _ (search rules) (statement.sure c.args.file.now) c.in_err-rows.ensures.looks c.in_err-rows.ensures.reason c.from_residual.ensures.1
 
-pub returns-in_err-rows-clause-reason : goal.returns-in_err-rows-clause-reason
-returns-in_err-rows-clause-reason g c clean records =
-    at_exit c.from_residual.result _ _ c.from_residual.ensures.1 (sure_with select_ban_text (Text c.args.file.now ∷ []) _ _ c.in_err-rows.ensures.reason (search rules) (statement.sure c.args.file.now) clean)
+pub returns : goal.returns
+returns g c =
+    let file = c.args.file.now in
+    let rows = c.in_ok-rows in
+    finds_told g.S.Store select_ban_text (Text file ∷ []) _ (search rules) (λ it. it) (λ rows. is_some (slice_get rows 0)) (λ T it. it ≡ is_banned_in T file)
+    (λ old new rows index shown. sym (is_some-map nothing_in (slice_get rows 0)) ∙ ap is_some (statement.selects file old new rows index shown))
+    c.args.conn.now c.look.new.conn rows.rows.items _ c.as_slice.ensures.value rows.ensures.looks rows.ensures.index rows.ensures.shown c.has_row.result c.has_row.ensures

@@ -4,7 +4,7 @@ use Rattle.sqlite.specs.State.{HasCleanDisk}
 use Rattle.sqlite.specs.Values.{bound}
 use Rattle.index_rules.specs.Walks.{has_fault, is_fault}
 use Rattle.index_sql_schema.specs.Faults.{fault_by}
-use Rattle.index_sql_schema.specs.Looks.{IsKept, Looks}
+use Rattle.index_sql_schema.specs.Looks.{IsIndexConnection, QueriesOnly}
 use Rattle.index_sql_schema.proofs.LookLemmas.{clean_before, looks_kept, looks_refused, reasoned}
 use Rattle.index_sql_reads.specs.Handed.{IsGiving, IsOf, QueryEndsForReason}
 use Rattle.index_sql_reads.proofs.WalkLemmas.{fault_told, faulted_as}
@@ -21,13 +21,13 @@ given g c =
     let made = c.in-Ok.ensures in
     c.hand_all.ensures.handed.gives query params old (begins g.S.Store query params c.requires.plain old c.conn.invariant c.in-Ok.rows.conn.now (made.mode c.conn.invariant.outside) made.survives made.begun)
 
-looked : (g : _) (c : goal.After-conn-2-1 g) → Looks g.S.Store c.conn.inside.conn c.hand_all.new.rows.conn.now (not (has_fault c.hand_all.result))
+looked : (g : _) (c : goal.After-conn-2-1 g) → QueriesOnly g.S.Store c.conn.inside.conn c.hand_all.new.rows.conn.now (not (has_fault c.hand_all.result))
 looked g c =
     let it = c.hand_all.ensures.handed in
     handed_looks g.S.Store c.args.query.now (bound c.args.params.now) c.requires.plain c.conn.inside.conn c.conn.invariant it.last c.hand_all.new.rows.conn.now c.hand_all.result (given g c).stayed it.looks
 
 pub invariant_of-conn-2 : goal.invariant_of-conn-2
-invariant_of-conn-2 g c = subst (IsKept g.S.Store) (search rules) (looks_kept g.S.Store c.conn.inside.conn c.hand_all.new.rows.conn.now _ c.conn.invariant (looked g c))
+invariant_of-conn-2 g c = subst (IsIndexConnection g.S.Store) (search rules) (looks_kept g.S.Store c.conn.inside.conn c.hand_all.new.rows.conn.now _ c.conn.invariant (looked g c))
 
 pub returns-clause-handed : goal.returns-clause-handed
 returns-clause-handed g c =
@@ -43,7 +43,7 @@ returns-clause-handed g c =
 pub returns-clause-looks : goal.returns-clause-looks
 returns-clause-looks g c =
     let did = not (has_fault c.hand_all.result) in
-    subst (λ new. Looks g.S.Store c.args.conn.now new did) (search rules) (subst (λ held. Looks g.S.Store held c.hand_all.new.rows.conn.now did) c.conn.view_is (looked g c))
+    subst (λ new. QueriesOnly g.S.Store c.args.conn.now new did) (search rules) (subst (λ held. QueriesOnly g.S.Store held c.hand_all.new.rows.conn.now did) c.conn.view_is (looked g c))
 
 pub returns-clause-reason : goal.returns-clause-reason
 returns-clause-reason g c sure =
@@ -61,7 +61,7 @@ returns-clause-reason g c sure =
 
 -- ---- where it is refused
 
-refused : (g : _) (c : goal.After-end_of g) → Looks g.S.Store c.conn.inside.conn c.query.follows.lender-at-none (not (is_fault c.end_of.result))
+refused : (g : _) (c : goal.After-end_of g) → QueriesOnly g.S.Store c.conn.inside.conn c.query.follows.lender-at-none (not (is_fault c.end_of.result))
 refused g c =
     let old = c.conn.inside.conn in
     let now = c.query.follows.lender-at-none in
@@ -77,7 +77,7 @@ returns-in-Err-clause-handed g c =
     ([], faulted_as g.H.Hand.takes g.H.Hand.stops (fault_by c.in-Err.error) c.end_of.result c.end_of.ensures [] c.args.taker.now c.args.taker.now refl, λ clean. inl refl)
 
 pub returns-in-Err-clause-looks : goal.returns-in-Err-clause-looks
-returns-in-Err-clause-looks g c = subst (λ held. Looks g.S.Store held c.query.follows.lender-at-none (not (is_fault c.end_of.result))) c.conn.view_is (refused g c)
+returns-in-Err-clause-looks g c = subst (λ held. QueriesOnly g.S.Store held c.query.follows.lender-at-none (not (is_fault c.end_of.result))) c.conn.view_is (refused g c)
 
 pub returns-in-Err-clause-reason : goal.returns-in-Err-clause-reason
 returns-in-Err-clause-reason g c sure =

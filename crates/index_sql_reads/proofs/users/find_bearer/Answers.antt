@@ -1,40 +1,24 @@
-use Rattle.std.proofs.Common.{[], ◌∷◌, rules, option_map, slice_get, subst, sym}
-use Rattle.sqlite_value.specs.declared.value.Value.TheVariants.{Blob}
-use Rattle.sqlite.specs.Held.{state}
+use Rattle.std.proofs.Common.{[], ◌∷◌, rules, option_map, slice_get}
 use Rattle.index_rules.specs.Facts.{IsBearer}
+use Rattle.sqlite_value.specs.declared.value.Value.TheVariants.{Blob}
 use Rattle.index_sql_schema.specs.ShownRows.{account_in}
+use Rattle.index_sql_schema.specs.RecordRows.{IsAccountRow}
 use Rattle.index_sql_schema.specs.StatementTexts.{select_bearer_text}
 use Rattle.index_sql_schema.proofs.SelectBearer as statement
-use Rattle.std.specs.List.{AllByRecursion}
-use Rattle.index_sql_schema.specs.RecordRows.{IsAccountRow}
-use Rattle.index_sql_schema.proofs.ShownRecords.{known_records}
-use Rattle.index_sql_schema.proofs.LookLemmas.{looks_failed}
-use Rattle.index_sql_reads.specs.Held.{tables_of}
-use Rattle.index_sql_reads.proofs.FindLemmas.{shown_with, ok_as, never_store, at_exit, sure_with}
+use Rattle.index_sql_reads.proofs.FindsLemmas.{fails_query, finds_read}
 use Rattle.index_sql_reads.proofs.users.find_bearer.Goals as goal
 
 pub look-requires : goal.look-requires
 look-requires g c = record { plain = statement.shown.is_plain }
 
-pub returns-clause-found : goal.returns-clause-found
-returns-clause-found g c clean =
-    let shown = shown_with select_bearer_text (Blob c.args.token ∷ []) _ (state g.S.Store c.args.conn.now) (state g.S.Store c.look.new.conn) c.in_ok-rows.rows.items (search rules) (c.in_ok-rows.ensures.shown clean) in
-    let Is = IsBearer (tables_of g.S.Store c.args.conn.now) c.args.token in
-    let bears = statement.selects c.args.token _ _ c.in_ok-rows.rows.items (c.in_ok-rows.ensures.index clean) shown in
-    ok_as c.first.result Is _ (subst (λ l. Is (option_map account_in (slice_get l 0))) (sym c.as_slice-2.ensures.value) bears) c.first.ensures.value
+pub returns-in_err-rows : goal.returns-in_err-rows
+returns-in_err-rows g c =
+    fails_query g.S.Store select_bearer_text (Blob c.args.token ∷ []) _ (search rules) (statement.sure c.args.token) c.in_err-rows.ensures.looks c.in_err-rows.ensures.reason c.from_residual.ensures.1
 
-pub returns-clause-looks : goal.returns-clause-looks
-returns-clause-looks g c = looks_failed g.S.Store _ _ _ c.in_ok-rows.ensures.looks
-
-pub returns-in_err-rows-clause-reason : goal.returns-in_err-rows-clause-reason
-returns-in_err-rows-clause-reason g c clean records =
-    at_exit c.from_residual.result _ _ c.from_residual.ensures.1 (sure_with select_bearer_text (Blob c.args.token ∷ []) _ _ c.in_err-rows.ensures.reason (search rules) (statement.sure c.args.token) clean)
-
-pub returns-clause-reason : goal.returns-clause-reason
-returns-clause-reason g c clean records =
-    let old = state g.S.Store c.args.conn.now in
-    let new = state g.S.Store c.look.new.conn in
-    let shown = shown_with select_bearer_text (Blob c.args.token ∷ []) _ old new c.in_ok-rows.rows.items (search rules) (c.in_ok-rows.ensures.shown clean) in
-    let index = c.in_ok-rows.ensures.index clean in
-    let all = statement.records c.args.token old new c.in_ok-rows.rows.items index shown (known_records old.now index records).1.0 in
-    never_store c.first.result _ (c.first.ensures.complete (subst (AllByRecursion IsAccountRow) (sym c.as_slice-2.ensures.value) all))
+pub returns : goal.returns
+returns g c =
+    let token = c.args.token in
+    let rows = c.in_ok-rows in
+    finds_read g.S.Store select_bearer_text (Blob token ∷ []) _ (search rules) (λ it. it) (λ rows. option_map account_in (slice_get rows 0)) (λ T. IsBearer T token) (statement.selects token)
+    c.args.conn.now c.look.new.conn rows.rows.items _ c.as_slice-2.ensures.value rows.ensures.looks rows.ensures.index rows.ensures.shown
+    c.first.result IsAccountRow (λ old new rows index shown known. statement.records token old new rows index shown known.1.0) c.first.ensures.value c.first.ensures.complete

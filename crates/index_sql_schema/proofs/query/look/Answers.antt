@@ -1,17 +1,17 @@
 use Rattle.std.proofs.Common.{true, false, sym, ◌∙◌, subst}
 use Rattle.sqlite.specs.Held.{state}
 use Rattle.index_sql_schema.specs.Index.{IsIndex}
-use Rattle.index_sql_schema.specs.Looks.{Looks}
+use Rattle.index_sql_schema.specs.Looks.{QueriesOnly}
 use Rattle.index_sql_schema.specs.Reasons.{HasReason}
 use Rattle.index_sql_schema.proofs.LookLemmas.{index_shown, looks_shown, looks_refused, looks_kept, reasoned}
 use Rattle.index_sql_schema.proofs.query.look.Goals as goal
 
 -- what the query leaves of the connection inside
-refused : (g : _) (c : goal.After-fault_of g) → Looks g.S.Store c.conn.inside.conn c.query_all.new.self false
+refused : (g : _) (c : goal.After-fault_of g) → QueriesOnly g.S.Store c.conn.inside.conn c.query_all.new.self false
 refused g c =
     looks_refused g.S.Store c.conn.inside.conn c.query_all.new.self _ _ c.requires.plain c.conn.invariant (c.query_all.ensures.mode c.conn.invariant.outside) c.query_all.ensures.survives _ c.in-Err.ensures.err
 
-shown : (g : _) (c : goal.In-Ok g) → Looks g.S.Store c.conn.inside.conn c.query_all.new.self true
+shown : (g : _) (c : goal.In-Ok g) → QueriesOnly g.S.Store c.conn.inside.conn c.query_all.new.self true
 shown g c =
     looks_shown g.S.Store c.conn.inside.conn c.query_all.new.self _ _ c.requires.plain c.conn.invariant (c.query_all.ensures.mode c.conn.invariant.outside) c.query_all.ensures.survives _ c.in-Ok.ensures.ok
 
@@ -19,7 +19,7 @@ pub invariant_of-conn : goal.invariant_of-conn
 invariant_of-conn g c = looks_kept g.S.Store _ _ false c.conn.invariant (refused g c)
 
 pub returns-in-Err-clause-looks : goal.returns-in-Err-clause-looks
-returns-in-Err-clause-looks g c = subst (λ old. Looks g.S.Store old c.query_all.new.self false) c.conn.view_is (refused g c)
+returns-in-Err-clause-looks g c = subst (λ old. QueriesOnly g.S.Store old c.query_all.new.self false) c.conn.view_is (refused g c)
 
 pub returns-in-Err-clause-reason : goal.returns-in-Err-clause-reason
 returns-in-Err-clause-reason g c sure clean is =
@@ -36,4 +36,4 @@ returns-clause-index g c clean =
     (index_shown g.S.Store c.conn.inside.conn c.query_all.new.self _ _ c.requires.plain c.conn.invariant (c.query_all.ensures.mode c.conn.invariant.outside) c.query_all.ensures.survives clean _ (c.in-Ok.ensures.ok clean))
 
 pub returns-clause-looks : goal.returns-clause-looks
-returns-clause-looks g c = subst (λ old. Looks g.S.Store old c.query_all.new.self true) c.conn.view_is (shown g c)
+returns-clause-looks g c = subst (λ old. QueriesOnly g.S.Store old c.query_all.new.self true) c.conn.view_is (shown g c)

@@ -1,19 +1,30 @@
-use Rattle.std.proofs.Common.{◌≡◌, inl, inr, Err, refl, sym, ◌∷◌, drop, ◌+◌, rules, arith, ◌∙◌, subst}
+use Rattle.std.proofs.Common.{◌≡◌, inl, inr, Err, refl, sym, ◌∷◌, drop, ◌+◌, rules, arith, subst}
 use Rattle.std.proofs.Math.Seq.{drop-cons}
 use Rattle.sqlite.specs.Held.{state}
-use Rattle.sqlite.proofs.StateLemmas.{survives_then}
 use Rattle.index_sql_writes.specs.Changed.{step_by, all_of}
 use Rattle.index_sql_schema.specs.Index.{version_in}
 use Rattle.index_sql_schema.specs.Records.{tables_in}
 use Rattle.index_sql_schema.specs.RecordRows.{AreRecords}
-use Rattle.index_sql_writes.specs.Inside.{IsReady}
-use Rattle.index_sql_writes.proofs.InTurn.{keeps_then, one_more}
+use Rattle.index_sql_writes.specs.Transaction.{IsInTransaction}
+use Rattle.index_sql_schema.specs.Index.{same_version}
+use Rattle.index_sql_writes.specs.Asks.{CanAsk}
+use Rattle.index_sql_writes.specs.Transaction.{MakesInTransaction}
+use Rattle.index_sql_writes.specs.Steps.{TakesSteps}
+use Rattle.index_sql_writes.proofs.TakenLemmas.{at_exit, uncommitted_none, uncommitted_then}
+use Rattle.index_sql_writes.proofs.InTurn.{one_more}
 use Rattle.sqlite.specs.State.{HasCleanDisk}
 use Rattle.index_sql_writes.specs.Asks.{AnswersAll}
-use Rattle.index_sql_writes.proofs.AskLemmas.{at_exit}
 use Rattle.index_sql_writes.proofs.GoingLemmas.{can_go_on, fault_since}
 use Rattle.index_sql_writes.specs.StepAsks.{asks_by}
 use Rattle.index_sql_writes.proofs.step.take_steps.Goals as goal
+
+pub loop-step-init : goal.loop-step-init
+loop-step-init g c = record {
+  uncommitted = uncommitted_none g.S.Store c.args.tx.now.conn;
+  made = search rules;
+  opened = search rules;
+  asked = search rules;
+}
 
 pub loop-step-preserved : goal.loop-step-preserved
 loop-step-preserved g c =
@@ -25,33 +36,37 @@ loop-step-preserved g c =
     let before = c.loop-step.invariant in
     let did = c.take_step.ensures in
     record {
-      same = did.same_reference ∙ before.same;
+      uncommitted = uncommitted_then g.S.Store c.args.tx.now.conn c.loop-step.tx.conn c.take_step.new.tx.conn before.uncommitted did.uncommitted;
       made = λ clean ready.
           let was = before.made (omega (arith, did.uncommitted.survives.clean)) ready in
-          one_more step_by all_of first mid last c.step-item.result rest c.args.steps.now (subst (λ rest. IsReady mid × (all_of rest (tables_in mid.now.trees) ≡ all_of c.args.steps.now (tables_in first.now.trees)) × (mid.committed ≡ first.committed) × (version_in mid.now.trees ≡ version_in first.now.trees) × (AreRecords first.now → AreRecords mid.now)) split was) (c.in_ok-take_step.ensures.made clean was.0);
-      opened = λ some clean. (before.kept (omega (arith, did.uncommitted.survives.clean))).was_open (c.in_ok-take_step.ensures.opened clean);
-      kept = λ clean. keeps_then first mid last (before.kept (omega (arith, did.uncommitted.survives.clean))) (did.uncommitted.kept clean);
-      survives = survives_then first mid last _ _ _ (λ _ db none. none) (λ _ db none. none) before.survives did.uncommitted.survives;
+          one_more step_by all_of first mid last c.step-item.result rest c.args.steps.now (subst (λ rest. IsInTransaction mid × (all_of rest (tables_in mid.now.trees) ≡ all_of c.args.steps.now (tables_in first.now.trees)) × (mid.committed ≡ first.committed) × (version_in mid.now.trees ≡ version_in first.now.trees) × (AreRecords first.now → AreRecords mid.now)) split was) (c.in_ok-take_step.ensures.made clean was.0);
+      opened = λ some clean. (before.uncommitted.kept (omega (arith, did.uncommitted.survives.clean))).was_open (c.in_ok-take_step.ensures.opened clean);
       asked = λ clean can out more.
           let earlier : HasCleanDisk mid = omega (arith, did.uncommitted.survives.clean) in
           let was = before.made earlier can.ready in
-          let going = can_go_on first mid can was.0 was.4 before.survives.limit in
+          let going = can_go_on first mid can was.0 was.4 before.uncommitted.survives.limit in
           before.asked earlier can out (subst (λ l. AnswersAll (asks_by l) mid.now out) (sym split) (inr (last.now, c.in_ok-take_step.ensures.asked clean going, more)));
     }
 
-pub returns-in_err-take_step-clause-asked : goal.returns-in_err-take_step-clause-asked
-returns-in_err-take_step-clause-asked g c clean can =
+pub returns-in_err-take_step-clause-taken : goal.returns-in_err-take_step-clause-taken
+returns-in_err-take_step-clause-taken g c =
     let first = state g.S.Store c.args.tx.now.conn.now in
     let mid = state g.S.Store c.loop-step.tx.conn.now in
     let last = state g.S.Store c.take_step.new.tx.conn.now in
-    let rest = drop (c.loop-step.step-index + 1) c.args.steps.now in
-    let split : drop c.loop-step.step-index c.args.steps.now ≡ c.step-item.result ∷ rest = search (rules, drop-cons) in
+    let steps = c.args.steps.now in
+    let rest = drop (c.loop-step.step-index + 1) steps in
+    let split : drop c.loop-step.step-index steps ≡ c.step-item.result ∷ rest = search (rules, drop-cons) in
     let before = c.loop-step.invariant in
-    let earlier : HasCleanDisk mid = omega (arith, c.take_step.ensures.uncommitted.survives.clean) in
-    let was = before.made earlier can.ready in
-    let going = can_go_on first mid can was.0 was.4 before.survives.limit in
-    at_exit c.from_residual.result c.in_err-take_step.field-0.0 _ _ c.from_residual.ensures.1 (λ store.
-    elim (c.in_err-take_step.ensures.asked clean going store) [
-      | inl fault ↦ inl (fault_since first mid last before.survives.counts fault)
-      | inr refuses ↦ inr (refuses.0, before.asked earlier can (Err refuses.0) (subst (λ l. AnswersAll (asks_by l) mid.now (Err refuses.0)) (sym split) (inl (refuses.0, refuses.1, refl))))
-    ])
+    let did = c.take_step.ensures in
+    at_exit c.from_residual.result c.in_err-take_step.field-0.0 (TakesSteps g.S.Store IsInTransaction (MakesInTransaction (all_of steps) same_version) CanAsk (AnswersAll (asks_by steps)) c.args.tx.now.conn c.take_step.new.tx.conn) c.from_residual.ensures.1 (record {
+      uncommitted = uncommitted_then g.S.Store c.args.tx.now.conn c.loop-step.tx.conn c.take_step.new.tx.conn before.uncommitted did.uncommitted;
+      made = λ clean. tt;
+      asked = λ clean can store.
+          let earlier : HasCleanDisk mid = omega (arith, did.uncommitted.survives.clean) in
+          let was = before.made earlier can.ready in
+          let going = can_go_on first mid can was.0 was.4 before.uncommitted.survives.limit in
+          elim (c.in_err-take_step.ensures.asked clean going store) [
+            | inl fault ↦ inl (fault_since first mid last before.uncommitted.survives.counts fault)
+            | inr refuses ↦ inr (refuses.0, before.asked earlier can (Err refuses.0) (subst (λ l. AnswersAll (asks_by l) mid.now (Err refuses.0)) (sym split) (inl (refuses.0, refuses.1, refl))))
+          ];
+    })

@@ -2,8 +2,8 @@ use Rattle.std.proofs.Common.{◌≡◌, ◌<◌, IsTrue, drop}
 use Rattle.sqlite.specs.Effect.{Database}
 use Rattle.sqlite.specs.Held.{state}
 use Rattle.sqlite.specs.Rows.{Outcome}
-use Rattle.sqlite.specs.State.{HasCleanDisk, KeepsCommit, Survives}
-use Rattle.index_sql_writes.specs.Inside.{IsReady}
+use Rattle.sqlite.specs.State.{HasCleanDisk}
+use Rattle.index_sql_writes.specs.Transaction.{IsInTransaction, IsUncommitted}
 use Rattle.index_sql_schema.specs.Index.{version_in}
 use Rattle.index_sql_schema.specs.Records.{tables_in}
 use Rattle.index_sql_schema.specs.RecordRows.{AreRecords}
@@ -17,10 +17,8 @@ invariant-loop-step g l =
     let first = state g.S.Store l.fn.tx.conn.now in
     let now = state g.S.Store l.tx.conn.now in
     record {
-      same : l.tx.conn.ghost_name ≡ l.fn.tx.conn.ghost_name;
-      made : HasCleanDisk now → IsReady first → IsReady now × (all_of (drop l.step-index l.steps) (tables_in now.now.trees) ≡ all_of l.steps (tables_in first.now.trees)) × (now.committed ≡ first.committed) × (version_in now.now.trees ≡ version_in first.now.trees) × (AreRecords first.now → AreRecords now.now);
-      kept : HasCleanDisk now → KeepsCommit first now;
+      uncommitted : IsUncommitted g.S.Store l.fn.tx.conn l.tx.conn;
+      made : HasCleanDisk now → IsInTransaction first → IsInTransaction now × (all_of (drop l.step-index l.steps) (tables_in now.now.trees) ≡ all_of l.steps (tables_in first.now.trees)) × (now.committed ≡ first.committed) × (version_in now.now.trees ≡ version_in first.now.trees) × (AreRecords first.now → AreRecords now.now);
       opened : 0 < l.step-index → HasCleanDisk now → IsTrue first.is_open;
-      survives : Survives first now (λ _. ⊥);
       asked : HasCleanDisk now → CanAsk first → (out : Outcome Database) → AnswersAll (asks_by (drop l.step-index l.steps)) now.now out → AnswersAll (asks_by l.steps) first.now out;
     }

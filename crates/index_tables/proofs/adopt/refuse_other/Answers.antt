@@ -1,11 +1,21 @@
 use Rattle.std.proofs.Common.{rules, inl, inr}
 use Rattle.index_tables.proofs.AdoptLemmas.{reason_failed, reason_told}
+use Rattle.index_tables.specs.Adopted.{IsRaised}
+use Rattle.index_tables.proofs.OpenedLemmas.{looked_refused}
 use Rattle.index_tables.proofs.adopt.refuse_other.Goals as goal
 
-pub returns-in-Ok-clause-reason : goal.returns-in-Ok-clause-reason
-returns-in-Ok-clause-reason g c clean =
-    reason_told g.S.Store c.args.conn c.told_version.new.conn c.requires.meta c.in-Ok.version c.refusal.result (inr (c.in-Ok.ensures.told clean)) (search rules)
+pub returns-in-Ok : goal.returns-in-Ok
+returns-in-Ok g c =
+    let new = c.told_version.new.conn in
+    record {
+      refused = looked_refused g.S.Store IsRaised c.args.conn new c.told_version.ensures.looks c.requires.rest c.refusal.result
+          (λ clean. reason_told g.S.Store c.args.conn new c.requires.meta c.in-Ok.version c.refusal.result (inr (c.in-Ok.ensures.told clean)) (search rules));
+    }
 
-pub returns-in-Err-clause-reason : goal.returns-in-Err-clause-reason
-returns-in-Err-clause-reason g c clean =
-    reason_failed g.S.Store c.args.conn c.told_version.new.conn c.requires.meta c.in-Err.fault c.open_fault_of.result c.open_fault_of.ensures (λ is. inr (inl (c.in-Err.ensures.fails clean is)))
+pub returns-in-Err : goal.returns-in-Err
+returns-in-Err g c =
+    let new = c.told_version.new.conn in
+    record {
+      refused = looked_refused g.S.Store IsRaised c.args.conn new c.told_version.ensures.looks c.requires.rest c.open_fault_of.result
+          (λ clean. reason_failed g.S.Store c.args.conn new c.requires.meta c.in-Err.fault c.open_fault_of.result c.open_fault_of.ensures (λ is. inr (inl (c.in-Err.ensures.fails clean is))));
+    }

@@ -3,9 +3,10 @@ use Rattle.sqlite_wal.specs.Recovery.{Image}
 use Rattle.sqlite.specs.Files.{over_files, file_state}
 use Rattle.sqlite.specs.Held.{state}
 use Rattle.sqlite.specs.State.{HasCleanDisk}
-use Rattle.index_sql_reads.specs.Held.{tables_of}
+use Rattle.index_sql_reads.specs.ConnectionTables.{tables_of}
 use Rattle.index_rules.specs.Tables.{Tables}
-use Rattle.index_tables.specs.Kept.{Kept, IsHonest, Leaves}
+use Rattle.index_tables.specs.BooksState.{BooksState, IsHonest, Leaves}
+use Rattle.index_tables.specs.Adopted.{IsRaised, IsReason}
 use Rattle.index_tables.specs.Reopened.{MayLeave, IsLeft, IsOver, OpensOnly}
 use Rattle.index_tables.proofs.ReopenLemmas.{opens_rest, opens_either, opens_if_clean}
 use Rattle.index_tables.proofs.laws.left_is_found_again.Goals as goal
@@ -15,9 +16,9 @@ returns-clause-rest g c =
     let found = c.adopt-opened.ensures in
     let before = c.left_by-before.ensures in
     subst (λ held. (left : Image) → IsHonest (file_state held) → IsLeft held left → (HasCleanDisk (state g.S.Store c.args.conn) → IsOver left (state g.S.Store c.args.conn))
-    → OpensOnly g.S.Store (λ T. T ≡ tables_of over_files held) c.adopt-opened.result) (c.before-2.view_is ∙ ap (λ (k : Kept _). k.conn) c.books.view_is)
+    → OpensOnly g.S.Store (λ T. T ≡ tables_of over_files held) c.adopt-opened.result) (c.before-2.view_is ∙ ap (λ (k : BooksState _). k.conn) c.books.view_is)
     (λ left honest is_left over.
-    opens_if_clean g.S.Store c.args.conn left over (λ T. T ≡ tables_of over_files c.before-2.inside.conn) c.adopt-opened.result found.clean found.clean_refused found.lasts
+    opens_if_clean g.S.Store c.args.conn left over (λ T. T ≡ tables_of over_files c.before-2.inside.conn) IsRaised (IsReason g.S.Store) c.adopt-opened.result found.opened found.refused
     (λ it. opens_rest g.S.Store c.before-2.inside.conn c.args.conn left it (before.numbered honest.clean) (before.databases honest.clean) honest before.settled is_left
     c.adopt-opened.result found.found found.again))
 
@@ -26,7 +27,7 @@ returns-clause-during g c =
     let found = c.adopt-opened.ensures in
     let before = c.left_by-before.ensures in
     subst (λ held. (left : Image) (A B : Tables) → HasCleanDisk (file_state held) → ((T : Tables) → Leaves (file_state held) T → (T ≡ A) ⊎ (T ≡ B)) → MayLeave held left
-    → (HasCleanDisk (state g.S.Store c.args.conn) → IsOver left (state g.S.Store c.args.conn)) → OpensOnly g.S.Store (λ T. ∥ (T ≡ A) ⊎ (T ≡ B) ∥₁) c.adopt-opened.result) (c.before-2.view_is ∙ ap (λ (k : Kept _). k.conn) c.books.view_is)
+    → (HasCleanDisk (state g.S.Store c.args.conn) → IsOver left (state g.S.Store c.args.conn)) → OpensOnly g.S.Store (λ T. ∥ (T ≡ A) ⊎ (T ≡ B) ∥₁) c.adopt-opened.result) (c.before-2.view_is ∙ ap (λ (k : BooksState _). k.conn) c.books.view_is)
     (λ left A B clean leaves may over.
-    opens_if_clean g.S.Store c.args.conn left over (λ T. ∥ (T ≡ A) ⊎ (T ≡ B) ∥₁) c.adopt-opened.result found.clean found.clean_refused found.lasts
+    opens_if_clean g.S.Store c.args.conn left over (λ T. ∥ (T ≡ A) ⊎ (T ≡ B) ∥₁) IsRaised (IsReason g.S.Store) c.adopt-opened.result found.opened found.refused
     (λ it. opens_either g.S.Store c.before-2.inside.conn c.args.conn left it (before.numbered clean) (before.databases clean) A B clean leaves may c.adopt-opened.result found.found found.again))

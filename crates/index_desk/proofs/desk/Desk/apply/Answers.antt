@@ -9,7 +9,7 @@ use Rattle.index_rules.specs.Sound.{IsSound}
 use Rattle.index_rules.proofs.StandsOn.{CarriesOn-answer, sound_when_legal}
 use Rattle.index_rules.proofs.OneBearer.{HasOneBearer-tables_after}
 use Rattle.index_rules.proofs.SoundLemmas.{IsSound-tables_after}
-use Rattle.index_desk.specs.Crashes.{IsWithCall, Lasts, Leaves}
+use Rattle.index_desk.specs.Crashes.{IsWithCall, Lasts, LeavesByAnswer}
 use Rattle.index_desk.proofs.CrashLemmas.{Lasts-earlier, Leaves-weaker}
 use Rattle.index_desk.proofs.desk.Desk.apply.Goals as goal
 
@@ -56,7 +56,7 @@ returns-in-Ok-clause-crash g c =
     let tables = g.B.Books.tables in
     let may_leave = g.B.Books.may_leave in
     let call = c.args.call in
-    subst (λ x. g.B.Books.IsHonest x → g.B.Books.IsClean c.settle.new.books → HasOneBearer (tables x) → (T : Tables) → may_leave c.settle.new.books T → Leaves (may_leave x) (IsWithCall (tables x) call) c.settle.result T) c.self.view_is
+    subst (λ x. g.B.Books.IsHonest x → g.B.Books.IsClean c.settle.new.books → HasOneBearer (tables x) → (T : Tables) → may_leave c.settle.new.books T → LeavesByAnswer (may_leave x) (IsWithCall (tables x) call) c.settle.result T) c.self.view_is
     (λ honest clean one T left.
     let before = tables c.self.inside.books in
     let change = effect call.at call.request (facts_in before call) in

@@ -9,7 +9,7 @@ pub returns-clause-count : goal.returns-clause-count
 returns-clause-count g c = λ honest.
     let tables = g.B.Books.tables in
     let before = c.wrong_charges.ensures.look.honest honest in
-    let same_tables : tables c.names.new.self ≡ tables c.args.self.now = c.names.ensures.unchanged before ∙ ap tables c.self.view_is in
+    let same_tables : tables c.names.new.self ≡ tables c.args.self.now = c.names.ensures.looks.unchanged before ∙ ap tables c.self.view_is in
     let rows : c.as_slice.result.now ≡ name_rows_in (tables c.args.self.now) =
     c.as_slice.ensures.value ∙ c.in_ok-rows.ensures.found before ∙ ap (λ books. name_rows_in (tables books)) c.self.view_is in
     IfOk-weaker c.wrong_charges.result _ _

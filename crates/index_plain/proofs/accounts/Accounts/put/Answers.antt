@@ -31,7 +31,7 @@ invariant_of-self-in-None c =
     let bearers = pairs_of bytes_cmp bytes_cmp (map_of bytes_cmp before.bearers) in
     let wrote = c.put_both.ensures in
     record {
-      agree = either_way c.put_both.result _ _ _ _ _ wrote.written wrote.bearer_written wrote.unchanged wrote.bearers_unchanged
+      agree = either_way c.put_both.result _ _ _ _ _ wrote.user.written wrote.bearer.written wrote.user.unchanged wrote.bearer.unchanged
           (λ put bearer. bearers_same _ _ _ _ put bearer (bearers_add users c.args.user.now c.args.known bearers (sym c.token_of.ensures ∙ c.in-None.is) before.agree))
           (λ same bearer. bearers_same _ _ _ _ same bearer before.agree);
     }

@@ -19,7 +19,7 @@ invariant_of-self-2 c =
     let users = map_of bytes_cmp before.users in
     let bearers = pairs_of bytes_cmp bytes_cmp (map_of bytes_cmp before.bearers) in
     record {
-      agree = bearers_same _ _ _ _ c.in_ok-put_both.ensures.written
-          (c.remove.ensures ∙ ap (λ (m : Pairs). remove m (former, user)) c.in_ok-put_both.ensures.bearer_written)
+      agree = bearers_same _ _ _ _ c.in_ok-put_both.ensures.user.written
+          (c.remove.ensures ∙ ap (λ (m : Pairs). remove m (former, user)) c.in_ok-put_both.ensures.bearer.written)
           (bearers_move users user c.args.known bearers former c.requires.former c.requires.other before.agree);
     }

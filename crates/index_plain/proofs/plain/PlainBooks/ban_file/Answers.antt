@@ -1,11 +1,12 @@
-use Rattle.std.proofs.Common.{sym, subst, OnOk}
+use Rattle.std.proofs.Common.{sym, subst}
 use Rattle.index_rules.specs.declared.change.Change.TheVariants.{BanFile}
-use Rattle.index_plain.specs.Plain.{Writes}
+use Rattle.index_plain.specs.Plain.{Makes}
 use Rattle.index_plain.proofs.plain.PlainBooks.ban_file.Goals as goal
 
-pub returns-in-None-clause-written : goal.returns-in-None-clause-written
-returns-in-None-clause-written c =
-    subst
-    (λ project. OnOk c.ban_alone.result (Writes (BanFile c.args.name.now project c.args.file.now c.args.known) c.args.self.now c.ban_alone.new.self))
-    (sym c.in-None.is)
-    (c.ban_alone.ensures.written c.args.name.now)
+pub returns-in-None : goal.returns-in-None
+returns-in-None c = record {
+  made = subst
+      (λ project. Makes (BanFile c.args.name.now project c.args.file.now c.args.known) c.args.self.now c.ban_alone.new.self c.ban_alone.result)
+      (sym c.in-None.is)
+      (c.ban_alone.ensures.made c.args.name.now);
+}

@@ -3,7 +3,7 @@ use Rattle.std.specs.FinMap.{remove}
 use Rattle.index_rules.specs.Effect.{without_name}
 use Rattle.index_rules.specs.Maps.{bytes_cmp}
 use Rattle.index_plain.specs.Trees.{map_of}
-use Rattle.index_plain.specs.Plain.{tables_of}
+use Rattle.index_plain.specs.Plain.{plain_tables}
 use Rattle.index_plain.proofs.OwnerLemmas.{name_alone}
 use Rattle.index_plain.proofs.plain.PlainBooks.claim.Goals as goal
 
@@ -11,12 +11,12 @@ pub returns : goal.returns
 returns c =
     let books = c.args.self.now in
     let name = c.args.name.now in
-    let T = tables_of books in
-    let owners = name_alone (map_of bytes_cmp books.owners) (map_of bytes_cmp c.put_both.new.map) name c.in_ok-alone.alone c.args.owner.now tt c.in_ok-alone.ensures c.in_ok-put_both.ensures.written in
+    let T = plain_tables books in
+    let owners = name_alone (map_of bytes_cmp books.owners) (map_of bytes_cmp c.put_both.new.map) name c.in_ok-alone.alone c.args.owner.now tt c.in_ok-alone.ensures c.in_ok-put_both.ensures.put.written in
     record {
       made = record {
         written = c.end_yanks_and_case.ensures.tables
-            ∙ (λ i. record T { names = c.in_ok-put_both.ensures.other_written i; owners = owners i; yanks = without_name name T.yanks; cases = remove T.cases name });
+            ∙ (λ i. record T { names = c.in_ok-put_both.ensures.other_put.written i; owners = owners i; yanks = without_name name T.yanks; cases = remove T.cases name });
         unchanged = search rules;
         failures = search rules;
       };

@@ -4,7 +4,7 @@ use Rattle.std.proofs.lemmas.Map.Lookups.{exact_bytes}
 use Rattle.std.proofs.lemmas.Map.Iter.{rest_all}
 use Rattle.std.specs.Map.Iter.{deref_pair}
 use Rattle.std.proofs.lemmas.List.{append-nil}
-use Rattle.index_plain.specs.Plain.{tables_of}
+use Rattle.index_plain.specs.Plain.{plain_tables}
 use Rattle.index_plain.proofs.RowLemmas.{file_rows_of}
 use Rattle.index_plain.proofs.TreeLemmas.{entries_map}
 use Rattle.index_plain.proofs.plain.PlainBooks.file_rows.Goals as goal
@@ -14,5 +14,5 @@ returns c =
     let books = c.args.self.now in
     let rows = c.loop-file.rows.items in
     let none : c.loop-file.file-iterator ≡ [] = rest_all deref_pair _ _ _ c.in-None.is c.next.ensures.steps in
-    sym (append-nil rows) ∙ ap (λ es. rows ++ file_rows_of (tables_of books) c.args.name.now es) (sym none) ∙ c.loop-file.invariant
-    ∙ ap (file_rows_of (tables_of books) c.args.name.now) (sym (entries_map nat_list_cmp_total exact_bytes books.files c.iter-file-items.ensures.ordered))
+    sym (append-nil rows) ∙ ap (λ es. rows ++ file_rows_of (plain_tables books) c.args.name.now es) (sym none) ∙ c.loop-file.invariant
+    ∙ ap (file_rows_of (plain_tables books) c.args.name.now) (sym (entries_map nat_list_cmp_total exact_bytes books.files c.iter-file-items.ensures.ordered))

@@ -3,13 +3,13 @@ use Rattle.index_rules.specs.declared.records.FileRecord.{FileRecord}
 use Rattle.index_rules.specs.Maps.{Bytes}
 use Rattle.index_rules.specs.Sound.{is_undeleted_of}
 use Rattle.index_rules.specs.TableRows.{file_row_in}
-use Rattle.index_plain.specs.Plain.{tables_of}
+use Rattle.index_plain.specs.Plain.{plain_tables}
 use Rattle.index_plain.proofs.RowLemmas.{file_row_alone, stopped_at_one}
 use Rattle.index_plain.proofs.plain.PlainBooks.hand_file.Goals as goal
 
 pub returns-clause-walked : goal.returns-clause-walked
 returns-clause-walked g c =
-    let T = tables_of c.args.self.now in
+    let T = plain_tables c.args.self.now in
     let name = c.args.name.now in
     let entry : Bytes × FileRecord = (c.args.file.now, c.args.known.now) in
     let listed : is_undeleted_of name c.args.known.now ≡ true = search rules in

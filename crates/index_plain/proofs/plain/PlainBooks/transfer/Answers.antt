@@ -1,13 +1,13 @@
 use Rattle.std.proofs.Common.{◌∙◌, rules}
 use Rattle.std.specs.FinMap.{remove}
-use Rattle.index_plain.specs.Plain.{tables_of}
+use Rattle.index_plain.specs.Plain.{plain_tables}
 use Rattle.index_plain.proofs.OwnerLemmas.{alone_in_place}
 use Rattle.index_plain.proofs.plain.PlainBooks.transfer.Goals as goal
 
 pub returns : goal.returns
 returns c =
     let name = c.args.name.now in
-    let T = tables_of c.args.self.now in
+    let T = plain_tables c.args.self.now in
     let owners = alone_in_place T.owners _ name c.args.candidate.now tt c.in_ok-put_alone.ensures.written in
     record {
       made = record {

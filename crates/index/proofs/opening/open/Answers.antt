@@ -1,0 +1,26 @@
+use Rattle.std.proofs.Common.{ℕ, Bool, true, false, List, cond, ap₂}
+use Rattle.std.proofs.lemmas.Option.{IfSome_then}
+use Rattle.sqlite.specs.Recovery.{Image}
+use Rattle.sqlite.specs.WalFiles.{image_at}
+use Rattle.sqlite_disk.specs.Events.{Event, replay}
+use Rattle.index.proofs.RunLemmas.{settled_leaves, shut_by}
+use Rattle.index.proofs.opening.open.Goals as goal
+
+abbrev image : List ℕ → List ℕ → Image
+image log db = record { log = log; db = db }
+
+abbrev seen : List ℕ → List ℕ → Bool → List Event → List ℕ
+seen log db is_log history = (replay (cond is_log log db) history).seen
+
+pub returns-in-Err-clause-shut : goal.returns-in-Err-clause-shut
+returns-in-Err-clause-shut g c =
+    let start = g.S.Start in
+    IfSome_then c.in-Err.left c.in-Err.ensures.cause (λ left cause clean.
+    let files = cause.0 in
+    let log = cause.1 in
+    let db = cause.2 in
+    shut_by (image_at start) files left (ap₂ image (ap₂ (seen start.log start.db) log.0 log.1) (ap₂ (seen start.log start.db) db.0 db.1))
+    (λ now may. ap₂ image
+    (settled_leaves start.is_mixing start.log start.db files.log.is_log true files.log.key files.log.calls.log.events now.log log.0 log.1 may.0)
+    (settled_leaves start.is_mixing start.log start.db files.db.is_log false files.db.key files.db.calls.log.events now.db db.0 db.1 may.1))
+    (cause.3 clean).1)

@@ -1,0 +1,89 @@
+//! The opening of a database file, and the token of the first user of a new index.
+ghost use Rattle.std.specs.Prelude.{◌≡◌, ◌≢◌, false, not, Some, IfOk, IfErr, IfSome, IsErrOf, IsTrue};
+ghost use Rattle.sqlite.specs.Files.{file_state, IsCleanLeft, IsOpened};
+ghost use Rattle.sqlite.specs.Start.{FindsIn};
+ghost use Rattle.sqlite.specs.State.{HasCleanDisk};
+ghost use Rattle.sqlite.specs.WalFiles.{image_at};
+ghost use Rattle.index_digest.specs.Digest.{is_digest_text, read_digest};
+ghost use Rattle.index_rules.specs.FirstTables.{IsBadFirstUser};
+ghost use Rattle.index.specs.Causes.{end_of_error, is_store};
+ghost use Rattle.index.specs.Runs.{LeavesShut};
+
+use crate::cause::Cause;
+use crate::end::End;
+use crate::path::{cause_at, is_missing};
+use index_digest::Digest256;
+use index_rules::{OpenFault, first_user};
+use sqlite::{Connection, Error, ErrorCode, FileFrom, FileStore, Leftover, Start};
+use std::alloc::Global;
+
+/// Opens a database file, which is locked from here on, or makes an empty one. `S` says what it and its log held.
+///
+/// `OutOfMemory`, or `Store` where that can't be done: where the file is no database, or is in use.
+pub fn open<S: Start>(
+    rt: &HostRuntime,
+    path: &str,
+    start: S,
+) -> Result<Connection<FileStore<FileFrom<S>>>, (End, Option<Leftover<FileFrom<S>>>)>
+    ensures mode { IfOk result (λ conn. conn.in_transaction ≡ false) }
+    ensures opened { IfOk result (λ conn. HasCleanDisk (file_state conn) → IsOpened conn) }
+    ensures found { IfOk result (λ conn. HasCleanDisk (file_state conn)
+        → FindsIn (image_at S.Start) (file_state conn)) }
+    ensures shut { IfErr result (λ e. IfSome e.1 (λ left.
+        IsCleanLeft left → LeavesShut (image_at S.Start) left)) }
+{
+    match Connection::open_from(rt, path, false, start) {
+        Ok(conn) => Ok(conn),
+        Err((error, left)) => Err((unopened(rt, path, error), left)),
+    }
+}
+
+/// The end that an error is of a database that could not be opened. What is found at its path may tell the cause.
+fn unopened(rt: &HostRuntime, path: &str, error: Error) -> End
+    ensures told { error ≢ Error.SqliteFailure ErrorCode.CannotOpen → result ≡ end_of_error error }
+    ensures store { error ≡ Error.SqliteFailure ErrorCode.CannotOpen → IsTrue (is_store result) }
+{
+    match error {
+        Error::SqliteFailure(ErrorCode::CannotOpen) => End::Store(cause_at(rt, path)),
+        other => End::from(other),
+    }
+}
+
+/// Opens a database file that is there. Where there is none, none is made: `Store`.
+pub fn open_there<S: Start>(
+    rt: &HostRuntime,
+    path: &str,
+    start: S,
+) -> Result<Connection<FileStore<FileFrom<S>>>, (End, Option<Leftover<FileFrom<S>>>)>
+    ensures mode { IfOk result (λ conn. conn.in_transaction ≡ false) }
+    ensures opened { IfOk result (λ conn. HasCleanDisk (file_state conn) → IsOpened conn) }
+    ensures found { IfOk result (λ conn. HasCleanDisk (file_state conn)
+        → FindsIn (image_at S.Start) (file_state conn)) }
+    ensures shut { IfErr result (λ e. IfSome e.1 (λ left.
+        IsCleanLeft left → LeavesShut (image_at S.Start) left)) }
+{
+    if is_missing(rt, path) {
+        return Err((End::Store(Some(Cause::NoFile)), None));
+    }
+    open(rt, path, start)
+}
+
+/// The digest of the first user's token by its hex digits, where this user may be the first.
+pub fn first_token(alloc: Global, user: &str, token: &str) -> Result<Digest256, OpenFault>
+    ensures read { IfOk result (λ digest. read_digest token.now ≡ Some digest) }
+    ensures malformed { IsTrue (not (is_digest_text token.now))
+        → IsErrOf result OpenFault.BadFirstUser }
+    ensures bad_first_user { (digest : _) → read_digest token.now ≡ Some digest
+        → IsBadFirstUser user.now digest → IsErrOf result OpenFault.BadFirstUser }
+{
+    let Some(digest) = Digest256::read_hex(token.as_bytes()) else {
+        return Err(OpenFault::BadFirstUser);
+    };
+    match first_user(alloc, user.as_bytes(), digest) {
+        Ok(first) => {
+            drop(first);
+            Ok(digest)
+        }
+        Err(why) => Err(why),
+    }
+}

@@ -1,0 +1,36 @@
+use Rattle.std.proofs.Common.{inl, inr}
+use Rattle.index_rules.proofs.StandsOn.{sound_when_legal}
+use Rattle.index_http.proofs.EndLemmas.{ends_map, has_page, stands_ends}
+use Rattle.index_http.proofs.Histories.{EndsAfter-Ends}
+use Rattle.index_http.proofs.connection.answer_one.Goals as goal
+
+pub returns-clause-tables : goal.returns-clause-tables
+returns-clause-tables g c = λ honest clean one.
+    let read = c.in_ok-message.ensures.message in
+    ends_map _ _ _ _ _ _ _ (λ text replies. (replies.0, (read.0, c.in_ok-message.message, read.1, read.2, replies.1), replies.2)) (λ same. same)
+    (c.answer.ensures.tables honest clean one)
+
+pub returns-clause-history : goal.returns-clause-history
+returns-clause-history g c = λ honest h legal stands.
+    EndsAfter-Ends _ _ h legal _ _ stands _ _ _ _
+    (stands_ends _ _ _ _ _ _ _ (λ later is. is honest)
+    (returns-clause-tables g c (c.answer.ensures.keeps.honest honest) (g.met.B.Books.honest_is_clean _ honest) (sound_when_legal h legal _ stands).one_bearer))
+
+pub returns-clause-memory : goal.returns-clause-memory
+returns-clause-memory g c = λ is.
+    let read = c.in_ok-message.ensures.message in
+    elim (c.answer.ensures.memory is) [
+      | inl same ↦ inl same
+      | inr look ↦ inr (read.0, c.in_ok-message.message, read.1, read.2, look)
+    ]
+
+pub returns-clause-asks : goal.returns-clause-asks
+returns-clause-asks g c =
+    let read = c.in_ok-message.ensures.message in
+    inr (read.0, c.in_ok-message.message, read.1, read.2, c.answer.ensures.asks)
+
+pub returns-clause-cut : goal.returns-clause-cut
+returns-clause-cut g c = λ is.
+    let read = c.in_ok-message.ensures.message in
+    let page = has_page _ _ c.answer.ensures.sends.whole is in
+    (c.answer.ensures.cut is, (read.0, c.in_ok-message.message, read.1, read.2, page))

@@ -1,0 +1,22 @@
+use Rattle.std.proofs.Common.{◌∙◌, ap, inr, refl, rules}
+use Rattle.index_http.specs.Replies.{json_reply}
+use Rattle.index_http.proofs.EndLemmas.{fault_ends, shown_ends}
+use Rattle.index_http.proofs.get.show_standing.Goals as goal
+
+pub returns-in-Ok-text : goal.returns-in-Ok-text
+returns-in-Ok-text g c = record {
+  shown = λ honest clean.
+      let text = c.as_bytes.ensures.value ∙ c.in-Ok-text.ensures.text in
+      shown_ends _ _ _ _ _ _ _ _ (c.json_reply.ensures ∙ ap json_reply text)
+      (c.in-Ok.standing, c.in-Ok.ensures.standing (c.in-Ok.ensures.look.lasts honest clean), refl) c.send_reply.ensures.sent;
+  leaves = search rules;
+  sends = search rules;
+}
+
+pub returns-in-Err : goal.returns-in-Err
+returns-in-Err g c = record {
+  shown = λ honest clean.
+      fault_ends _ _ _ _ _ _ _ (λ store. inr (c.in-Err.ensures.look.store store)) c.send_fault.ensures.told;
+  leaves = search rules;
+  sends = search rules;
+}

@@ -1,0 +1,42 @@
+use Rattle.std.proofs.Common.{◌≡◌, false, refl, rules, subst, Ok}
+use Rattle.std.specs.Prelude.{is_err}
+use Rattle.index_desk.specs.Pages.{page_in}
+use Rattle.index_http.specs.Replies.{page_reply}
+use Rattle.index_http.specs.PagePasses.{MeasuresProject}
+use Rattle.index_http.proofs.EndLemmas.{fault_ends, shown_ends}
+use Rattle.index_http.proofs.PageLemmas.{measured, shows_measured, unmeasurable, unmeasured}
+use Rattle.index_http.proofs.page_replies.show_in_passes.Goals as goal
+
+pub returns-in-Ok-Some : goal.returns-in-Ok-Some
+returns-in-Ok-Some g c = record {
+  shown = λ honest clean.
+      let then = c.send_page.ensures.leaves.clean clean in
+      let there = measured _ _ _ _
+      (subst (λ o. MeasuresProject (page_in (g.B.Books.tables c.args.desk.now) c.args.served c.args.page) (g.B.Books.failures c.args.desk.now) (g.B.Books.failures c.length_of.new.desk) (Ok o))
+      c.in-Ok-Some.field-0-is (c.in-Ok-Some.ensures.measured honest then)) in
+      let right : is_err c.length_of.result ≡ false = search rules in
+      let after = c.length_of.ensures.keeps.lasts right honest then in
+      let same = c.length_of.ensures.keeps.unchanged after in
+      shown_ends _ _ _ _ (page_reply c.args.served there.bytes) _ _ _ refl (shows_measured c.args.served _ _ there)
+      (c.send_page.ensures.sent after clean (record { bytes = there.bytes; is = rw same there.is; size = there.size; within = there.within }));
+  leaves = search rules;
+  sends = search rules;
+}
+
+pub returns-in-Ok-None : goal.returns-in-Ok-None
+returns-in-Ok-None g c = record {
+  shown = λ honest clean.
+      let none = unmeasured _ _ _ (rw c.in-Ok-None.field-0-is at (c.in-Ok-None.ensures.measured honest clean)) in
+      shown_ends _ _ _ _ _ _ _ _ c.refusal_reply.ensures (rw none refl) c.send_reply.ensures.sent;
+  leaves = search rules;
+  sends = search rules;
+}
+
+pub returns-in-Err : goal.returns-in-Err
+returns-in-Err g c = record {
+  shown = λ honest clean.
+      fault_ends _ _ _ _ _ _ _
+      (λ store. unmeasurable c.args.served _ _ _ (rw store at (c.in-Err.ensures.measured honest clean))) c.send_fault.ensures.told;
+  leaves = search rules;
+  sends = search rules;
+}

@@ -1,0 +1,39 @@
+use Rattle.std.proofs.Common.{◌∙◌, ap, inr, rules}
+use Rattle.index_http.specs.Replies.{page_reply}
+use Rattle.index_http.proofs.EndLemmas.{fault_ends, shown_ends}
+use Rattle.index_http.proofs.PageLemmas.{shows_gathered}
+use Rattle.index_http.proofs.page_replies.show_page.Goals as goal
+
+pub returns-in-Some : goal.returns-in-Some
+returns-in-Some g c = record {
+  shown = λ honest clean.
+      shown_ends _ _ _ _ _ _ _ _ c.page_reply.ensures (shows_gathered c.args.served _ _ (c.in-Some.ensures honest)) c.send_reply.ensures.sent;
+  leaves = search rules;
+  sends = search rules;
+}
+
+pub returns-in-Ok-Some : goal.returns-in-Ok-Some
+returns-in-Ok-Some g c = record {
+  shown = λ honest clean.
+      let is = rw c.in-Ok-Some.field-0-is at (c.in-Ok-Some.ensures.text honest (c.keep_page.ensures.clean clean)) in
+      shown_ends _ _ _ _ _ _ _ _ (c.page_reply-in-Ok-Some.ensures ∙ ap (page_reply c.args.served) c.as_slice.ensures.value) (shows_gathered c.args.served _ _ is) c.send_reply-sent.ensures.sent;
+  leaves = search rules;
+  sends = search rules;
+}
+
+pub returns-in-Ok-None : goal.returns-in-Ok-None
+returns-in-Ok-None g c = record {
+  shown = λ honest clean.
+      let after = c.in-Ok-None.ensures.look.lasts honest (c.show_in_passes.ensures.leaves.clean clean) in
+      rw (c.in-Ok-None.ensures.look.unchanged after, c.in-Ok-None.ensures.look.kept) at (c.show_in_passes.ensures.shown after clean);
+  leaves = search rules;
+  sends = search rules;
+}
+
+pub returns-in-Err : goal.returns-in-Err
+returns-in-Err g c = record {
+  shown = λ honest clean.
+      fault_ends _ _ _ _ _ _ _ (λ store. inr (c.in-Err.ensures.look.store store)) c.send_fault.ensures.told;
+  leaves = search rules;
+  sends = search rules;
+}

@@ -1,0 +1,214 @@
+//! Pages, whose head tells their length before their text is sent.
+ghost use Rattle.std.specs.Prelude.{◌≡◌, None, true, false, not};
+ghost use Rattle.index_desk.specs.Looks.{LeavesTables};
+ghost use Rattle.index_desk.specs.Pages.{page_in};
+ghost use Rattle.index_desk.specs.Rules.{by_tables};
+ghost use Rattle.index_http.specs.Exchanges.{ShowsProject, ShowsRoot};
+ghost use Rattle.index_http.specs.PagePasses.{Gathers, IsMeasured, MeasuresPass, MeasuresProject, SendsPage};
+ghost use Rattle.index_http.specs.PageShows.{ShowsWhole, after_head};
+ghost use Rattle.index_http.specs.Replies.{page_reply, reply_text};
+ghost use Rattle.index_http.specs.Sends.{SendsOnly, SendsText, is_cut, is_write_fault};
+ghost use Rattle.index_http.specs.Shows.{ShowsBy};
+
+use crate::end::IoEnd;
+use crate::gather::{gathered_project, gathered_root};
+use crate::page_passes::{project_length, project_text, root_length, root_text};
+use crate::reply::{Fields, message_reply, page_reply, refusal_reply};
+use crate::send::{send_fault, send_head, send_reply};
+use http::StatusCode;
+use index_desk::{Desk, Keeper, Page};
+use index_io::Sink;
+use index_message::MessageFault;
+use index_names::NormalName;
+use index_pages::Served;
+use index_rules::{Books, Fault, Refusal};
+use std::alloc::Global;
+
+/// Shows the root page.
+pub fn show_root<K: Sink, B: Keeper>(
+    alloc: Global,
+    sink: &mut K,
+    desk: &mut Desk<B>,
+    to_head: bool,
+    chosen: Option<Served>,
+) -> Result<(), IoEnd>
+    ensures { ShowsBy B.Books K.Sink desk.old desk.new sink.old sink.new true to_head result
+        (λ T. ShowsRoot by_tables T chosen) }
+{
+    match chosen {
+        Some(served) => show_page(alloc, sink, desk, to_head, Page::Root, served),
+        None => send_reply(sink, to_head, message_reply(MessageFault::NotAcceptable)),
+    }
+}
+
+/// Shows a project's page.
+pub fn show_project<K: Sink, B: Keeper>(
+    alloc: Global,
+    sink: &mut K,
+    desk: &mut Desk<B>,
+    to_head: bool,
+    chosen: Option<Served>,
+    name: &NormalName,
+) -> Result<(), IoEnd>
+    ensures { ShowsBy B.Books K.Sink desk.old desk.new sink.old sink.new true to_head result
+        (λ T. ShowsProject by_tables T name.now chosen) }
+{
+    match chosen {
+        Some(served) => show_page(alloc, sink, desk, to_head, Page::Project(name), served),
+        None => show_no_page(alloc, sink, desk, to_head, name),
+    }
+}
+
+/// Shows that there is no page of a project, or none of a type that can be chosen.
+fn show_no_page<K: Sink, B: Books>(
+    alloc: Global,
+    sink: &mut K,
+    desk: &mut Desk<B>,
+    to_head: bool,
+    name: &NormalName,
+) -> Result<(), IoEnd>
+    ensures { ShowsBy B.Books K.Sink desk.old desk.new sink.old sink.new false to_head result
+        (λ T. ShowsProject by_tables T name.now None) }
+{
+    match desk.is_held(alloc, name) {
+        Ok(true) => send_reply(sink, to_head, message_reply(MessageFault::NotAcceptable)),
+        Ok(false) => send_reply(sink, to_head, refusal_reply(Refusal::NoProject)),
+        Err(fault) => send_fault(sink, to_head, fault),
+    }
+}
+
+/// Shows a page in a type, where there is one.
+fn show_page<K: Sink, B: Keeper>(
+    alloc: Global,
+    sink: &mut K,
+    desk: &mut Desk<B>,
+    to_head: bool,
+    page: Page<'_>,
+    served: Served,
+) -> Result<(), IoEnd>
+    ensures { ShowsBy B.Books K.Sink desk.old desk.new sink.old sink.new true to_head result
+        (λ T. ShowsWhole served (page_in T served page.entry)) }
+{
+    if let Some(text) = desk.kept_page(page, served) {
+        return send_reply(sink, to_head, page_reply(served, text));
+    }
+    match gathered_text(alloc, desk, page, served) {
+        Ok(Some(text)) => {
+            let sent = send_reply(sink, to_head, page_reply(served, text.as_slice()));
+            desk.keep_page(page, served, text);
+            sent
+        }
+        Ok(None) => show_in_passes(alloc, sink, desk, to_head, page, served),
+        Err(fault) => send_fault(sink, to_head, fault),
+    }
+}
+
+/// The text of a page, or `None` where there is none, or it is too long to be gathered or no memory is there for it. It
+/// changes no table.
+fn gathered_text<B: Books>(
+    alloc: Global,
+    desk: &mut Desk<B>,
+    page: Page<'_>,
+    served: Served,
+) -> Result<Option<Vec<u8>>, Fault>
+    ensures { Gathers B.Books desk.old desk.new result (λ text. text.items)
+        (λ T. page_in T served page.entry) }
+{
+    match page {
+        Page::Root => gathered_root(alloc, desk, served),
+        Page::Project(name) => gathered_project(alloc, desk, name, served),
+    }
+}
+
+/// Shows a page in a type, where there is one: a first pass over its rows counts its bytes, and a second sends them.
+fn show_in_passes<K: Sink, B: Books>(
+    alloc: Global,
+    sink: &mut K,
+    desk: &mut Desk<B>,
+    to_head: bool,
+    page: Page<'_>,
+    served: Served,
+) -> Result<(), IoEnd>
+    ensures { ShowsBy B.Books K.Sink desk.old desk.new sink.old sink.new true to_head result
+        (λ T. ShowsWhole served (page_in T served page.entry)) }
+{
+    match length_of(alloc, desk, page, served) {
+        Ok(Some(size)) => send_page(alloc, sink, desk, to_head, page, served, size),
+        Ok(None) => send_reply(sink, to_head, refusal_reply(Refusal::NoProject)),
+        Err(fault) => send_fault(sink, to_head, fault),
+    }
+}
+
+/// The length of a page, or `None` where there is none. It changes no table.
+fn length_of<B: Books>(
+    alloc: Global,
+    desk: &mut Desk<B>,
+    page: Page<'_>,
+    served: Served,
+) -> Result<Option<u64>, Fault>
+    ensures { MeasuresPass B.Books desk.old desk.new result
+        (λ T. MeasuresProject (page_in T served page.entry)) }
+{
+    match page {
+        Page::Root => Ok(Some(root_length(alloc, desk, served)?)),
+        Page::Project(name) => project_length(alloc, desk, name, served),
+    }
+}
+
+/// Sends a page of this length: its head, and its text unless it replies to `HEAD`. It changes no table.
+fn send_page<K: Sink, B: Books>(
+    alloc: Global,
+    sink: &mut K,
+    desk: &mut Desk<B>,
+    to_head: bool,
+    page: Page<'_>,
+    served: Served,
+    size: u64,
+) -> Result<(), IoEnd>
+    ensures sent { B.IsHonest desk.old → B.IsClean desk.new →
+        (there : IsMeasured (page_in (B.tables desk.old) served page.entry) size) →
+        SendsText (reply_text to_head (page_reply served there.bytes))
+        (K.contents sink.old) (K.contents sink.new) result }
+    ensures leaves { LeavesTables B.Books desk.old desk.new }
+    ensures sends { SendsOnly K.Sink sink.old sink.new (not to_head) result }
+{
+    let head = match send_head(sink, StatusCode::OK, Fields::Page(served), size) {
+        Ok(head) => head,
+        Err(count) => return Err(IoEnd::WriteFault(count)),
+    };
+    if to_head {
+        return Ok(());
+    }
+    after_head(head, send_text(alloc, sink, desk, page, served))
+}
+
+/// Sends the text of a page. Its ends are `WriteFault` and `Cut`. It changes no table.
+fn send_text<K: Sink, B: Books>(
+    alloc: Global,
+    sink: &mut K,
+    desk: &mut Desk<B>,
+    page: Page<'_>,
+    served: Served,
+) -> Result<(), IoEnd>
+    ensures { SendsPage B.Books K.Sink desk.old desk.new sink.old sink.new result
+        (λ T. page_in T served page.entry) }
+{
+    match page {
+        Page::Root => root_text(alloc, desk, sink, served),
+        Page::Project(name) => project_text(alloc, desk, sink, name, served),
+    }
+}
+
+/// The end of a reply by that of its body, before which this many bytes went out.
+fn after_head(head: u64, end: Result<(), IoEnd>) -> Result<(), IoEnd>
+    ensures end { result ≡ after_head head end }
+    ensures kind { is_write_fault result ≡ is_write_fault end }
+    ensures cut { is_cut result ≡ is_cut end }
+{
+    match end {
+        Ok(()) => Ok(()),
+        Err(IoEnd::WriteFault(count)) => Err(IoEnd::WriteFault(head.saturating_add(count))),
+        Err(IoEnd::Cut(count)) => Err(IoEnd::Cut(head.saturating_add(count))),
+        Err(end) => Err(end),
+    }
+}

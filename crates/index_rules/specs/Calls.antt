@@ -1,0 +1,18 @@
+-- What a call of the books does beside what it finds or writes.
+use Rattle.std.specs.Prelude.{◌≡◌, ℕ, Bool, IsTrue}
+use Rattle.index_io.specs.Counts.{next_count}
+use Rattle.index_rules.specs.Tables.{Tables}
+
+-- a store that is honest or clean as a call ends was so as it began, and a failure is counted just where it is told
+pub record Calls {S : Type 0} (IsHonest IsClean : S → Type 0) (count : S → ℕ) (old new : S) (succeeds : Bool) : Type 0 where
+  pub honest : IsHonest new → IsHonest old
+  pub clean : IsClean new → IsClean old
+  pub failures : count new ≡ next_count (count old) succeeds
+
+-- a look is a call that changes no table, and a crash leaves what it could have left before
+pub record LooksUp {S : Type 0} (tables : S → Tables) (IsHonest IsClean : S → Type 0) (may_leave : S → Tables → Type 0) (count : S → ℕ) (old new : S) (succeeds : Bool) : Type 0 where
+  pub call : Calls IsHonest IsClean count old new succeeds
+  pub unchanged : IsHonest new → tables new ≡ tables old
+  -- one that succeeds leaves an honest store honest, while it is clean
+  pub lasts : IsTrue succeeds → IsHonest old → IsClean new → IsHonest new
+  pub crash : (T : Tables) → may_leave new T → may_leave old T

@@ -1,0 +1,44 @@
+-- What the making of an index in a database leaves, in one transaction.
+use Rattle.std.specs.Prelude.{◌≡◌, ℕ, false, List, IfErr, IsTrue, OnErr, OnOk, Option, Result}
+use Rattle.sqlite_schema.specs.declared.schema.Schema.{Schema}
+use Rattle.sqlite_trees.specs.declared.store.Store.{Ghosts}
+use Rattle.sqlite.specs.declared.error.Error.{Error}
+use Rattle.sqlite.specs.Effect.{Database}
+use Rattle.sqlite.specs.Held.{Held, state}
+use Rattle.sqlite.specs.State.{HasCleanDisk}
+use Rattle.index_rules.specs.Tables.{Tables}
+use Rattle.index_sql_schema.specs.CreateSteps.{stage}
+use Rattle.index_sql_writes.specs.Asks.{Ask}
+use Rattle.index_sql_writes.specs.Changed.{IsMade, IsUndone, LeavesWholeChange}
+use Rattle.index_sql_writes.specs.StepAsks.{FailsForRefusal}
+use Rattle.index_sql_opening.specs.Created.{IsBlank}
+
+-- it is in no transaction; on a clean disk, where it is open, all that it holds is committed
+pub record IsAtRest {S : Type 0} (g : Ghosts S) (held : Held S) : Type 0 where
+  pub outside : held.in_transaction ≡ false
+  pub settled : HasCleanDisk (state g held) → IsTrue (state g held).is_open → (state g held).now ≡ (state g held).committed
+
+-- while it is open, a database with this schema is of such a kind
+abbrev pub IsBySchema : {S : Type 0} → Ghosts S → Schema → (Database → Type 0) → Held S → Type 0
+IsBySchema g schema IsKind held = IsTrue (state g held).is_open → (state g held).now.schema ≡ schema → IsKind (state g held).now
+
+-- Of an open database of such a kind an index is made: `change` says with which tables, `told` which version it tells, and
+-- `asks` which statements make it.
+pub record MakesIndex {S A : Type 0} (g : Ghosts S) (IsKind : Database → Type 0) (change : Tables → Tables) (told : Option ℕ → Option ℕ) (asks : List Ask) (old new : Held S) (result : Result A Error) : Type 0 where
+  -- where it succeeds on a clean disk, the index is there, and committed
+  pub made : HasCleanDisk (state g new) → OnOk result (IsTrue (state g old).is_open → IsKind (state g old).now → IsMade change told (state g old) (state g new))
+  -- after an error, while the connection is open, the database is as it was committed
+  pub unchanged : HasCleanDisk (state g new) → IsTrue (state g new).is_open → IsKind (state g old).now → OnErr result (IsUndone (state g old) (state g new))
+  pub outside : new.in_transaction ≡ false
+  pub was_clean : HasCleanDisk (state g new) → HasCleanDisk (state g old)
+  pub was_open : HasCleanDisk (state g new) → IsTrue (state g new).is_open → IsTrue (state g old).is_open
+  -- a crash leaves what it could leave before, or the whole index
+  pub crash : IsTrue (state g old).is_open → IsKind (state g old).now
+      → LeavesWholeChange change told (state g old) (state g new)
+  -- it fails by the store only for a reason of the store, or where SQL refuses a statement
+  pub reason : HasCleanDisk (state g new) → (IsTrue (state g old).is_open → IsKind (state g old).now) → IfErr result (FailsForRefusal asks (state g old) (state g new))
+
+-- so many tables are made of an open blank database, if it succeeds on a clean disk
+abbrev pub MakesTables : {S A E : Type 0} → Ghosts S → ℕ → Held S → Held S → Result A E → Type 0
+MakesTables g n old new result =
+    HasCleanDisk (state g new) → OnOk result (IsTrue (state g old).is_open → IsBlank (state g old).now → (state g new).now.schema ≡ stage n)

@@ -1,0 +1,16 @@
+-- What a look-up answers, and what it leaves.
+use Rattle.std.specs.Prelude.{Result, IfOk, is_ok}
+use Rattle.sqlite_trees.specs.declared.store.Store.{Ghosts}
+use Rattle.sqlite.specs.Held.{Held, state}
+use Rattle.sqlite.specs.State.{HasCleanDisk}
+use Rattle.index_rules.specs.declared.answer.Fault.{Fault}
+use Rattle.index_rules.specs.Tables.{Tables}
+use Rattle.index_sql_schema.specs.Looks.{QueriesOnly}
+use Rattle.index_sql_schema.specs.Reasons.{FailsForReason}
+use Rattle.index_sql_reads.specs.ConnectionTables.{tables_of}
+
+-- On a clean disk the answer is what the tables have. They stay as they are, and a fault of the store has a reason.
+pub record FindsInTables {S A : Type 0} (g : Ghosts S) (old new : Held S) (result : Result A Fault) (Has : Tables → A → Type 0) : Type 0 where
+  pub found : HasCleanDisk (state g new) → IfOk result (Has (tables_of g old))
+  pub looks : QueriesOnly g old new (is_ok result)
+  pub reason : FailsForReason g old new result

@@ -1,0 +1,54 @@
+-- What a step does inside a transaction.
+use Rattle.std.specs.Prelude.{◌≡◌, ℕ, true, IsTrue, OnOk, Option, Result}
+use Rattle.std.specs.Borrow.{MutBor}
+use Rattle.sqlite_trees.specs.declared.store.Store.{Ghosts}
+use Rattle.sqlite.specs.Held.{Held, state}
+use Rattle.sqlite.specs.State.{State, HasCleanDisk, KeepsCommit, Survives}
+use Rattle.index_rules.specs.Tables.{Tables}
+use Rattle.index_sql_schema.specs.Records.{tables_in}
+use Rattle.index_sql_schema.specs.RecordRows.{AreRecords}
+use Rattle.index_sql_schema.specs.Index.{IsIndex, same_version, version_in}
+
+-- a transaction on an index is under way
+pub record IsInTransaction (s : State) : Type 0 where
+  pub is_open : IsTrue s.is_open
+  pub inside : s.in_transaction ≡ true
+  pub index : IsIndex s.now
+
+-- the transaction sees this made of the tables and told for the version that was told, and nothing was committed
+pub record MakesInTransaction (change : Tables → Tables) (told : Option ℕ → Option ℕ) (old new : State) : Type 0 where
+  pub ready : IsInTransaction new
+  pub tables : tables_in new.now.trees ≡ change (tables_in old.now.trees)
+  pub committed : new.committed ≡ old.committed
+  pub version : version_in new.now.trees ≡ told (version_in old.now.trees)
+  -- its rows are records if they were
+  pub records : AreRecords old.now → AreRecords new.now
+
+-- a step that succeeds does so on a clean disk
+abbrev pub TellsIfOk : {S A E : Type 0} → Ghosts S → (Tables → Tables) → (Option ℕ → Option ℕ) → Held S → Held S → Result A E → Type 0
+TellsIfOk g change told old new result =
+    HasCleanDisk (state g new)
+    → OnOk result
+    (IsInTransaction (state g old) → MakesInTransaction change told (state g old) (state g new))
+
+-- the same, where the version stays
+abbrev pub MakesIfOk : {S A E : Type 0} → Ghosts S → (Tables → Tables) → Held S → Held S → Result A E → Type 0
+MakesIfOk g change = TellsIfOk g change same_version
+
+-- what is committed stays, on a clean disk
+abbrev pub KeepsCommitted : {S : Type 0} → Ghosts S → Held S → Held S → Type 0
+KeepsCommitted g old new = HasCleanDisk (state g new) → KeepsCommit (state g old) (state g new)
+
+-- what succeeds on a clean disk does so on an open connection
+abbrev pub WasOpenIfOk : {S A E : Type 0} → Ghosts S → Held S → Held S → Result A E → Type 0
+WasOpenIfOk g old new result = HasCleanDisk (state g new) → OnOk result (IsTrue (state g old).is_open)
+
+-- nothing of it outlasts a crash
+abbrev pub IsInvisibleToCrash : {S : Type 0} → Ghosts S → Held S → Held S → Type 0
+IsInvisibleToCrash g old new = Survives (state g old) (state g new) (λ _. ⊥)
+
+-- what is done stays in the transaction: the connection is the same, what is committed stays, and nothing of it outlasts a crash
+pub record IsUncommitted {S : Type 0} (g : Ghosts S) (old new : MutBor (Held S)) : Type 0 where
+  pub same_reference : new.ghost_name ≡ old.ghost_name
+  pub kept : KeepsCommitted g old.now new.now
+  pub survives : IsInvisibleToCrash g old.now new.now

@@ -1,0 +1,42 @@
+-- What holds the tables, and what is left of it.
+use Rattle.std.specs.Prelude.{◌≡◌, ℕ, IsTrue, Some, refl}
+use Rattle.std.specs.Coded.{Coded, code_by, coded×, coded_ℕ}
+use Rattle.sqlite_trees.specs.Tree.{Trees}
+use Rattle.sqlite.specs.Held.{Held, held_code}
+use Rattle.sqlite.specs.State.{State, HasCleanDisk}
+use Rattle.index_sql_writes.specs.Changed.{HoldsIndex}
+use Rattle.index_rules.specs.Tables.{Tables}
+use Rattle.index_sql_schema.specs.Index.{IsIndex, version_in}
+use Rattle.index_sql_schema.specs.Records.{tables_in}
+
+-- a connection, and how many calls answered a fault
+pub record BooksState (S : Type 0) : Type 0 where
+  pub conn : Held S
+  pub failures : ℕ
+
+abbrev pub books_state_code : {S : Type 0} → Coded S → Coded (BooksState S)
+books_state_code {S} store =
+    code_by (Held S × ℕ) (coded× (held_code store) coded_ℕ) (λ kept. (kept.conn, kept.failures)) (λ p. record { conn = p.0; failures = p.1 }) (λ _. refl)
+
+-- so far the disk has returned what was written, and no fault has shut the connection
+pub record IsWorking (s : State) : Type 0 where
+  pub clean : HasCleanDisk s
+  pub is_open : IsTrue s.is_open
+
+-- so it is, the schema is that of an index, which tells version 2, and all of it is committed
+pub record IsHonest (s : State) : Type 0 where
+  pub clean : HasCleanDisk s
+  pub is_open : IsTrue s.is_open
+  pub index : IsIndex s.now
+  pub committed : s.now ≡ s.committed
+  pub version : version_in s.now.trees ≡ Some 2
+
+-- the trees of an index that tells version 2
+pub record AreCurrent (db : Trees) : Type 0 where
+  pub index : HoldsIndex db
+  pub version : version_in db ≡ Some 2
+
+-- the disk has returned what was written, and an open after a crash may find these tables. Where it may find no index that
+-- tells version 2, that is any tables at all: so a clause that says which tables are left says too that an index is
+abbrev pub Leaves : State → Tables → Type 0
+Leaves s T = HasCleanDisk s × ((db : Trees) × s.may_leave db × (AreCurrent db → T ≡ tables_in db))
