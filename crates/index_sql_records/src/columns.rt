@@ -1,13 +1,13 @@
 //! Columns of a row, each read as a value of one type. Where a column holds no such value, that is `Fault::Store`.
-ghost use Rattle.std.specs.Prelude.{◌≡◌, ◌↔◌, pos, [], IsSome, IsTrue, IsUtf8, MatchOption, ⊤, if◌then◌else◌};
-ghost use Rattle.sqlite_value.specs.declared.value.Value.TheVariants.{Null as NullValue, Int as IntValue, Text as TextValue, Blob as BlobValue};
+ghost use Rattle.std.specs.Prelude.{◌≡◌, ◌↔◌, pos, [], IsSome, IsTrue, IsUtf8, ⊤, if◌then◌else◌};
+ghost use Rattle.sqlite_value.specs.declared.value.Value.TheVariants.{Int as IntValue, Text as TextValue, Blob as BlobValue};
 ghost use Rattle.sqlite_value.specs.Order.{column};
 ghost use Rattle.index_names.specs.FileName.{read_file_name};
 ghost use Rattle.index_names.specs.Project.{IsNormalName};
 ghost use Rattle.index_names.specs.Release.{IsRelease};
 ghost use Rattle.index_rules.specs.Users.{IsUserId};
 ghost use Rattle.index_sql_schema.specs.RecordRows.{IsBlobOf, IsDigestBlob, IsFlag, IsNull, IsNumber, IsNumberIfAny, IsTextIfAny, IsTextOf};
-ghost use Rattle.index_sql_records.specs.Reads.{ReadsRow, ReadsOwned, ReadsText};
+ghost use Rattle.index_sql_records.specs.Reads.{IsNullOr, ReadsCell, ReadsRow, ReadsOwned, ReadsText};
 
 use index_digest::Digest256;
 use index_names::{FileName, NameFault, NormalName, Release, normal, release_key};
@@ -19,8 +19,7 @@ use std::alloc::Global;
 
 /// The bytes of a text.
 fn text_bytes(row: &Row, at: usize) -> Result<&[u8], Fault>
-    ensures { ReadsRow result (IsTextOf (λ _. ⊤) (column row.now at))
-        (λ it. column row.now at ≡ TextValue it.now) }
+    ensures { ReadsCell result (IsTextOf (λ _. ⊤)) (column row.now at) (λ it. TextValue it.now) }
 {
     match row.get_ref(at) {
         Ok(ValueRef::Text(bytes)) => Ok(bytes),
@@ -30,8 +29,7 @@ fn text_bytes(row: &Row, at: usize) -> Result<&[u8], Fault>
 
 /// The bytes of a blob.
 pub(crate) fn blob(row: &Row, at: usize) -> Result<&[u8], Fault>
-    ensures { ReadsRow result (IsBlobOf (λ _. ⊤) (column row.now at))
-        (λ it. column row.now at ≡ BlobValue it.now) }
+    ensures { ReadsCell result (IsBlobOf (λ _. ⊤)) (column row.now at) (λ it. BlobValue it.now) }
 {
     match row.get_ref(at) {
         Ok(ValueRef::Blob(bytes)) => Ok(bytes),
@@ -41,8 +39,7 @@ pub(crate) fn blob(row: &Row, at: usize) -> Result<&[u8], Fault>
 
 /// A whole number that isn't negative.
 pub(crate) fn number(row: &Row, at: usize) -> Result<u64, Fault>
-    ensures { ReadsRow result (IsNumber (column row.now at))
-        (λ it. column row.now at ≡ IntValue (pos it)) }
+    ensures { ReadsCell result IsNumber (column row.now at) (λ it. IntValue (pos it)) }
 {
     match row.get_ref(at) {
         Ok(ValueRef::Int(number)) => match u64::try_from(number) {
@@ -55,9 +52,8 @@ pub(crate) fn number(row: &Row, at: usize) -> Result<u64, Fault>
 
 /// Such a number, or nothing where there is NULL.
 pub(crate) fn number_if_any(row: &Row, at: usize) -> Result<Option<u64>, Fault>
-    ensures { ReadsRow result (IsNumberIfAny row.now at) (λ it. MatchOption it
-        (column row.now at ≡ NullValue)
-        (λ number. column row.now at ≡ IntValue (pos number))) }
+    ensures { ReadsRow result (IsNumberIfAny row.now at)
+        (IsNullOr (λ number. IntValue (pos number)) (column row.now at)) }
 {
     match row.get_ref(at) {
         Ok(ValueRef::Null) => Ok(None),
@@ -67,8 +63,8 @@ pub(crate) fn number_if_any(row: &Row, at: usize) -> Result<Option<u64>, Fault>
 
 /// 0 for no, or 1 for yes.
 pub(crate) fn flag(row: &Row, at: usize) -> Result<bool, Fault>
-    ensures { ReadsRow result (IsFlag (column row.now at))
-        (λ it. column row.now at ≡ IntValue (pos (if it then 1 else 0))) }
+    ensures { ReadsCell result IsFlag (column row.now at)
+        (λ it. IntValue (pos (if it then 1 else 0))) }
 {
     match number(row, at)? {
         0 => Ok(false),
@@ -79,8 +75,7 @@ pub(crate) fn flag(row: &Row, at: usize) -> Result<bool, Fault>
 
 /// A SHA-256 digest: a blob of 32 bytes.
 pub(crate) fn digest(row: &Row, at: usize) -> Result<Digest256, Fault>
-    ensures { ReadsRow result (IsDigestBlob (column row.now at))
-        (λ it. column row.now at ≡ BlobValue it) }
+    ensures { ReadsCell result IsDigestBlob (column row.now at) BlobValue }
 {
     let blob = blob(row, at)?;
     if blob.len() != 32 {
@@ -103,9 +98,7 @@ pub(crate) fn text(alloc: Global, row: &Row, at: usize) -> Result<Text, Fault>
 
 /// Such a text, or nothing where there is NULL.
 pub(crate) fn text_if_any(alloc: Global, row: &Row, at: usize) -> Result<Option<Text>, Fault>
-    ensures { ReadsOwned result (IsTextIfAny row.now at) (λ it. MatchOption it
-        (column row.now at ≡ NullValue)
-        (λ text. column row.now at ≡ TextValue text)) }
+    ensures { ReadsOwned result (IsTextIfAny row.now at) (IsNullOr TextValue (column row.now at)) }
 {
     match row.get_ref(at) {
         Ok(ValueRef::Null) => Ok(None),
