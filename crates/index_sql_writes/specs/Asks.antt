@@ -42,6 +42,10 @@ abbrev pub HasTooMuch : List ℕ → Type 0
 HasTooMuch [] = ⊥
 HasTooMuch (number ∷ more) = (2 ^ 63 ≤ number) ⊎ HasTooMuch more
 
+-- the error of a number that SQL can't hold, where this is so
+abbrev pub IsOutOfRange : Type 0 → Error → Type 0
+IsOutOfRange Is error = (error ≡ IntegralValueOutOfRange 0) × Is
+
 -- the row shows the name of a file, as a query of one column does
 abbrev pub ShowsFileName : Row → Type 0
 ShowsFileName r = (0 < length r) × IsFileText (column r 0)

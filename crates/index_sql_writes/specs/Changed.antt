@@ -11,7 +11,7 @@ use Rattle.index_rules.specs.Tables.{Tables}
 use Rattle.index_sql_schema.specs.Schema.{index_schema}
 use Rattle.index_sql_schema.specs.Records.{tables_in}
 use Rattle.index_sql_schema.specs.RecordRows.{AreRecords, AreRecordsOf}
-use Rattle.index_sql_schema.specs.Index.{IsIndex, version_in}
+use Rattle.index_sql_schema.specs.Index.{IsIndex, same_version, version_in}
 use Rattle.index_sql_writes.specs.Writes.{puts_user, puts_name, puts_owner, puts_file, puts_body, puts_yank, puts_case, puts_ban, deletes_owners, deletes_owner, deletes_yanks, deletes_yank, deletes_case, deletes_body, deletes_bodies, marks_files}
 use Rattle.index_sql_writes.specs.declared.step.Put.{Put}
 use Rattle.index_sql_writes.specs.declared.step.Put.TheVariants as put
@@ -92,3 +92,7 @@ pub record MakesAll {S A E : Type 0} (g : Ghosts S) (IsKind : Database → Type 
   pub was_open : HasCleanDisk (state g new) → IsTrue (state g new).is_open → IsTrue (state g old).is_open
   pub crash : IsTrue (state g old).is_open → IsKind (state g old).now
       → LeavesWholeChange change told (state g old) (state g new)
+
+-- so it is where the database is an index, and the version stays
+abbrev pub MakesChange : {S A E : Type 0} → Ghosts S → (Tables → Tables) → Connected S → Connected S → Result A E → Type 0
+MakesChange g change = MakesAll g IsIndex change same_version

@@ -11,6 +11,11 @@ use Rattle.sqlite.specs.State.{State, ExecutesInside, HasCleanDisk}
 use Rattle.index_rules.specs.Tables.{Tables}
 use Rattle.index_sql_schema.specs.Index.{same_version}
 use Rattle.index_sql_writes.specs.Asks.{Ask, GoesAs, GoesByAsk}
+use Rattle.index_sql_writes.specs.Changed.{deletion_by, put_by, step_by}
+use Rattle.index_sql_writes.specs.StepAsks.{deletion_ask, put_ask, step_ask}
+use Rattle.index_sql_writes.specs.declared.step.Deletion.{Deletion}
+use Rattle.index_sql_writes.specs.declared.step.Put.{Put}
+use Rattle.index_sql_writes.specs.declared.step.Step.{Step}
 use Rattle.index_sql_writes.specs.Transaction.{IsInTransaction, IsUncommitted, MakesInTransaction, MakesIfOk, WasOpenIfOk}
 
 -- a step that makes this change of the tables, and asks this of SQL
@@ -19,6 +24,18 @@ pub record TakesStep {S A : Type 0} (g : Ghosts S) (change : Tables → Tables) 
   pub made : MakesIfOk g change old.now new.now result
   pub opened : WasOpenIfOk g old.now new.now result
   pub asked : GoesByAsk g ask old.now new.now result
+
+-- this step
+abbrev pub Takes : {S A : Type 0} → Ghosts S → Step → MutBor (Held S) → MutBor (Held S) → Result A Error → Type 0
+Takes g step = TakesStep g (step_by step) (step_ask step)
+
+-- one that puts this
+abbrev pub TakesPut : {S A : Type 0} → Ghosts S → Put → MutBor (Held S) → MutBor (Held S) → Result A Error → Type 0
+TakesPut g put = TakesStep g (put_by put) (put_ask put)
+
+-- one by which this goes
+abbrev pub TakesDeletion : {S A : Type 0} → Ghosts S → Deletion → MutBor (Held S) → MutBor (Held S) → Result A Error → Type 0
+TakesDeletion g deletion = TakesStep g (deletion_by deletion) (deletion_ask deletion)
 
 -- any number of steps: where a transaction is such that they can, they make this of it; and where they can be asked, they go as SQL answers
 pub record TakesSteps {S A : Type 0} (g : Ghosts S) (CanMake : State → Type 0) (MakesInTransaction : State → State → Type 0) (CanAsk : State → Type 0) (Answered : Database → Part Database) (old new : MutBor (Held S)) (result : Result A Error) : Type 0 where

@@ -1,5 +1,5 @@
 -- What a step does inside a transaction.
-use Rattle.std.specs.Prelude.{◌≡◌, ℕ, true, IsTrue, OnOk, Option, Result}
+use Rattle.std.specs.Prelude.{◌≡◌, ℕ, false, true, IsTrue, OnOk, Option, Result}
 use Rattle.std.specs.Borrow.{MutBor}
 use Rattle.sqlite_trees.specs.declared.store.Store.{Ghosts}
 use Rattle.sqlite.specs.Held.{Held, state}
@@ -46,6 +46,10 @@ WasOpenIfOk g old new result = HasCleanDisk (state g new) → OnOk result (IsTru
 -- nothing of it outlasts a crash
 abbrev pub IsInvisibleToCrash : {S : Type 0} → Ghosts S → Held S → Held S → Type 0
 IsInvisibleToCrash g old new = Survives (state g old) (state g new) (λ _. ⊥)
+
+-- so it is where the connection was shut
+abbrev pub IsInvisibleIfShut : {S : Type 0} → Ghosts S → Held S → Held S → Type 0
+IsInvisibleIfShut g old new = (state g old).is_open ≡ false → IsInvisibleToCrash g old new
 
 -- what is done stays in the transaction: the connection is the same, what is committed stays, and nothing of it outlasts a crash
 pub record IsUncommitted {S : Type 0} (g : Ghosts S) (old new : MutBor (Held S)) : Type 0 where

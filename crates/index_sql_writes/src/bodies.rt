@@ -7,9 +7,10 @@ ghost use Rattle.sqlite.specs.State.{HasCleanDisk};
 ghost use Rattle.index_sql_schema.specs.ShownRows.{file_shown};
 ghost use Rattle.index_sql_writes.specs.Asks.{AnswersAsk, AnswersBodyDeletions, AreFilesIn, CanAsk, CanAskFor};
 ghost use Rattle.index_sql_writes.specs.Transaction.{WasOpenIfOk};
-ghost use Rattle.index_sql_writes.specs.Steps.{TakesStep, ChangesIndex};
-ghost use Rattle.index_sql_writes.specs.Writes.{deletes_bodies, deletes_body, deletes_shown};
-ghost use Rattle.index_sql_writes.specs.Statements.{delete_bodies_ask, delete_body_ask};
+ghost use Rattle.index_sql_writes.specs.Steps.{ChangesIndex, TakesDeletion};
+ghost use Rattle.index_sql_writes.specs.declared.step.Deletion.{Deletion};
+ghost use Rattle.index_sql_writes.specs.Writes.{deletes_body, deletes_shown};
+ghost use Rattle.index_sql_writes.specs.Statements.{delete_body_ask};
 
 use crate::delete::delete_body;
 use index_sql_schema::statement_texts::SELECT_NAMED;
@@ -17,8 +18,7 @@ use sqlite::{Alter, Error, Row, Transaction, params};
 
 /// No bytes are kept of the files of the name.
 pub(crate) fn delete_bodies<S: Alter>(tx: &mut Transaction<'_, S>, name: &str) -> Result<(), Error>
-    ensures { TakesStep S.Store (deletes_bodies name.now) (delete_bodies_ask name.now)
-        tx.old.conn tx.new.conn result }
+    ensures { TakesDeletion S.Store (Deletion.Bodies name.entry) tx.old.conn tx.new.conn result }
 {
     let rows = files_named(tx, name)?;
     delete_each(tx, rows.as_slice())?;

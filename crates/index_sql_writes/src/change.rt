@@ -1,11 +1,9 @@
 //! A change of the tables in one transaction.
 ghost use Rattle.std.specs.Prelude.{◌≡◌, false};
-ghost use Rattle.sqlite.specs.Held.{state};
 ghost use Rattle.index_rules.specs.Effect.{means};
-ghost use Rattle.index_sql_schema.specs.Index.{IsIndex, same_version};
-ghost use Rattle.index_sql_writes.specs.Transaction.{IsInvisibleToCrash};
+ghost use Rattle.index_sql_writes.specs.Transaction.{IsInvisibleIfShut};
 ghost use Rattle.index_sql_writes.specs.StepAsks.{FailsForAsks};
-ghost use Rattle.index_sql_writes.specs.Changed.{MakesAll};
+ghost use Rattle.index_sql_writes.specs.Changed.{MakesChange};
 ghost use Rattle.index_sql_writes.specs.ChangeAsks.{AreStepsOf, asks_of};
 
 use crate::cases::{end_case, set_case};
@@ -28,10 +26,8 @@ use sqlite::{Alter, Connection, Error};
 /// schema refuses. The tables are then what was committed before.
 pub fn make_change<S: Alter>(conn: &mut Connection<S>, change: &Change) -> Result<(), Error>
     requires { conn.old.in_transaction ≡ false }
-    ensures made { MakesAll S.Store IsIndex
-        (means change.now) same_version conn.old conn.new result }
-    ensures shut { (state S.Store conn.old).is_open ≡ false
-        → IsInvisibleToCrash S.Store conn.old conn.new }
+    ensures made { MakesChange S.Store (means change.now) conn.old conn.new result }
+    ensures shut { IsInvisibleIfShut S.Store conn.old conn.new }
     ensures reason { FailsForAsks S.Store (asks_of change.now) conn.old conn.new result }
 {
     let steps = steps_of(change);

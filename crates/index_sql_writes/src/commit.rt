@@ -1,10 +1,8 @@
 //! A change of the tables in one transaction.
 ghost use Rattle.std.specs.Prelude.{◌≡◌, ◌<◌, false, length};
-ghost use Rattle.sqlite.specs.Held.{state};
-ghost use Rattle.index_sql_schema.specs.Index.{IsIndex, same_version};
-ghost use Rattle.index_sql_writes.specs.Transaction.{IsInvisibleToCrash};
+ghost use Rattle.index_sql_writes.specs.Transaction.{IsInvisibleIfShut};
 ghost use Rattle.index_sql_writes.specs.StepAsks.{FailsForAsks, asks_by};
-ghost use Rattle.index_sql_writes.specs.Changed.{MakesAll, all_of};
+ghost use Rattle.index_sql_writes.specs.Changed.{MakesChange, all_of};
 
 use crate::step::{Step, take_steps};
 use sqlite::{Alter, Connection, Error};
@@ -16,10 +14,8 @@ pub(crate) fn commit_steps<S: Alter>(
     steps: &[Step<'_>],
 ) -> Result<(), Error>
     requires { conn.old.in_transaction ≡ false }
-    ensures made { MakesAll S.Store IsIndex
-        (all_of steps.now) same_version conn.old conn.new result }
-    ensures shut { 0 < length steps.now → (state S.Store conn.old).is_open ≡ false
-        → IsInvisibleToCrash S.Store conn.old conn.new }
+    ensures made { MakesChange S.Store (all_of steps.now) conn.old conn.new result }
+    ensures shut { 0 < length steps.now → IsInvisibleIfShut S.Store conn.old conn.new }
     ensures reason { FailsForAsks S.Store (asks_by steps.now) conn.old conn.new result }
 {
     let mut tx = conn.transaction();

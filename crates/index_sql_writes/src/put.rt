@@ -4,10 +4,10 @@ ghost use Rattle.std.specs.Prelude.{ℤ};
 ghost use Rattle.index_sql_schema.specs.RecordRows.{IsNameRow};
 ghost use Rattle.index_sql_schema.specs.StatementTexts.{put_name_text};
 ghost use Rattle.index_sql_writes.specs.Asks.{Statement};
-ghost use Rattle.index_sql_writes.specs.Steps.{TakesStep};
-ghost use Rattle.index_rules.specs.declared.records.NameRecord.TheVariants.{Held, Prohibited};
-ghost use Rattle.index_sql_writes.specs.Writes.{puts_user, puts_name, name_of, row_of_name, puts_owner, puts_file, puts_body, puts_yank, puts_ban};
-ghost use Rattle.index_sql_writes.specs.Statements.{hold_name_ask, name_cells, prohibit_name_ask, put_ban_ask, put_body_ask, put_file_ask, put_owner_ask, put_user_ask, put_yank_ask};
+ghost use Rattle.index_sql_writes.specs.Steps.{TakesPut, TakesStep};
+ghost use Rattle.index_sql_writes.specs.declared.step.Put.{Put};
+ghost use Rattle.index_sql_writes.specs.Writes.{puts_user, puts_name, name_of, row_of_name};
+ghost use Rattle.index_sql_writes.specs.Statements.{name_cells, put_user_ask};
 
 use crate::number::{sql_integer, sql_integer_if_any};
 use crate::statement::run_statement;
@@ -45,8 +45,7 @@ pub(crate) fn hold_name<S: Alter>(
     name: &NormalName,
     project: &Project,
 ) -> Result<(), Error>
-    ensures { TakesStep S.Store (puts_name name.now (Held project.now))
-        (hold_name_ask name.now project.now) tx.old.conn tx.new.conn result }
+    ensures { TakesPut S.Store (Put.Held name.entry project.entry) tx.old.conn tx.new.conn result }
 {
     let quota = sql_integer(project.quota())?;
     let charge = sql_integer(project.charge())?;
@@ -69,8 +68,7 @@ pub(crate) fn prohibit_name<S: Alter>(
     tx: &mut Transaction<'_, S>,
     name: &NormalName,
 ) -> Result<(), Error>
-    ensures { TakesStep S.Store (puts_name name.now Prohibited) (prohibit_name_ask name.now)
-        tx.old.conn tx.new.conn result }
+    ensures { TakesPut S.Store (Put.Prohibited name.entry) tx.old.conn tx.new.conn result }
 {
     put_name(tx, name, 2, "", 0, 0, 0, None)
 }
@@ -88,10 +86,9 @@ fn put_name<S: Alter>(
 ) -> Result<(), Error>
     requires { (id : ℤ) → IsNameRow
         (row_of_name id name.now standing shown.now quota charge undeleted last) }
-    ensures { TakesStep S.Store
-        (puts_name name.now (name_of standing shown.now quota charge undeleted last))
-        (Statement put_name_text
-        (name_cells name.now standing shown.now quota charge undeleted last))
+    ensures { let known = name_of standing shown.now quota charge undeleted last in
+        let cells = name_cells name.now standing shown.now quota charge undeleted last in
+        TakesStep S.Store (puts_name name.now known) (Statement put_name_text cells)
         tx.old.conn tx.new.conn result }
 {
     run_statement(
@@ -107,8 +104,7 @@ pub(crate) fn put_owner<S: Alter>(
     name: &NormalName,
     user: &UserId,
 ) -> Result<(), Error>
-    ensures { TakesStep S.Store (puts_owner name.now user.now) (put_owner_ask name.now user.now)
-        tx.old.conn tx.new.conn result }
+    ensures { TakesPut S.Store (Put.Owner name.entry user.entry) tx.old.conn tx.new.conn result }
 {
     run_statement(tx, PUT_OWNER, params![name.text(), user.text()])
 }
@@ -119,8 +115,7 @@ pub(crate) fn put_file<S: Alter>(
     file: &FileName,
     known: &FileRecord,
 ) -> Result<(), Error>
-    ensures { TakesStep S.Store (puts_file file.now known.now) (put_file_ask file.now known.now)
-        tx.old.conn tx.new.conn result }
+    ensures { TakesPut S.Store (Put.File file.entry known.entry) tx.old.conn tx.new.conn result }
 {
     let size = sql_integer(known.size)?;
     let digest = known.digest.to_bytes();
@@ -145,8 +140,7 @@ pub(crate) fn put_body<S: Alter>(
     file: &FileName,
     body: &[u8],
 ) -> Result<(), Error>
-    ensures { TakesStep S.Store (puts_body file.now body.now) (put_body_ask file.now body.now)
-        tx.old.conn tx.new.conn result }
+    ensures { TakesPut S.Store (Put.Body file.entry body.entry) tx.old.conn tx.new.conn result }
 {
     run_statement(tx, PUT_BODY, params![file.text(), body])
 }
@@ -158,16 +152,15 @@ pub(crate) fn put_yank<S: Alter>(
     release: &Release,
     reason: &str,
 ) -> Result<(), Error>
-    ensures { TakesStep S.Store (puts_yank name.now release.now reason.now)
-        (put_yank_ask name.now release.now reason.now) tx.old.conn tx.new.conn result }
+    ensures { TakesPut S.Store (Put.Yank name.entry release.entry reason.entry)
+        tx.old.conn tx.new.conn result }
 {
     run_statement(tx, PUT_YANK, params![name.text(), release.text(), reason])
 }
 
 /// The file is banned.
 pub(crate) fn put_ban<S: Alter>(tx: &mut Transaction<'_, S>, file: &FileName) -> Result<(), Error>
-    ensures { TakesStep S.Store (puts_ban file.now) (put_ban_ask file.now)
-        tx.old.conn tx.new.conn result }
+    ensures { TakesPut S.Store (Put.Ban file.entry) tx.old.conn tx.new.conn result }
 {
     run_statement(tx, PUT_BAN, params![file.text()])
 }

@@ -1,11 +1,11 @@
 //! The statement that puts an open case.
 ghost use Rattle.std.specs.Prelude.{◌≡◌, IfErr, IfOk, OnOk};
-ghost use Rattle.sqlite.specs.declared.error.Error.TheVariants.{IntegralValueOutOfRange};
 ghost use Rattle.index_retention.specs.Attempts.{IsTally};
-ghost use Rattle.index_sql_writes.specs.Asks.{HasTooMuch};
-ghost use Rattle.index_sql_writes.specs.Steps.{TakesStep};
-ghost use Rattle.index_sql_writes.specs.Writes.{puts_case, kind_number};
-ghost use Rattle.index_sql_writes.specs.Statements.{case_numbers, integers_of, put_case_ask};
+ghost use Rattle.index_sql_writes.specs.Asks.{HasTooMuch, IsOutOfRange};
+ghost use Rattle.index_sql_writes.specs.Steps.{TakesPut};
+ghost use Rattle.index_sql_writes.specs.declared.step.Put.{Put};
+ghost use Rattle.index_sql_writes.specs.Writes.{kind_number};
+ghost use Rattle.index_sql_writes.specs.Statements.{case_numbers, integers_of};
 
 use crate::number::{sql_integer, sql_integer_if_any};
 use crate::statement::run_statement;
@@ -34,8 +34,7 @@ pub(crate) fn put_case<S: Alter>(
     name: &NormalName,
     case: &CaseRecord,
 ) -> Result<(), Error>
-    ensures { TakesStep S.Store (puts_case name.now case.now) (put_case_ask name.now case.now)
-        tx.old.conn tx.new.conn result }
+    ensures { TakesPut S.Store (Put.Case name.entry case.entry) tx.old.conn tx.new.conn result }
 {
     let numbers = numbers_of(case)?;
     run_statement(
@@ -62,10 +61,8 @@ pub(crate) fn put_case<S: Alter>(
 /// What a case has beside its texts. `IntegralValueOutOfRange` where one is more than SQL can hold.
 fn numbers_of(case: &CaseRecord) -> Result<CaseNumbers, Error>
     ensures numbers { IfOk result (λ it. it ≡ integers_of case.now) }
-    ensures tally { OnOk result
-        (IsTally case.now.state.attempts case.now.state.sent case.now.state.first) }
-    ensures too_much { IfErr result (λ error. (error ≡ IntegralValueOutOfRange 0)
-        × HasTooMuch (case_numbers case.now)) }
+    ensures tally { let it = case.now.state in OnOk result (IsTally it.attempts it.sent it.first) }
+    ensures too_much { IfErr result (IsOutOfRange (HasTooMuch (case_numbers case.now))) }
 {
     let state = &case.state;
     let opened = sql_integer(case.opened)?;

@@ -2,9 +2,9 @@
 ghost use Rattle.std.specs.Prelude.{◌<◌, length};
 ghost use Rattle.index_sql_writes.specs.Transaction.{WasOpenIfOk};
 ghost use Rattle.index_sql_writes.specs.Asks.{AnswersAll, CanAsk};
-ghost use Rattle.index_sql_writes.specs.Steps.{TakesStep, ChangesIndex};
-ghost use Rattle.index_sql_writes.specs.StepAsks.{asks_by, deletion_ask, put_ask, step_ask};
-ghost use Rattle.index_sql_writes.specs.Changed.{put_by, deletion_by, step_by, all_of};
+ghost use Rattle.index_sql_writes.specs.Steps.{ChangesIndex, Takes, TakesDeletion, TakesPut};
+ghost use Rattle.index_sql_writes.specs.StepAsks.{asks_by};
+ghost use Rattle.index_sql_writes.specs.Changed.{all_of};
 
 use crate::bodies::delete_bodies;
 use crate::delete::{
@@ -74,8 +74,7 @@ pub(crate) enum Step<'a> {
 
 /// Puts a record.
 fn take_put<S: Alter>(tx: &mut Transaction<'_, S>, put: Put<'_>) -> Result<(), Error>
-    ensures { TakesStep S.Store (put_by put.entry) (put_ask put.entry)
-        tx.old.conn tx.new.conn result }
+    ensures { TakesPut S.Store put.entry tx.old.conn tx.new.conn result }
 {
     match put {
         Put::User(user, account) => put_user(tx, user, account),
@@ -92,8 +91,7 @@ fn take_put<S: Alter>(tx: &mut Transaction<'_, S>, put: Put<'_>) -> Result<(), E
 
 /// Takes out what goes.
 fn take_deletion<S: Alter>(tx: &mut Transaction<'_, S>, deletion: Deletion<'_>) -> Result<(), Error>
-    ensures { TakesStep S.Store (deletion_by deletion.entry) (deletion_ask deletion.entry)
-        tx.old.conn tx.new.conn result }
+    ensures { TakesDeletion S.Store deletion.entry tx.old.conn tx.new.conn result }
 {
     match deletion {
         Deletion::Name(name) => delete_name(tx, name),
@@ -109,8 +107,7 @@ fn take_deletion<S: Alter>(tx: &mut Transaction<'_, S>, deletion: Deletion<'_>) 
 
 /// Takes one step.
 fn take_step<S: Alter>(tx: &mut Transaction<'_, S>, step: &Step<'_>) -> Result<(), Error>
-    ensures { TakesStep S.Store (step_by step.now) (step_ask step.now)
-        tx.old.conn tx.new.conn result }
+    ensures { Takes S.Store step.now tx.old.conn tx.new.conn result }
 {
     match *step {
         Step::Put(put) => take_put(tx, put),
