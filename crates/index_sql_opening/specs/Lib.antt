@@ -4,3 +4,4 @@ pub mod Names
 pub mod Versions
 pub mod Migrated
 pub mod Making
+pub mod SameTables

@@ -18,6 +18,10 @@ pub record IsAtRest {S : Type 0} (g : Ghosts S) (held : Held S) : Type 0 where
   pub outside : held.in_transaction ≡ false
   pub settled : HasCleanDisk (state g held) → IsTrue (state g held).is_open → (state g held).now ≡ (state g held).committed
 
+-- it has this schema
+abbrev pub IsOfSchema : {S : Type 0} → Ghosts S → Held S → Schema → Type 0
+IsOfSchema g held schema = (state g held).now.schema ≡ schema
+
 -- while it is open, a database with this schema is of such a kind
 abbrev pub IsBySchema : {S : Type 0} → Ghosts S → Schema → (Database → Type 0) → Held S → Type 0
 IsBySchema g schema IsKind held = IsTrue (state g held).is_open → (state g held).now.schema ≡ schema → IsKind (state g held).now

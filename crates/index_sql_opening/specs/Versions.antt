@@ -1,11 +1,12 @@
 -- The version that a database tells.
-use Rattle.std.specs.Prelude.{◌≡◌, ℕ, true, List, [], Option, option_map, slice_get}
+use Rattle.std.specs.Prelude.{◌≡◌, ℕ, true, List, [], IfErr, IfOk, Option, Result, option_map, slice_get}
 use Rattle.sqlite_value.specs.Order.{Row, column}
 use Rattle.sqlite_trees.specs.declared.store.Store.{Ghosts}
 use Rattle.sqlite.specs.declared.error.Error.{Error}
 use Rattle.sqlite.specs.Held.{Held, state}
-use Rattle.sqlite.specs.State.{FailsToQuery, Shown}
+use Rattle.sqlite.specs.State.{FailsToQuery, HasCleanDisk, Shown}
 use Rattle.index_sql_schema.specs.Faults.{fault_by}
+use Rattle.index_rules.specs.declared.answer.Fault.{Fault}
 use Rattle.index_rules.specs.declared.answer.Fault.TheVariants.{Store}
 use Rattle.index_sql_schema.specs.Records.{number_in}
 use Rattle.index_sql_schema.specs.StatementTexts.{select_version_text}
@@ -28,6 +29,11 @@ pub record FailsToTell {S : Type 0} (g : Ghosts S) (inside : Held S) : Type 0 wh
   pub error : Error
   pub fails : FailsToQuery select_version_text [] (state g inside) (state g after) error
   pub fault : fault_by error ≡ Store
+
+-- on a clean disk the answer is what that query tells, and `Store` only where it is refused so
+pub record AnswersVersion {S : Type 0} (g : Ghosts S) (inside new : Held S) (result : Result (Option ℕ) Fault) : Type 0 where
+  pub told : HasCleanDisk (state g new) → IfOk result (Tells g inside)
+  pub fails : HasCleanDisk (state g new) → IfErr result (λ fault. fault ≡ Store → FailsToTell g inside)
 
 -- a transaction is begun on the connection
 abbrev pub begun : {S : Type 0} → Held S → Held S

@@ -1,8 +1,7 @@
 //! Schemas that are compared with those of an index. Where `is_ours` or `is_first_version` is false, nothing is known.
 ghost use Rattle.std.specs.Prelude.{◌≡◌, ◌↔◌, false, IsTrue, IfOk};
-ghost use Rattle.sqlite.specs.Held.{state};
 ghost use Rattle.sqlite.specs.Steps.{over_memory};
-ghost use Rattle.index_sql_opening.specs.Making.{MakesTables};
+ghost use Rattle.index_sql_opening.specs.Making.{IsOfSchema, MakesTables};
 ghost use Rattle.index_sql_schema.specs.Schema.{index_schema, no_schema};
 ghost use Rattle.index_sql_schema.specs.FirstVersion.{first_version_schema};
 
@@ -13,7 +12,7 @@ use std::alloc::{AllocError, Global};
 
 /// Whether nothing is in the database.
 pub fn is_blank<S: Alter>(conn: &Connection<S>) -> bool
-    ensures schema { IsTrue result ↔ ((state S.Store conn.now).now.schema ≡ no_schema) }
+    ensures schema { IsTrue result ↔ IsOfSchema S.Store conn.now no_schema }
 {
     let schema = conn.schema();
     schema.tables.is_empty() && schema.indexes.is_empty() && schema.views.is_empty()
@@ -25,8 +24,7 @@ pub fn is_blank<S: Alter>(conn: &Connection<S>) -> bool
 ///
 /// `AllocError` for want of memory.
 pub fn is_ours<S: Alter>(alloc: Global, conn: &Connection<S>) -> Result<bool, AllocError>
-    ensures schema { IfOk result (λ it. IsTrue it
-        → (state S.Store conn.now).now.schema ≡ index_schema) }
+    ensures schema { IfOk result (λ it. IsTrue it → IsOfSchema S.Store conn.now index_schema) }
 {
     match index_in_memory(alloc) {
         Ok(ours) => Ok(conn.schema().same(ours.schema())),
@@ -41,7 +39,7 @@ pub fn is_ours<S: Alter>(alloc: Global, conn: &Connection<S>) -> Result<bool, Al
 /// `AllocError` for want of memory.
 pub fn is_first_version<S: Alter>(alloc: Global, conn: &Connection<S>) -> Result<bool, AllocError>
     ensures schema { IfOk result (λ it. IsTrue it
-        → (state S.Store conn.now).now.schema ≡ first_version_schema) }
+        → IsOfSchema S.Store conn.now first_version_schema) }
 {
     match first_version_in_memory(alloc) {
         Ok(first) => Ok(conn.schema().same(first.schema())),
@@ -51,7 +49,7 @@ pub fn is_first_version<S: Alter>(alloc: Global, conn: &Connection<S>) -> Result
 
 /// A database in memory with the tables of an index.
 fn index_in_memory(alloc: Global) -> Result<Connection<MemStore>, Error>
-    ensures schema { IfOk result (λ ours. (state over_memory ours).now.schema ≡ index_schema) }
+    ensures schema { IfOk result (λ ours. IsOfSchema over_memory ours index_schema) }
 {
     let mut conn = Connection::open_in_memory(alloc)?;
     commit_tables(&mut conn)?;
@@ -60,8 +58,7 @@ fn index_in_memory(alloc: Global) -> Result<Connection<MemStore>, Error>
 
 /// A database in memory with the tables of version 1.
 fn first_version_in_memory(alloc: Global) -> Result<Connection<MemStore>, Error>
-    ensures schema { IfOk result (λ first.
-        (state over_memory first).now.schema ≡ first_version_schema) }
+    ensures schema { IfOk result (λ first. IsOfSchema over_memory first first_version_schema) }
 {
     let mut conn = Connection::open_in_memory(alloc)?;
     commit_first_version(&mut conn)?;

@@ -1,10 +1,10 @@
 //! The version that the table `meta` tells.
-ghost use Rattle.std.specs.Prelude.{◌≡◌, true, false, is_ok, IsTrue, IfErr, IfOk};
+ghost use Rattle.std.specs.Prelude.{◌≡◌, true, false, is_ok, IsTrue, IfOk};
 ghost use Rattle.sqlite.specs.Held.{state};
 ghost use Rattle.sqlite.specs.State.{HasCleanDisk};
 ghost use Rattle.sqlite_value.specs.Order.{column};
 ghost use Rattle.index_sql_opening.specs.Making.{IsAtRest};
-ghost use Rattle.index_sql_opening.specs.Versions.{first_number, FailsToTell, Tells, begun};
+ghost use Rattle.index_sql_opening.specs.Versions.{AnswersVersion, begun, first_number};
 ghost use Rattle.index_sql_schema.specs.Looks.{QueriesOnly};
 ghost use Rattle.index_sql_schema.specs.Reasons.{StoreForReason};
 ghost use Rattle.index_sql_schema.specs.Records.{number_in};
@@ -49,10 +49,7 @@ pub fn read_version<S: Alter>(conn: &mut Connection<S>) -> Result<Option<u64>, F
 /// `OutOfMemory` for want of memory, and `Store` where the query fails by anything else.
 pub fn told_version<S: Alter>(conn: &mut Connection<S>) -> Result<Option<u64>, Fault>
     requires rest { IsAtRest S.Store conn.old }
-    ensures told { HasCleanDisk (state S.Store conn.new)
-        → IfOk result (Tells S.Store (begun conn.old)) }
-    ensures fails { HasCleanDisk (state S.Store conn.new)
-        → IfErr result (λ fault. fault ≡ Fault.Store → FailsToTell S.Store (begun conn.old)) }
+    ensures version { AnswersVersion S.Store (begun conn.old) conn.new result }
     ensures looks { QueriesOnly S.Store conn.old conn.new false }
 {
     let mut tx = conn.transaction();
@@ -62,10 +59,7 @@ pub fn told_version<S: Alter>(conn: &mut Connection<S>) -> Result<Option<u64>, F
 /// The version that `meta` tells inside a transaction.
 fn query_version<S: Alter>(tx: &mut Transaction<'_, S>) -> Result<Option<u64>, Fault>
     requires inside { tx.old.conn.now.in_transaction ≡ true }
-    ensures told { HasCleanDisk (state S.Store tx.new.conn.now)
-        → IfOk result (Tells S.Store tx.old.conn.now) }
-    ensures fails { HasCleanDisk (state S.Store tx.new.conn.now)
-        → IfErr result (λ fault. fault ≡ Fault.Store → FailsToTell S.Store tx.old.conn.now) }
+    ensures version { AnswersVersion S.Store tx.old.conn.now tx.new.conn.now result }
     ensures uncommitted { IsUncommitted S.Store tx.old.conn tx.new.conn }
 {
     match tx.query_all(SELECT_VERSION, &[]) {

@@ -1,5 +1,5 @@
 -- What a look-up answers, and what it leaves.
-use Rattle.std.specs.Prelude.{Result, IfOk, is_ok}
+use Rattle.std.specs.Prelude.{◌≡◌, Result, IfOk, is_ok}
 use Rattle.sqlite_trees.specs.declared.store.Store.{Ghosts}
 use Rattle.sqlite.specs.Held.{Held, state}
 use Rattle.sqlite.specs.State.{HasCleanDisk}
@@ -14,3 +14,7 @@ pub record FindsInTables {S A : Type 0} (g : Ghosts S) (old new : Held S) (resul
   pub found : HasCleanDisk (state g new) → IfOk result (Has (tables_of g old))
   pub looks : QueriesOnly g old new (is_ok result)
   pub reason : FailsForReason g old new result
+
+-- the answer is this of them
+abbrev pub Finds : {S A : Type 0} → Ghosts S → Held S → Held S → Result A Fault → (Tables → A) → Type 0
+Finds g old new result value = FindsInTables g old new result (λ T it. it ≡ value T)

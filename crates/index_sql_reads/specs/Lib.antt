@@ -4,4 +4,3 @@ pub mod Sealed
 pub mod Seen
 pub mod Handed
 pub mod WalkReasons
-pub mod WalkedRows

@@ -1,12 +1,16 @@
--- Why a walk ends by a fault of the store.
-use Rattle.std.specs.Prelude.{◌≡◌, ◌⊎◌, ◌≤◌, ◌-◌, ◌^◌, List, length, IfErr, Result}
+-- What a walk over the rows of the tables answers, and what it leaves.
+use Rattle.std.specs.Prelude.{◌≡◌, ◌⊎◌, ◌≤◌, ◌-◌, ◌^◌, List, length, not, IfErr, Result}
 use Rattle.sqlite_trees.specs.declared.store.Store.{Ghosts}
 use Rattle.sqlite.specs.Held.{Held, state}
 use Rattle.sqlite.specs.State.{HasCleanDisk}
 use Rattle.index_sql_schema.specs.Reasons.{HasReason}
 use Rattle.index_rules.specs.declared.rows.WalkEnd.{WalkEnd}
 use Rattle.index_rules.specs.declared.rows.WalkEnd.TheVariants.{Store}
+use Rattle.index_rules.specs.Tables.{Tables}
+use Rattle.index_rules.specs.Walks.{Walks, has_fault}
+use Rattle.index_sql_schema.specs.Looks.{QueriesOnly}
 use Rattle.index_sql_schema.specs.RecordRows.{AreRecords}
+use Rattle.index_sql_reads.specs.ConnectionTables.{tables_of}
 
 -- on a clean disk, where all rows are those of records, a walk over these rows ends by `Store` only for a reason of a look,
 -- or since they are more than it counts
@@ -14,3 +18,10 @@ abbrev pub EndsForReason : {S A R : Type 0} → Ghosts S → Held S → Held S �
 EndsForReason g old new rows result =
     HasCleanDisk (state g new) → AreRecords (state g old).now
     → IfErr result (λ end. end ≡ Store → HasReason (state g old) (state g new) ⊎ (2 ^ 64 - 1 ≤ length rows))
+
+-- any walk hands over some rows, and on a clean disk those of the tables; these stay as they are
+pub record WalksTables {S K R A : Type 0} (g : Ghosts S) (takes stops : K → R → K → Type 0) (rows_in : Tables → List R) (old new : Held S) (before after : K) (result : Result A WalkEnd) : Type 0 where
+  pub walked : HasCleanDisk (state g new) → Walks takes stops (rows_in (tables_of g old)) before after result
+  pub given : (rows : List R) × Walks takes stops rows before after result
+  pub looks : QueriesOnly g old new (not (has_fault result))
+  pub reason : EndsForReason g old new (rows_in (tables_of g old)) result

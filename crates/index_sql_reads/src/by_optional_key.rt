@@ -1,9 +1,9 @@
 //! Look-ups at keys that a call may have or not. Without the key nothing is looked up.
-ghost use Rattle.std.specs.Prelude.{◌≡◌, false, option_and_then};
+ghost use Rattle.std.specs.Prelude.{false, option_and_then};
 ghost use Rattle.std.specs.Option.{option_map_or};
 ghost use Rattle.std.specs.FinMap.{get};
 ghost use Rattle.index_rules.specs.Facts.{AreOwners, IsBearerAs, at_both, caller_of, has_release_in, is_banned_in, of_both, yank_in};
-ghost use Rattle.index_sql_reads.specs.Finds.{FindsInTables};
+ghost use Rattle.index_sql_reads.specs.Finds.{FindsInTables, Finds};
 
 use crate::files::{find_file, find_yank, has_release, is_banned};
 use crate::lists::owners_of;
@@ -61,8 +61,7 @@ pub(crate) fn user_at<S: Alter>(
     conn: &mut IndexConnection<S>,
     user: &Option<UserId>,
 ) -> Result<Option<UserRecord>, Fault>
-    ensures { FindsInTables S.Store conn.old conn.new result
-        (λ T it. it ≡ option_and_then (get T.users) user.now) }
+    ensures { Finds S.Store conn.old conn.new result (λ T. option_and_then (get T.users) user.now) }
 {
     match user {
         Some(user) => find_user(alloc, conn, user),
@@ -76,8 +75,7 @@ pub(crate) fn name_at<S: Alter>(
     conn: &mut IndexConnection<S>,
     name: &Option<NormalName>,
 ) -> Result<Option<NameRecord>, Fault>
-    ensures { FindsInTables S.Store conn.old conn.new result
-        (λ T it. it ≡ option_and_then (get T.names) name.now) }
+    ensures { Finds S.Store conn.old conn.new result (λ T. option_and_then (get T.names) name.now) }
 {
     match name {
         Some(name) => find_name(alloc, conn, name),
@@ -105,8 +103,7 @@ pub(crate) fn case_at<S: Alter>(
     conn: &mut IndexConnection<S>,
     name: &Option<NormalName>,
 ) -> Result<Option<CaseRecord>, Fault>
-    ensures { FindsInTables S.Store conn.old conn.new result
-        (λ T it. it ≡ option_and_then (get T.cases) name.now) }
+    ensures { Finds S.Store conn.old conn.new result (λ T. option_and_then (get T.cases) name.now) }
 {
     match name {
         Some(name) => find_case(alloc, conn, name),
@@ -120,8 +117,7 @@ pub(crate) fn file_at<S: Alter>(
     conn: &mut IndexConnection<S>,
     file: &Option<FileName>,
 ) -> Result<Option<FileRecord>, Fault>
-    ensures { FindsInTables S.Store conn.old conn.new result
-        (λ T it. it ≡ option_and_then (get T.files) file.now) }
+    ensures { Finds S.Store conn.old conn.new result (λ T. option_and_then (get T.files) file.now) }
 {
     match file {
         Some(file) => find_file(alloc, conn, file),
@@ -134,8 +130,8 @@ pub(crate) fn ban_at<S: Alter>(
     conn: &mut IndexConnection<S>,
     file: &Option<FileName>,
 ) -> Result<bool, Fault>
-    ensures { FindsInTables S.Store conn.old conn.new result
-        (λ T it. it ≡ option_map_or (is_banned_in T) file.now false) }
+    ensures { Finds S.Store conn.old conn.new result
+        (λ T. option_map_or (is_banned_in T) file.now false) }
 {
     match file {
         Some(file) => is_banned(conn, file),
@@ -150,8 +146,8 @@ pub(crate) fn yank_at<S: Alter>(
     name: &Option<NormalName>,
     release: &Option<Release>,
 ) -> Result<Option<Text>, Fault>
-    ensures { FindsInTables S.Store conn.old conn.new result
-        (λ T it. it ≡ at_both (yank_in T) name.now release.now) }
+    ensures { Finds S.Store conn.old conn.new result
+        (λ T. at_both (yank_in T) name.now release.now) }
 {
     match (name, release) {
         (Some(name), Some(release)) => find_yank(alloc, conn, name, release),
@@ -165,8 +161,8 @@ pub(crate) fn release_at<S: Alter>(
     name: &Option<NormalName>,
     release: &Option<Release>,
 ) -> Result<bool, Fault>
-    ensures { FindsInTables S.Store conn.old conn.new result
-        (λ T it. it ≡ of_both (has_release_in T) name.now release.now) }
+    ensures { Finds S.Store conn.old conn.new result
+        (λ T. of_both (has_release_in T) name.now release.now) }
 {
     match (name, release) {
         (Some(name), Some(release)) => has_release(conn, name, release),

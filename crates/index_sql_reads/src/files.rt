@@ -1,8 +1,7 @@
 //! Look-ups of files and releases.
-ghost use Rattle.std.specs.Prelude.{◌≡◌};
 ghost use Rattle.std.specs.FinMap.{get};
 ghost use Rattle.index_rules.specs.Facts.{has_release_in, is_banned_in, yank_in};
-ghost use Rattle.index_sql_reads.specs.Finds.{FindsInTables};
+ghost use Rattle.index_sql_reads.specs.Finds.{Finds};
 
 use crate::from_row::{first, has_row};
 use index_names::{FileName, NormalName, Release};
@@ -19,7 +18,7 @@ pub(crate) fn find_file<S: Alter>(
     conn: &mut IndexConnection<S>,
     file: &FileName,
 ) -> Result<Option<FileRecord>, Fault>
-    ensures { FindsInTables S.Store conn.old conn.new result (λ T it. it ≡ get T.files file.now) }
+    ensures { Finds S.Store conn.old conn.new result (λ T. get T.files file.now) }
 {
     let rows = look(conn, SELECT_FILE, params![file.text()])?;
     first(alloc, rows.as_slice())
@@ -30,8 +29,7 @@ pub(crate) fn is_banned<S: Alter>(
     conn: &mut IndexConnection<S>,
     file: &FileName,
 ) -> Result<bool, Fault>
-    ensures { FindsInTables S.Store conn.old conn.new result
-        (λ T it. it ≡ is_banned_in T file.now) }
+    ensures { Finds S.Store conn.old conn.new result (λ T. is_banned_in T file.now) }
 {
     let rows = look(conn, SELECT_BAN, params![file.text()])?;
     Ok(has_row(rows.as_slice()))
@@ -44,8 +42,7 @@ pub(crate) fn find_yank<S: Alter>(
     name: &NormalName,
     release: &Release,
 ) -> Result<Option<Text>, Fault>
-    ensures { FindsInTables S.Store conn.old conn.new result
-        (λ T it. it ≡ yank_in T name.now release.now) }
+    ensures { Finds S.Store conn.old conn.new result (λ T. yank_in T name.now release.now) }
 {
     let rows = look(conn, SELECT_YANK, params![name.text(), release.text()])?;
     first(alloc, rows.as_slice())
@@ -57,8 +54,7 @@ pub(crate) fn has_release<S: Alter>(
     name: &NormalName,
     release: &Release,
 ) -> Result<bool, Fault>
-    ensures { FindsInTables S.Store conn.old conn.new result
-        (λ T it. it ≡ has_release_in T name.now release.now) }
+    ensures { Finds S.Store conn.old conn.new result (λ T. has_release_in T name.now release.now) }
 {
     let rows = look(conn, SELECT_RELEASE, params![name.text(), release.text()])?;
     Ok(has_row(rows.as_slice()))

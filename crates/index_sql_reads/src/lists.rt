@@ -2,7 +2,7 @@
 ghost use Rattle.std.specs.Prelude.{◌≡◌};
 ghost use Rattle.index_rules.specs.Tables.{owners_in};
 ghost use Rattle.index_rules.specs.TableRows.{file_rows_in, name_rows_in};
-ghost use Rattle.index_sql_reads.specs.Finds.{FindsInTables};
+ghost use Rattle.index_sql_reads.specs.Finds.{FindsInTables, Finds};
 
 use crate::from_row::each;
 use index_names::NormalName;
@@ -22,8 +22,7 @@ pub fn owners_of<S: Alter>(
     conn: &mut IndexConnection<S>,
     name: &NormalName,
 ) -> Result<Owners, Fault>
-    ensures { FindsInTables S.Store conn.old conn.new result
-        (λ T owners. owners ≡ owners_in T name.now) }
+    ensures { Finds S.Store conn.old conn.new result (λ T. owners_in T name.now) }
 {
     let rows = look(conn, SELECT_OWNERS, params![name.text()])?;
     Ok(Owners::new(each(alloc, rows.as_slice())?))
@@ -35,8 +34,7 @@ pub fn owners_of<S: Alter>(
 ///
 /// `OutOfMemory` for want of memory, and `Store` where the store fails or a row is no record.
 pub fn names<S: Alter>(alloc: Global, conn: &mut IndexConnection<S>) -> Result<Vec<NameRow>, Fault>
-    ensures { FindsInTables S.Store conn.old conn.new result
-        (λ T rows. rows.items ≡ name_rows_in T) }
+    ensures { FindsInTables S.Store conn.old conn.new result (λ T it. it.items ≡ name_rows_in T) }
 {
     let rows = look(conn, SELECT_NAMES, &[])?;
     each(alloc, rows.as_slice())

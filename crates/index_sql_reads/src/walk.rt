@@ -1,13 +1,6 @@
 //! The walks over the tables.
-ghost use Rattle.std.specs.Prelude.{◌≡◌, not, List};
-ghost use Rattle.sqlite.specs.Held.{state};
-ghost use Rattle.sqlite.specs.State.{HasCleanDisk};
-ghost use Rattle.index_sql_schema.specs.Looks.{QueriesOnly};
-ghost use Rattle.index_rules.specs.declared.rows.FileRow.{FileRow as FileRowData};
-ghost use Rattle.index_rules.specs.declared.rows.NameRow.{NameRow as NameRowData};
-ghost use Rattle.index_rules.specs.Walks.{Walks, has_fault};
-ghost use Rattle.index_sql_reads.specs.WalkReasons.{EndsForReason};
-ghost use Rattle.index_sql_reads.specs.WalkedRows.{file_rows_of, held_rows_of};
+ghost use Rattle.index_rules.specs.TableRows.{file_rows_in, held_rows_in};
+ghost use Rattle.index_sql_reads.specs.WalkReasons.{WalksTables};
 
 use crate::hand::{Files, Names};
 use crate::rows::walk;
@@ -30,14 +23,8 @@ pub fn walk_held<S: Alter, K: NameTaker>(
     conn: &mut IndexConnection<S>,
     taker: &mut K,
 ) -> Result<(), WalkEnd>
-    ensures walked { HasCleanDisk (state S.Store conn.new) →
-        let rows = held_rows_of S.Store conn.old in
-        Walks K.takes K.stops rows taker.old taker.new result }
-    ensures given { (rows : List NameRowData) ×
-        Walks K.takes K.stops rows taker.old taker.new result }
-    ensures looks { QueriesOnly S.Store conn.old conn.new (not (has_fault result)) }
-    ensures reason { let rows = held_rows_of S.Store conn.old in
-        EndsForReason S.Store conn.old conn.new rows result }
+    ensures { WalksTables S.Store K.takes K.stops held_rows_in
+        conn.old conn.new taker.old taker.new result }
 {
     walk::<S, K, Names>(alloc, conn, SELECT_HELD, &[], taker)
 }
@@ -56,14 +43,8 @@ pub fn walk_files<S: Alter, K: FileTaker>(
     name: &NormalName,
     taker: &mut K,
 ) -> Result<(), WalkEnd>
-    ensures walked { HasCleanDisk (state S.Store conn.new) →
-        let rows = file_rows_of S.Store conn.old name.now in
-        Walks K.takes K.stops rows taker.old taker.new result }
-    ensures given { (rows : List FileRowData) ×
-        Walks K.takes K.stops rows taker.old taker.new result }
-    ensures looks { QueriesOnly S.Store conn.old conn.new (not (has_fault result)) }
-    ensures reason { let rows = file_rows_of S.Store conn.old name.now in
-        EndsForReason S.Store conn.old conn.new rows result }
+    ensures { WalksTables S.Store K.takes K.stops (λ T. file_rows_in T name.now)
+        conn.old conn.new taker.old taker.new result }
 {
     walk::<S, K, Files>(alloc, conn, SELECT_FILES, params![name.text()], taker)
 }

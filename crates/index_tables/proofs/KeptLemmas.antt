@@ -1,17 +1,22 @@
 -- What a look at the connection leaves of the books.
-use Rattle.std.proofs.Common.{◌≡◌, ◌⊎◌, ◌∙◌, inl, inr, Bool, IsTrue, Some, ap, subst, sym}
+use Rattle.std.proofs.Common.{◌≡◌, ◌⊎◌, ◌∙◌, inl, inr, Bool, IsTrue, List, Result, Some, ap, is_ok, not, subst, sym}
 use Rattle.sqlite_trees.specs.declared.store.Store.{Ghosts}
 use Rattle.sqlite.specs.Effect.{Database}
 use Rattle.sqlite.specs.Held.{Held, state}
 use Rattle.sqlite.specs.State.{HasCleanDisk}
 use Rattle.index_io.specs.Counts.{next_count}
 use Rattle.index_sql_schema.specs.Looks.{QueriesOnly}
+use Rattle.index_rules.specs.declared.answer.Fault.{Fault}
+use Rattle.index_rules.specs.declared.rows.WalkEnd.{WalkEnd}
 use Rattle.index_rules.specs.Tables.{Tables}
+use Rattle.index_rules.specs.Walks.{has_fault}
+use Rattle.index_sql_reads.specs.Finds.{FindsInTables}
+use Rattle.index_sql_reads.specs.WalkReasons.{WalksTables}
 use Rattle.index_sql_schema.specs.Index.{IsIndex, version_in}
 use Rattle.index_sql_schema.specs.RecordRows.{AreRecords}
 use Rattle.index_sql_schema.specs.Records.{tables_in}
 use Rattle.index_tables.specs.BooksState.{IsHonest, BooksState, Leaves}
-use Rattle.index_tables.specs.LooksUp.{LooksUp}
+use Rattle.index_tables.specs.LooksUp.{LooksFor, LooksUp, WalksBooks}
 
 pub keeps : {S : Type 0} (g : Ghosts S) (old new : Held S) (did : Bool) → IsTrue did → QueriesOnly g old new did → IsHonest (state g old) → HasCleanDisk (state g new) → IsHonest (state g new)
 keeps g old new did right looks honest clean =
@@ -57,4 +62,21 @@ looks_up g old new did looks counted = record {
     crash = looks_leave g old.conn new.conn _ looks;
   };
   records = λ honest records. subst AreRecords (sym (looks.now_is honest.clean honest.is_open)) records;
+}
+
+pub finds : {S A : Type 0} (g : Ghosts S) (old new : BooksState S) (result : Result A Fault) (Has : Tables → A → Type 0) → FindsInTables g old.conn new.conn result Has
+    → new.failures ≡ next_count old.failures (is_ok result) → LooksFor g old new result Has
+finds g old new result Has it counted = record {
+  found = λ honest. it.found honest.clean;
+  looks = looks_up g old new (is_ok result) it.looks counted;
+  reason = it.reason;
+}
+
+pub walks : {S K R A : Type 0} (g : Ghosts S) (takes stops : K → R → K → Type 0) (rows_in : Tables → List R) (old new : BooksState S) (before after : K) (result : Result A WalkEnd)
+    → WalksTables g takes stops rows_in old.conn new.conn before after result → new.failures ≡ next_count old.failures (not (has_fault result)) → WalksBooks g takes stops rows_in old new before after result
+walks g takes stops rows_in old new before after result it counted = record {
+  walked = λ honest. it.walked;
+  given = it.given;
+  looks = looks_up g old new (not (has_fault result)) it.looks counted;
+  reason = it.reason;
 }

@@ -1,10 +1,16 @@
 -- What a call of the books leaves.
-use Rattle.std.specs.Prelude.{Bool}
+use Rattle.std.specs.Prelude.{Bool, List, Result, IfOk, is_ok, not}
 use Rattle.sqlite_trees.specs.declared.store.Store.{Ghosts}
 use Rattle.sqlite.specs.Held.{state}
 use Rattle.sqlite.specs.State.{HasCleanDisk}
 use Rattle.index_sql_reads.specs.ConnectionTables.{tables_of}
+use Rattle.index_sql_reads.specs.WalkReasons.{EndsForReason}
 use Rattle.index_rules.specs.Calls as calls
+use Rattle.index_rules.specs.declared.answer.Fault.{Fault}
+use Rattle.index_rules.specs.declared.rows.WalkEnd.{WalkEnd}
+use Rattle.index_rules.specs.Tables.{Tables}
+use Rattle.index_rules.specs.Walks.{Walks, has_fault}
+use Rattle.index_sql_schema.specs.Reasons.{FailsForReason}
 use Rattle.index_sql_schema.specs.RecordRows.{AreRecords}
 use Rattle.index_tables.specs.BooksState.{IsHonest, BooksState, Leaves}
 
@@ -25,3 +31,17 @@ module _ {S : Type 0} (g : Ghosts S) where
   pub record LooksUp (old new : BooksState S) (succeeds : Bool) : Type 0 where
     pub looks : Looks old new succeeds
     pub records : KeepsRecords old new
+
+  -- a look that finds this of the tables of an honest store, and fails only for a reason
+  pub record LooksFor {A : Type 0} (old new : BooksState S) (result : Result A Fault) (Has : Tables → A → Type 0) : Type 0 where
+    pub found : IsHonest (state g new.conn) → IfOk result (Has (tables_of g old.conn))
+    pub looks : LooksUp old new (is_ok result)
+    pub reason : FailsForReason g old.conn new.conn result
+
+  -- a walk hands over some rows, and of an honest store that stays clean those of the tables
+  pub record WalksBooks {K R A : Type 0} (takes stops : K → R → K → Type 0) (rows_in : Tables → List R) (old new : BooksState S) (before after : K) (result : Result A WalkEnd) : Type 0 where
+    pub walked : IsHonest (state g old.conn) → HasCleanDisk (state g new.conn)
+        → Walks takes stops (rows_in (tables_of g old.conn)) before after result
+    pub given : (rows : List R) × Walks takes stops rows before after result
+    pub looks : LooksUp old new (not (has_fault result))
+    pub reason : EndsForReason g old.conn new.conn (rows_in (tables_of g old.conn)) result

@@ -84,6 +84,12 @@ pub record AreOpened {S : Type 0} (g : Ghosts S) (Made : Database → Trees → 
   pub crash : LeavesOr Made (state g old) (state g books.conn)
   pub alone : IsWorking (state g old) → (T : Tables) → Leaves (state g books.conn) T → T ≡ tables_of g books.conn
 
+-- books of a new index with these tables were made on a connection, and each of their rows is that of a record
+pub record AreNew {S : Type 0} (g : Ghosts S) (T : Tables) (old : Held S) (books : BooksState S) : Type 0 where
+  pub tables : HaveTables g (λ it. it ≡ T) books
+  pub records : HaveRecords g books
+  pub opened : AreOpened g (IsCreated T) old books
+
 -- No books were opened on a connection, for a reason of this kind, and it is given back outside a transaction.
 pub record IsUnopened {S : Type 0} (g : Ghosts S) (Made : Database → Trees → Type 0) (Reason : Held S → Held S → OpenFault → Type 0) (old : Held S) (refused : Unopened S) : Type 0 where
   pub outside : refused.conn.in_transaction ≡ false
@@ -94,3 +100,7 @@ pub record IsUnopened {S : Type 0} (g : Ghosts S) (Made : Database → Trees →
   pub reason : HasCleanDisk (state g refused.conn) → Reason old refused.conn refused.why
   -- a crash leaves what it could leave before, or, where a fault came late, what was made
   pub crash : LeavesOr Made (state g old) (state g refused.conn)
+
+-- no new index was made on it, with these tables by these statements
+abbrev pub IsNotMade : {S : Type 0} → Ghosts S → Tables → List Ask → Held S → Unopened S → Type 0
+IsNotMade g T asks = IsUnopened g (IsCreated T) (StoreForOthers g asks)

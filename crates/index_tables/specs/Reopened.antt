@@ -1,5 +1,5 @@
 -- What is opened over what an index left.
-use Rattle.std.specs.Prelude.{◌⊎◌, Result, Ok, Err}
+use Rattle.std.specs.Prelude.{◌≡◌, ◌⊎◌, Result, Ok, Err}
 use Rattle.sqlite_disk.specs.declared.Disk as disk
 use Rattle.sqlite_wal.specs.Recovery.{Image}
 use Rattle.sqlite_trees.specs.declared.store.Store.{Ghosts}
@@ -13,7 +13,7 @@ use Rattle.sqlite.specs.State.{State, HasCleanDisk, IsLive, Opens}
 use Rattle.index_sql_reads.specs.ConnectionTables.{tables_of}
 use Rattle.index_rules.specs.Tables.{Tables}
 use Rattle.index_tables.specs.declared.opening.Unopened.{Unopened}
-use Rattle.index_tables.specs.BooksState.{BooksState, IsHonest}
+use Rattle.index_tables.specs.BooksState.{BooksState, IsHonest, Leaves}
 use Rattle.index_tables.specs.Adopted.{IsFault}
 
 -- a crash at this moment may leave these two files
@@ -28,6 +28,14 @@ IsLeft held image = MayLeave held image ⊎ HoldsAlone image (file_state held).c
 pub record IsOver (image : Image) (s : State) : Type 0 where
   pub found : FindsIn image s
   pub opened : Opens s × IsLive s
+
+-- so it was, as far as its disk is clean
+abbrev pub IsOpenedOver : {S : Type 0} → Ghosts S → Image → Held S → Type 0
+IsOpenedOver g image conn = HasCleanDisk (state g conn) → IsOver image (state g conn)
+
+-- a crash leaves one of these two tables
+abbrev pub LeavesEither : Tables → Tables → State → Type 0
+LeavesEither A B s = (T : Tables) → Leaves s T → (T ≡ A) ⊎ (T ≡ B)
 
 -- on a clean disk, an open index with such tables is there, or none for want of memory or by a fault of the store
 abbrev pub OpensOnly : {S : Type 0} → Ghosts S → (Tables → Type 0) → Result (BooksState S) (Unopened S) → Type 0

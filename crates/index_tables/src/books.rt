@@ -1,19 +1,16 @@
 //! The tables as `Books`: each call is done by the connection, and then counted.
-ghost use Rattle.std.specs.Prelude.{◌≡◌, ◌⊎◌, Err, IfErr, IfOk, List, OnErr, OnOk, is_ok, not};
+ghost use Rattle.std.specs.Prelude.{◌≡◌, ◌⊎◌, Err, IfErr, IfOk, OnErr, OnOk, is_ok};
 ghost use Rattle.std.specs.FinMap.{get};
 ghost use Rattle.index_sql_schema.specs.Faults.{fault_by};
 ghost use Rattle.index_sql_schema.specs.Reasons.{FailsForReason};
 ghost use Rattle.index_sql_reads.specs.Sealed.{IsBoundTo, digest_in};
-ghost use Rattle.index_rules.specs.declared.rows.FileRow.{FileRow as FileRowData};
-ghost use Rattle.index_rules.specs.declared.rows.NameRow.{NameRow as NameRowData};
 ghost use Rattle.index_rules.specs.Effect.{means};
 ghost use Rattle.index_rules.specs.Facts.{Sees};
 ghost use Rattle.index_rules.specs.TableRows.{file_rows_in, held_rows_in, name_rows_in};
 ghost use Rattle.index_rules.specs.Tables.{Tables, owners_in};
-ghost use Rattle.index_rules.specs.Walks.{Walks, has_fault};
-ghost use Rattle.index_tables.specs.LooksUp.{Calls, KeepsRecords, LooksUp};
+ghost use Rattle.index_rules.specs.Walks.{has_fault};
+ghost use Rattle.index_tables.specs.LooksUp.{Calls, KeepsRecords, LooksFor, LooksUp, WalksBooks};
 ghost use Rattle.index_tables.specs.Written.{FailsToWrite};
-ghost use Rattle.index_sql_reads.specs.WalkReasons.{EndsForReason};
 
 use crate::tables::{SqlBooks, next_count};
 use index_digest::Sealed;
@@ -48,10 +45,7 @@ impl<S: Alter> Books for SqlBooks<S> {
     }
 
     fn view(&mut self, alloc: Global, keys: &Keys) -> Result<View, Fault>
-        ensures found { IsHonest (state S.Store self.new.conn)
-            → IfOk result (Sees (tables_of S.Store self.old.conn) keys.now) }
-        ensures looks { LooksUp S.Store self.old self.new (is_ok result) }
-        ensures reason { FailsForReason S.Store self.old.conn self.new.conn result }
+        ensures { LooksFor S.Store self.old self.new result (λ T. Sees T keys.now) }
     {
         let seen = index_sql_reads::view(alloc, &mut self.conn, keys);
         self.failures = next_count(self.failures, seen.is_ok());
@@ -84,10 +78,7 @@ impl<S: Alter> Books for SqlBooks<S> {
     }
 
     fn owners_of(&mut self, alloc: Global, name: &NormalName) -> Result<Owners, Fault>
-        ensures found { IsHonest (state S.Store self.new.conn)
-            → IfOk result (λ owners. owners ≡ owners_in (tables_of S.Store self.old.conn) name.now) }
-        ensures looks { LooksUp S.Store self.old self.new (is_ok result) }
-        ensures reason { FailsForReason S.Store self.old.conn self.new.conn result }
+        ensures { LooksFor S.Store self.old self.new result (λ T it. it ≡ owners_in T name.now) }
     {
         let owners = index_sql_reads::owners_of(alloc, &mut self.conn, name);
         self.failures = next_count(self.failures, owners.is_ok());
@@ -111,10 +102,7 @@ impl<S: Alter> Books for SqlBooks<S> {
     }
 
     fn names(&mut self, alloc: Global) -> Result<Vec<NameRow>, Fault>
-        ensures found { IsHonest (state S.Store self.new.conn)
-            → IfOk result (λ rows. rows.items ≡ name_rows_in (tables_of S.Store self.old.conn)) }
-        ensures looks { LooksUp S.Store self.old self.new (is_ok result) }
-        ensures reason { FailsForReason S.Store self.old.conn self.new.conn result }
+        ensures { LooksFor S.Store self.old self.new result (λ T it. it.items ≡ name_rows_in T) }
     {
         let rows = index_sql_reads::names(alloc, &mut self.conn);
         self.failures = next_count(self.failures, rows.is_ok());
@@ -122,11 +110,8 @@ impl<S: Alter> Books for SqlBooks<S> {
     }
 
     fn files_of(&mut self, alloc: Global, name: &NormalName) -> Result<Vec<FileRow>, Fault>
-        ensures found { IsHonest (state S.Store self.new.conn)
-            → IfOk result (λ rows.
-            rows.items ≡ file_rows_in (tables_of S.Store self.old.conn) name.now) }
-        ensures looks { LooksUp S.Store self.old self.new (is_ok result) }
-        ensures reason { FailsForReason S.Store self.old.conn self.new.conn result }
+        ensures { LooksFor S.Store self.old self.new result
+            (λ T it. it.items ≡ file_rows_in T name.now) }
     {
         let rows = index_sql_reads::files_of(alloc, &mut self.conn, name);
         self.failures = next_count(self.failures, rows.is_ok());
@@ -134,15 +119,8 @@ impl<S: Alter> Books for SqlBooks<S> {
     }
 
     fn walk_held<K: NameTaker>(&mut self, alloc: Global, taker: &mut K) -> Result<(), WalkEnd>
-        ensures walked { IsHonest (state S.Store self.old.conn)
-            → HasCleanDisk (state S.Store self.new.conn)
-            → let rows = held_rows_in (tables_of S.Store self.old.conn) in
-            Walks K.takes K.stops rows taker.old taker.new result }
-        ensures given { (rows : List NameRowData)
-            × Walks K.takes K.stops rows taker.old taker.new result }
-        ensures looks { LooksUp S.Store self.old self.new (not (has_fault result)) }
-        ensures reason { let rows = held_rows_in (tables_of S.Store self.old.conn) in
-            EndsForReason S.Store self.old.conn self.new.conn rows result }
+        ensures { WalksBooks S.Store K.takes K.stops held_rows_in
+            self.old self.new taker.old taker.new result }
     {
         let ended = index_sql_reads::walk_held(alloc, &mut self.conn, taker);
         self.failures = next_count(self.failures, !has_fault(&ended));
@@ -155,15 +133,8 @@ impl<S: Alter> Books for SqlBooks<S> {
         name: &NormalName,
         taker: &mut K,
     ) -> Result<(), WalkEnd>
-        ensures walked { IsHonest (state S.Store self.old.conn)
-            → HasCleanDisk (state S.Store self.new.conn)
-            → let rows = file_rows_in (tables_of S.Store self.old.conn) name.now in
-            Walks K.takes K.stops rows taker.old taker.new result }
-        ensures given { (rows : List FileRowData)
-            × Walks K.takes K.stops rows taker.old taker.new result }
-        ensures looks { LooksUp S.Store self.old self.new (not (has_fault result)) }
-        ensures reason { let rows = file_rows_in (tables_of S.Store self.old.conn) name.now in
-            EndsForReason S.Store self.old.conn self.new.conn rows result }
+        ensures { WalksBooks S.Store K.takes K.stops (λ T. file_rows_in T name.now)
+            self.old self.new taker.old taker.new result }
     {
         let ended = index_sql_reads::walk_files(alloc, &mut self.conn, name, taker);
         self.failures = next_count(self.failures, !has_fault(&ended));

@@ -9,9 +9,9 @@ ghost use Rattle.index_rules.specs.StandsFor.{StandsFor};
 ghost use Rattle.index_sql_schema.specs.Schema.{index_schema};
 ghost use Rattle.index_sql_opening.specs.Names.{has_any_of};
 ghost use Rattle.index_sql_opening.specs.NewAsks.{asks_of_new};
-ghost use Rattle.index_sql_opening.specs.Created.{one_user, IsBlank};
+ghost use Rattle.index_sql_opening.specs.Created.{one_user};
 ghost use Rattle.index_sql_opening.specs.Making.{IsAtRest};
-ghost use Rattle.index_tables.specs.Opened.{AreOpened, HasOthers, HaveRecords, HaveTables, IsAmongOthers, IsCreated, IsRefusedAs, IsTaken, IsUnopened, StoreForOthers};
+ghost use Rattle.index_tables.specs.Opened.{AreNew, HasOthers, HaveTables, IsAmongOthers, IsNotMade, IsRefusedAs, IsTaken};
 
 use crate::opening::{Unopened, open_fault_of};
 use crate::tables::SqlBooks;
@@ -39,11 +39,10 @@ impl<S: Alter> SqlBooks<S> {
         token: Digest256,
     ) -> Result<SqlBooks<S>, Unopened<S>>
         requires outside { conn.in_transaction ≡ false }
-        ensures tables { IfOk result (HaveTables S.Store (λ T. T ≡ first_tables user.now token)) }
+        ensures made { IfOk result (AreNew S.Store (first_tables user.now token) conn) }
         ensures sound { IfOk result (HaveTables S.Store IsSound) }
         ensures history { let h = begins user.now token in
             IfOk result (HaveTables S.Store (λ T. StandsFor T h)) }
-        ensures records { IfOk result (HaveRecords S.Store) }
         ensures bad_first_user { IsRefusedAs OpenFault.BadFirstUser result
             ↔ IsBadFirstUser user.now token }
         ensures taken { IsRefusedAs OpenFault.NotEmpty result
@@ -52,11 +51,8 @@ impl<S: Alter> SqlBooks<S> {
             → IsRefusedAs OpenFault.NotEmpty result ⊎ IsRefusedAs OpenFault.OutOfMemory result }
         ensures among_others { IsAmongOthers user.now token (state S.Store conn).now.schema
             → IsRefusedAs OpenFault.Store result ⊎ IsRefusedAs OpenFault.OutOfMemory result }
-        ensures opened { let T = first_tables user.now token in
-            IfOk result (AreOpened S.Store (IsCreated T) conn) }
-        ensures refused { let T = first_tables user.now token in
-            let asks = asks_of_new user.now (first_record token) in
-            IfErr result (IsUnopened S.Store (IsCreated T) (StoreForOthers S.Store asks) conn) }
+        ensures refused { IfErr result (IsNotMade S.Store (first_tables user.now token)
+            (asks_of_new user.now (first_record token)) conn) }
     {
         let conn = expose_invariants(conn);
         match first_user(alloc, user, token) {
@@ -74,8 +70,7 @@ fn fill_blank<S: Alter>(
 ) -> Result<SqlBooks<S>, Unopened<S>>
     requires rest { IsAtRest S.Store conn }
     requires live { IsLive (state S.Store conn) }
-    ensures tables { IfOk result (HaveTables S.Store (λ T. T ≡ one_user user.now account.now)) }
-    ensures records { IfOk result (HaveRecords S.Store) }
+    ensures made { IfOk result (AreNew S.Store (one_user user.now account.now) conn) }
     ensures first_user { IfErr result (λ refused. refused.why ≢ OpenFault.BadFirstUser) }
     ensures taken { IsRefusedAs OpenFault.NotEmpty result
         → IsTrue (has_any_of (state S.Store conn).now.schema index_schema.tables) }
@@ -83,11 +78,8 @@ fn fill_blank<S: Alter>(
         → IsRefusedAs OpenFault.NotEmpty result }
     ensures among_others { HasOthers (state S.Store conn).now.schema
         → IsRefusedAs OpenFault.Store result }
-    ensures opened { let T = one_user user.now account.now in
-        IfOk result (AreOpened S.Store (IsCreated T) conn) }
-    ensures refused { let T = one_user user.now account.now in
-        let asks = asks_of_new user.now account.now in
-        IfErr result (IsUnopened S.Store (IsCreated T) (StoreForOthers S.Store asks) conn) }
+    ensures refused { IfErr result (IsNotMade S.Store (one_user user.now account.now)
+        (asks_of_new user.now account.now) conn) }
 {
     if has_any_table(conn.schema()) {
         return Err(Unopened {

@@ -8,7 +8,7 @@ ghost use Rattle.sqlite.specs.State.{HasCleanDisk};
 ghost use Rattle.index_sql_reads.specs.ConnectionTables.{tables_of};
 ghost use Rattle.index_rules.specs.Tables.{Tables};
 ghost use Rattle.index_tables.specs.BooksState.{IsHonest, Leaves};
-ghost use Rattle.index_tables.specs.Reopened.{MayLeave, IsLeft, IsOver, OpensOnly};
+ghost use Rattle.index_tables.specs.Reopened.{MayLeave, IsLeft, IsOpenedOver, LeavesEither, OpensOnly};
 
 use crate::opening::Unopened;
 use crate::tables::SqlBooks;
@@ -27,14 +27,12 @@ pub fn left_is_found_again<D: Disk, S: Alter>(
 ) -> (SqlBooks<FileStore<D>>, Result<SqlBooks<S>, Unopened<S>>)
     requires outside { conn.in_transaction ≡ false }
     ensures same { result.0 ≡ books }
-    ensures rest { (left : Image) → IsHonest (file_state books.conn) → IsLeft books.conn left
-        → (HasCleanDisk (state S.Store conn) → IsOver left (state S.Store conn))
+    ensures rest { (left : Image) → IsHonest (file_state books.conn) → IsLeft books.conn left →
+        IsOpenedOver S.Store left conn
         → OpensOnly S.Store (λ T. T ≡ tables_of over_files books.conn) result.1 }
     ensures during { (left : Image) (A B : Tables) → HasCleanDisk (file_state books.conn)
-        → ((T : Tables) → Leaves (file_state books.conn) T → (T ≡ A) ⊎ (T ≡ B))
-        → MayLeave books.conn left
-        → (HasCleanDisk (state S.Store conn) → IsOver left (state S.Store conn))
-        → OpensOnly S.Store (λ T. ∥ (T ≡ A) ⊎ (T ≡ B) ∥₁) result.1 }
+        → LeavesEither A B (file_state books.conn) → MayLeave books.conn left →
+        IsOpenedOver S.Store left conn → OpensOnly S.Store (λ T. ∥ (T ≡ A) ⊎ (T ≡ B) ∥₁) result.1 }
 {
     let SqlBooks {
         conn: before,

@@ -1,6 +1,7 @@
 //! Tables, and what they state of their rows.
 
-ghost use Rattle.std.specs.Prelude.{◌≡◌, IsTrue};
+ghost use Rattle.std.specs.Prelude.{IsTrue};
+ghost use Rattle.index_sql_opening.specs.SameTables.{HaveSameKeys, HaveSameRules};
 
 use crate::same::Same;
 use sqlite_schema::schema::{Column, Reference, Stamps, Table};
@@ -36,10 +37,7 @@ impl Same for Stamps {
 }
 
 fn same_keys(first: &Table, second: &Table) -> bool
-    ensures key { IsTrue result → first.now.key ≡ second.now.key }
-    ensures primary { IsTrue result → first.now.primary ≡ second.now.primary }
-    ensures uniques { IsTrue result → first.now.uniques ≡ second.now.uniques }
-    ensures orders { IsTrue result → first.now.orders ≡ second.now.orders }
+    ensures keys { IsTrue result → HaveSameKeys first.now second.now }
 {
     first.key == second.key
         && first.primary.same(&second.primary)
@@ -48,11 +46,7 @@ fn same_keys(first: &Table, second: &Table) -> bool
 }
 
 fn same_rules(first: &Table, second: &Table) -> bool
-    ensures checks { IsTrue result → first.now.checks ≡ second.now.checks }
-    ensures references { IsTrue result → first.now.references ≡ second.now.references }
-    ensures computed { IsTrue result → first.now.computed ≡ second.now.computed }
-    ensures stamps { IsTrue result → first.now.stamps ≡ second.now.stamps }
-    ensures is_counted { IsTrue result → first.now.is_counted ≡ second.now.is_counted }
+    ensures rules { IsTrue result → HaveSameRules first.now second.now }
 {
     first.checks.same(&second.checks)
         && first.references.same(&second.references)

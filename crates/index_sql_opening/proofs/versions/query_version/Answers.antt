@@ -11,12 +11,15 @@ returns-in-Err-clause-uncommitted g c = record {
   survives = search rules;
 }
 
-pub returns-in-Err-clause-fails : goal.returns-in-Err-clause-fails
-returns-in-Err-clause-fails g c clean is = record {
-  after = c.query_all.new.self.conn.now;
-  error = c.in-Err.error;
-  fails = fails_inside _ _ select_version_text [] _ c.requires.inside (c.in-Err.ensures.err clean);
-  fault = sym c.fault_of.ensures ∙ is;
+pub returns-in-Err-clause-version : goal.returns-in-Err-clause-version
+returns-in-Err-clause-version g c = record {
+  told = λ _. tt;
+  fails = λ clean is. record {
+    after = c.query_all.new.self.conn.now;
+    error = c.in-Err.error;
+    fails = fails_inside _ _ select_version_text [] _ c.requires.inside (c.in-Err.ensures.err clean);
+    fault = sym c.fault_of.ensures ∙ is;
+  };
 }
 
 pub returns-in-Ok-clause-uncommitted : goal.returns-in-Ok-clause-uncommitted
@@ -26,10 +29,13 @@ returns-in-Ok-clause-uncommitted g c = record {
   survives = search rules;
 }
 
-pub returns-in-Ok-clause-told : goal.returns-in-Ok-clause-told
-returns-in-Ok-clause-told g c clean = record {
-  after = c.query_all.new.self.conn.now;
-  rows = c.in-Ok.rows.items;
-  shown = c.in-Ok.ensures.ok clean;
-  first = c.first_number.ensures.number ∙ ap first_number c.as_slice.ensures.value;
+pub returns-in-Ok-clause-version : goal.returns-in-Ok-clause-version
+returns-in-Ok-clause-version g c = record {
+  told = λ clean. record {
+    after = c.query_all.new.self.conn.now;
+    rows = c.in-Ok.rows.items;
+    shown = c.in-Ok.ensures.ok clean;
+    first = c.first_number.ensures.number ∙ ap first_number c.as_slice.ensures.value;
+  };
+  fails = λ _. tt;
 }

@@ -16,24 +16,21 @@ use Rattle.index_sql_reads.proofs.walk.walk_files.Goals as goal
 pub walk-requires : goal.walk-requires
 walk-requires g c = record { plain = is_plain }
 
-pub returns-clause-walked : goal.returns-clause-walked
-returns-clause-walked g c clean =
+pub returns : goal.returns
+returns g c =
     let name = c.args.name.now in
     let it = c.walk.ensures.handed in
-    let told = subst (λ params. IsOf g.S.Store select_files_text params c.args.conn.now it.0 c.walk.result) (search rules) (it.2 clean) in
-    walks_all g.S.Store select_files_text (Text name ∷ []) files_ends c.args.conn.now c.walk.ensures.kept (c.walk.ensures.looks.was_clean clean) file_row_shown (λ T. file_rows_in T name) (selects name)
-    g.K.FileTaker.takes g.K.FileTaker.stops it.0 c.args.taker.now c.walk.new.taker c.walk.result told it.1
-
-pub returns-clause-given : goal.returns-clause-given
-returns-clause-given g c =
-    let it = c.walk.ensures.handed in
-    (map file_row_shown it.0, read_walks g.K.FileTaker.takes g.K.FileTaker.stops file_row_shown it.0 c.args.taker.now c.walk.new.taker c.walk.result it.1)
-
-pub returns-clause-reason : goal.returns-clause-reason
-returns-clause-reason g c clean are =
-    let name = c.args.name.now in
     let old = c.args.conn.now in
     let new = c.walk.new.conn in
-    let told = subst (λ params. IsSure select_files_text params → QueryEndsForReason g.S.Store IsListedRow select_files_text params old new c.walk.result) (search rules) c.walk.ensures.reason in
-    ends_for g.S.Store select_files_text (Text name ∷ []) files_ends old c.walk.ensures.kept (c.walk.ensures.looks.was_clean clean) file_row_shown (λ T. file_rows_in T name) (selects name)
-    IsListedRow (λ before after rows h are shown. let known = known_records before.now h are in records name before after rows h shown known.1.1.1.1.0 known.1.1.1.1.1.1.0) are new c.walk.result ((told (sure name)).reason clean)
+    record {
+      walked = λ clean.
+          let told = subst (λ params. IsOf g.S.Store select_files_text params old it.0 c.walk.result) (search rules) (it.2 clean) in
+          walks_all g.S.Store select_files_text (Text name ∷ []) files_ends old c.walk.ensures.kept (c.walk.ensures.looks.was_clean clean) file_row_shown (λ T. file_rows_in T name) (selects name)
+          g.K.FileTaker.takes g.K.FileTaker.stops it.0 c.args.taker.now c.walk.new.taker c.walk.result told it.1;
+      given = (map file_row_shown it.0, read_walks g.K.FileTaker.takes g.K.FileTaker.stops file_row_shown it.0 c.args.taker.now c.walk.new.taker c.walk.result it.1);
+      looks = c.walk.ensures.looks;
+      reason = λ clean are.
+          let told = subst (λ params. IsSure select_files_text params → QueryEndsForReason g.S.Store IsListedRow select_files_text params old new c.walk.result) (search rules) c.walk.ensures.reason in
+          ends_for g.S.Store select_files_text (Text name ∷ []) files_ends old c.walk.ensures.kept (c.walk.ensures.looks.was_clean clean) file_row_shown (λ T. file_rows_in T name) (selects name)
+          IsListedRow (λ before after rows h are shown. let known = known_records before.now h are in records name before after rows h shown known.1.1.1.1.0 known.1.1.1.1.1.1.0) are new c.walk.result ((told (sure name)).reason clean);
+    }

@@ -13,18 +13,17 @@ use Rattle.index_sql_reads.proofs.walk.walk_held.Goals as goal
 pub walk-requires : goal.walk-requires
 walk-requires g c = record { plain = held_shown.is_plain }
 
-pub returns-clause-walked : goal.returns-clause-walked
-returns-clause-walked g c clean =
+pub returns : goal.returns
+returns g c =
     let it = c.walk.ensures.handed in
-    walks_all g.S.Store select_held_text [] held_ends c.args.conn.now c.walk.ensures.kept (c.walk.ensures.looks.was_clean clean) name_row_in held_rows_in selects_held
-    g.K.NameTaker.takes g.K.NameTaker.stops it.0 c.args.taker.now c.walk.new.taker c.walk.result (it.2 clean) it.1
-
-pub returns-clause-given : goal.returns-clause-given
-returns-clause-given g c =
-    let it = c.walk.ensures.handed in
-    (map name_row_in it.0, read_walks g.K.NameTaker.takes g.K.NameTaker.stops name_row_in it.0 c.args.taker.now c.walk.new.taker c.walk.result it.1)
-
-pub returns-clause-reason : goal.returns-clause-reason
-returns-clause-reason g c clean are =
-    ends_for g.S.Store select_held_text [] held_ends c.args.conn.now c.walk.ensures.kept (c.walk.ensures.looks.was_clean clean) name_row_in held_rows_in selects_held
-    IsNamedRow records are c.walk.new.conn c.walk.result ((c.walk.ensures.reason sure).reason clean)
+    let old = c.args.conn.now in
+    record {
+      walked = λ clean.
+          walks_all g.S.Store select_held_text [] held_ends old c.walk.ensures.kept (c.walk.ensures.looks.was_clean clean) name_row_in held_rows_in selects_held
+          g.K.NameTaker.takes g.K.NameTaker.stops it.0 c.args.taker.now c.walk.new.taker c.walk.result (it.2 clean) it.1;
+      given = (map name_row_in it.0, read_walks g.K.NameTaker.takes g.K.NameTaker.stops name_row_in it.0 c.args.taker.now c.walk.new.taker c.walk.result it.1);
+      looks = c.walk.ensures.looks;
+      reason = λ clean are.
+          ends_for g.S.Store select_held_text [] held_ends old c.walk.ensures.kept (c.walk.ensures.looks.was_clean clean) name_row_in held_rows_in selects_held
+          IsNamedRow records are c.walk.new.conn c.walk.result ((c.walk.ensures.reason sure).reason clean);
+    }

@@ -1,14 +1,14 @@
 use Rattle.std.proofs.Common.{◌≡◌, is_ok, rules, subst}
 use Rattle.index_io.specs.Counts.{next_count}
+use Rattle.index_rules.specs.TableRows.{file_rows_in}
 use Rattle.index_tables.specs.BooksState.{BooksState}
-use Rattle.index_tables.specs.LooksUp.{LooksUp}
-use Rattle.index_tables.proofs.KeptLemmas.{looks_up}
+use Rattle.index_tables.specs.LooksUp.{LooksFor}
+use Rattle.index_tables.proofs.KeptLemmas.{finds}
 use Rattle.index_tables.proofs.books.SqlBooksBooks.files_of.Goals as goal
 
-pub returns-clause-looks : goal.returns-clause-looks
-returns-clause-looks g c =
+pub returns : goal.returns
+returns g c =
     let new : BooksState _ = record { conn = c.files_of-rows.new.conn; failures = c.next_count-self-inside.result } in
     let old : BooksState _ = record { conn = c.self.inside.conn; failures = c.self.inside.failures } in
     let count : new.failures ≡ next_count old.failures (is_ok c.files_of-rows.result) = search rules in
-    subst (λ before. LooksUp g.S.Store before new (is_ok c.files_of-rows.result)) c.self.view_is
-    (looks_up g.S.Store old new _ c.files_of-rows.ensures.looks count)
+    subst (λ before. LooksFor g.S.Store before new c.files_of-rows.result (λ T it. it.items ≡ file_rows_in T c.args.name.now)) c.self.view_is (finds g.S.Store old new _ _ c.files_of-rows.ensures count)

@@ -1,15 +1,18 @@
 use Rattle.std.proofs.Common.{◌≡◌, not, rules, subst}
 use Rattle.index_io.specs.Counts.{next_count}
+use Rattle.index_rules.specs.TableRows.{file_rows_in}
+use Rattle.index_rules.specs.Tables.{Tables}
 use Rattle.index_rules.specs.Walks.{has_fault}
 use Rattle.index_tables.specs.BooksState.{BooksState}
-use Rattle.index_tables.specs.LooksUp.{LooksUp}
-use Rattle.index_tables.proofs.KeptLemmas.{looks_up}
+use Rattle.index_tables.specs.LooksUp.{WalksBooks}
+use Rattle.index_tables.proofs.KeptLemmas.{walks}
 use Rattle.index_tables.proofs.books.SqlBooksBooks.walk_files.Goals as goal
 
-pub returns-clause-looks : goal.returns-clause-looks
-returns-clause-looks g c =
+pub returns : goal.returns
+returns g c =
+    let rows_in = λ (T : Tables). file_rows_in T c.args.name.now in
     let new : BooksState _ = record { conn = c.walk_files-ended.new.conn; failures = c.next_count-self-inside.result } in
     let old : BooksState _ = record { conn = c.self.inside.conn; failures = c.self.inside.failures } in
     let count : new.failures ≡ next_count old.failures (not (has_fault c.walk_files-ended.result)) = search rules in
-    subst (λ before. LooksUp g.S.Store before new (not (has_fault c.walk_files-ended.result))) c.self.view_is
-    (looks_up g.S.Store old new _ c.walk_files-ended.ensures.looks count)
+    subst (λ before. WalksBooks g.S.Store g.K.FileTaker.takes g.K.FileTaker.stops rows_in before new c.args.taker.now c.walk_files-ended.new.taker c.walk_files-ended.result) c.self.view_is
+    (walks g.S.Store g.K.FileTaker.takes g.K.FileTaker.stops rows_in old new _ _ _ c.walk_files-ended.ensures count)

@@ -8,25 +8,25 @@ use Rattle.index_rules.proofs.SoundOpened.{IsSound-opened}
 use Rattle.index_rules.proofs.StandsOn.{StandsFor-opened}
 use Rattle.index_sql_opening.specs.NewAsks.{asks_of_new}
 use Rattle.index_sql_opening.specs.Created.{one_user}
-use Rattle.index_tables.specs.Opened.{IsCreated, AreOpened, IsUnopened, StoreForOthers}
+use Rattle.index_tables.specs.Opened.{AreNew, IsNotMade}
 use Rattle.index_tables.proofs.OpenedLemmas.{refused_at_once}
 use Rattle.index_tables.proofs.tables.SqlBooks.create.Goals as goal
 
 pub returns-in-Ok-clause-sound : goal.returns-in-Ok-clause-sound
 returns-in-Ok-clause-sound g c =
     let same : one_user c.in-Ok.user c.in-Ok.account ≡ first_tables c.args.user.now c.args.token = search rules in
-    IfOk-weaker c.fill_blank.result _ _ (λ books is honest. subst IsSound (sym (is honest ∙ same)) (IsSound-opened c.args.user.now c.args.token)) c.fill_blank.ensures.tables
+    IfOk-weaker c.fill_blank.result _ _ (λ books it working. subst IsSound (sym (it.tables working ∙ same)) (IsSound-opened c.args.user.now c.args.token)) c.fill_blank.ensures.made
 
 pub returns-in-Ok-clause-history : goal.returns-in-Ok-clause-history
 returns-in-Ok-clause-history g c =
     let same : one_user c.in-Ok.user c.in-Ok.account ≡ first_tables c.args.user.now c.args.token = search rules in
     IfOk-weaker c.fill_blank.result _ _
-    (λ books is honest. subst (λ T. StandsFor T (begins c.args.user.now c.args.token)) (sym (is honest ∙ same)) (StandsFor-opened c.args.user.now c.args.token)) c.fill_blank.ensures.tables
+    (λ books it working. subst (λ T. StandsFor T (begins c.args.user.now c.args.token)) (sym (it.tables working ∙ same)) (StandsFor-opened c.args.user.now c.args.token)) c.fill_blank.ensures.made
 
-pub returns-in-Ok-clause-opened : goal.returns-in-Ok-clause-opened
-returns-in-Ok-clause-opened g c =
+pub returns-in-Ok-clause-made : goal.returns-in-Ok-clause-made
+returns-in-Ok-clause-made g c =
     let same : one_user c.in-Ok.user c.in-Ok.account ≡ first_tables c.args.user.now c.args.token = search rules in
-    subst₂ (λ T held. IfOk c.fill_blank.result (AreOpened g.S.Store (IsCreated T) held)) same c.expose_invariants-conn.ensures.same c.fill_blank.ensures.opened
+    subst₂ (λ T held. IfOk c.fill_blank.result (AreNew g.S.Store T held)) same c.expose_invariants-conn.ensures.same c.fill_blank.ensures.made
 
 pub returns-in-Ok-clause-refused : goal.returns-in-Ok-clause-refused
 returns-in-Ok-clause-refused g c =
@@ -34,10 +34,10 @@ returns-in-Ok-clause-refused g c =
     let asks = asks_of_new c.args.user.now (first_record c.args.token) in
     let same : one_user c.in-Ok.user c.in-Ok.account ≡ T = search rules in
     let same_asks : asks_of_new c.in-Ok.user c.in-Ok.account ≡ asks = search rules in
-    subst (λ held. IfErr c.fill_blank.result (IsUnopened g.S.Store (IsCreated T) (StoreForOthers g.S.Store asks) held)) c.expose_invariants-conn.ensures.same
-    (subst₂ (λ T asks. IfErr c.fill_blank.result (IsUnopened g.S.Store (IsCreated T) (StoreForOthers g.S.Store asks) c.expose_invariants-conn.result)) same same_asks c.fill_blank.ensures.refused)
+    subst (λ held. IfErr c.fill_blank.result (IsNotMade g.S.Store T asks held)) c.expose_invariants-conn.ensures.same
+    (subst₂ (λ T asks. IfErr c.fill_blank.result (IsNotMade g.S.Store T asks c.expose_invariants-conn.result)) same same_asks c.fill_blank.ensures.refused)
 
 pub returns-in-Err-clause-refused : goal.returns-in-Err-clause-refused
 returns-in-Err-clause-refused g c =
-    subst (λ held. IsUnopened g.S.Store (IsCreated (first_tables c.args.user.now c.args.token)) (StoreForOthers g.S.Store (asks_of_new c.args.user.now (first_record c.args.token))) held (record { why = c.in-Err.why; conn = c.expose_invariants-conn.result })) c.expose_invariants-conn.ensures.same
+    subst (λ held. IsNotMade g.S.Store (first_tables c.args.user.now c.args.token) (asks_of_new c.args.user.now (first_record c.args.token)) held (record { why = c.in-Err.why; conn = c.expose_invariants-conn.result })) c.expose_invariants-conn.ensures.same
     (refused_at_once g.S.Store c.expose_invariants-conn.result c.in-Err.why (search rules) (search rules))
