@@ -36,7 +36,7 @@ use Rattle.index_tables.specs.Adopted.{IsCommitted, IsCurrent, IsFound}
 use Rattle.index_tables.specs.BooksState.{IsWorking}
 use Rattle.index_tables.specs.Opened.{IsRefusedAs, IsTaken}
 use Rattle.index_tables.specs.declared.opening.Unopened.{Unopened}
-use Rattle.index.specs.Runs.{Began, Created, Holds, HoldsOnly, Interrupted, HoldsCurrent, HoldsAfterCrash, LeavesAsWas, LeavesShut, Ran, Refused, Worked}
+use Rattle.index.specs.Runs.{Began, Created, Holds, HoldsOnly, Interrupted, HoldsCurrent, HoldsAfterCrash, LeavesAsWas, LeavesOfShut, Ran, Refused, Worked}
 
 -- an index of today is found as it is, and never as one of version 1
 same_found : (db other : Database) (T found : Tables) → IsCurrent db T → IsFound other found → other.trees ≡ db.trees → found ≡ T
@@ -133,7 +133,7 @@ module _ {D : Type 0} {g : Ghosts D} where
   refused_by Made start first last opened finds leaves = record {
     db = (file_state first).now;
     only = only_of start first opened finds;
-    left = leaves opened.0.is_open opened.0.clean;
+    left = leaves.left opened.0.is_open opened.0.clean;
   }
 
   -- a disk that is clean as a close fails was so before it
@@ -142,7 +142,7 @@ module _ {D : Type 0} {g : Ghosts D} where
 
   -- an opening that fails, over files that nothing had happened to
   pub shut_by : (start : Image) (files : Files D) (left : Leftover D g) → image_of g files ≡ start → ((image : Image) → outcomes g files.log files.db image → image ≡ start)
-      → LeavesFiles files left → LeavesShut start left
+      → LeavesFiles files left → LeavesOfShut start left
   shut_by start files (leftover.Files now) same still leaves = λ image may. still image (leaves image may)
   shut_by start files (leftover.Unopened now) same still leaves = λ image may. elim leaves [
     | inl new ↦ elim (new.1 image may) [ inl old ↦ inl (still image old) | inr begun ↦ inr (inl (subst IsNothing same new.0, begun)) ]

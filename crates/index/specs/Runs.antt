@@ -1,10 +1,15 @@
 -- A run of the program: what it finds in a database file and its log, what each kind of work makes of the tables, and what
 -- is left in the files, at the end of the run and by a crash.
-use Rattle.std.specs.Prelude.{◌≡◌, ◌⊎◌, ◌≤◌, ℕ, false, IsTrue, List, Option, Result, Ok, Err, IfOk}
+use Rattle.std.specs.Prelude.{◌≡◌, ◌⊎◌, ◌≤◌, ℕ, false, IsTrue, List, Option, Result, Ok, Err, IfOk, IfErr, IfSome}
 use Rattle.sqlite.specs.Closing.{HoldsAlone}
 use Rattle.sqlite.specs.Effect.{Database}
 use Rattle.sqlite.specs.FileStore.{recovers}
-use Rattle.sqlite.specs.Files.{AreFoundIn, HoldsDatabase, IsCleanLeft, IsEmpty, IsNothing, file_state, image_of}
+use Rattle.sqlite.specs.declared.FileStore.{FileStore}
+use Rattle.sqlite.specs.Files.{AreFoundIn, HoldsDatabase, IsCleanLeft, IsEmpty, IsNothing, IsOpened, file_state, image_of, over_files}
+use Rattle.sqlite.specs.Held.{Held}
+use Rattle.sqlite.specs.Start.{FindsIn}
+use Rattle.sqlite.specs.WalReads.{AreClean}
+use Rattle.sqlite_trees.specs.View.{IsClean}
 use Rattle.sqlite.specs.declared.file.Leftover.{Leftover}
 use Rattle.sqlite.specs.declared.file.Leftover.TheVariants as leftover
 use Rattle.sqlite.specs.Recovery.{Image}
@@ -34,7 +39,7 @@ use Rattle.index_rules.specs.Tables.{Tables}
 use Rattle.index_sql_schema.specs.Records.{tables_in}
 use Rattle.index_sql_schema.specs.Schema.{index_schema}
 use Rattle.index_tables.specs.Adopted.{IsCommitted, IsCurrent, IsFound, IsRaised}
-use Rattle.index_tables.specs.BooksState.{AreCurrent}
+use Rattle.index_tables.specs.BooksState.{AreCurrent, IsWorking}
 use Rattle.index.specs.declared.database.Left.{Left}
 use Rattle.index.specs.declared.database.Left.TheVariants as unused
 use Rattle.index.specs.declared.end.End.{End}
@@ -115,22 +120,48 @@ abbrev pub IsUnmade : Image → State → Type 0
 IsUnmade start now = IsTrue now.is_open → Refused MakesNothing start now
 
 module _ {D : Type 0} {g : Ghosts D} where
-  -- A crash leaves this of two files that can't be opened as a database. Before a write it is what they held. Where there
+  -- What a crash leaves of two files that can't be opened as a database. Before a write it is what they held. Where there
   -- was no database, there is still none, or an empty one. Where there was one, its pages are those that it had. Once the
   -- pages were read, an open finds what they held.
-  abbrev pub LeavesShut : Image → Leftover D g → Type 0
-  LeavesShut start (leftover.Files now) = (image : Image) → outcomes g now.log now.db image → image ≡ start
-  LeavesShut start (leftover.Unopened now) =
+  abbrev pub LeavesOfShut : Image → Leftover D g → Type 0
+  LeavesOfShut start (leftover.Files now) = (image : Image) → outcomes g now.log now.db image → image ≡ start
+  LeavesOfShut start (leftover.Unopened now) =
       (image : Image) → (state_of now).may_leave image
       → (image ≡ start) ⊎ ((IsNothing start × (IsNothing image ⊎ ∥ ((db : Trees) × HoldsDatabase image db × IsEmpty db) ∥₁))
       ⊎ ((¬ IsNothing start) × (¬ IsNothing image) × StandsAs (state_of now).page_size start image))
-  LeavesShut start (leftover.Store now) =
+  LeavesOfShut start (leftover.Store now) =
       (found : Trees) → recovers now found → AreFoundIn start found × ((db : Trees) → HoldsDatabase start db → found ≡ db)
+
+  -- that is what it leaves, where they have returned what was written
+  abbrev pub LeavesShut : Image → Leftover D g → Type 0
+  LeavesShut start left = IsCleanLeft left → LeavesOfShut start left
 
   -- a crash leaves this of two files on which nothing was done
   abbrev pub LeavesUnused : (Image → State → Type 0) → Image → Left D g → Type 0
-  LeavesUnused IsRefused start (unused.Shut left) = IsCleanLeft left → LeavesShut start left
+  LeavesUnused IsRefused start (unused.Shut left) = LeavesShut start left
   LeavesUnused IsRefused start (unused.Refused left) = IsRefused start (file_state left.conn)
+
+  -- a connection was opened on files that held this, where its disk is clean
+  abbrev pub IsOpenedOn : Image → Held (FileStore D g) → Type 0
+  IsOpenedOn start conn = HasCleanDisk (file_state conn) → IsOpened conn × FindsIn start (file_state conn)
+
+  -- how the opening of files that held this ends
+  pub record EndsOpening (start : Image) (result : Result (Held (FileStore D g)) (End × Option (Leftover D g))) : Type 0 where
+    pub outside : IfOk result (λ conn. conn.in_transaction ≡ false)
+    pub opened : IfOk result (IsOpenedOn start)
+    pub shut : IfErr result (λ e. IfSome e.1 (LeavesShut start))
+
+-- ---- a run of work on the index in two files
+
+-- how it ends, by what the work does and what a crash may leave of it
+pub record EndsRunOn {D : Type 0} (g : Ghosts D) (Does Leaves : Tables → Tables → Result ℕ End → Type 0) (start : Image) (result : Result (Result (Files D) (End × FileStore D g) × Result ℕ End) (End × Option (Left D g))) : Type 0 where
+  -- the files held an index, and hold what the work made of it
+  pub ran : IfOk result (λ done. IfOk done.0 (λ files. AreClean g files.log files.db → Ran g (λ T T'. Does T T' done.1) start files))
+  -- where the log was not copied, a crash leaves what it may leave of the work
+  pub interrupted : IfOk result (λ done. IfErr done.0 (λ e. IsClean (over_files.view e.1)
+      → Interrupted (λ T T'. Leaves T T' done.1) start (over_files.recovers e.1)))
+  -- what is refused is as it was, or an index of version 1 became one of today
+  pub refused : IfErr result (λ e. IfSome e.1 (LeavesUnused IsUnfound start))
 
 -- ---- the same of a connection, before its files are known
 
@@ -148,11 +179,24 @@ pub record Began (Left : Tables → Tables → Type 0) (was : Database) (may_lea
   pub found : IsFound was before
   pub left : LeavesOnly may_leave (Left before)
 
--- of an open database, all of which was committed, a crash leaves what was there, or, where a fault has shut it, what was
--- made of it
-abbrev pub LeavesAsWas : (Database → Trees → Type 0) → State → State → Type 0
-LeavesAsWas Made was now =
-    IsTrue was.is_open → was.now ≡ was.committed → (db : Trees) → now.may_leave db → (db ≡ was.now.trees) ⊎ ((now.is_open ≡ false) × Made was.now db)
+-- how work on a connection ends; it works, or is clean, only where it was so before
+pub record EndsWork (Does Leaves : Tables → Tables → Type 0) (was now : State) : Type 0 where
+  pub was_working : IsWorking now → IsWorking was
+  pub was_clean : HasCleanDisk now → HasCleanDisk was
+  pub worked : IsWorking now → Worked Does was.now now
+  pub began : HasCleanDisk now → IsTrue was.is_open → Began Leaves was.now now.may_leave
+
+-- a new index with these tables was made where nothing of one was, on a connection that works only where it did before
+pub record IsMadeNew (T : Tables) (was now : State) : Type 0 where
+  pub free : has_any_of was.now.schema index_schema.tables ≡ false
+  pub was_working : IsWorking now → IsWorking was
+  pub committed : IsWorking now → IsCommitted now T
+
+-- The disk was clean before. Of an open database, all of which was committed, a crash leaves what was there, or, where a
+-- fault has shut it, what was made of it.
+pub record LeavesAsWas (Made : Database → Trees → Type 0) (was now : State) : Type 0 where
+  pub was_clean : HasCleanDisk was
+  pub left : IsTrue was.is_open → was.now ≡ was.committed → (db : Trees) → now.may_leave db → (db ≡ was.now.trees) ⊎ ((now.is_open ≡ false) × Made was.now db)
 
 -- ---- what each kind of work makes of the tables
 

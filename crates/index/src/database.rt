@@ -2,25 +2,21 @@
 ghost use Rattle.std.specs.Prelude.{◌≡◌, false, not, ℕ, Result, None, Some, IfOk, IfErr, IfSome, IsErrOf, IsTrue, string_bytes};
 ghost use Rattle.std.specs.Str.Lossy.{utf8_lossy};
 ghost use Rattle.sqlite.specs.Closing.{IsCopied};
-ghost use Rattle.sqlite.specs.Files.{file_state, over_files, IsClosed, IsOpened};
+ghost use Rattle.sqlite.specs.Files.{IsClosed};
 ghost use Rattle.sqlite.specs.Held.{state};
 ghost use Rattle.sqlite.specs.Recovery.{Image};
-ghost use Rattle.sqlite.specs.Start.{FindsIn};
 ghost use Rattle.sqlite.specs.State.{HasCleanDisk};
 ghost use Rattle.sqlite.specs.WalFiles.{image_at};
 ghost use Rattle.sqlite.specs.WalReads.{AreClean};
-ghost use Rattle.sqlite_trees.specs.View.{IsClean};
-ghost use Rattle.index_sql_opening.specs.Names.{has_any_of};
 ghost use Rattle.index_digest.specs.Digest.{is_digest_text, read_digest};
 ghost use Rattle.index_rules.specs.Facts.{HasOneBearer};
 ghost use Rattle.index_rules.specs.FirstTables.{IsBadFirstUser, first_tables};
 ghost use Rattle.index_rules.specs.Tables.{Tables};
-ghost use Rattle.index_sql_schema.specs.Schema.{index_schema, no_schema};
-ghost use Rattle.index_tables.specs.Adopted.{IsCommitted, IsRaised};
-ghost use Rattle.index_tables.specs.BooksState.{IsWorking};
+ghost use Rattle.index_sql_schema.specs.Schema.{no_schema};
+ghost use Rattle.index_tables.specs.Adopted.{IsRaised};
 ghost use Rattle.index.specs.declared.end.End.{End as EndData};
 ghost use Rattle.index.specs.Causes.{is_store, other_object};
-ghost use Rattle.index.specs.Runs.{Began, Created, Interrupted, IsUnfound, IsUnmade, LeavesAsWas, LeavesUnused, MakesNothing, Ran, Worked};
+ghost use Rattle.index.specs.Runs.{Created, EndsRunOn, EndsWork, IsMadeNew, IsOpenedOn, IsUnmade, LeavesAsWas, LeavesUnused, MakesNothing};
 
 use crate::cause::{Cause, cause_of_calls};
 use crate::end::End;
@@ -119,18 +115,8 @@ pub fn work_on<S: Start, W: Work>(
     start: S,
     work: &mut W,
 ) -> Result<(Closed<FileFrom<S>>, Result<u64, End>), Unused<FileFrom<S>>>
-    // The files held an index, and hold what the work made of it.
-    ensures ran { IfOk result (λ done. IfOk done.0 (λ files.
-        let g = ⟦<FileFrom<S> as Disk>⟧ in AreClean g files.log files.db →
-        Ran g (λ T T'. W.does work.old work.new T T' done.1) (image_at S.Start) files)) }
-
-    // Where the log was not copied, a crash leaves what it may leave of the work.
-    ensures interrupted { IfOk result (λ done. IfErr done.0 (λ e. IsClean (over_files.view e.1) →
-        Interrupted (λ T T'. W.leaves work.old work.new T T' done.1)
-        (image_at S.Start) (over_files.recovers e.1))) }
-
-    // What is refused is as it was, or an index of version 1 became one of today.
-    ensures refused { IfErr result (λ e. IfSome e.1 (LeavesUnused IsUnfound (image_at S.Start))) }
+    ensures ends { EndsRunOn ⟦<FileFrom<S> as Disk>⟧ (W.does work.old work.new)
+        (W.leaves work.old work.new) (image_at S.Start) result }
 {
     match open_there(rt, path, start) {
         Ok(conn) => work_and_close(rt, conn, work),
@@ -149,13 +135,10 @@ fn create_and_close<D: Disk + Drop>(
     token: Digest256,
 ) -> Result<Files<D>, Unused<D>>
     requires outside { conn.in_transaction ≡ false }
-    ensures created { IfOk result (λ files. AreClean D.Disk files.log files.db →
-        (start : Image) →
-        (HasCleanDisk (file_state conn) → IsOpened conn × FindsIn start (file_state conn)) →
-        Created D.Disk (first_tables user.now token) start files) }
+    ensures created { IfOk result (λ files. AreClean D.Disk files.log files.db → (start : Image) →
+        IsOpenedOn start conn → Created D.Disk (first_tables user.now token) start files) }
     ensures refused { IfErr result (λ e. IfSome e.1 (λ left. (start : Image) →
-        (HasCleanDisk (file_state conn) → IsOpened conn × FindsIn start (file_state conn)) →
-        LeavesUnused IsUnmade start left)) }
+        IsOpenedOn start conn → LeavesUnused IsUnmade start left)) }
 {
     match create_in(rt, conn, user, token) {
         Ok(conn) => match close(conn) {
@@ -176,18 +159,8 @@ fn work_and_close<D: Disk + Drop, W: Work>(
     work: &mut W,
 ) -> Result<(Closed<D>, Result<u64, End>), Unused<D>>
     requires outside { conn.in_transaction ≡ false }
-    ensures ran { IfOk result (λ done. IfOk done.0 (λ files.
-        AreClean D.Disk files.log files.db → (start : Image) →
-        (HasCleanDisk (file_state conn) → IsOpened conn × FindsIn start (file_state conn)) →
-        Ran D.Disk (λ T T'. W.does work.old work.new T T' done.1) start files)) }
-    ensures interrupted { IfOk result (λ done. IfErr done.0 (λ e.
-        IsClean (over_files.view e.1) → (start : Image) →
-        (HasCleanDisk (file_state conn) → IsOpened conn × FindsIn start (file_state conn)) →
-        Interrupted (λ T T'. W.leaves work.old work.new T T' done.1) start
-        (over_files.recovers e.1))) }
-    ensures refused { IfErr result (λ e. IfSome e.1 (λ left. (start : Image) →
-        (HasCleanDisk (file_state conn) → IsOpened conn × FindsIn start (file_state conn)) →
-        LeavesUnused IsUnfound start left)) }
+    ensures ends { (start : Image) → IsOpenedOn start conn → EndsRunOn D.Disk
+        (W.does work.old work.new) (W.leaves work.old work.new) start result }
 {
     match work_in(rt, conn, work) {
         Ok((conn, end)) => Ok((close(conn), end)),
@@ -203,16 +176,10 @@ fn create_in<S: Alter + Drop>(
     token: Digest256,
 ) -> Result<Connection<S>, Unopened<S>>
     requires outside { conn.in_transaction ≡ false }
-    ensures created { IfOk result (λ made. IsWorking (state S.Store made)
-        → IsCommitted (state S.Store made) (first_tables user.now token)) }
-    ensures free { IfOk result (λ _.
-        has_any_of (state S.Store conn).now.schema index_schema.tables ≡ false) }
-    ensures working { IfOk result (λ made. IsWorking (state S.Store made)
-        → IsWorking (state S.Store conn)) }
+    ensures made { IfOk result (λ made.
+        IsMadeNew (first_tables user.now token) (state S.Store conn) (state S.Store made)) }
     ensures refused { IfErr result (λ left. IsTrue (state S.Store left.conn).is_open
         → LeavesAsWas MakesNothing (state S.Store conn) (state S.Store left.conn)) }
-    ensures clean_refused { IfErr result (λ left. IsTrue (state S.Store left.conn).is_open
-        → HasCleanDisk (state S.Store conn)) }
 {
     match SqlBooks::create(rt.alloc(), conn, user.as_bytes(), token) {
         Ok(books) => Ok(books.into_connection()),
@@ -227,21 +194,12 @@ fn work_in<S: Alter + Drop, W: Work>(
     work: &mut W,
 ) -> Result<(Connection<S>, Result<u64, End>), Unopened<S>>
     requires outside { conn.in_transaction ≡ false }
-    ensures worked { IfOk result (λ done. IsWorking (state S.Store done.0)
-        → Worked (λ T T'. W.does work.old work.new T T' done.1)
-        (state S.Store conn).now (state S.Store done.0)) }
-    ensures began { IfOk result (λ done. HasCleanDisk (state S.Store done.0)
-        → IsTrue (state S.Store conn).is_open
-        → Began (λ T T'. W.leaves work.old work.new T T' done.1)
-        (state S.Store conn).now (state S.Store done.0).may_leave) }
-    ensures working { IfOk result (λ done. IsWorking (state S.Store done.0)
-        → IsWorking (state S.Store conn)) }
-    ensures clean { IfOk result (λ done. HasCleanDisk (state S.Store done.0)
-        → HasCleanDisk (state S.Store conn)) }
+    ensures worked { IfOk result (λ done. EndsWork
+        (λ T T'. W.does work.old work.new T T' done.1)
+        (λ T T'. W.leaves work.old work.new T T' done.1)
+        (state S.Store conn) (state S.Store done.0)) }
     ensures refused { IfErr result (λ left. HasCleanDisk (state S.Store left.conn)
         → LeavesAsWas IsRaised (state S.Store conn) (state S.Store left.conn)) }
-    ensures clean_refused { IfErr result (λ left. HasCleanDisk (state S.Store left.conn)
-        → HasCleanDisk (state S.Store conn)) }
 {
     match SqlBooks::adopt(rt.alloc(), conn) {
         Ok(books) => {
@@ -257,8 +215,7 @@ fn work_in<S: Alter + Drop, W: Work>(
 ///
 /// `OutOfMemory` or `Store` where the copy fails. The changes are kept then too, by the log, which the store has.
 fn close<D: Disk + Drop>(conn: Connection<FileStore<D>>) -> Closed<D>
-    ensures copied { IfOk result (λ files. AreClean D.Disk files.log files.db
-        → IsCopied conn files) }
+    ensures copied { IfOk result (λ it. AreClean D.Disk it.log it.db → IsCopied conn it) }
     ensures kept { IfErr result (λ e. IsClosed conn e.1) }
 {
     match conn.close_files() {

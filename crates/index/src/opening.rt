@@ -1,13 +1,10 @@
 //! The opening of a database file, and the token of the first user of a new index.
-ghost use Rattle.std.specs.Prelude.{◌≡◌, ◌≢◌, false, not, Some, IfOk, IfErr, IfSome, IsErrOf, IsTrue};
-ghost use Rattle.sqlite.specs.Files.{file_state, IsCleanLeft, IsOpened};
-ghost use Rattle.sqlite.specs.Start.{FindsIn};
-ghost use Rattle.sqlite.specs.State.{HasCleanDisk};
+ghost use Rattle.std.specs.Prelude.{◌≡◌, ◌≢◌, not, Some, IfOk, IsErrOf, IsTrue};
 ghost use Rattle.sqlite.specs.WalFiles.{image_at};
 ghost use Rattle.index_digest.specs.Digest.{is_digest_text, read_digest};
 ghost use Rattle.index_rules.specs.FirstTables.{IsBadFirstUser};
 ghost use Rattle.index.specs.Causes.{end_of_error, is_store};
-ghost use Rattle.index.specs.Runs.{LeavesShut};
+ghost use Rattle.index.specs.Runs.{EndsOpening};
 
 use crate::cause::Cause;
 use crate::end::End;
@@ -25,12 +22,7 @@ pub fn open<S: Start>(
     path: &str,
     start: S,
 ) -> Result<Connection<FileStore<FileFrom<S>>>, (End, Option<Leftover<FileFrom<S>>>)>
-    ensures mode { IfOk result (λ conn. conn.in_transaction ≡ false) }
-    ensures opened { IfOk result (λ conn. HasCleanDisk (file_state conn) → IsOpened conn) }
-    ensures found { IfOk result (λ conn. HasCleanDisk (file_state conn)
-        → FindsIn (image_at S.Start) (file_state conn)) }
-    ensures shut { IfErr result (λ e. IfSome e.1 (λ left.
-        IsCleanLeft left → LeavesShut (image_at S.Start) left)) }
+    ensures ends { EndsOpening (image_at S.Start) result }
 {
     match Connection::open_from(rt, path, false, start) {
         Ok(conn) => Ok(conn),
@@ -55,12 +47,7 @@ pub fn open_there<S: Start>(
     path: &str,
     start: S,
 ) -> Result<Connection<FileStore<FileFrom<S>>>, (End, Option<Leftover<FileFrom<S>>>)>
-    ensures mode { IfOk result (λ conn. conn.in_transaction ≡ false) }
-    ensures opened { IfOk result (λ conn. HasCleanDisk (file_state conn) → IsOpened conn) }
-    ensures found { IfOk result (λ conn. HasCleanDisk (file_state conn)
-        → FindsIn (image_at S.Start) (file_state conn)) }
-    ensures shut { IfErr result (λ e. IfSome e.1 (λ left.
-        IsCleanLeft left → LeavesShut (image_at S.Start) left)) }
+    ensures ends { EndsOpening (image_at S.Start) result }
 {
     if is_missing(rt, path) {
         return Err((End::Store(Some(Cause::NoFile)), None));

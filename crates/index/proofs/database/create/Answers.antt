@@ -15,12 +15,12 @@ returns-in-Ok-open-clause-created g c =
     IfOk-weaker c.create_and_close.result _ _ (λ files created clean. (
       c.in-Ok.token,
       c.in-Ok.ensures.read,
-      created clean _ (λ first. (c.in-Ok-open.ensures.opened first, c.in-Ok-open.ensures.found first)),
+      created clean _ c.in-Ok-open.ensures.ends.opened,
     ))
     c.create_and_close.ensures.created
 
 pub returns-in-Ok-open-clause-refused : goal.returns-in-Ok-open-clause-refused
 returns-in-Ok-open-clause-refused g c =
     IfErr-weaker c.create_and_close.result _ _ (λ e refused.
-    IfSome_then e.1 refused (λ left refused. refused _ (λ first. (c.in-Ok-open.ensures.opened first, c.in-Ok-open.ensures.found first))))
+    IfSome_then e.1 refused (λ left refused. refused _ c.in-Ok-open.ensures.ends.opened))
     c.create_and_close.ensures.refused

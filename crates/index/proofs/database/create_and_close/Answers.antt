@@ -4,13 +4,15 @@ use Rattle.index.proofs.database.create_and_close.Goals as goal
 
 pub returns-in-Ok-close-clause-created : goal.returns-in-Ok-close-clause-created
 returns-in-Ok-close-clause-created g c = λ clean start first.
-    let made = c.in-Ok in
+    let conn = c.in-Ok.conn in
+    let made = c.in-Ok.ensures.made in
     let copied = c.in-Ok-close.ensures.copied clean in
-    let working = working_of made.conn c.in-Ok-close.files copied in
-    let opening = first (made.ensures.working working).clean in
-    created_by _ start c.args.conn made.conn c.in-Ok-close.files opening.0 opening.1 made.ensures.free (made.ensures.created working) copied
+    let working = working_of conn c.in-Ok-close.files copied in
+    let opening = first (made.was_working working).clean in
+    created_by _ start c.args.conn conn c.in-Ok-close.files opening.0 opening.1 made.free (made.committed working) copied
 
 pub returns-in-Err-clause-refused : goal.returns-in-Err-clause-refused
 returns-in-Err-clause-refused g c = λ start first is_open.
-    let opening = first (c.in-Err.ensures.clean_refused is_open) in
-    refused_by MakesNothing start c.args.conn c.in-Err.left.conn opening.0 opening.1 (c.in-Err.ensures.refused is_open)
+    let leaves = c.in-Err.ensures.refused is_open in
+    let opening = first leaves.was_clean in
+    refused_by MakesNothing start c.args.conn c.in-Err.left.conn opening.0 opening.1 leaves

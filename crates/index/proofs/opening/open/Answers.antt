@@ -1,8 +1,9 @@
-use Rattle.std.proofs.Common.{ℕ, Bool, true, false, List, cond, ap₂}
+use Rattle.std.proofs.Common.{ℕ, Bool, true, false, List, IfSome, cond, ap₂, rules}
 use Rattle.std.proofs.lemmas.Option.{IfSome_then}
 use Rattle.sqlite.specs.Recovery.{Image}
 use Rattle.sqlite.specs.WalFiles.{image_at}
 use Rattle.sqlite_disk.specs.Events.{Event, replay}
+use Rattle.index.specs.Runs.{LeavesShut}
 use Rattle.index.proofs.RunLemmas.{settled_leaves, shut_by}
 use Rattle.index.proofs.opening.open.Goals as goal
 
@@ -12,10 +13,10 @@ image log db = record { log = log; db = db }
 abbrev seen : List ℕ → List ℕ → Bool → List Event → List ℕ
 seen log db is_log history = (replay (cond is_log log db) history).seen
 
-pub returns-in-Err-clause-shut : goal.returns-in-Err-clause-shut
-returns-in-Err-clause-shut g c =
+pub returns-in-Err : goal.returns-in-Err
+returns-in-Err g c =
     let start = g.S.Start in
-    IfSome_then c.in-Err.left c.in-Err.ensures.cause (λ left cause clean.
+    let shut : IfSome c.in-Err.left (LeavesShut (image_at start)) = IfSome_then c.in-Err.left c.in-Err.ensures.cause (λ left cause clean.
     let files = cause.0 in
     let log = cause.1 in
     let db = cause.2 in
@@ -23,4 +24,8 @@ returns-in-Err-clause-shut g c =
     (λ now may. ap₂ image
     (settled_leaves start.is_mixing start.log start.db files.log.is_log true files.log.key files.log.calls.log.events now.log log.0 log.1 may.0)
     (settled_leaves start.is_mixing start.log start.db files.db.is_log false files.db.key files.db.calls.log.events now.db db.0 db.1 may.1))
-    (cause.3 clean).1)
+    (cause.3 clean).1) in
+    record { ends = record { outside = tt; opened = tt; shut = shut } }
+
+pub returns-in-Ok : goal.returns-in-Ok
+returns-in-Ok g c = record { ends = record { outside = search rules; opened = λ clean. (search rules, search rules); shut = tt } }
