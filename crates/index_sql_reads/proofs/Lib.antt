@@ -3,3 +3,4 @@ pub mod WalkLemmas
 pub mod QueryLemmas
 pub mod EndLemmas
 pub mod HeldLemmas
+pub mod ReleaseLemmas

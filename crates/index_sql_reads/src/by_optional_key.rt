@@ -157,6 +157,7 @@ pub(crate) fn yank_at<S: Alter>(
 
 /// Whether the name has an undeleted file of the release.
 pub(crate) fn release_at<S: Alter>(
+    alloc: Global,
     conn: &mut IndexConnection<S>,
     name: &Option<NormalName>,
     release: &Option<Release>,
@@ -165,7 +166,7 @@ pub(crate) fn release_at<S: Alter>(
         (λ T. of_both (has_release_in T) name.now release.now) }
 {
     match (name, release) {
-        (Some(name), Some(release)) => has_release(conn, name, release),
+        (Some(name), Some(release)) => has_release(alloc, conn, name, release),
         _ => Ok(false),
     }
 }

@@ -1,7 +1,8 @@
 //! Look-ups of files and releases.
+ghost use Rattle.std.specs.Prelude.{◌≡◌, true};
 ghost use Rattle.std.specs.FinMap.{get};
-ghost use Rattle.index_rules.specs.Facts.{has_release_in, is_banned_in, yank_in};
-ghost use Rattle.index_sql_reads.specs.Finds.{Finds};
+ghost use Rattle.index_rules.specs.Facts.{has_release_in, is_banned_in, is_undeleted_of_release, yank_in};
+ghost use Rattle.index_sql_reads.specs.Finds.{Finds, FindsInTables};
 
 use crate::from_row::{first, has_row};
 use index_names::{FileName, NormalName, Release};
@@ -48,8 +49,67 @@ pub(crate) fn find_yank<S: Alter>(
     first(alloc, rows.as_slice())
 }
 
-/// Whether the name has an undeleted file of the release.
+/// Whether the name has an undeleted file of the release. The source archive and the wheel for any system are looked for
+/// first, as build tools name them (PEP 625, PEP 427): the search behind that goes over all files of the name.
 pub(crate) fn has_release<S: Alter>(
+    alloc: Global,
+    conn: &mut IndexConnection<S>,
+    name: &NormalName,
+    release: &Release,
+) -> Result<bool, Fault>
+    ensures { Finds S.Store conn.old conn.new result
+        (λ T. has_release_in T name.now release.now) }
+{
+    if has_usual_file(alloc, conn, name, release, b".tar.gz")? {
+        return Ok(true);
+    }
+    if has_usual_file(alloc, conn, name, release, b"-py3-none-any.whl")? {
+        return Ok(true);
+    }
+    let found = has_any_file(conn, name, release)?;
+    Ok(found)
+}
+
+/// Whether the file of the release whose name ends so is there and undeleted.
+fn has_usual_file<S: Alter>(
+    alloc: Global,
+    conn: &mut IndexConnection<S>,
+    name: &NormalName,
+    release: &Release,
+    end: &[u8],
+) -> Result<bool, Fault>
+    ensures { FindsInTables S.Store conn.old conn.new result
+        (λ T it. it ≡ true → has_release_in T name.now release.now ≡ true) }
+{
+    let Some(file) = usual_name(alloc, name, release, end) else {
+        return Ok(false);
+    };
+    match find_file(alloc, conn, &file)? {
+        Some(file) => Ok(is_undeleted_of(&file, name, release)),
+        None => Ok(false),
+    }
+}
+
+fn is_undeleted_of(file: &FileRecord, name: &NormalName, release: &Release) -> bool
+    ensures { result ≡ is_undeleted_of_release name.now release.now file.now }
+{
+    file.is_undeleted && *name == file.project && *release == file.release
+}
+
+/// The name that build tools give the file of the release that ends so, where there is memory for it.
+fn usual_name(alloc: Global, name: &NormalName, release: &Release, end: &[u8]) -> Option<FileName> {
+    let mut text = Vec::new(alloc);
+    for &byte in name.text().as_bytes() {
+        text.push(if byte == b'-' { b'_' } else { byte }).ok()?;
+    }
+    text.push(b'-').ok()?;
+    text.extend_from_slice(release.text().as_bytes()).ok()?;
+    text.extend_from_slice(end).ok()?;
+    FileName::read(alloc, text.as_slice()).ok()
+}
+
+/// Whether any file of the name is undeleted and of the release.
+fn has_any_file<S: Alter>(
     conn: &mut IndexConnection<S>,
     name: &NormalName,
     release: &Release,

@@ -96,7 +96,7 @@ fn see_files<S: Alter>(
 ) -> Result<FilesSeen, Fault>
     ensures { FindsInTables S.Store conn.old conn.new result (λ T. SeesFiles T keys.now) }
 {
-    let has_release = release_at(conn, &keys.name, &keys.release)?;
+    let has_release = release_at(alloc, conn, &keys.name, &keys.release)?;
     let is_banned = ban_at(conn, &keys.file)?;
     let file = file_at(alloc, conn, &keys.file)?;
     let yank = yank_at(alloc, conn, &keys.name, &keys.release)?;

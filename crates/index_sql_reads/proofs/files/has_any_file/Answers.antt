@@ -4,7 +4,7 @@ use Rattle.index_rules.specs.Facts.{has_release_in}
 use Rattle.index_sql_schema.specs.StatementTexts.{select_release_text}
 use Rattle.index_sql_schema.proofs.SelectRelease as statement
 use Rattle.index_sql_reads.proofs.FindsLemmas.{fails_query, finds_told}
-use Rattle.index_sql_reads.proofs.files.has_release.Goals as goal
+use Rattle.index_sql_reads.proofs.files.has_any_file.Goals as goal
 
 pub look-requires : goal.look-requires
 look-requires g c = record { plain = statement.is_plain }
