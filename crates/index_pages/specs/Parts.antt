@@ -1,8 +1,8 @@
 -- What is still to be written of each page: by whether it is in JSON, whether a row came, the releases so far, and the rows that are still to come.
-use Rattle.std.specs.Prelude.{Bool, true, false, List, [], ◌∷◌, ◌++◌, map, codes, Option, Some, None, if◌then◌else◌, ◌==◌, length}
+use Rattle.std.specs.Prelude.{ℕ, Bool, true, false, List, [], ◌∷◌, ◌++◌, map, codes, Option, Some, None, if◌then◌else◌, ◌==◌, length}
 use Rattle.std.specs.List.{flat_map}
 use Rattle.json.specs.Print.{quoted}
-use Rattle.serde_json.specs.Data.{Data, string}
+use Rattle.serde_json.specs.Data.{Data, number, string, unsigned}
 use Rattle.serde_json.specs.View.{items_of}
 use Rattle.serde_json.specs.Written.{compact_text, comma_if, items_text}
 use Rattle.index_rules.specs.Maps.{Bytes}
@@ -11,7 +11,7 @@ use Rattle.index_rules.specs.declared.records.NameRecord.TheVariants.{Held, Proh
 use Rattle.index_rules.specs.declared.rows.FileRow.{FileRow}
 use Rattle.index_rules.specs.declared.rows.NameRow.{NameRow}
 use Rattle.index_pages.specs.Html.{bottom, file_anchor, name_anchor, project_top, root_top}
-use Rattle.index_pages.specs.Json.{file_data, hashes, name_data, reason_data}
+use Rattle.index_pages.specs.Json.{file_data, hashes, name_data, reason_data, url_of}
 use Rattle.index_pages.specs.Versions.{with_releases}
 
 -- a text that stands before the first row
@@ -36,13 +36,25 @@ json_text text = compact_text (string text)
 abbrev pub later_member : Bytes → Data → Bytes
 later_member key value = 44 ∷ (quoted key ++ 58 ∷ compact_text value)
 
+-- the member of the digest
+abbrev pub hashes_text : Bytes → Bytes
+hashes_text digest = later_member (codes "hashes") (hashes digest)
+
+-- the member of the size
+abbrev pub size_text : ℕ → Bytes
+size_text size = later_member (codes "size") (number (unsigned size))
+
+-- the member of where a file is served
+abbrev pub url_text : Bytes → Bytes → Bytes
+url_text project file = later_member (codes "url") (string (url_of project file))
+
 -- the member of the Python versions, left out where nothing was declared
 abbrev pub requires_text : Bytes → Bytes
 requires_text requires = if length requires == 0 then [] else later_member (codes "requires-python") (string requires)
 
 -- a file up to its size
 abbrev pub file_front : FileRow → Bytes
-file_front row = codes "{\"filename\":" ++ (json_text row.file ++ (later_member (codes "hashes") (hashes row.digest) ++ requires_text row.requires_python))
+file_front row = codes "{\"filename\":" ++ (json_text row.file ++ (hashes_text row.digest ++ requires_text row.requires_python))
 
 -- the member of the reason, left out where the file is not yanked
 abbrev pub yanked_text : Option Bytes → Bytes
@@ -52,6 +64,10 @@ yanked_text (Some reason) = later_member (codes "yanked") (reason_data reason)
 -- what stands before the files
 unfoldable pub files_top : Bytes
 files_top = codes "{\"files\":["
+
+-- the text of a file, behind what stands before it
+abbrev pub file_line : Bytes → Bool → FileRow → Bytes
+file_line project is_started row = once is_started files_top ++ (comma_if is_started ++ file_text project row)
 
 -- the releases behind those that stand already, and the bracket behind them
 abbrev pub releases_text : Bool → List Bytes → Bytes

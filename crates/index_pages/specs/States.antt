@@ -1,5 +1,5 @@
 -- A page that is written row by row, as contracts see it.
-use Rattle.std.specs.Prelude.{◌≡◌, ℕ, ◌<◌, List, ◌++◌, length, Option, Some, None, IsSome, Result, Ok, Err, option_map}
+use Rattle.std.specs.Prelude.{◌≡◌, ℕ, ◌<◌, List, [], ◌++◌, length, Option, Some, None, IsSome, Result, Ok, Err, option_map}
 use Rattle.std.specs.Borrow.{MutBor}
 use Rattle.std.specs.Io.KnownBytes.{Appends}
 use Rattle.index_io.specs.declared.sink.Sink.{Ghosts}
@@ -7,16 +7,11 @@ use Rattle.index_rules.specs.Maps.{Bytes}
 use Rattle.index_rules.specs.Rows.{StoppedAt, WasGiven}
 use Rattle.index_rules.specs.declared.answer.Fault.{Fault}
 use Rattle.index_rules.specs.declared.answer.Fault.TheVariants as fault
-use Rattle.index_rules.specs.declared.rows.FileRow.{FileRow}
-use Rattle.index_rules.specs.declared.rows.NameRow.{NameRow}
-use Rattle.index_pages.specs.Parts.{project_rest, root_rest}
-use Rattle.index_pages.specs.Rest.{Rest}
-use Rattle.index_pages.specs.Ends.{SinkState, SendsRow, SendsRowFront, count_of, most_bytes, WritesPage, Measures}
+use Rattle.index_pages.specs.Rest.{Rest, IsWholeOf}
+use Rattle.index_pages.specs.Ends.{SinkState, Closes, SendsRow, SendsRowFront, count_of, most_bytes, WritesPage, Measures}
 use Rattle.index_pages.specs.declared.end.PageEnd.{PageEnd}
 use Rattle.index_pages.specs.declared.end.PageEnd.TheVariants.{OutOfMemory, Store}
 use Rattle.index_pages.specs.declared.length.PageLength.{PageLength}
-use Rattle.index_pages.specs.declared.project.ProjectPage.{ProjectPage}
-use Rattle.index_pages.specs.declared.root.RootPage.{RootPage}
 use Rattle.index_pages.specs.declared.text.PageText.{PageText}
 
 -- a sink by what it has and how many of its writes failed
@@ -33,15 +28,6 @@ pub record TextState (R : Type 0) : Type 0 where
 -- a page by its four parts
 abbrev pub text_state : {R : Type 0} → Rest R → SinkState → ℕ → Option PageEnd → TextState R
 text_state rest sink written end = record { rest = rest; sink = sink; written = written; end = end }
-
--- what a page of the names still has before it, by the rows that are still to come
-abbrev pub root_left : RootPage → Bytes → Rest NameRow
-root_left page name = root_rest page.as_json page.is_started
-
--- the same of the page of a project
-abbrev pub project_page_rest : ProjectPage → Bytes → Rest FileRow
-project_page_rest page project =
-    project_rest page.as_json project page.is_started page.releases.keys
 
 -- a page, by what one of its kind still has before it
 abbrev pub page_state : {K P R X : Type 0} → Ghosts K → (P → Bytes → Rest X) → PageText K P R → TextState X
@@ -82,7 +68,7 @@ pub record IsFresh {R : Type 0} (start : TextState R) : Type 0 where
 pub record Begins {K P R X : Type 0} (g : Ghosts K) (rest : P → Bytes → Rest X) (page : PageText K P R) (into : MutBor K) (whole : Rest X) : Type 0 where
   pub sink : page.sink.ghost_name ≡ into.ghost_name
   pub kept : page.sink.now ≡ into.now
-  pub whole_page : (rows : List X) → (page_state g rest page).rest rows ≡ whole rows
+  pub whole_page : IsWholeOf (page_state g rest page).rest whole
   pub fresh : IsFresh (page_state g rest page)
 
 -- where these rows were given to a fresh page, what was made of it is so
@@ -114,6 +100,47 @@ abbrev pub StopsPage : {R : Type 0} → TextState R → SinkState → Result ℕ
 StopsPage {R} now after result = (start : TextState R) (rows : List R) → IsFresh start → StoppedAt TakesText StopsText rows start now
     → (end : PageEnd) × (result ≡ Err end) × IsFront start.rest rows start.sink.contents after.contents (count_of end)
 
+-- ---- pages that are written
+
+-- a page that is written sent the text of a row
+abbrev pub PageSends : {K P R X : Type 0} → Ghosts K → (P → Bytes → Rest X) → PageText K P R → X → PageText K P R → ℕ → Type 0
+PageSends g rest before row after = SendsRowOf (page_state g rest before) row (page_state g rest after)
+
+-- it sent a front of that, and then ended
+abbrev pub PageCuts : {K P R X : Type 0} → Ghosts K → (P → Bytes → Rest X) → PageText K P R → X → PageText K P R → PageEnd → Type 0
+PageCuts g rest before row after = CutsRowOf (page_state g rest before) row (page_state g rest after)
+
+-- it took a row, and writes to the same sink
+abbrev pub PageTakes : {K P R X : Type 0} → Ghosts K → (P → Bytes → Rest X) → PageText K P R → X → PageText K P R → Type 0
+PageTakes g rest before row after =
+    (after.sink.ghost_name ≡ before.sink.ghost_name) × TakesText (page_state g rest before) row (page_state g rest after)
+
+-- it did not take it, and has the same sink
+abbrev pub PageStops : {K P R X : Type 0} → Ghosts K → (P → Bytes → Rest X) → PageText K P R → X → PageText K P R → Type 0
+PageStops g rest before row after =
+    (after.sink.ghost_name ≡ before.sink.ghost_name) × StopsText (page_state g rest before) row (page_state g rest after)
+
+-- a text that follows the first bytes of a page went out to a sink, or a front of it
+abbrev pub ClosesInto : {K : Type 0} → Ghosts K → K → K → Bytes → ℕ → Result ℕ PageEnd → Type 0
+ClosesInto g before after text = Closes text (state_of g before) (state_of g after)
+
+-- where it had not ended, so did what stands behind its rows
+abbrev pub PageCloses : {K P R X : Type 0} → Ghosts K → (P → Bytes → Rest X) → PageText K P R → K → Result ℕ PageEnd → Type 0
+PageCloses g rest page after result =
+    page.end ≡ None → ClosesInto g page.sink.now after (rest page.page page.name.now []) page.written result
+
+-- where it had ended, that end is told and the sink is as it was
+abbrev pub PageStaysEnded : {K P R : Type 0} → PageText K P R → K → Result ℕ PageEnd → Type 0
+PageStaysEnded page after result = (end : PageEnd) → page.end ≡ Some end → (result ≡ Err end) × (after ≡ page.sink.now)
+
+-- it ends so, with its sink as that is then
+abbrev pub PageEnds : {K P R X : Type 0} → Ghosts K → (P → Bytes → Rest X) → PageText K P R → K → Result ℕ PageEnd → Type 0
+PageEnds g rest page after result = EndsPage (page_state g rest page) (state_of g after) result
+
+-- where it did not take a row it ends so
+abbrev pub PageEndsStopped : {K P R X : Type 0} → Ghosts K → (P → Bytes → Rest X) → PageText K P R → K → Result ℕ PageEnd → Type 0
+PageEndsStopped g rest page after result = StopsPage (page_state g rest page) (state_of g after) result
+
 -- ---- lengths
 
 -- nothing is written where a length alone is asked
@@ -138,9 +165,34 @@ length_state rest length end = text_state rest no_sink length (option_map (end_a
 abbrev pub count_state : {P X : Type 0} → (P → Bytes → Rest X) → PageLength P → TextState X
 count_state rest page = length_state (rest page.page page.name.now) page.length page.end
 
+-- it counted the text of a row
+abbrev pub CountSends : {P X : Type 0} → (P → Bytes → Rest X) → PageLength P → X → PageLength P → ℕ → Type 0
+CountSends rest before row after = SendsRowOf (count_state rest before) row (count_state rest after)
+
+-- it counted a front of that, and then ended
+abbrev pub CountCuts : {P X : Type 0} → (P → Bytes → Rest X) → PageLength P → X → PageLength P → Fault → Type 0
+CountCuts rest before row after fault =
+    CutsRowOf (count_state rest before) row (count_state rest after) (end_at before.length fault)
+
+-- it took a row
+abbrev pub CountTakes : {P X : Type 0} → (P → Bytes → Rest X) → PageLength P → X → PageLength P → Type 0
+CountTakes rest before row after = TakesText (count_state rest before) row (count_state rest after)
+
+-- it did not take it
+abbrev pub CountStops : {P X : Type 0} → (P → Bytes → Rest X) → PageLength P → X → PageLength P → Type 0
+CountStops rest before row after = StopsText (count_state rest before) row (count_state rest after)
+
+-- a text that follows the first bytes of a page was counted, of which so many were
+abbrev pub Counts : Bytes → ℕ → Result ℕ Fault → Type 0
+Counts text length result = Closes text no_sink no_sink length (ended_at length result)
+
+-- where the count had not ended, what stands behind the rows was counted
+abbrev pub CountCloses : {P X : Type 0} → (P → Bytes → Rest X) → PageLength P → Result ℕ Fault → Type 0
+CountCloses rest page result = page.end ≡ None → Counts (rest page.page page.name.now []) page.length result
+
 -- a count of which nothing was counted, and by any rows it is that of the whole page of these
 pub record BeginsCount {P X : Type 0} (rest : P → Bytes → Rest X) (page : PageLength P) (whole : Rest X) : Type 0 where
-  pub whole_page : (rows : List X) → (count_state rest page).rest rows ≡ whole rows
+  pub whole_page : IsWholeOf (count_state rest page).rest whole
   pub fresh : IsFresh (count_state rest page)
 
 -- the length of the page of the rows that were given

@@ -27,6 +27,10 @@ best_from served best (item ∷ items) = best_from served (better best (claim se
 abbrev pub shown : code.Item → Item
 shown item = record { range = item.range.now; quality = item.quality }
 
+-- the pieces of what stands behind a separator, where there is one
+abbrev pub rest_cut_at : ℕ → Option (Bor (List ℕ)) → List (List ℕ)
+rest_cut_at separator left = option_map_or (λ rest. cut_at separator rest.now) left []
+
 -- the pieces that are left of an item
 abbrev pub pieces_left : Option (Bor (List ℕ)) → List (List ℕ)
 pieces_left left = option_map_or (λ rest. map trim (cut_at (byte ";") rest.now)) left []

@@ -1,5 +1,4 @@
 //! Pieces at the end of a text.
-ghost use Rattle.std.specs.Prelude.{OnOk};
 ghost use Rattle.index_pages.specs.Html.{escape, escape_byte, text_of_pieces};
 ghost use Rattle.index_pages.specs.Pieces.{Adds};
 
@@ -8,7 +7,7 @@ use std::alloc::AllocError;
 
 /// Adds the pieces in turn.
 pub fn append<O: Pieces>(out: &mut O, pieces: &[&[u8]]) -> Result<(), AllocError>
-    ensures { OnOk result (Adds O.holds out.old out.new (text_of_pieces pieces.now)) }
+    ensures { Adds O.holds out.old out.new result (text_of_pieces pieces.now) }
 {
     for piece in pieces {
         out.put(piece)?;
@@ -19,7 +18,7 @@ pub fn append<O: Pieces>(out: &mut O, pieces: &[&[u8]]) -> Result<(), AllocError
 /// Adds a text or an attribute's value, with `&`, `<`, `>` and `"` escaped.
 #[tactic(auto, unfolding(crate::specs::Html::escape))]
 pub fn append_escaped<O: Pieces>(out: &mut O, text: &[u8]) -> Result<(), AllocError>
-    ensures { OnOk result (Adds O.holds out.old out.new (escape text.now)) }
+    ensures { Adds O.holds out.old out.new result (escape text.now) }
 {
     for byte in text {
         append_escaped_byte(out, *byte)?;
@@ -28,7 +27,7 @@ pub fn append_escaped<O: Pieces>(out: &mut O, text: &[u8]) -> Result<(), AllocEr
 }
 
 fn append_escaped_byte<O: Pieces>(out: &mut O, byte: u8) -> Result<(), AllocError>
-    ensures { OnOk result (Adds O.holds out.old out.new (escape_byte byte)) }
+    ensures { Adds O.holds out.old out.new result (escape_byte byte) }
 {
     match byte {
         b'&' => out.put(b"&amp;"),

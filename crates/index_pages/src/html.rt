@@ -1,5 +1,4 @@
 //! The texts of HTML pages.
-ghost use Rattle.std.specs.Prelude.{OnOk};
 ghost use Rattle.index_pages.specs.Html.{attribute, bottom, file_anchor, name_anchor, project_top, reference, requires_attribute, root_top, yanked_attribute};
 ghost use Rattle.index_pages.specs.Pieces.{Adds};
 
@@ -17,7 +16,7 @@ const HEAD: &[u8] =
 /// What stands before the files of a project.
 #[tactic(auto, unfolding(crate::specs::Html::project_top, crate::specs::Html::head))]
 pub fn append_project_top<O: Pieces>(out: &mut O, project: &[u8]) -> Result<(), AllocError>
-    ensures { OnOk result (Adds O.holds out.old out.new (project_top project.now)) }
+    ensures { Adds O.holds out.old out.new result (project_top project.now) }
 {
     append(
         out,
@@ -35,21 +34,21 @@ pub fn append_project_top<O: Pieces>(out: &mut O, project: &[u8]) -> Result<(), 
 /// What stands before the names.
 #[tactic(auto, unfolding(crate::specs::Html::root_top, crate::specs::Html::head))]
 pub fn append_root_top<O: Pieces>(out: &mut O) -> Result<(), AllocError>
-    ensures { OnOk result (Adds O.holds out.old out.new root_top) }
+    ensures { Adds O.holds out.old out.new result root_top }
 {
     append(out, &[HEAD, b"Simple index</title>\n</head>\n<body>\n"])
 }
 
 /// What stands behind the rows.
 pub fn append_bottom<O: Pieces>(out: &mut O) -> Result<(), AllocError>
-    ensures { OnOk result (Adds O.holds out.old out.new bottom) }
+    ensures { Adds O.holds out.old out.new result bottom }
 {
     append(out, &[b"</body>\n</html>\n"])
 }
 
 /// The line of a held name.
 pub fn append_name<O: Pieces>(out: &mut O, name: &[u8], shown: &[u8]) -> Result<(), AllocError>
-    ensures { OnOk result (Adds O.holds out.old out.new (name_anchor name.now shown.now)) }
+    ensures { Adds O.holds out.old out.new result (name_anchor name.now shown.now) }
 {
     append(out, &[b"<a href=\"/simple/", name, b"/\">"])?;
     append_escaped(out, shown)?;
@@ -59,7 +58,7 @@ pub fn append_name<O: Pieces>(out: &mut O, name: &[u8], shown: &[u8]) -> Result<
 
 /// The line of a file.
 pub fn append_file<O: Pieces>(out: &mut O, project: &[u8], row: &FileRow) -> Result<(), AllocError>
-    ensures { OnOk result (Adds O.holds out.old out.new (file_anchor project.now row.now)) }
+    ensures { Adds O.holds out.old out.new result (file_anchor project.now row.now) }
 {
     append_reference(out, project, row.file.text().as_bytes(), &row.digest)?;
     append_requires(out, row.requires_python.as_str().as_bytes())?;
@@ -75,8 +74,7 @@ fn append_reference<O: Pieces>(
     file: &[u8],
     digest: &Digest256,
 ) -> Result<(), AllocError>
-    ensures { OnOk result
-        (Adds O.holds out.old out.new (reference project.now file.now digest.now)) }
+    ensures { Adds O.holds out.old out.new result (reference project.now file.now digest.now) }
 {
     let mut digits = [0u8; 64];
     digest.hex_into(&mut digits);
@@ -87,7 +85,7 @@ fn append_reference<O: Pieces>(
 }
 
 fn append_requires<O: Pieces>(out: &mut O, requires_python: &[u8]) -> Result<(), AllocError>
-    ensures { OnOk result (Adds O.holds out.old out.new (requires_attribute requires_python.now)) }
+    ensures { Adds O.holds out.old out.new result (requires_attribute requires_python.now) }
 {
     if requires_python.is_empty() {
         return Ok(());
@@ -96,7 +94,7 @@ fn append_requires<O: Pieces>(out: &mut O, requires_python: &[u8]) -> Result<(),
 }
 
 fn append_yanked<O: Pieces>(out: &mut O, yanked: &Option<Text>) -> Result<(), AllocError>
-    ensures { OnOk result (Adds O.holds out.old out.new (yanked_attribute yanked.now)) }
+    ensures { Adds O.holds out.old out.new result (yanked_attribute yanked.now) }
 {
     match yanked {
         Some(reason) => append_attribute(out, b"data-yanked", reason.as_str().as_bytes()),
@@ -105,7 +103,7 @@ fn append_yanked<O: Pieces>(out: &mut O, yanked: &Option<Text>) -> Result<(), Al
 }
 
 fn append_attribute<O: Pieces>(out: &mut O, name: &[u8], value: &[u8]) -> Result<(), AllocError>
-    ensures { OnOk result (Adds O.holds out.old out.new (attribute name.now value.now)) }
+    ensures { Adds O.holds out.old out.new result (attribute name.now value.now) }
 {
     append(out, &[b" ", name, b"=\""])?;
     append_escaped(out, value)?;

@@ -1,9 +1,7 @@
 //! A file of a project in JSON, member by member. The keys stand in byte order, and each has its comma before it.
-ghost use Rattle.std.specs.Prelude.{codes, OnOk};
-ghost use Rattle.serde_json.specs.Data.{number, string, unsigned};
 ghost use Rattle.serde_json.specs.Written.{comma_if, compact_text};
-ghost use Rattle.index_pages.specs.Json.{hashes, reason_data, url_of};
-ghost use Rattle.index_pages.specs.Parts.{file_front, file_text, later_member, requires_text, yanked_text};
+ghost use Rattle.index_pages.specs.Json.{reason_data};
+ghost use Rattle.index_pages.specs.Parts.{file_front, file_text, hashes_text, requires_text, size_text, url_text, yanked_text};
 ghost use Rattle.index_pages.specs.Pieces.{Adds};
 
 use crate::bytes::append;
@@ -17,7 +15,7 @@ use std::alloc::AllocError;
 
 /// A comma, where something stands before it.
 pub fn append_comma<O: Pieces>(out: &mut O, is_later: bool) -> Result<(), AllocError>
-    ensures { OnOk result (Adds O.holds out.old out.new (comma_if is_later)) }
+    ensures { Adds O.holds out.old out.new result (comma_if is_later) }
 {
     if !is_later {
         return Ok(());
@@ -31,7 +29,7 @@ pub fn append_json_file<O: Pieces>(
     project: &str,
     row: &FileRow,
 ) -> Result<(), AllocError>
-    ensures { OnOk result (Adds O.holds out.old out.new (file_text project.now row.now)) }
+    ensures { Adds O.holds out.old out.new result (file_text project.now row.now) }
 {
     append_front(out, row)?;
     append_size(out, row.size)?;
@@ -43,7 +41,7 @@ pub fn append_json_file<O: Pieces>(
 
 /// A file up to its size.
 fn append_front<O: Pieces>(out: &mut O, row: &FileRow) -> Result<(), AllocError>
-    ensures { OnOk result (Adds O.holds out.old out.new (file_front row.now)) }
+    ensures { Adds O.holds out.old out.new result (file_front row.now) }
 {
     out.put(b"{\"filename\":")?;
     append_json_text(out, row.file.text())?;
@@ -53,8 +51,7 @@ fn append_front<O: Pieces>(out: &mut O, row: &FileRow) -> Result<(), AllocError>
 }
 
 fn append_hashes<O: Pieces>(out: &mut O, digest: &Digest256) -> Result<(), AllocError>
-    ensures { OnOk result
-        (Adds O.holds out.old out.new (later_member (codes "hashes") (hashes digest.now))) }
+    ensures { Adds O.holds out.old out.new result (hashes_text digest.now) }
 {
     let mut digits = [0u8; 64];
     digest.hex_into(&mut digits);
@@ -63,7 +60,7 @@ fn append_hashes<O: Pieces>(out: &mut O, digest: &Digest256) -> Result<(), Alloc
 }
 
 fn append_requires<O: Pieces>(out: &mut O, requires_python: &str) -> Result<(), AllocError>
-    ensures { OnOk result (Adds O.holds out.old out.new (requires_text requires_python.now)) }
+    ensures { Adds O.holds out.old out.new result (requires_text requires_python.now) }
 {
     if requires_python.is_empty() {
         return Ok(());
@@ -74,8 +71,7 @@ fn append_requires<O: Pieces>(out: &mut O, requires_python: &str) -> Result<(), 
 }
 
 fn append_size<O: Pieces>(out: &mut O, size: u64) -> Result<(), AllocError>
-    ensures { OnOk result
-        (Adds O.holds out.old out.new (later_member (codes "size") (number (unsigned size)))) }
+    ensures { Adds O.holds out.old out.new result (size_text size) }
 {
     let mut digits = Buffer::new();
     out.put(b",\"size\":")?;
@@ -84,8 +80,7 @@ fn append_size<O: Pieces>(out: &mut O, size: u64) -> Result<(), AllocError>
 }
 
 fn append_url<O: Pieces>(out: &mut O, project: &str, file: &str) -> Result<(), AllocError>
-    ensures { let url = url_of project.now file.now in OnOk result
-        (Adds O.holds out.old out.new (later_member (codes "url") (string url))) }
+    ensures { Adds O.holds out.old out.new result (url_text project.now file.now) }
 {
     out.put(b",\"url\":\"/files/")?;
     append_json_escaped(out, project.as_bytes())?;
@@ -96,7 +91,7 @@ fn append_url<O: Pieces>(out: &mut O, project: &str, file: &str) -> Result<(), A
 }
 
 fn append_yanked<O: Pieces>(out: &mut O, yanked: &Option<Text>) -> Result<(), AllocError>
-    ensures { OnOk result (Adds O.holds out.old out.new (yanked_text yanked.now)) }
+    ensures { Adds O.holds out.old out.new result (yanked_text yanked.now) }
 {
     let Some(reason) = yanked else {
         return Ok(());
@@ -108,7 +103,7 @@ fn append_yanked<O: Pieces>(out: &mut O, yanked: &Option<Text>) -> Result<(), Al
 
 /// The reason as a text, or true where it is empty.
 fn append_reason<O: Pieces>(out: &mut O, reason: &str) -> Result<(), AllocError>
-    ensures { OnOk result (Adds O.holds out.old out.new (compact_text (reason_data reason.now))) }
+    ensures { Adds O.holds out.old out.new result (compact_text (reason_data reason.now)) }
 {
     if reason.is_empty() {
         out.put(b"true")

@@ -1,9 +1,9 @@
 //! The length of a page, row by row.
-ghost use Rattle.std.specs.Prelude.{◌≡◌, [], false, Err, None, Some, IfErr, IfOk, IsTrue, length as text_length};
+ghost use Rattle.std.specs.Prelude.{◌≡◌, [], false, Err, Some, IfErr, IfOk, IsTrue, length as text_length};
 ghost use Rattle.index_rules.specs.Maps.{Bytes};
-ghost use Rattle.index_pages.specs.Ends.{Closes};
+ghost use Rattle.index_pages.specs.Left.{project_left, root_left};
 ghost use Rattle.index_pages.specs.Pages.{project_page_of, root_page_of};
-ghost use Rattle.index_pages.specs.States.{count_state, end_at, ended_at, no_sink, project_page_rest, root_left, BeginsCount, CutsRowOf, MeasuresGivenRows, SendsRowOf, StopsLength, StopsText, TakesText};
+ghost use Rattle.index_pages.specs.States.{count_state, BeginsCount, CountCloses, CountCuts, Counts, CountSends, CountStops, CountTakes, MeasuresGivenRows, StopsLength};
 
 use crate::page::Page;
 use crate::pieces::Count;
@@ -42,7 +42,7 @@ impl<'p> PageLength<'p, ProjectPage> {
         name: &'p NormalName,
         served: Served,
     ) -> PageLength<'p, ProjectPage>
-        ensures { BeginsCount project_page_rest result (project_page_of served name.now) }
+        ensures { BeginsCount project_left result (project_page_of served name.now) }
     {
         PageLength::new(name.text(), ProjectPage::new(alloc, served))
     }
@@ -78,9 +78,7 @@ impl<'p, P: Page> PageLength<'p, P> {
     /// Counts what stands behind the rows, where the page has not ended.
     fn close(self) -> Result<u64, Fault>
         ensures ended { (end : _) → self.entry.end ≡ Some end → result ≡ Err end }
-        ensures closed { self.entry.end ≡ None
-            → Closes (P.rest self.entry.page self.entry.name.now []) no_sink no_sink
-            self.entry.length (ended_at self.entry.length result) }
+        ensures closed { CountCloses P.rest self.entry result }
     {
         let PageLength {
             name,
@@ -96,10 +94,8 @@ impl<'p, P: Page> PageLength<'p, P> {
 
     /// Counts the text of a row, or answers `false` where there is no count.
     fn take_row(&mut self, row: &P::Row) -> bool
-        ensures taken { IsTrue result → TakesText (count_state P.rest self.old) row.now
-            (count_state P.rest self.new) }
-        ensures stopped { result ≡ false → StopsText (count_state P.rest self.old) row.now
-            (count_state P.rest self.new) }
+        ensures taken { IsTrue result → CountTakes P.rest self.old row.now self.new }
+        ensures stopped { result ≡ false → CountStops P.rest self.old row.now self.new }
     {
         if self.end.is_some() {
             return false;
@@ -119,10 +115,8 @@ impl<'p, P: Page> PageLength<'p, P> {
     /// The length with the text of a row.
     fn add_row(&mut self, row: &P::Row) -> Result<u64, Fault>
         ensures kept { (self.new.length ≡ self.old.length) × (self.new.end ≡ self.old.end) }
-        ensures sent { IfOk result (SendsRowOf (count_state P.rest self.old) row.now
-            (count_state P.rest self.new)) }
-        ensures stopped { IfErr result (λ end. CutsRowOf (count_state P.rest self.old) row.now
-            (count_state P.rest self.new) (end_at self.old.length end)) }
+        ensures sent { IfOk result (CountSends P.rest self.old row.now self.new) }
+        ensures stopped { IfErr result (CountCuts P.rest self.old row.now self.new) }
     {
         let mut count = Count { bytes: 0 };
         self.page.append_row(self.name, row, &mut count)?;
@@ -131,13 +125,12 @@ impl<'p, P: Page> PageLength<'p, P> {
 }
 
 impl NameTaker for PageLength<'_, RootPage> {
-    ghost use Rattle.index_pages.specs.States.{count_state, root_left, StopsText, TakesText};
+    ghost use Rattle.index_pages.specs.Left.{root_left};
+    ghost use Rattle.index_pages.specs.States.{CountStops, CountTakes};
 
-    ghost takes = { λ before row after.
-        TakesText (count_state root_left before) row (count_state root_left after) };
+    ghost takes = { λ before row after. CountTakes root_left before row after };
 
-    ghost stops = { λ before row after.
-        StopsText (count_state root_left before) row (count_state root_left after) };
+    ghost stops = { λ before row after. CountStops root_left before row after };
 
     fn take(&mut self, row: &NameRow) -> bool {
         self.take_row(row)
@@ -145,13 +138,12 @@ impl NameTaker for PageLength<'_, RootPage> {
 }
 
 impl FileTaker for PageLength<'_, ProjectPage> {
-    ghost use Rattle.index_pages.specs.States.{count_state, project_page_rest, StopsText, TakesText};
+    ghost use Rattle.index_pages.specs.Left.{project_left};
+    ghost use Rattle.index_pages.specs.States.{CountStops, CountTakes};
 
-    ghost takes = { λ before row after.
-        TakesText (count_state project_page_rest before) row (count_state project_page_rest after) };
+    ghost takes = { λ before row after. CountTakes project_left before row after };
 
-    ghost stops = { λ before row after.
-        StopsText (count_state project_page_rest before) row (count_state project_page_rest after) };
+    ghost stops = { λ before row after. CountStops project_left before row after };
 
     fn take(&mut self, row: &FileRow) -> bool {
         self.take_row(row)
@@ -160,8 +152,7 @@ impl FileTaker for PageLength<'_, ProjectPage> {
 
 /// The length with one text more, by the count of its bytes.
 fn add(length: u64, count: Count) -> Result<u64, Fault>
-    ensures { (text : Bytes) → count.bytes ≡ text_length text
-        → Closes text no_sink no_sink length (ended_at length result) }
+    ensures { (text : Bytes) → count.bytes ≡ text_length text → Counts text length result }
 {
     match total(length, count.bytes) {
         Some(sum) => Ok(sum),
@@ -171,7 +162,7 @@ fn add(length: u64, count: Count) -> Result<u64, Fault>
 
 /// The length with what stands behind the rows.
 fn add_last<P: Page>(name: &str, page: &P, length: u64) -> Result<u64, Fault>
-    ensures { Closes (P.rest page.now name.now []) no_sink no_sink length (ended_at length result) }
+    ensures { Counts (P.rest page.now name.now []) length result }
 {
     let mut count = Count { bytes: 0 };
     page.append_last(name, &mut count)?;

@@ -1,5 +1,5 @@
 //! What has a text for each row.
-ghost use Rattle.std.specs.Prelude.{List, [], OnOk};
+ghost use Rattle.std.specs.Prelude.{List, []};
 ghost use Rattle.index_rules.specs.Maps.{Bytes};
 ghost use Rattle.index_pages.specs.Pieces.{Adds, AddsRow};
 
@@ -20,11 +20,9 @@ pub trait Page: Drop {
         row: &Self::Row,
         out: &mut O,
     ) -> Result<(), AllocError>
-        ensures { OnOk result
-            (AddsRow (rest self.old name.now) row.now (rest self.new name.now)
-            O.holds out.old out.new) };
+        ensures { AddsRow rest name.now self.old row.now self.new O.holds out.old out.new result };
 
     /// Adds the text behind the rows.
     fn append_last<O: Pieces>(&self, name: &str, out: &mut O) -> Result<(), AllocError>
-        ensures { OnOk result (Adds O.holds out.old out.new (rest self.now name.now [])) };
+        ensures { Adds O.holds out.old out.new result (rest self.now name.now []) };
 }

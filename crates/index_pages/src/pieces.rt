@@ -1,5 +1,5 @@
 //! What a text is put into, piece by piece: a buffer, or a count of its bytes.
-ghost use Rattle.std.specs.Prelude.{◌≡◌, OnOk};
+ghost use Rattle.std.specs.Prelude.{◌≡◌};
 ghost use Rattle.index_rules.specs.Maps.{Bytes};
 ghost use Rattle.index_pages.specs.Pieces.{Adds};
 
@@ -12,7 +12,7 @@ pub trait Pieces {
 
     /// Puts a piece behind the text.
     fn put(&mut self, piece: &[u8]) -> Result<(), AllocError>
-        ensures { OnOk result (Adds holds self.old self.new piece.now) };
+        ensures { Adds holds self.old self.new result piece.now };
 }
 
 impl Pieces for Vec<u8> {

@@ -1,12 +1,12 @@
 //! The page of a project.
-ghost use Rattle.std.specs.Prelude.{◌≡◌, ◌++◌, List, codes, false, OnOk};
+ghost use Rattle.std.specs.Prelude.{◌++◌, [], false};
 ghost use Rattle.serde_json.specs.Written.{comma_if};
-ghost use Rattle.index_rules.specs.Maps.{Bytes};
-ghost use Rattle.index_rules.specs.declared.rows.FileRow.{FileRow as FileRowData};
-ghost use Rattle.index_pages.specs.Html.{bottom, file_anchor, project_top};
+ghost use Rattle.index_pages.specs.Html.{project_top};
+ghost use Rattle.index_pages.specs.Left.{AddsFile, html_left, json_left, project_left};
 ghost use Rattle.index_pages.specs.Pages.{project_page_of};
-ghost use Rattle.index_pages.specs.Parts.{file_text, files_bottom, files_top, html_rest, json_rest, json_text, once, project_rest, releases_text};
-ghost use Rattle.index_pages.specs.Pieces.{Adds, AddsRow};
+ghost use Rattle.index_pages.specs.Parts.{file_line, files_bottom, files_top, json_text, once, project_rest, releases_text};
+ghost use Rattle.index_pages.specs.Pieces.{Adds};
+ghost use Rattle.index_pages.specs.Rest.{IsWholeOf};
 
 use crate::html::{append_bottom, append_file, append_project_top};
 use crate::json_file::{append_comma, append_json_file};
@@ -41,9 +41,7 @@ impl Drop for ProjectPage {
 impl ProjectPage {
     /// A page of which no file came. It takes no memory.
     pub(crate) fn new(alloc: Global, served: Served) -> ProjectPage
-        ensures { (project : Bytes) (rows : List FileRowData)
-            → project_rest result.as_json project result.is_started result.releases.keys rows
-            ≡ project_page_of served project rows }
+        ensures { (name : _) → IsWholeOf (project_left result name) (project_page_of served name) }
     {
         ProjectPage {
             as_json: served.is_json(),
@@ -58,11 +56,8 @@ impl ProjectPage {
         row: &FileRow,
         out: &mut O,
     ) -> Result<(), AllocError>
-        ensures kept { self.new.as_json ≡ self.old.as_json }
-        ensures next { OnOk result
-            (AddsRow (json_rest project.now self.old.is_started self.old.releases.keys) row.now
-            (json_rest project.now self.new.is_started self.new.releases.keys)
-            O.holds out.old out.new) }
+        ensures { AddsFile json_left project.now self.old row.now self.new
+            O.holds out.old out.new result }
     {
         self.releases.insert(row.release.clone()?)?;
         append_file_line(out, project, row, self.is_started)?;
@@ -76,10 +71,8 @@ impl ProjectPage {
         row: &FileRow,
         out: &mut O,
     ) -> Result<(), AllocError>
-        ensures kept { self.new.as_json ≡ self.old.as_json }
-        ensures next { OnOk result
-            (AddsRow (html_rest project.now self.old.is_started) row.now
-            (html_rest project.now self.new.is_started) O.holds out.old out.new) }
+        ensures { AddsFile html_left project.now self.old row.now self.new
+            O.holds out.old out.new result }
     {
         append_html_start(out, project, self.is_started)?;
         append_file(out, project.as_bytes(), row)?;
@@ -88,9 +81,7 @@ impl ProjectPage {
     }
 
     fn json_end<O: Pieces>(&self, project: &str, out: &mut O) -> Result<(), AllocError>
-        ensures { OnOk result (Adds O.holds out.old out.new
-            (once self.now.is_started files_top
-            ++ (codes "]" ++ files_bottom project.now self.now.releases.keys))) }
+        ensures { Adds O.holds out.old out.new result (json_left self.now project.now []) }
     {
         append_json_start(out, self.is_started)?;
         out.put(b"]")?;
@@ -99,8 +90,7 @@ impl ProjectPage {
     }
 
     fn html_end<O: Pieces>(&self, project: &str, out: &mut O) -> Result<(), AllocError>
-        ensures { OnOk result (Adds O.holds out.old out.new
-            (once self.now.is_started (project_top project.now) ++ bottom)) }
+        ensures { Adds O.holds out.old out.new result (html_left self.now project.now []) }
     {
         append_html_start(out, project, self.is_started)?;
         append_bottom(out)?;
@@ -142,8 +132,7 @@ fn append_html_start<O: Pieces>(
     project: &str,
     is_started: bool,
 ) -> Result<(), AllocError>
-    ensures { OnOk result
-        (Adds O.holds out.old out.new (once is_started (project_top project.now))) }
+    ensures { Adds O.holds out.old out.new result (once is_started (project_top project.now)) }
 {
     if is_started {
         return Ok(());
@@ -154,7 +143,7 @@ fn append_html_start<O: Pieces>(
 /// Nothing, or what stands before the files.
 #[tactic(auto, unfolding(crate::specs::Parts::files_top))]
 fn append_json_start<O: Pieces>(out: &mut O, is_started: bool) -> Result<(), AllocError>
-    ensures { OnOk result (Adds O.holds out.old out.new (once is_started files_top)) }
+    ensures { Adds O.holds out.old out.new result (once is_started files_top) }
 {
     if is_started {
         return Ok(());
@@ -169,8 +158,7 @@ fn append_file_line<O: Pieces>(
     row: &FileRow,
     is_started: bool,
 ) -> Result<(), AllocError>
-    ensures { OnOk result (Adds O.holds out.old out.new
-        (once is_started files_top ++ (comma_if is_started ++ file_text project.now row.now))) }
+    ensures { Adds O.holds out.old out.new result (file_line project.now is_started row.now) }
 {
     append_json_start(out, is_started)?;
     append_comma(out, is_started)?;
@@ -184,8 +172,7 @@ fn append_files_bottom<O: Pieces>(
     project: &str,
     releases: &BTreeSet<Release>,
 ) -> Result<(), AllocError>
-    ensures { OnOk result
-        (Adds O.holds out.old out.new (files_bottom project.now releases.now.keys)) }
+    ensures { Adds O.holds out.old out.new result (files_bottom project.now releases.now.keys) }
 {
     out.put(b",\"meta\":{\"api-version\":\"1.1\"},\"name\":")?;
     append_json_text(out, project)?;
@@ -197,7 +184,7 @@ fn append_files_bottom<O: Pieces>(
 
 /// The releases, and the bracket behind them.
 fn append_releases<O: Pieces>(out: &mut O, releases: &BTreeSet<Release>) -> Result<(), AllocError>
-    ensures { OnOk result (Adds O.holds out.old out.new (releases_text false releases.now.keys)) }
+    ensures { Adds O.holds out.old out.new result (releases_text false releases.now.keys) }
 {
     let mut is_later = false;
     for release in releases {
@@ -213,8 +200,7 @@ fn append_release<O: Pieces>(
     release: &Release,
     is_later: bool,
 ) -> Result<(), AllocError>
-    ensures { OnOk result
-        (Adds O.holds out.old out.new (comma_if is_later ++ json_text release.now)) }
+    ensures { Adds O.holds out.old out.new result (comma_if is_later ++ json_text release.now) }
 {
     append_comma(out, is_later)?;
     append_json_text(out, release.text())?;

@@ -1,5 +1,5 @@
 //! Texts in JSON (RFC 8259, section 7): in quotes, with the shortest escapes.
-ghost use Rattle.std.specs.Prelude.{◌≡◌, ◌<◌, OnOk};
+ghost use Rattle.std.specs.Prelude.{◌≡◌, ◌<◌};
 ghost use Rattle.std.specs.Char.{digit_char};
 ghost use Rattle.std.specs.List.{list_all};
 ghost use Rattle.json.specs.Print.{escape, escape_byte};
@@ -12,7 +12,7 @@ use std::alloc::AllocError;
 
 /// Adds a text in quotes.
 pub fn append_json_text<O: Pieces>(out: &mut O, text: &str) -> Result<(), AllocError>
-    ensures { OnOk result (Adds O.holds out.old out.new (json_text text.now)) }
+    ensures { Adds O.holds out.old out.new result (json_text text.now) }
 {
     out.put(b"\"")?;
     append_json_escaped(out, text.as_bytes())?;
@@ -22,7 +22,7 @@ pub fn append_json_text<O: Pieces>(out: &mut O, text: &str) -> Result<(), AllocE
 
 /// Adds what stands between the quotes. Most texts need no escape and go out as they are.
 pub fn append_json_escaped<O: Pieces>(out: &mut O, text: &[u8]) -> Result<(), AllocError>
-    ensures { OnOk result (Adds O.holds out.old out.new (escape text.now)) }
+    ensures { Adds O.holds out.old out.new result (escape text.now) }
 {
     if is_plain(text) {
         out.put(text)
@@ -43,7 +43,7 @@ fn is_plain(text: &[u8]) -> bool
 }
 
 fn append_escapes<O: Pieces>(out: &mut O, text: &[u8]) -> Result<(), AllocError>
-    ensures { OnOk result (Adds O.holds out.old out.new (escape text.now)) }
+    ensures { Adds O.holds out.old out.new result (escape text.now) }
 {
     for byte in text {
         append_json_byte(out, *byte)?;
@@ -53,7 +53,7 @@ fn append_escapes<O: Pieces>(out: &mut O, text: &[u8]) -> Result<(), AllocError>
 
 #[tactic(auto, unfolding(json::specs::Print::escape_byte))]
 fn append_json_byte<O: Pieces>(out: &mut O, byte: u8) -> Result<(), AllocError>
-    ensures { OnOk result (Adds O.holds out.old out.new (escape_byte byte)) }
+    ensures { Adds O.holds out.old out.new result (escape_byte byte) }
 {
     match byte {
         b'"' | b'\\' => out.put(&[b'\\', byte]),

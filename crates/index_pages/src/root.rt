@@ -1,10 +1,11 @@
 //! The page of the names.
-ghost use Rattle.std.specs.Prelude.{◌≡◌, ◌++◌, List, true, OnOk};
+ghost use Rattle.std.specs.Prelude.{◌≡◌, ◌++◌, [], true, OnOk};
 ghost use Rattle.serde_json.specs.Written.{comma_if};
-ghost use Rattle.index_rules.specs.declared.rows.NameRow.{NameRow as NameRowData};
+ghost use Rattle.index_pages.specs.Left.{held_line, held_text, root_left};
 ghost use Rattle.index_pages.specs.Pages.{root_page_of};
-ghost use Rattle.index_pages.specs.Parts.{name_line, name_text, root_bottom, root_rest, root_start};
+ghost use Rattle.index_pages.specs.Parts.{name_text, root_bottom, root_rest, root_start};
 ghost use Rattle.index_pages.specs.Pieces.{Adds};
+ghost use Rattle.index_pages.specs.Rest.{IsWholeOf};
 
 use crate::html::{append_bottom, append_name, append_root_top};
 use crate::json_file::append_comma;
@@ -25,8 +26,7 @@ pub struct RootPage {
 impl RootPage {
     /// A page of which no name came. It takes no memory.
     pub(crate) fn new(served: Served) -> RootPage
-        ensures { (rows : List NameRowData)
-            → root_rest result.as_json result.is_started rows ≡ root_page_of served rows }
+        ensures { IsWholeOf (root_left result []) (root_page_of served) }
     {
         RootPage {
             as_json: served.is_json(),
@@ -43,9 +43,7 @@ impl RootPage {
     ) -> Result<(), AllocError>
         ensures kept { self.new.as_json ≡ self.old.as_json }
         ensures started { OnOk result (self.new.is_started ≡ true) }
-        ensures text { OnOk result (Adds O.holds out.old out.new
-            (root_start self.old.as_json self.old.is_started
-            ++ name_line self.old.as_json self.old.is_started name.now shown.now)) }
+        ensures text { Adds O.holds out.old out.new result (held_text self.old name.now shown.now) }
     {
         append_start(out, self.as_json, self.is_started)?;
         append_line(out, self, name, shown)?;
@@ -83,7 +81,7 @@ impl Page for RootPage {
 /// Nothing, or what stands before the names.
 #[tactic(auto, unfolding(crate::specs::Parts::names_top))]
 fn append_start<O: Pieces>(out: &mut O, as_json: bool, is_started: bool) -> Result<(), AllocError>
-    ensures { OnOk result (Adds O.holds out.old out.new (root_start as_json is_started)) }
+    ensures { Adds O.holds out.old out.new result (root_start as_json is_started) }
 {
     if is_started {
         Ok(())
@@ -100,8 +98,7 @@ fn append_line<O: Pieces>(
     name: &str,
     shown: &str,
 ) -> Result<(), AllocError>
-    ensures { OnOk result (Adds O.holds out.old out.new
-        (name_line page.now.as_json page.now.is_started name.now shown.now)) }
+    ensures { Adds O.holds out.old out.new result (held_line page.now name.now shown.now) }
 {
     if page.as_json {
         append_json_name(out, shown, page.is_started)
@@ -111,8 +108,7 @@ fn append_line<O: Pieces>(
 }
 
 fn append_json_name<O: Pieces>(out: &mut O, shown: &str, is_later: bool) -> Result<(), AllocError>
-    ensures { OnOk result
-        (Adds O.holds out.old out.new (comma_if is_later ++ name_text shown.now)) }
+    ensures { Adds O.holds out.old out.new result (comma_if is_later ++ name_text shown.now) }
 {
     append_comma(out, is_later)?;
     out.put(b"{\"name\":")?;
@@ -123,7 +119,7 @@ fn append_json_name<O: Pieces>(out: &mut O, shown: &str, is_later: bool) -> Resu
 
 /// What stands behind the names.
 fn append_root_bottom<O: Pieces>(out: &mut O, as_json: bool) -> Result<(), AllocError>
-    ensures { OnOk result (Adds O.holds out.old out.new (root_bottom as_json)) }
+    ensures { Adds O.holds out.old out.new result (root_bottom as_json) }
 {
     if as_json {
         out.put(b"]}")

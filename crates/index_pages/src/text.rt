@@ -1,8 +1,9 @@
 //! A page that is written row by row.
-ghost use Rattle.std.specs.Prelude.{◌≡◌, ◌+◌, ◌<◌, ◌≤◌, [], false, Err, None, Some, IfErr, IfOk, IfSome, IsTrue};
-ghost use Rattle.index_pages.specs.Ends.{most_bytes, Closes};
+ghost use Rattle.std.specs.Prelude.{◌≡◌, ◌+◌, ◌<◌, ◌≤◌, [], false, None, IfErr, IfOk, IfSome, IsTrue};
+ghost use Rattle.index_pages.specs.Ends.{most_bytes};
+ghost use Rattle.index_pages.specs.Left.{project_left, root_left};
 ghost use Rattle.index_pages.specs.Pages.{project_page_of, root_page_of};
-ghost use Rattle.index_pages.specs.States.{page_state, project_page_rest, root_left, state_of, Begins, CutsRowOf, EndsPage, IsSteady, IsWritten, SendsRowOf, StopsPage, StopsText, TakesText};
+ghost use Rattle.index_pages.specs.States.{page_state, Begins, ClosesInto, IsSteady, IsWritten, PageCloses, PageCuts, PageEnds, PageEndsStopped, PageSends, PageStaysEnded, PageStops, PageTakes};
 
 use crate::end::PageEnd;
 use crate::page::Page;
@@ -52,8 +53,7 @@ impl<'a, 'p, K: Sink> PageText<'a, 'p, K, ProjectPage, Vec<u8>> {
         served: Served,
         sink: &'a mut K,
     ) -> PageText<'a, 'p, K, ProjectPage, Vec<u8>>
-        ensures { Begins K.Sink project_page_rest result sink.entry
-            (project_page_of served name.now) }
+        ensures { Begins K.Sink project_left result sink.entry (project_page_of served name.now) }
     {
         PageText::new(alloc, name.text(), ProjectPage::new(alloc, served), sink)
     }
@@ -116,23 +116,17 @@ impl<'a, 'p, K: Sink, P: Page> PageText<'a, 'p, K, P, Vec<u8>> {
     /// would have more than 9,223,372,036,854,775,807 bytes; `WriteFault` where a write failed or took no byte. Where a
     /// row was not taken it is the end of that row, and nothing more is written.
     pub fn finish(self) -> Result<u64, PageEnd>
-        ensures page { let after = state_of K.Sink self.exit.0.now in
-            EndsPage (page_state K.Sink P.rest self.entry) after result }
-        ensures stopped { let after = state_of K.Sink self.exit.0.now in
-            StopsPage (page_state K.Sink P.rest self.entry) after result }
-        ensures ended { (end : _) → self.entry.end ≡ Some end
-            → (result ≡ Err end) × (self.exit.0.now ≡ self.entry.sink.now) }
+        ensures page { PageEnds K.Sink P.rest self.entry self.exit.0.now result }
+        ensures stopped { PageEndsStopped K.Sink P.rest self.entry self.exit.0.now result }
+        ensures ended { PageStaysEnded self.entry self.exit.0.now result }
     {
         self.close()
     }
 
     /// Writes what stands behind the rows, where the page has not ended.
     fn close(self) -> Result<u64, PageEnd>
-        ensures ended { (end : _) → self.entry.end ≡ Some end
-            → (result ≡ Err end) × (self.exit.0.now ≡ self.entry.sink.now) }
-        ensures closed { let text = P.rest self.entry.page self.entry.name.now [] in
-            let after = state_of K.Sink self.exit.0.now in self.entry.end ≡ None →
-            Closes text (state_of K.Sink self.entry.sink.now) after self.entry.written result }
+        ensures ended { PageStaysEnded self.entry self.exit.0.now result }
+        ensures closed { PageCloses K.Sink P.rest self.entry self.exit.0.now result }
     {
         let PageText {
             sink,
@@ -150,11 +144,8 @@ impl<'a, 'p, K: Sink, P: Page> PageText<'a, 'p, K, P, Vec<u8>> {
 
     /// Writes the text of a row, or answers `false` where it could not be written whole.
     fn take_row(&mut self, row: &P::Row) -> bool
-        ensures sink { self.new.sink.ghost_name ≡ self.old.sink.ghost_name }
-        ensures taken { IsTrue result → TakesText (page_state K.Sink P.rest self.old) row.now
-            (page_state K.Sink P.rest self.new) }
-        ensures stopped { result ≡ false → StopsText (page_state K.Sink P.rest self.old) row.now
-            (page_state K.Sink P.rest self.new) }
+        ensures taken { IsTrue result → PageTakes K.Sink P.rest self.old row.now self.new }
+        ensures stopped { result ≡ false → PageStops K.Sink P.rest self.old row.now self.new }
     {
         if self.end.is_some() {
             return false;
@@ -176,10 +167,8 @@ impl<'a, 'p, K: Sink, P: Page> PageText<'a, 'p, K, P, Vec<u8>> {
     fn send_row(&mut self, row: &P::Row) -> Result<u64, PageEnd>
         ensures sink { self.new.sink.ghost_name ≡ self.old.sink.ghost_name }
         ensures kept { (self.new.written ≡ self.old.written) × (self.new.end ≡ self.old.end) }
-        ensures sent { IfOk result (SendsRowOf (page_state K.Sink P.rest self.old) row.now
-            (page_state K.Sink P.rest self.new)) }
-        ensures stopped { IfErr result (CutsRowOf (page_state K.Sink P.rest self.old) row.now
-            (page_state K.Sink P.rest self.new)) }
+        ensures sent { IfOk result (PageSends K.Sink P.rest self.old row.now self.new) }
+        ensures stopped { IfErr result (PageCuts K.Sink P.rest self.old row.now self.new) }
     {
         self.room.clear();
         match self.page.append_row(self.name, row, &mut self.room) {
@@ -190,16 +179,12 @@ impl<'a, 'p, K: Sink, P: Page> PageText<'a, 'p, K, P, Vec<u8>> {
 }
 
 impl<K: Sink> NameTaker for PageText<'_, '_, K, RootPage, Vec<u8>> {
-    ghost use Rattle.std.specs.Prelude.{◌≡◌};
-    ghost use Rattle.index_pages.specs.States.{page_state, root_left, StopsText, TakesText};
+    ghost use Rattle.index_pages.specs.Left.{root_left};
+    ghost use Rattle.index_pages.specs.States.{PageStops, PageTakes};
 
-    ghost takes = { λ before row after.
-        (after.sink.ghost_name ≡ before.sink.ghost_name)
-        × TakesText (page_state K.Sink root_left before) row (page_state K.Sink root_left after) };
+    ghost takes = { λ before row after. PageTakes K.Sink root_left before row after };
 
-    ghost stops = { λ before row after.
-        (after.sink.ghost_name ≡ before.sink.ghost_name)
-        × StopsText (page_state K.Sink root_left before) row (page_state K.Sink root_left after) };
+    ghost stops = { λ before row after. PageStops K.Sink root_left before row after };
 
     fn take(&mut self, row: &NameRow) -> bool {
         self.take_row(row)
@@ -207,18 +192,12 @@ impl<K: Sink> NameTaker for PageText<'_, '_, K, RootPage, Vec<u8>> {
 }
 
 impl<K: Sink> FileTaker for PageText<'_, '_, K, ProjectPage, Vec<u8>> {
-    ghost use Rattle.std.specs.Prelude.{◌≡◌};
-    ghost use Rattle.index_pages.specs.States.{page_state, project_page_rest, StopsText, TakesText};
+    ghost use Rattle.index_pages.specs.Left.{project_left};
+    ghost use Rattle.index_pages.specs.States.{PageStops, PageTakes};
 
-    ghost takes = { λ before row after.
-        (after.sink.ghost_name ≡ before.sink.ghost_name)
-        × TakesText (page_state K.Sink project_page_rest before) row
-        (page_state K.Sink project_page_rest after) };
+    ghost takes = { λ before row after. PageTakes K.Sink project_left before row after };
 
-    ghost stops = { λ before row after.
-        (after.sink.ghost_name ≡ before.sink.ghost_name)
-        × StopsText (page_state K.Sink project_page_rest before) row
-        (page_state K.Sink project_page_rest after) };
+    ghost stops = { λ before row after. PageStops K.Sink project_left before row after };
 
     fn take(&mut self, row: &FileRow) -> bool {
         self.take_row(row)
@@ -236,7 +215,7 @@ pub(crate) fn total(length: u64, more: usize) -> Option<u64>
 
 /// Writes a text that follows the first bytes of a page, of which so many were written.
 fn send<K: Sink>(sink: &mut K, written: u64, text: &[u8]) -> Result<u64, PageEnd>
-    ensures { Closes text.now (state_of K.Sink sink.old) (state_of K.Sink sink.new) written result }
+    ensures { ClosesInto K.Sink sink.old sink.new text.now written result }
 {
     let Some(sum) = total(written, text.len()) else {
         return Err(PageEnd::Store(written));
@@ -255,8 +234,7 @@ fn send_last<K: Sink, P: Page>(
     room: &mut Vec<u8>,
     written: u64,
 ) -> Result<u64, PageEnd>
-    ensures { Closes (P.rest page.now name.now [])
-        (state_of K.Sink sink.old) (state_of K.Sink sink.new) written result }
+    ensures { ClosesInto K.Sink sink.old sink.new (P.rest page.now name.now []) written result }
 {
     room.clear();
     match page.append_last(name, room) {

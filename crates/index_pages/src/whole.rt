@@ -1,5 +1,5 @@
 //! Whole pages, for callers that have all rows.
-ghost use Rattle.std.specs.Prelude.{◌≡◌, ◌++◌, List, [], ◌∷◌, IfErr, IfOk, OnOk};
+ghost use Rattle.std.specs.Prelude.{◌≡◌, ◌++◌, List, ◌∷◌, IfErr, IfOk, OnOk};
 ghost use Rattle.index_pages.specs.Pages.{project_page_of, root_page_of};
 
 use crate::page::Page;
@@ -67,8 +67,7 @@ fn append_row<P: Page>(
     page: &mut P,
     row: &P::Row,
 ) -> Result<(), AllocError>
-    ensures { OnOk result ((rows : List P.Row)
-        → out.new.items ++ P.rest page.new name.now rows
+    ensures { OnOk result ((rows : List P.Row) → out.new.items ++ P.rest page.new name.now rows
         ≡ out.old.items ++ P.rest page.old name.now (row.now ∷ rows)) }
 {
     page.append_row(name, row, out)

@@ -1,4 +1,4 @@
-use Rattle.std.proofs.Common.{◌≡◌, ◌==◌, false, length, rules, subst, OnOk}
+use Rattle.std.proofs.Common.{◌≡◌, ◌==◌, false, length, rules, subst}
 use Rattle.index_pages.specs.Pieces.{Adds}
 use Rattle.index_pages.proofs.JsonLemmas.{reason-text}
 use Rattle.index_pages.proofs.json_file.append_reason.Goals as goal
@@ -6,5 +6,5 @@ use Rattle.index_pages.proofs.json_file.append_reason.Goals as goal
 pub returns-else-is_empty : goal.returns-else-is_empty
 returns-else-is_empty g c =
     let some : (length c.args.reason.now == 0) ≡ false = search rules in
-    subst (λ text. OnOk c.append_json_text.result (Adds g.O.Pieces.holds c.args.out.now c.append_json_text.new.out text))
+    subst (Adds g.O.Pieces.holds c.args.out.now c.append_json_text.new.out c.append_json_text.result)
     (reason-text c.args.reason.now some) c.append_json_text.ensures
