@@ -1,10 +1,12 @@
 -- Reading the keys of a JSON object.
 use Rattle.std.specs.Prelude.{◌≡◌, ℕ, ◌==◌, Bool, List, if◌then◌else◌, Option, Some, None, option_and_then, option_map, Result, Err, IfOk}
+use Rattle.std.specs.Borrow.{Bor}
 use Rattle.serde_json.specs.Data.{Data}
+use Rattle.index_json.specs.declared.object_reader.ObjectReader.{ObjectReader}
 use Rattle.index_json.specs.declared.object_reader.Unread.{Unread}
 use Rattle.index_json.specs.declared.object_reader.Unread.TheVariants.{NotARequest}
 use Rattle.index_json.specs.Json.{flag_at, number_at, text_at}
-use Rattle.index_json.specs.Object.{Object, whole_object, with_key_read}
+use Rattle.index_json.specs.Object.{Object, object_of, whole_object, with_key_read}
 
 -- what is read of an object, and the object after it
 abbrev pub Reading : Type 0 → Type 0
@@ -60,7 +62,14 @@ abbrev pub Reads : {A : Type 0} → Result A Unread → Option A → Type 0
 Reads result read =
     IfOk result (λ found. read ≡ Some found) × (result ≡ Err NotARequest → read ≡ None)
 
--- the same, and this is the object after it
-abbrev pub ReadsTo : {A : Type 0} → Result A Unread → Option (A × Object) → Object → Type 0
-ReadsTo result read after =
-    IfOk result (λ found. read ≡ Some (found, after)) × (result ≡ Err NotARequest → read ≡ None)
+-- the same of an object, which is what its reader has after it
+abbrev pub ReadsTo : {A : Type 0} → ObjectReader → ObjectReader → Result A Unread → Reading A → Type 0
+ReadsTo before after result reading =
+    IfOk result (λ found. reading (object_of before) ≡ Some (found, object_of after))
+    × (result ≡ Err NotARequest → reading (object_of before) ≡ None)
+
+-- the same of a text that is found where it stands
+abbrev pub ReadsTextTo : ObjectReader → ObjectReader → Result (Bor (List ℕ)) Unread → Reading (List ℕ) → Type 0
+ReadsTextTo before after result reading =
+    IfOk result (λ found. reading (object_of before) ≡ Some (found.now, object_of after))
+    × (result ≡ Err NotARequest → reading (object_of before) ≡ None)

@@ -4,7 +4,6 @@ ghost use Rattle.serde_json.specs.View.{view};
 ghost use Rattle.index_json.specs.Json.{json_of};
 ghost use Rattle.index_json.specs.Keys.{SaysLine, SaysRequest};
 ghost use Rattle.index_json.specs.Line.{call_row, line_of, line_row, row_of_word};
-ghost use Rattle.index_json.specs.Object.{object_of};
 ghost use Rattle.index_json.specs.Reading.{Reads, ReadsTo, read_whole};
 ghost use Rattle.index_json.specs.Requests.{request_of, request_row};
 
@@ -111,7 +110,7 @@ fn request_in(alloc: Global, value: &Value) -> Result<Request, Unread>
 
 /// What an object asks whose `do` is this word.
 fn line_named(alloc: Global, word: &str, object: &mut ObjectReader<'_>) -> Result<Line, Unread>
-    ensures { ReadsTo result (row_of_word word.now (object_of object.old)) (object_of object.new) }
+    ensures { ReadsTo object.old object.new result (row_of_word word.now) }
 {
     match word {
         "standing" => object.bytes(alloc, "name").map(Line::Standing),
@@ -120,7 +119,7 @@ fn line_named(alloc: Global, word: &str, object: &mut ObjectReader<'_>) -> Resul
 }
 
 fn call_in(alloc: Global, word: &str, object: &mut ObjectReader<'_>) -> Result<Line, Unread>
-    ensures { ReadsTo result (call_row word.now (object_of object.old)) (object_of object.new) }
+    ensures { ReadsTo object.old object.new result (call_row word.now) }
 {
     let at = object.number("at")?;
     let token = object.text("token")?;

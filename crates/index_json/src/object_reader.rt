@@ -1,10 +1,10 @@
 //! The keys of a JSON object.
-ghost use Rattle.std.specs.Prelude.{◌≡◌, Err, IfErr, IfOk, None, Some, option_map};
+ghost use Rattle.std.specs.Prelude.{◌≡◌, IfErr, option_map};
 ghost use Rattle.serde_json.specs.Find.{get};
 ghost use Rattle.serde_json.specs.View.{view};
 ghost use Rattle.index_json.specs.Json.{key_count};
 ghost use Rattle.index_json.specs.Object.{object_of, whole_object, with_key_read};
-ghost use Rattle.index_json.specs.Reading.{Reads, ReadsTo, flag as flag_lem, if_whole, number as number_lem, text, texts};
+ghost use Rattle.index_json.specs.Reading.{Reads, ReadsTextTo, ReadsTo, flag as flag_lem, if_whole, number as number_lem, text, texts};
 
 use index_rules::Bytes;
 use serde_json::Value;
@@ -48,9 +48,7 @@ impl<'v> ObjectReader<'v> {
 
     /// The text at a key.
     pub fn text(&mut self, key: &str) -> Result<&'v str, Unread>
-        ensures text { IfOk result (λ found.
-            text key.now (object_of self.old) ≡ Some (found.now, object_of self.new)) }
-        ensures none { result ≡ Err Unread.NotARequest → text key.now (object_of self.old) ≡ None }
+        ensures text { ReadsTextTo self.old self.new result (text key.now) }
         ensures no_row { IfErr result (λ unread. unread ≡ Unread.NotARequest) }
     {
         match self.value_at(key).and_then(Value::as_str) {
@@ -61,8 +59,7 @@ impl<'v> ObjectReader<'v> {
 
     /// The whole number of 64 bits at a key.
     pub fn number(&mut self, key: &str) -> Result<u64, Unread>
-        ensures number { ReadsTo result
-            (number_lem key.now (object_of self.old)) (object_of self.new) }
+        ensures number { ReadsTo self.old self.new result (number_lem key.now) }
         ensures no_row { IfErr result (λ unread. unread ≡ Unread.NotARequest) }
     {
         match self.value_at(key).and_then(Value::as_u64) {
@@ -73,8 +70,7 @@ impl<'v> ObjectReader<'v> {
 
     /// True or false at a key.
     pub fn flag(&mut self, key: &str) -> Result<bool, Unread>
-        ensures flag { ReadsTo result
-            (flag_lem key.now (object_of self.old)) (object_of self.new) }
+        ensures flag { ReadsTo self.old self.new result (flag_lem key.now) }
         ensures no_row { IfErr result (λ unread. unread ≡ Unread.NotARequest) }
     {
         match self.value_at(key).and_then(Value::as_bool) {
@@ -85,7 +81,7 @@ impl<'v> ObjectReader<'v> {
 
     /// A copy of the text at a key.
     pub fn bytes(&mut self, alloc: Global, key: &str) -> Result<Bytes, Unread>
-        ensures { ReadsTo result (text key.now (object_of self.old)) (object_of self.new) }
+        ensures { ReadsTo self.old self.new result (text key.now) }
     {
         let text = self.text(key)?;
         Ok(Bytes::copy_of(alloc, text.as_bytes())?)
@@ -98,8 +94,7 @@ impl<'v> ObjectReader<'v> {
         first: &str,
         second: &str,
     ) -> Result<(Bytes, Bytes), Unread>
-        ensures { ReadsTo result
-            (texts first.now second.now (object_of self.old)) (object_of self.new) }
+        ensures { ReadsTo self.old self.new result (texts first.now second.now) }
     {
         let first = self.bytes(alloc, first)?;
         let second = self.bytes(alloc, second)?;

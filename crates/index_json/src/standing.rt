@@ -2,10 +2,10 @@
 //!
 //! The members of an object are put into a map by functions that own nothing, and an object is made of it
 //! at one place: so no exit has a map to drop.
-ghost use Rattle.std.specs.Prelude.{◌≡◌, IfErr, IfOk, Ok, OnOk, string_bytes};
+ghost use Rattle.std.specs.Prelude.{◌≡◌, IfErr, IfOk, Ok, string_bytes};
 ghost use Rattle.serde_json.specs.Data.{object, put as put_lem, string};
 ghost use Rattle.serde_json.specs.View.{members_view, view};
-ghost use Rattle.index_json.specs.StandingText.{case_value as case_value_lem, case_texts_put, case_put, held_put, kind_text as kind_text_lem, means_put, name_put, open_case_value as open_case_value_lem, project_put, standing_put, standing_text_of, standing_value as standing_value_lem, text_array, times_put};
+ghost use Rattle.index_json.specs.StandingText.{PutsMembers, case_value as case_value_lem, case_texts_put, case_put, held_put, kind_text as kind_text_lem, means_put, name_put, open_case_value as open_case_value_lem, project_put, standing_put, standing_text_of, standing_value as standing_value_lem, text_array, times_put};
 
 use index_desk::{HeldName, Standing};
 use index_names::NormalName;
@@ -56,8 +56,7 @@ fn put_standing(
     alloc: Global,
     standing: &Standing,
 ) -> Result<(), AllocError>
-    ensures { OnOk result (members_view members.new.entries
-        ≡ standing_put standing.now (members_view members.old.entries)) }
+    ensures { PutsMembers members.old members.new result (standing_put standing.now) }
 {
     match standing {
         Standing::Free { name } => put_name(members, alloc, name, "free"),
@@ -72,8 +71,7 @@ fn put_name(
     name: &NormalName,
     state: &str,
 ) -> Result<(), AllocError>
-    ensures { OnOk result (members_view members.new.entries
-        ≡ name_put name.now state.now (members_view members.old.entries)) }
+    ensures { PutsMembers members.old members.new result (name_put name.now state.now) }
 {
     put_text(members, alloc, "name", name.text())?;
     put_text(members, alloc, "state", state)
@@ -84,8 +82,7 @@ fn put_held(
     alloc: Global,
     held: &HeldName,
 ) -> Result<(), AllocError>
-    ensures { OnOk result (members_view members.new.entries
-        ≡ held_put held.now (members_view members.old.entries)) }
+    ensures { PutsMembers members.old members.new result (held_put held.now) }
 {
     put(members, alloc, "case", case_value(alloc, &held.case)?)?;
     put(
@@ -103,8 +100,7 @@ fn put_project(
     alloc: Global,
     project: &Project,
 ) -> Result<(), AllocError>
-    ensures { OnOk result (members_view members.new.entries
-        ≡ project_put project.now (members_view members.old.entries)) }
+    ensures { PutsMembers members.old members.new result (project_put project.now) }
 {
     put(members, alloc, "charge", Value::from(project.charge()))?;
     put(members, alloc, "quota", Value::from(project.quota()))?;
@@ -117,8 +113,7 @@ fn put_text(
     key: &str,
     text: &str,
 ) -> Result<(), AllocError>
-    ensures { OnOk result (members_view members.new.entries
-        ≡ put_lem key.now (string text.now) (members_view members.old.entries)) }
+    ensures { PutsMembers members.old members.new result (put_lem key.now (string text.now)) }
 {
     put(members, alloc, key, Value::try_from_str(alloc, text)?)
 }
@@ -155,8 +150,7 @@ fn put_case(
     alloc: Global,
     case: &CaseRecord,
 ) -> Result<(), AllocError>
-    ensures { OnOk result (members_view members.new.entries
-        ≡ case_put case.now (members_view members.old.entries)) }
+    ensures { PutsMembers members.old members.new result (case_put case.now) }
 {
     put_means(members, alloc, &case.state)?;
     put_times(members, alloc, case)?;
@@ -169,8 +163,7 @@ fn put_means(
     alloc: Global,
     state: &CaseState,
 ) -> Result<(), AllocError>
-    ensures { OnOk result (members_view members.new.entries
-        ≡ means_put state.now (members_view members.old.entries)) }
+    ensures { PutsMembers members.old members.new result (means_put state.now) }
 {
     put(members, alloc, "author", Value::Bool(state.author()))?;
     put(members, alloc, "pages", Value::Bool(state.pages()))?;
@@ -183,8 +176,7 @@ fn put_times(
     alloc: Global,
     case: &CaseRecord,
 ) -> Result<(), AllocError>
-    ensures { OnOk result (members_view members.new.entries
-        ≡ times_put case.now (members_view members.old.entries)) }
+    ensures { PutsMembers members.old members.new result (times_put case.now) }
 {
     put(
         members,
@@ -202,8 +194,7 @@ fn put_case_texts(
     alloc: Global,
     case: &CaseRecord,
 ) -> Result<(), AllocError>
-    ensures { OnOk result (members_view members.new.entries
-        ≡ case_texts_put case.now (members_view members.old.entries)) }
+    ensures { PutsMembers members.old members.new result (case_texts_put case.now) }
 {
     put_text(members, alloc, "candidate", case.candidate.text())?;
     put_text(members, alloc, "contact", case.contact.as_str())?;

@@ -1,5 +1,4 @@
 //! The rows of requests on retention cases (PEP 541).
-ghost use Rattle.index_json.specs.Object.{object_of};
 ghost use Rattle.index_json.specs.Reading.{ReadsTo};
 ghost use Rattle.index_json.specs.Requests.{attempt_means as attempt_means_lem, case_kind as case_kind_lem, request_on_case, open_case_row, record_attempt_row, transfer_row};
 
@@ -14,8 +13,7 @@ pub fn request_named(
     word: &str,
     object: &mut ObjectReader<'_>,
 ) -> Result<Request, Unread>
-    ensures { ReadsTo result (request_on_case word.now (object_of object.old))
-        (object_of object.new) }
+    ensures { ReadsTo object.old object.new result (request_on_case word.now) }
 {
     match word {
         "open_case" => open_case(alloc, object),
@@ -32,7 +30,7 @@ pub fn request_named(
 }
 
 fn open_case(alloc: Global, object: &mut ObjectReader<'_>) -> Result<Request, Unread>
-    ensures { ReadsTo result (open_case_row (object_of object.old)) (object_of object.new) }
+    ensures { ReadsTo object.old object.new result open_case_row }
 {
     let kind = case_kind(object)?;
     let (name, contact) = object.two_texts(alloc, "name", "contact")?;
@@ -47,7 +45,7 @@ fn open_case(alloc: Global, object: &mut ObjectReader<'_>) -> Result<Request, Un
 }
 
 fn record_attempt(alloc: Global, object: &mut ObjectReader<'_>) -> Result<Request, Unread>
-    ensures { ReadsTo result (record_attempt_row (object_of object.old)) (object_of object.new) }
+    ensures { ReadsTo object.old object.new result record_attempt_row }
 {
     let means = attempt_means(object)?;
     let sent = object.flag("sent")?;
@@ -56,7 +54,7 @@ fn record_attempt(alloc: Global, object: &mut ObjectReader<'_>) -> Result<Reques
 }
 
 fn transfer(alloc: Global, object: &mut ObjectReader<'_>) -> Result<Request, Unread>
-    ensures { ReadsTo result (transfer_row (object_of object.old)) (object_of object.new) }
+    ensures { ReadsTo object.old object.new result transfer_row }
 {
     let quiet = object.flag("quiet")?;
     let name = object.bytes(alloc, "name")?;
@@ -65,7 +63,7 @@ fn transfer(alloc: Global, object: &mut ObjectReader<'_>) -> Result<Request, Unr
 
 /// The kind of a case, as its text says.
 fn case_kind(object: &mut ObjectReader<'_>) -> Result<CaseKind, Unread>
-    ensures { ReadsTo result (case_kind_lem (object_of object.old)) (object_of object.new) }
+    ensures { ReadsTo object.old object.new result case_kind_lem }
 {
     match object.text("kind")? {
         "continue" => Ok(CaseKind::Continue),
@@ -76,7 +74,7 @@ fn case_kind(object: &mut ObjectReader<'_>) -> Result<CaseKind, Unread>
 
 /// The means of an attempt, as its text says.
 fn attempt_means(object: &mut ObjectReader<'_>) -> Result<Means, Unread>
-    ensures { ReadsTo result (attempt_means_lem (object_of object.old)) (object_of object.new) }
+    ensures { ReadsTo object.old object.new result attempt_means_lem }
 {
     match object.text("means")? {
         "profile" => Ok(Means::Profile),

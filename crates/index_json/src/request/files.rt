@@ -1,7 +1,6 @@
 //! The rows of requests on files and releases.
 ghost use Rattle.std.specs.Prelude.{◌≡◌, ◌%◌, length, Err};
 ghost use Rattle.index_json.specs.Json.{hex_bytes};
-ghost use Rattle.index_json.specs.Object.{object_of};
 ghost use Rattle.index_json.specs.Reading.{Reads, ReadsTo};
 ghost use Rattle.index_json.specs.Requests.{ban_file_row, body as body_lem, delete_row, request_on_file, unyank_row, upload_row, yank_row};
 
@@ -17,8 +16,7 @@ pub fn request_named(
     word: &str,
     object: &mut ObjectReader<'_>,
 ) -> Result<Request, Unread>
-    ensures { ReadsTo result (request_on_file word.now (object_of object.old))
-        (object_of object.new) }
+    ensures { ReadsTo object.old object.new result (request_on_file word.now) }
 {
     match word {
         "upload" => upload(alloc, object),
@@ -31,7 +29,7 @@ pub fn request_named(
 }
 
 fn upload(alloc: Global, object: &mut ObjectReader<'_>) -> Result<Request, Unread>
-    ensures { ReadsTo result (upload_row (object_of object.old)) (object_of object.new) }
+    ensures { ReadsTo object.old object.new result upload_row }
 {
     let body = body(alloc, object)?;
     let requires_python = object.bytes(alloc, "requires_python")?;
@@ -45,7 +43,7 @@ fn upload(alloc: Global, object: &mut ObjectReader<'_>) -> Result<Request, Unrea
 }
 
 fn delete(alloc: Global, object: &mut ObjectReader<'_>) -> Result<Request, Unread>
-    ensures { ReadsTo result (delete_row (object_of object.old)) (object_of object.new) }
+    ensures { ReadsTo object.old object.new result delete_row }
 {
     object
         .bytes(alloc, "file")
@@ -53,7 +51,7 @@ fn delete(alloc: Global, object: &mut ObjectReader<'_>) -> Result<Request, Unrea
 }
 
 fn ban_file(alloc: Global, object: &mut ObjectReader<'_>) -> Result<Request, Unread>
-    ensures { ReadsTo result (ban_file_row (object_of object.old)) (object_of object.new) }
+    ensures { ReadsTo object.old object.new result ban_file_row }
 {
     object
         .bytes(alloc, "file")
@@ -61,7 +59,7 @@ fn ban_file(alloc: Global, object: &mut ObjectReader<'_>) -> Result<Request, Unr
 }
 
 fn yank(alloc: Global, object: &mut ObjectReader<'_>) -> Result<Request, Unread>
-    ensures { ReadsTo result (yank_row (object_of object.old)) (object_of object.new) }
+    ensures { ReadsTo object.old object.new result yank_row }
 {
     let reason = object.bytes(alloc, "reason")?;
     let (name, release) = object.two_texts(alloc, "name", "release")?;
@@ -73,7 +71,7 @@ fn yank(alloc: Global, object: &mut ObjectReader<'_>) -> Result<Request, Unread>
 }
 
 fn unyank(alloc: Global, object: &mut ObjectReader<'_>) -> Result<Request, Unread>
-    ensures { ReadsTo result (unyank_row (object_of object.old)) (object_of object.new) }
+    ensures { ReadsTo object.old object.new result unyank_row }
 {
     let texts = object.two_texts(alloc, "name", "release");
     texts.map(|(name, release)| Request::Unyank { name, release })
@@ -81,7 +79,7 @@ fn unyank(alloc: Global, object: &mut ObjectReader<'_>) -> Result<Request, Unrea
 
 /// The body that a row's hex digits say.
 fn body(alloc: Global, object: &mut ObjectReader<'_>) -> Result<Bytes, Unread>
-    ensures { ReadsTo result (body_lem (object_of object.old)) (object_of object.new) }
+    ensures { ReadsTo object.old object.new result body_lem }
 {
     let digits = object.text("hex")?;
     bytes_of_hex(alloc, digits)

@@ -1,5 +1,4 @@
 //! The rows of the office's requests on names.
-ghost use Rattle.index_json.specs.Object.{object_of};
 ghost use Rattle.index_json.specs.Reading.{ReadsTo};
 ghost use Rattle.index_json.specs.Requests.{request_on_name, set_quota_row};
 
@@ -14,8 +13,7 @@ pub fn request_named(
     word: &str,
     object: &mut ObjectReader<'_>,
 ) -> Result<Request, Unread>
-    ensures { ReadsTo result (request_on_name word.now (object_of object.old))
-        (object_of object.new) }
+    ensures { ReadsTo object.old object.new result (request_on_name word.now) }
 {
     match word {
         "set_quota" => set_quota(alloc, object),
@@ -30,7 +28,7 @@ pub fn request_named(
 }
 
 fn set_quota(alloc: Global, object: &mut ObjectReader<'_>) -> Result<Request, Unread>
-    ensures { ReadsTo result (set_quota_row (object_of object.old)) (object_of object.new) }
+    ensures { ReadsTo object.old object.new result set_quota_row }
 {
     let quota = object.number("quota")?;
     let name = object.bytes(alloc, "name")?;

@@ -1,5 +1,4 @@
 //! The rows of requests on who owns a name.
-ghost use Rattle.index_json.specs.Object.{object_of};
 ghost use Rattle.index_json.specs.Reading.{ReadsTo};
 ghost use Rattle.index_json.specs.Requests.{request_on_owner};
 
@@ -14,8 +13,7 @@ pub fn request_named(
     word: &str,
     object: &mut ObjectReader<'_>,
 ) -> Result<Request, Unread>
-    ensures { ReadsTo result (request_on_owner word.now (object_of object.old))
-        (object_of object.new) }
+    ensures { ReadsTo object.old object.new result (request_on_owner word.now) }
 {
     match word {
         "claim" => object

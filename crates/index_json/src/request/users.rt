@@ -1,5 +1,4 @@
 //! The rows of requests on users.
-ghost use Rattle.index_json.specs.Object.{object_of};
 ghost use Rattle.index_json.specs.Reading.{ReadsTo};
 ghost use Rattle.index_json.specs.Requests.{add_user_row, set_token_row, request_on_user};
 
@@ -14,8 +13,7 @@ pub fn request_named(
     word: &str,
     object: &mut ObjectReader<'_>,
 ) -> Result<Request, Unread>
-    ensures { ReadsTo result (request_on_user word.now (object_of object.old))
-        (object_of object.new) }
+    ensures { ReadsTo object.old object.new result (request_on_user word.now) }
 {
     match word {
         "add_user" => add_user(alloc, object),
@@ -25,7 +23,7 @@ pub fn request_named(
 }
 
 fn add_user(alloc: Global, object: &mut ObjectReader<'_>) -> Result<Request, Unread>
-    ensures { ReadsTo result (add_user_row (object_of object.old)) (object_of object.new) }
+    ensures { ReadsTo object.old object.new result add_user_row }
 {
     let office = object.flag("office")?;
     let (user, token) = object.two_texts(alloc, "user", "token_sha256")?;
@@ -37,7 +35,7 @@ fn add_user(alloc: Global, object: &mut ObjectReader<'_>) -> Result<Request, Unr
 }
 
 fn set_token(alloc: Global, object: &mut ObjectReader<'_>) -> Result<Request, Unread>
-    ensures { ReadsTo result (set_token_row (object_of object.old)) (object_of object.new) }
+    ensures { ReadsTo object.old object.new result set_token_row }
 {
     let texts = object.two_texts(alloc, "user", "token_sha256");
     texts.map(|(user, token)| Request::SetToken { user, token })
