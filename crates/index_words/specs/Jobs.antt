@@ -1,10 +1,21 @@
 -- What the words of a command line ask for.
 use Rattle.std.specs.Prelude.{◌≡◌, ◌≤◌, ◌<◌, ◌^◌, ℕ, List, Option, Some, None}
-use Rattle.std.specs.Prelude.{IsSomeAnd, codes, option_map}
+use Rattle.std.specs.Prelude.{IfSome, IsSome, IsSomeAnd, codes, option_map}
 use Rattle.std.specs.Str.Parse.{IsNumeral, digits_value, without_leading_plus}
-use Rattle.clap.specs.Words.{Row, Text, first_of}
+use Rattle.clap.specs.Words.{Row, Text, first_of, found_of, rows_of, subcommand_of}
+use Rattle.clap.specs.declared.parser.matches.ArgMatches.{ArgMatches}
 use Rattle.index_words.specs.declared.job.Job.{Job}
 use Rattle.index_words.specs.declared.job.Job.TheVariants as job
+use Rattle.index_words.specs.Program.{index_app}
+
+-- what was found is so, and where something is so it is found
+pub record Finds {A : Type 0} (P : A → Type 0) (result : Option A) : Type 0 where
+  pub is : IfSome result P
+  pub found : (x : A) → P x → IsSome result
+
+-- the rows of the options that were given
+abbrev pub rows_in : ArgMatches → List Row
+rows_in given = rows_of (found_of given)
 
 -- the text is this number in decimal digits, which may have a plus before them
 abbrev pub IsDecimalText : ℕ → Text → Type 0
@@ -41,3 +52,7 @@ IsJob (Some (name, rows)) (job.Report db) = (name ≡ codes "report")
     × HasText (codes "db") rows db.now
 IsJob (Some (name, rows)) (job.Check db) = (name ≡ codes "check")
     × HasText (codes "db") rows db.now
+
+-- the words ask for this job, as clap reads them
+abbrev pub AskFor : List Text → Job → Type 0
+AskFor words = IsJob (subcommand_of index_app words)

@@ -1,6 +1,7 @@
 -- The command line of the program: its subcommands and their options, as clap reads them.
-use Rattle.std.specs.Prelude.{◌≡◌, ℕ, Some, true, false, codes, []}
-use Rattle.clap.specs.Words.{App, Rule, Text, app_of, new_app, new_rule, with_rule, with_subcommand}
+use Rattle.std.specs.Prelude.{◌≡◌, ℕ, Some, true, false, codes, [], IfOk, Result}
+use Rattle.clap.specs.Words.{App, Rule, Text, app_of, new_app, new_rule, rule_of, with_rule, with_subcommand}
+use Rattle.clap.specs.declared.builder.arg.Arg.{Arg}
 use Rattle.clap.specs.declared.builder.command.Command.{Command}
 use Rattle.clap.specs.declared.builder.command.Command.TheViews.{out-Command}
 use Rattle.clap.specs.declared.builder.value_parser.ValueParser.TheVariants as parser
@@ -16,6 +17,10 @@ required name = record (option name) { required = true }
 -- the same option, for a whole number in a range
 abbrev pub number_between : ℕ → ℕ → Rule → Rule
 number_between least most rule = record rule { parser = Some (parser.Unsigned least most) }
+
+-- the same option, for any number of 64 bits
+abbrev pub any_number : Rule → Rule
+any_number rule = number_between 0 18446744073709551615 rule
 
 -- a subcommand that needs a database
 abbrev pub database_app : Text → App
@@ -36,8 +41,8 @@ abbrev pub serve_app : App
 serve_app =
     with_rule (with_rule (with_rule (with_rule (database_app (codes "serve")) (required (codes "listen")))
     (number_between 1 1000000 (required (codes "requests"))))
-    (number_between 0 18446744073709551615 (option (codes "at"))))
-    (number_between 0 18446744073709551615 (option (codes "keep-recent")))
+    (any_number (option (codes "at"))))
+    (any_number (option (codes "keep-recent")))
 
 -- the program's name alone, which has a version and wants a subcommand after it
 abbrev pub program_app : App
@@ -53,7 +58,16 @@ index_app =
     init_app.top) apply_app.top) serve_app.top) (database_app (codes "report")).top)
     (database_app (codes "check")).top
 
+-- the option is this one, and is read by its own command alone
+pub record IsArg (arg : Arg) (shape : Rule) : Type 0 where
+  pub rule : rule_of arg ≡ shape
+  pub local : arg.global ≡ false
+
 -- the command is this one, as far as a parse reads it
 pub record IsApp (command : Command) (shape : App) : Type 0 where
   pub app : app_of command ≡ shape
   pub globals : (out-Command command).has_globals ≡ false
+
+-- where there was memory, the command is this one
+abbrev pub MakesApp : {E : Type 0} → Result Command E → App → Type 0
+MakesApp result app = IfOk result (λ command. IsApp command app)

@@ -1,7 +1,7 @@
 //! The program's subcommands and their options.
-ghost use Rattle.std.specs.Prelude.{◌≡◌, false, codes, IfOk};
+ghost use Rattle.std.specs.Prelude.{◌≡◌, codes};
 ghost use Rattle.clap.specs.Words.{App, rule_of, with_subcommand};
-ghost use Rattle.index_words.specs.Program.{IsApp, number_between, option, required};
+ghost use Rattle.index_words.specs.Program.{IsApp, IsArg, MakesApp, any_number, number_between, option, required};
 ghost use Rattle.index_words.specs.Program.{apply_app, database_app, index_app, init_app, serve_app};
 
 use clap::builder::ValueParser;
@@ -17,16 +17,14 @@ const DATABASE: &str = "The file of the index, an SQLite database";
 
 /// An option that may be left out.
 fn optional_arg<'a>(alloc: Global, name: &'a str, help: &'a str) -> Arg<'a>
-    ensures rule { rule_of result ≡ option name.entry.now }
-    ensures local { result.global ≡ false }
+    ensures { IsArg result (option name.entry.now) }
 {
     Arg::new(alloc, name).long(name).help(help)
 }
 
 /// An option that has to be given.
 fn required_arg<'a>(alloc: Global, name: &'a str, help: &'a str) -> Arg<'a>
-    ensures rule { rule_of result ≡ required name.entry.now }
-    ensures local { result.global ≡ false }
+    ensures { IsArg result (required name.entry.now) }
 {
     optional_arg(alloc, name, help).required(true)
 }
@@ -41,7 +39,7 @@ fn whole_number<'a>(arg: Arg<'a>, least: u64, most: u64) -> Arg<'a>
 
 /// A subcommand that needs a database.
 fn on_database<'a>(alloc: Global, name: &'a str, about: &'a str) -> Result<Command<'a>, AllocError>
-    ensures { IfOk result (λ command. IsApp command (database_app name.entry.now)) }
+    ensures { MakesApp result (database_app name.entry.now) }
 {
     Command::new(alloc, name)
         .about(about)
@@ -49,7 +47,7 @@ fn on_database<'a>(alloc: Global, name: &'a str, about: &'a str) -> Result<Comma
 }
 
 fn init<'a>(alloc: Global) -> Result<Command<'a>, AllocError>
-    ensures { IfOk result (λ command. IsApp command init_app) }
+    ensures { MakesApp result init_app }
 {
     let digest = "The SHA-256 digest of that user's token, as 64 hex digits";
     on_database(
@@ -62,7 +60,7 @@ fn init<'a>(alloc: Global) -> Result<Command<'a>, AllocError>
 }
 
 fn apply<'a>(alloc: Global) -> Result<Command<'a>, AllocError>
-    ensures { IfOk result (λ command. IsApp command apply_app) }
+    ensures { MakesApp result apply_app }
 {
     Command::new(alloc, "apply")
         .about("Answers each line of standard input")
@@ -70,32 +68,28 @@ fn apply<'a>(alloc: Global) -> Result<Command<'a>, AllocError>
 }
 
 fn requests<'a>(alloc: Global) -> Arg<'a>
-    ensures rule { rule_of result ≡ number_between 1 1000000 (required (codes "requests")) }
-    ensures local { result.global ≡ false }
+    ensures { IsArg result (number_between 1 1000000 (required (codes "requests"))) }
 {
     let help = "How many connections are served, 1 to 1,000,000";
     whole_number(required_arg(alloc, "requests", help), 1, 1_000_000)
 }
 
 fn at<'a>(alloc: Global) -> Arg<'a>
-    ensures rule { rule_of result ≡ number_between 0 18446744073709551615 (option (codes "at")) }
-    ensures local { result.global ≡ false }
+    ensures { IsArg result (any_number (option (codes "at"))) }
 {
     let help = "The moment of every request in Unix seconds, or the clock's";
     whole_number(optional_arg(alloc, "at", help), 0, u64::MAX)
 }
 
 fn keep_recent<'a>(alloc: Global) -> Arg<'a>
-    ensures rule { rule_of result
-        ≡ number_between 0 18446744073709551615 (option (codes "keep-recent")) }
-    ensures local { result.global ≡ false }
+    ensures { IsArg result (any_number (option (codes "keep-recent"))) }
 {
     let help = "How many bytes of files and pages are kept at hand, 0 for none, or 67,108,864";
     whole_number(optional_arg(alloc, "keep-recent", help), 0, u64::MAX)
 }
 
 fn serve<'a>(alloc: Global) -> Result<Command<'a>, AllocError>
-    ensures { IfOk result (λ command. IsApp command serve_app) }
+    ensures { MakesApp result serve_app }
 {
     let help = "The address and port to listen on";
     on_database(alloc, "serve", "Answers HTTP requests, one a connection")?
@@ -110,9 +104,8 @@ fn add_subcommand<'a>(
     command: Command<'a>,
     made: Result<Command<'a>, AllocError>,
 ) -> Result<Command<'a>, AllocError>
-    ensures { (app below : App) → IsApp command.entry app
-        → IfOk made.entry (λ made. IsApp made below)
-        → IfOk result (λ grown. IsApp grown (with_subcommand app below.top)) }
+    ensures { (app below : App) → IsApp command.entry app → MakesApp made.entry below
+        → MakesApp result (with_subcommand app below.top) }
 {
     match made {
         Ok(made) => command.subcommand(made),
@@ -122,7 +115,7 @@ fn add_subcommand<'a>(
 
 /// The whole command line.
 pub fn index<'a>(alloc: Global) -> Result<Command<'a>, AllocError>
-    ensures { IfOk result (λ command. IsApp command index_app) }
+    ensures { MakesApp result index_app }
 {
     let check = "Prints how many names have a wrong charge";
     let index = Command::new(alloc, "index")

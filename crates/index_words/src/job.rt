@@ -1,10 +1,9 @@
 //! What the words of a command line ask for.
-ghost use Rattle.std.specs.Prelude.{◌≡◌, ◌≤◌, ◌<◌, ◌^◌, ℕ, [], Option, Some, true};
+ghost use Rattle.std.specs.Prelude.{◌≡◌, ◌≤◌, ◌<◌, ◌^◌, ℕ, [], Some, true};
 ghost use Rattle.std.specs.Prelude.{codes, map, option_map, string_bytes, IfErr, IfOk, IfSome, IsOk, IsSome};
-ghost use Rattle.clap.specs.Words.{fault_of, first_of, found_of, rows_of, subcommand_of};
-ghost use Rattle.clap.specs.Words.{subcommand_rows_of, takes};
+ghost use Rattle.clap.specs.Words.{fault_of, first_of, subcommand_rows_of, takes};
 ghost use Rattle.index_words.specs.Program.{index_app};
-ghost use Rattle.index_words.specs.Jobs.{HasNumberOrNone, IsJob, IsDecimalText};
+ghost use Rattle.index_words.specs.Jobs.{AskFor, Finds, HasNumberOrNone, IsJob, IsDecimalText, rows_in};
 ghost use Rattle.index_words.specs.Refusals.{IsRefusal};
 
 use crate::command;
@@ -93,12 +92,11 @@ impl From<Error> for WordsEnd {
 /// `Clap` where `clap` refuses the words, or was asked for help or the version; `OutOfMemory` for want of memory.
 pub fn read_words<'a>(alloc: Global, words: &'a [String]) -> Result<Job<'a>, WordsEnd>
     // The job is the subcommand that clap reads.
-    ensures job { IfOk result (IsJob (subcommand_of index_app (map string_bytes words.now))) }
+    ensures job { IfOk result (AskFor (map string_bytes words.now)) }
 
     // Where clap takes the words and they ask for a job, it is read, as long as there is memory.
-    ensures read { let said = map string_bytes words.now in
-        takes index_app said ≡ true → (job : Job) → IsJob (subcommand_of index_app said) job
-        → IfErr result (λ end. end ≡ WordsEnd.OutOfMemory) }
+    ensures read { let said = map string_bytes words.now in takes index_app said ≡ true
+        → (job : Job) → AskFor said job → IfErr result (λ end. end ≡ WordsEnd.OutOfMemory) }
 
     // A job is read only where clap finds no fault in the words, and a refusal has the kind of one that it finds.
     ensures taken { IsOk result → fault_of index_app (map string_bytes words.now) ≡ [] }
@@ -113,8 +111,7 @@ pub fn read_words<'a>(alloc: Global, words: &'a [String]) -> Result<Job<'a>, Wor
 }
 
 fn job_of<'a>(matches: &ArgMatches<'a>) -> Option<Job<'a>>
-    ensures job { IfSome result (IsJob (subcommand_rows_of matches.now)) }
-    ensures found { (job : Job) → IsJob (subcommand_rows_of matches.now) job → IsSome result }
+    ensures { Finds (IsJob (subcommand_rows_of matches.now)) result }
 {
     match entered_subcommand(matches)? {
         ("init", given) => init_of(given),
@@ -128,7 +125,7 @@ fn job_of<'a>(matches: &ArgMatches<'a>) -> Option<Job<'a>>
 
 /// The subcommand that was entered, and its options.
 fn entered_subcommand<'m, 'a>(matches: &'m ArgMatches<'a>) -> Option<(&'a str, &'m ArgMatches<'a>)>
-    ensures { option_map (λ found. (found.0.now, rows_of (found_of found.1.now))) result
+    ensures { option_map (λ found. (found.0.now, rows_in found.1.now)) result
         ≡ subcommand_rows_of matches.now }
 {
     matches.subcommand()
@@ -136,9 +133,7 @@ fn entered_subcommand<'m, 'a>(matches: &'m ArgMatches<'a>) -> Option<(&'a str, &
 
 /// The job of the subcommand `init` with these options.
 fn init_of<'a>(given: &ArgMatches<'a>) -> Option<Job<'a>>
-    ensures job { IfSome result (IsJob (Some (codes "init", rows_of (found_of given.now)))) }
-    ensures found { (job : Job) → IsJob (Some (codes "init", rows_of (found_of given.now))) job
-        → IsSome result }
+    ensures { Finds (IsJob (Some (codes "init", rows_in given.now))) result }
 {
     let db = text(given, "db")?;
     let user = text(given, "user")?;
@@ -148,7 +143,7 @@ fn init_of<'a>(given: &ArgMatches<'a>) -> Option<Job<'a>>
 
 /// The job of the subcommand `apply` with these options.
 fn apply_of<'a>(given: &ArgMatches<'a>) -> Job<'a>
-    ensures { IsJob (Some (codes "apply", rows_of (found_of given.now))) result }
+    ensures { IsJob (Some (codes "apply", rows_in given.now)) result }
 {
     let db = text(given, "db");
     Job::Apply { db }
@@ -156,9 +151,7 @@ fn apply_of<'a>(given: &ArgMatches<'a>) -> Job<'a>
 
 /// The job of the subcommand `report` with these options.
 fn report_of<'a>(given: &ArgMatches<'a>) -> Option<Job<'a>>
-    ensures job { IfSome result (IsJob (Some (codes "report", rows_of (found_of given.now)))) }
-    ensures found { (job : Job) → IsJob (Some (codes "report", rows_of (found_of given.now))) job
-        → IsSome result }
+    ensures { Finds (IsJob (Some (codes "report", rows_in given.now))) result }
 {
     let db = text(given, "db")?;
     Some(Job::Report { db })
@@ -166,9 +159,7 @@ fn report_of<'a>(given: &ArgMatches<'a>) -> Option<Job<'a>>
 
 /// The job of the subcommand `check` with these options.
 fn check_of<'a>(given: &ArgMatches<'a>) -> Option<Job<'a>>
-    ensures job { IfSome result (IsJob (Some (codes "check", rows_of (found_of given.now)))) }
-    ensures found { (job : Job) → IsJob (Some (codes "check", rows_of (found_of given.now))) job
-        → IsSome result }
+    ensures { Finds (IsJob (Some (codes "check", rows_in given.now))) result }
 {
     let db = text(given, "db")?;
     Some(Job::Check { db })
@@ -176,9 +167,7 @@ fn check_of<'a>(given: &ArgMatches<'a>) -> Option<Job<'a>>
 
 /// The job of the subcommand `serve` with these options.
 fn serve_of<'a>(given: &ArgMatches<'a>) -> Option<Job<'a>>
-    ensures job { IfSome result (IsJob (Some (codes "serve", rows_of (found_of given.now)))) }
-    ensures found { (job : Job) → IsJob (Some (codes "serve", rows_of (found_of given.now))) job
-        → IsSome result }
+    ensures { Finds (IsJob (Some (codes "serve", rows_in given.now))) result }
 {
     let db = text(given, "db")?;
     let listen = text(given, "listen")?;
@@ -196,17 +185,14 @@ fn serve_of<'a>(given: &ArgMatches<'a>) -> Option<Job<'a>>
 
 /// The text of an option.
 fn text<'a>(given: &ArgMatches<'a>, id: &str) -> Option<&'a str>
-    ensures { option_map (λ text. text.now) result
-        ≡ first_of id.now (rows_of (found_of given.now)) }
+    ensures { option_map (λ text. text.now) result ≡ first_of id.now (rows_in given.now) }
 {
     given.get_str(id)
 }
 
 /// The number of an option, or that it is not given.
 fn number_or_none(given: &ArgMatches<'_>, id: &str) -> Option<Option<u64>>
-    ensures number { IfSome result (HasNumberOrNone id.now (rows_of (found_of given.now))) }
-    ensures found { (n : Option ℕ) → HasNumberOrNone id.now (rows_of (found_of given.now)) n
-        → IsSome result }
+    ensures { Finds (HasNumberOrNone id.now (rows_in given.now)) result }
 {
     match text(given, id) {
         Some(text) => Some(Some(number(text)?)),

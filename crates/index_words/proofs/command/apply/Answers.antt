@@ -8,4 +8,4 @@ use Rattle.index_words.proofs.command.apply.Goals as goal
 pub returns : goal.returns
 returns c =
     let none : IsApp c.about.result (new_app (codes "apply")) = search rules in
-    IfOk-weaker c.arg.result _ _ (λ command adds. IsApp-arg _ _ _ _ _ none c.optional_arg.ensures.rule c.optional_arg.ensures.local adds) c.arg.ensures
+    IfOk-weaker c.arg.result _ _ (λ command adds. IsApp-arg _ _ _ _ _ none c.optional_arg.ensures adds) c.arg.ensures

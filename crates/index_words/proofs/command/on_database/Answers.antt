@@ -8,4 +8,4 @@ use Rattle.index_words.proofs.command.on_database.Goals as goal
 pub returns : goal.returns
 returns c =
     let none : IsApp c.about.result (new_app c.args.name.now) = search rules in
-    IfOk-weaker c.arg.result _ _ (λ command adds. IsApp-arg _ _ _ _ _ none c.required_arg.ensures.rule c.required_arg.ensures.local adds) c.arg.ensures
+    IfOk-weaker c.arg.result _ _ (λ command adds. IsApp-arg _ _ _ _ _ none c.required_arg.ensures adds) c.arg.ensures

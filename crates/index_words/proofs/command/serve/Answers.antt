@@ -4,7 +4,7 @@ use Rattle.index_words.proofs.command.serve.Goals as goal
 
 pub returns : goal.returns
 returns c =
-    let one = IsApp-arg _ _ _ _ _ c.in_ok-on_database.ensures c.required_arg.ensures.rule c.required_arg.ensures.local c.in_ok-arg.ensures in
-    let two = IsApp-arg _ _ _ _ _ one c.requests.ensures.rule c.requests.ensures.local c.in_ok-arg-2.ensures in
-    let three = IsApp-arg _ _ _ _ _ two c.at.ensures.rule c.at.ensures.local c.in_ok-arg-3.ensures in
-    IfOk-weaker c.arg-4.result _ _ (λ command adds. IsApp-arg _ _ _ _ _ three c.keep_recent.ensures.rule c.keep_recent.ensures.local adds) c.arg-4.ensures
+    let one = IsApp-arg _ _ _ _ _ c.in_ok-on_database.ensures c.required_arg.ensures c.in_ok-arg.ensures in
+    let two = IsApp-arg _ _ _ _ _ one c.requests.ensures c.in_ok-arg-2.ensures in
+    let three = IsApp-arg _ _ _ _ _ two c.at.ensures c.in_ok-arg-3.ensures in
+    IfOk-weaker c.arg-4.result _ _ (λ command adds. IsApp-arg _ _ _ _ _ three c.keep_recent.ensures adds) c.arg-4.ensures

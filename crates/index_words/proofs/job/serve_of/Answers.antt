@@ -1,9 +1,9 @@
-use Rattle.std.proofs.Common.{◌≡◌, ◌∙◌, ℕ, true, false, ap, refl, Option, Some, codes, List}
+use Rattle.std.proofs.Common.{◌≡◌, ◌∙◌, ℕ, true, false, ap, refl, rules, Option, Some, codes, List}
 use Rattle.std.specs.Prelude.{bytes_eq}
-use Rattle.clap.specs.Words.{Row, Text, found_of, rows_of}
+use Rattle.clap.specs.Words.{Row, Text}
 use Rattle.index_words.specs.declared.job.Job.{Job}
 use Rattle.index_words.specs.declared.job.Job.TheVariants as job
-use Rattle.index_words.specs.Jobs.{HasNumberOrNone, IsJob}
+use Rattle.index_words.specs.Jobs.{HasNumberOrNone, IsJob, rows_in}
 use Rattle.index_words.proofs.job.serve_of.Goals as goal
 
 -- a subcommand of another name
@@ -18,5 +18,8 @@ misread rows P none (job.Serve db listen requests at keep_recent) is = let never
 misread rows P none (job.Report db) is = other P _ is.0 refl
 misread rows P none (job.Check db) is = other P _ is.0 refl
 
-pub returns-in_err-keep_recent-clause-found : goal.returns-in_err-keep_recent-clause-found
-returns-in_err-keep_recent-clause-found c = λ asked is. misread (rows_of (found_of c.args.given.now)) _ (λ n kept. c.in_err-keep_recent.ensures.found n kept) asked is
+pub returns-in_err-keep_recent : goal.returns-in_err-keep_recent
+returns-in_err-keep_recent c = record {
+  is = search rules;
+  found = λ asked is. misread (rows_in c.args.given.now) _ (λ n kept. c.in_err-keep_recent.ensures.found n kept) asked is;
+}
