@@ -1,9 +1,12 @@
 -- Header fields (RFC 9110, section 5).
-use Rattle.std.specs.Prelude.{◌≡◌, ℕ, Bool, List, [], ◌∷◌, map, if◌then◌else◌, bytes_eq, Option, Some, None}
+use Rattle.std.specs.Prelude.{◌≡◌, Bool, List, [], ◌∷◌, map, if◌then◌else◌, bytes_eq}
+use Rattle.std.specs.Borrow.{Bor}
 use Rattle.std.specs.Char.{to_ascii_lowercase}
+use Rattle.std.specs.Global.{Vec}
 use Rattle.index_rules.specs.Maps.{Bytes}
 use Rattle.httparse.specs.Grammar.{RequestHead}
-use Rattle.httparse.specs.Spans.{name_and_value}
+use Rattle.httparse.specs.Spans.{header_bytes, name_and_value}
+use Rattle.httparse.specs.declared.spans.HeaderSpan.{HeaderSpan}
 use Rattle.index_message.specs.declared.fields.Found.{Found}
 use Rattle.index_message.specs.declared.fields.Found.TheVariants.{Missing, Once, Again}
 
@@ -14,6 +17,10 @@ Field = Bytes × Bytes
 -- the fields of a head, in order
 abbrev pub fields_of : RequestHead → List Field
 fields_of head = map name_and_value head.fields
+
+-- the fields that lie at these spans
+abbrev pub fields_at : Bytes → List HeaderSpan → List Field
+fields_at bytes spans = map (header_bytes bytes) spans
 
 -- the field has this name, in whatever case (RFC 9110, section 5.1)
 abbrev pub is_named : Bytes → Field → Bool
@@ -32,6 +39,10 @@ first_or_empty (value ∷ more) = value
 -- the value of the first field with this name; one that is missing counts as empty
 abbrev pub value_of : Bytes → List Field → Bytes
 value_of name fields = first_or_empty (values_of name fields)
+
+-- the values, where they stand
+abbrev pub AreValues : List Bytes → Vec (Bor Bytes) → Type 0
+AreValues values found = map (λ value. value.now) found.items ≡ values
 
 -- how often a field was found, with the value of the one that stands alone
 abbrev pub AreFound : Found → List Bytes → Type 0

@@ -1,14 +1,24 @@
 -- The message that a connection begins with.
-use Rattle.std.specs.Prelude.{◌≡◌, ◌⊎◌, ℕ, ◌<◌, ◌≤◌, Bool, false, List, [], ◌++◌, take, length, if◌then◌else◌, nat_le, bytes_eq, codes, Option, Some, None, unwrap_or, Result, Ok, Err}
+use Rattle.std.specs.Prelude.{◌≡◌, ◌⊎◌, ℕ, ◌<◌, ◌≤◌, Bool, false, List, ◌++◌, drop, take, length, if◌then◌else◌, nat_le, bytes_eq, codes, Option, Some, None, Result, Ok, Err}
+use Rattle.std.specs.Global.{Vec}
 use Rattle.std.specs.Io.KnownBytes.{Consumes, IsAtEnd}
 use Rattle.httparse.specs.Grammar.{RequestHead}
+use Rattle.httparse.specs.Spans.{span_bytes}
+use Rattle.httparse.specs.declared.spans.HeaderSpan.{HeaderSpan}
+use Rattle.httparse.specs.declared.spans.RequestSpans.{RequestSpans}
+use Rattle.index_io.specs.Bytes.{IsInput}
+use Rattle.index_io.specs.declared.source.Source.{Ghosts}
 use Rattle.index_rules.specs.Maps.{Bytes}
-use Rattle.index_message.specs.Heads.{AwaitsHead, HasHead, HasNoHead}
-use Rattle.index_message.specs.Fields.{Field, fields_of}
+use Rattle.index_message.specs.Heads.{AwaitsHead, HasHead, HasNoHead, IsHeadAt}
+use Rattle.index_message.specs.Fields.{Field, fields_at, fields_of}
 use Rattle.index_message.specs.Lengths.{body_length}
+use Rattle.index_message.specs.Reads.{Gives, and_left}
+use Rattle.index_message.specs.Requests.{Request}
 use Rattle.index_message.specs.Resources.{allowed_of, allows, method_of, resource_of}
 use Rattle.index_message.specs.declared.fault.MessageFault.{MessageFault}
 use Rattle.index_message.specs.declared.fault.MessageFault.TheVariants.{BadHead, BadMethod, NoRoute, ShortBody}
+use Rattle.index_message.specs.declared.head.ReadEnd.{ReadEnd}
+use Rattle.index_message.specs.declared.head.ReadEnd.TheVariants.{ReadFault}
 use Rattle.index_message.specs.declared.request.Asked.{Asked}
 use Rattle.index_message.specs.declared.message.Message.{Message}
 use Rattle.index_message.specs.declared.message.Message.TheVariants.{Faulty, Whole}
@@ -55,9 +65,13 @@ asked_of head = asked_by_head head.method head.target (fields_of head)
 abbrev pub is_head_name : Bytes → Bool
 is_head_name name = bytes_eq name (codes "HEAD")
 
+-- the head of a request, by what it asks for and its fields
+abbrev pub request_asked : Asked → List Field → Request
+request_asked asked fields = record { method = asked.method; resource = asked.resource; fields = fields }
+
 -- the message of a request with these fields and this body
 abbrev pub whole_of : Asked → List Field → Bytes → Message
-whole_of asked fields body = Whole (record { method = asked.method; resource = asked.resource; fields = fields }) body
+whole_of asked fields body = Whole (request_asked asked fields) body
 
 -- the message that a head and the bytes behind it are, by what the head asks for
 abbrev pub message_by : RequestHead → Bytes → Result Asked MessageFault → Message
@@ -75,6 +89,10 @@ abbrev pub IsMessage : Bytes → Message → Type 0
 IsMessage input message =
     (HasNoHead input × (message ≡ Faulty BadHead false))
     ⊎ ((head : RequestHead) × (rest : Bytes) × HasHead input head rest × (message ≡ message_of head rest))
+
+-- the message of the bytes that are left, where they are known
+abbrev pub BeginsWith : Option Bytes → Message → Type 0
+BeginsWith left message = (input : Bytes) × IsInput left input × IsMessage input message
 
 -- a head asks for a body of which these bytes are a part
 abbrev pub AwaitsBody : RequestHead → Bytes → Type 0
@@ -98,4 +116,23 @@ TakesBody n front more left None = (length (front ++ more) < n) × IsAtEnd left
 -- the message of a head, behind which the front was there, more came and the rest is left
 abbrev pub FollowsHead : RequestHead → Bytes → Option Bytes → Option Bytes → Message → Type 0
 FollowsHead head front old new message =
-    (more : Bytes) × Consumes old new more × (message ≡ message_of head ((front ++ more) ++ unwrap_or new []))
+    (more : Bytes) × Consumes old new more × (message ≡ message_of head (and_left (front ++ more) new))
+
+-- what a head asks for whose parts lie at these spans
+abbrev pub asked_at : Bytes → RequestSpans → List HeaderSpan → Result Asked MessageFault
+asked_at bytes spans fields =
+    asked_by_head (span_bytes bytes spans.method) (span_bytes bytes spans.path) (fields_at bytes fields)
+
+-- the message of the head that these bytes begin with, by what a source gave behind them
+abbrev pub Follows : {S : Type 0} → Ghosts S → S → S → Vec ℕ → List HeaderSpan → RequestSpans → Message → Type 0
+Follows g old new bytes fields spans message = (found : IsHeadAt bytes.items fields spans)
+    → FollowsHead found.head (drop spans.len bytes.items) (g.remaining old) (g.remaining new) message
+
+-- where a read failed, what a source gave behind them is no body yet
+abbrev pub FailsInBody : {S A : Type 0} → Ghosts S → S → S → Vec ℕ → List HeaderSpan → RequestSpans → Result A ReadEnd → Type 0
+FailsInBody g old new bytes fields spans result = result ≡ Err ReadFault → (found : IsHeadAt bytes.items fields spans)
+    → (more : Bytes) × AwaitsBody found.head (drop spans.len bytes.items ++ more) × Gives g old new more
+
+-- a body of this length, of the front that was there and what a source gave
+abbrev pub GivesBody : {S : Type 0} → Ghosts S → S → S → ℕ → Bytes → Option Bytes → Type 0
+GivesBody g old new n front body = (more : Bytes) × Gives g old new more × TakesBody n front more (g.remaining new) body

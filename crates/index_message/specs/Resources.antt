@@ -1,5 +1,5 @@
 -- What a request is about, and what it does there.
-use Rattle.std.specs.Prelude.{ℕ, ◌==◌, Bool, true, false, not, List, Option, Some, None, option_and_then, if◌then◌else◌, bytes_eq, codes}
+use Rattle.std.specs.Prelude.{◌==◌, Bool, true, false, not, Option, Some, None, option_and_then, if◌then◌else◌, bytes_eq, codes}
 use Rattle.std.specs.List.{after_first, before_first}
 use Rattle.std.specs.Option.{option_map_or}
 use Rattle.std.specs.Str.{byte, is_utf8}
@@ -98,10 +98,6 @@ tail_of path = after_slash (after_slash path)
 abbrev pub first_segment : Bytes → Bytes
 first_segment tail = percent_decode (before_slash tail)
 
--- the second segment, decoded
-abbrev pub second_segment : Bytes → Bytes
-second_segment tail = percent_decode (after_slash tail)
-
 -- the file is a file name that spells another project (PEP 427, PEP 625)
 abbrev pub is_file_of_other : Bytes → Bytes → Bool
 is_file_of_other project file = option_map_or (λ spelled. not (bytes_eq spelled.project project)) (read_file_name file) false
@@ -111,13 +107,17 @@ abbrev pub file_of_project : Bytes → Bytes → Option Resource
 file_of_project project file =
     if is_file_of_other project file then None else Some (resource.File file)
 
+-- the same, by the segments of both
+abbrev pub file_at : Bytes → Bytes → Option Resource
+file_at project file = file_of_project (percent_decode project) (percent_decode file)
+
 -- what a route leads to, with the segments behind the path's first word
 abbrev pub resource_on : Route → Bytes → Option Resource
 resource_on route.Simple tail = Some resource.Simple
 resource_on route.Root tail = Some resource.Root
 resource_on route.Project tail = Some (resource.Project (first_segment tail))
 resource_on route.ProjectPage tail = Some (resource.ProjectPage (first_segment tail))
-resource_on route.File tail = file_of_project (first_segment tail) (second_segment tail)
+resource_on route.File tail = file_at (before_slash tail) (after_slash tail)
 resource_on route.Name tail = Some (resource.Name (first_segment tail))
 resource_on route.Requests tail = Some resource.Requests
 

@@ -1,7 +1,7 @@
 //! The header fields of a head, where they lie in its bytes.
-ghost use Rattle.std.specs.Prelude.{◌≡◌, length, map, All, IfOk};
+ghost use Rattle.std.specs.Prelude.{◌≡◌, length, All, IfOk};
 ghost use Rattle.httparse.specs.Spans.{IsHeaderWithin, header_bytes};
-ghost use Rattle.index_message.specs.Fields.{AreFound, is_named as is_named_lem, value_of, values_of};
+ghost use Rattle.index_message.specs.Fields.{AreFound, AreValues, fields_at, is_named as is_named_lem, value_of, values_of};
 
 use httparse::spans::HeaderSpan;
 use std::alloc::{AllocError, Global};
@@ -24,7 +24,7 @@ fn is_named(bytes: &[u8], field: &HeaderSpan, name: &[u8]) -> bool
 /// How often a field with this name stands among these.
 pub fn find<'a>(bytes: &'a [u8], fields: &[HeaderSpan], name: &[u8]) -> Found<'a>
     requires { All (IsHeaderWithin (length bytes.now)) fields.now }
-    ensures { AreFound result (values_of name.now (map (header_bytes bytes.now) fields.now)) }
+    ensures { AreFound result (values_of name.now (fields_at bytes.now fields.now)) }
 {
     let mut found = None;
     for field in fields {
@@ -44,7 +44,7 @@ pub fn find<'a>(bytes: &'a [u8], fields: &[HeaderSpan], name: &[u8]) -> Found<'a
 /// The value of the first field with this name, or nothing where there is none.
 pub fn first_value<'a>(bytes: &'a [u8], fields: &[HeaderSpan], name: &[u8]) -> &'a [u8]
     requires { All (IsHeaderWithin (length bytes.now)) fields.now }
-    ensures { result.now ≡ value_of name.now (map (header_bytes bytes.now) fields.now) }
+    ensures { result.now ≡ value_of name.now (fields_at bytes.now fields.now) }
 {
     for field in fields {
         if is_named(bytes, field, name) {
@@ -62,8 +62,7 @@ pub fn each_value<'a>(
     name: &[u8],
 ) -> Result<Vec<&'a [u8]>, AllocError>
     requires { All (IsHeaderWithin (length bytes.now)) fields.now }
-    ensures { IfOk result (λ values. map (λ value. value.now) values.items
-        ≡ values_of name.now (map (header_bytes bytes.now) fields.now)) }
+    ensures { IfOk result (AreValues (values_of name.now (fields_at bytes.now fields.now))) }
 {
     let mut values = Vec::new(alloc);
     for field in fields {

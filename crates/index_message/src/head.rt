@@ -1,8 +1,8 @@
 //! The head of a request, read in whatever pieces it comes.
-ghost use Rattle.std.specs.Prelude.{◌≡◌, ◌≤◌, ◌<◌, ◌+◌, [], ◌++◌, List, ℕ, true, false, length, vec_len, None, Ok, Err, IfOk, IfSome, OnOk, unwrap_or};
-ghost use Rattle.std.specs.Io.KnownBytes.{Consumes, IsAtEnd, Keeps};
+ghost use Rattle.std.specs.Prelude.{◌≡◌, ◌≤◌, ◌<◌, ◌+◌, [], true, false, length, vec_len, None, Ok, Err, IfOk, IfSome, OnOk};
+ghost use Rattle.std.specs.Io.KnownBytes.{Keeps};
 ghost use Rattle.index_message.specs.Heads.{AwaitsHead, HasNoHead, IsHeadAt, Tries, longest_head, most_fields};
-ghost use Rattle.index_message.specs.Reads.{ReadsOnly, TakesAtMost};
+ghost use Rattle.index_message.specs.Reads.{FailsBelow, Fills, Gives, GivesUpTo, HasEnded, Reads, ReadsOnly, and_left};
 
 use httparse::Status;
 use httparse::spans::{HeaderSpan, RequestSpans, parse_request};
@@ -45,15 +45,12 @@ pub fn read_head<S: Source>(
     requires empty { held.old.items ≡ [] }
     requires room { length fields.old ≡ most_fields }
     ensures short { vec_len held.new ≤ longest_head }
-    ensures consumed { OnOk result
-        (Consumes (S.remaining source.old) (S.remaining source.new) held.new.items) }
+    ensures consumed { OnOk result (Gives S.Source source.old source.new held.new.items) }
     ensures head { IfOk result (λ found. IfSome found (IsHeadAt held.new.items fields.new)) }
-    ensures none { result ≡ Ok None
-        → HasNoHead (held.new.items ++ unwrap_or (S.remaining source.new) []) }
+    ensures none { result ≡ Ok None → HasNoHead (and_left held.new.items (S.remaining source.new)) }
     ensures prompt { result ≡ Err ReadEnd.ReadFault → AwaitsHead held.new.items
-        × Consumes (S.remaining source.old) (S.remaining source.new) held.new.items }
-    ensures reads { ReadsOnly (S.failures source.old) (S.failures source.new) result }
-    ensures limit { TakesAtMost longest_head (S.remaining source.old) (S.remaining source.new) }
+        × Gives S.Source source.old source.new held.new.items }
+    ensures reads { Reads S.Source source.old source.new longest_head result }
 {
     while held.len() < LONGEST_HEAD {
         if read_more(source, held, LONGEST_HEAD)? == 0 {
@@ -86,16 +83,11 @@ pub fn read_up_to<S: Source>(
     held: &mut Vec<u8>,
     wanted: usize,
 ) -> Result<bool, ReadEnd>
-    ensures consumed { OnOk result ((more : List ℕ) × (held.new.items ≡ held.old.items ++ more)
-        × Consumes (S.remaining source.old) (S.remaining source.new) more) }
+    ensures consumed { OnOk result (Fills S.Source source.old source.new held.old held.new) }
     ensures full { result ≡ Ok true → wanted ≤ vec_len held.new }
-    ensures ended { result ≡ Ok false
-        → (vec_len held.new < wanted) × IsAtEnd (S.remaining source.new) }
-    ensures prompt { result ≡ Err ReadEnd.ReadFault
-        → (more : List ℕ) × (vec_len held.old + length more < wanted)
-        × Consumes (S.remaining source.old) (S.remaining source.new) more }
-    ensures reads { ReadsOnly (S.failures source.old) (S.failures source.new) result }
-    ensures limit { TakesAtMost wanted (S.remaining source.old) (S.remaining source.new) }
+    ensures ended { result ≡ Ok false → (vec_len held.new < wanted) × HasEnded S.Source source.new }
+    ensures prompt { FailsBelow S.Source source.old source.new (vec_len held.old) wanted result }
+    ensures reads { Reads S.Source source.old source.new wanted result }
 {
     while held.len() < wanted {
         if read_more(source, held, wanted)? == 0 {
@@ -110,14 +102,12 @@ fn read_more<S: Source>(source: &mut S, held: &mut Vec<u8>, most: usize) -> Resu
     requires room { vec_len held.old < most }
     ensures came { IfOk result (λ count. vec_len held.new ≡ vec_len held.old + count) }
     ensures most { vec_len held.new ≤ most }
-    ensures consumed { OnOk result ((more : List ℕ) × (held.new.items ≡ held.old.items ++ more)
-        × Consumes (S.remaining source.old) (S.remaining source.new) more) }
-    ensures end { result ≡ Ok 0 → IsAtEnd (S.remaining source.new) }
+    ensures consumed { OnOk result (Fills S.Source source.old source.new held.old held.new) }
+    ensures end { result ≡ Ok 0 → HasEnded S.Source source.new }
     ensures kept { result ≡ Err ReadEnd.ReadFault → (held.new.items ≡ held.old.items)
         × Keeps (S.remaining source.old) (S.remaining source.new) }
     ensures reads { ReadsOnly (S.failures source.old) (S.failures source.new) result }
-    ensures limit { (taken : List ℕ) × (vec_len held.old + length taken ≤ most)
-        × Consumes (S.remaining source.old) (S.remaining source.new) taken }
+    ensures limit { GivesUpTo S.Source source.old source.new (vec_len held.old) most }
 {
     let mut piece = [0u8; PIECE];
     let room = PIECE.min(most - held.len());

@@ -1,6 +1,7 @@
 //! The length of a body, as a head says it.
-ghost use Rattle.std.specs.Prelude.{◌≡◌, ◌≤◌, length, map, All, IfOk};
-ghost use Rattle.httparse.specs.Spans.{IsHeaderWithin, header_bytes};
+ghost use Rattle.std.specs.Prelude.{◌≡◌, ◌≤◌, length, All, IfOk};
+ghost use Rattle.httparse.specs.Spans.{IsHeaderWithin};
+ghost use Rattle.index_message.specs.Fields.{fields_at};
 ghost use Rattle.index_message.specs.Lengths.{at_most as at_most_lem, body_length as body_length_lem, length_in as length_in_lem, length_value, longest_upload};
 
 use crate::fault::MessageFault;
@@ -18,7 +19,7 @@ const LONGEST_REQUEST: u64 = 65_536;
 #[tactic(auto, unfolding(crate::specs::Lengths::body_length))]
 pub fn body_length(method: Method, bytes: &[u8], fields: &[HeaderSpan]) -> Result<u64, MessageFault>
     requires { All (IsHeaderWithin (length bytes.now)) fields.now }
-    ensures length { result ≡ body_length_lem method (map (header_bytes bytes.now) fields.now) }
+    ensures length { result ≡ body_length_lem method (fields_at bytes.now fields.now) }
     ensures bound { IfOk result (λ number. number ≤ longest_upload) }
 {
     match method {
@@ -31,7 +32,7 @@ pub fn body_length(method: Method, bytes: &[u8], fields: &[HeaderSpan]) -> Resul
 /// The length that the fields say, up to a limit.
 fn length_in(limit: u64, bytes: &[u8], fields: &[HeaderSpan]) -> Result<u64, MessageFault>
     requires { All (IsHeaderWithin (length bytes.now)) fields.now }
-    ensures length { result ≡ length_in_lem limit (map (header_bytes bytes.now) fields.now) }
+    ensures length { result ≡ length_in_lem limit (fields_at bytes.now fields.now) }
     ensures bound { IfOk result (λ number. number ≤ limit) }
 {
     match find(bytes, fields, b"transfer-encoding") {

@@ -1,12 +1,11 @@
 //! One message, read from any source.
-ghost use Rattle.std.specs.Prelude.{◌≡◌, ◌≤◌, ◌<◌, ◌+◌, ◌++◌, List, ℕ, length, map, drop, Err, IfErr, IfOk, All};
-ghost use Rattle.std.specs.Io.KnownBytes.{Consumes};
-ghost use Rattle.httparse.specs.Spans.{IsHeaderWithin, IsRequestWithin, IsWithin, header_bytes, span_bytes};
-ghost use Rattle.index_io.specs.Bytes.{IsInput};
-ghost use Rattle.index_message.specs.Heads.{IsHeadAt, longest_head};
+ghost use Rattle.std.specs.Prelude.{◌≡◌, ◌≤◌, ◌+◌, length, Err, IfErr, IfOk, All};
+ghost use Rattle.httparse.specs.Spans.{IsHeaderWithin, IsRequestWithin, IsWithin, span_bytes};
+ghost use Rattle.index_message.specs.Fields.{fields_at};
+ghost use Rattle.index_message.specs.Heads.{longest_head};
 ghost use Rattle.index_message.specs.Lengths.{longest_upload};
-ghost use Rattle.index_message.specs.Messages.{AwaitsBody, EndsUnfinished, FollowsHead, IsMessage, TakesBody, asked_by_head, is_head_name, whole_of};
-ghost use Rattle.index_message.specs.Reads.{ReadsOnly, TakesAtMost};
+ghost use Rattle.index_message.specs.Messages.{BeginsWith, EndsUnfinished, FailsInBody, Follows, GivesBody, asked_at, is_head_name, whole_of};
+ghost use Rattle.index_message.specs.Reads.{FailsBelow, GivesAtMost, Reads, ReadsOnly};
 ghost use Rattle.index_message.specs.declared.message.Message.TheVariants.{Faulty};
 
 use crate::fault::MessageFault;
@@ -31,13 +30,11 @@ pub fn read_message<S: Source>(
     site: &Site,
     source: &mut S,
 ) -> Result<Message, ReadEnd>
-    ensures message { IfOk result (λ message. (input : List ℕ)
-        × IsInput (S.remaining source.old) input × IsMessage input message) }
+    ensures message { IfOk result (BeginsWith (S.remaining source.old)) }
     ensures prompt { result ≡ Err ReadEnd.ReadFault
         → EndsUnfinished (S.remaining source.old) (S.remaining source.new) }
     ensures reads { ReadsOnly (S.failures source.old) (S.failures source.new) result }
-    ensures limit { TakesAtMost (longest_head + longest_upload)
-        (S.remaining source.old) (S.remaining source.new) }
+    ensures limit { GivesAtMost S.Source source.old source.new (longest_head + longest_upload) }
 {
     let mut bytes = Vec::new(alloc);
     let mut fields = [EMPTY_HEADER_SPAN; MOST_FIELDS];
@@ -60,15 +57,9 @@ fn read_rest<S: Source>(
     spans: RequestSpans,
 ) -> Result<Message, ReadEnd>
     requires within { IsRequestWithin bytes.items fields.now spans }
-    ensures message { IfOk result (λ message. (found : IsHeadAt bytes.items fields.now spans)
-        → FollowsHead found.head (drop spans.len bytes.items)
-        (S.remaining source.old) (S.remaining source.new) message) }
-    ensures prompt { result ≡ Err ReadEnd.ReadFault
-        → (found : IsHeadAt bytes.items fields.now spans)
-        → (more : List ℕ) × AwaitsBody found.head (drop spans.len bytes.items ++ more)
-        × Consumes (S.remaining source.old) (S.remaining source.new) more }
-    ensures reads { ReadsOnly (S.failures source.old) (S.failures source.new) result }
-    ensures limit { TakesAtMost longest_upload (S.remaining source.old) (S.remaining source.new) }
+    ensures message { IfOk result (Follows S.Source source.old source.new bytes fields.now spans) }
+    ensures prompt { FailsInBody S.Source source.old source.new bytes fields.now spans result }
+    ensures reads { Reads S.Source source.old source.new longest_upload result }
 {
     let head = bytes.as_slice();
     let fields = &fields[..spans.headers];
@@ -105,9 +96,7 @@ fn what_is_asked(
     requires method { IsWithin (length head.now) spans.now.method }
     requires path { IsWithin (length head.now) spans.now.path }
     ensures bound { IfOk result (λ asked. IfOk asked (λ asked. asked.length ≤ longest_upload)) }
-    ensures asked { IfOk result (λ asked. asked
-        ≡ asked_by_head (span_bytes head.now spans.now.method) (span_bytes head.now spans.now.path)
-        (map (header_bytes head.now) fields.now)) }
+    ensures asked { IfOk result (λ asked. asked ≡ asked_at head.now spans.now fields.now) }
 {
     let (resource, method) = match resolve_target(
         alloc,
@@ -138,14 +127,9 @@ fn read_body<S: Source>(
     front: &[u8],
     size: u64,
 ) -> Result<Option<Bytes>, ReadEnd>
-    ensures body { IfOk result (λ body. (more : List ℕ)
-        × Consumes (S.remaining source.old) (S.remaining source.new) more
-        × TakesBody size front.now more (S.remaining source.new) body) }
-    ensures prompt { result ≡ Err ReadEnd.ReadFault
-        → (more : List ℕ) × (length front.now + length more < size)
-        × Consumes (S.remaining source.old) (S.remaining source.new) more }
-    ensures reads { ReadsOnly (S.failures source.old) (S.failures source.new) result }
-    ensures limit { TakesAtMost size (S.remaining source.old) (S.remaining source.new) }
+    ensures body { IfOk result (GivesBody S.Source source.old source.new size front.now) }
+    ensures prompt { FailsBelow S.Source source.old source.new (length front.now) size result }
+    ensures reads { Reads S.Source source.old source.new size result }
 {
     let size = size as usize;
     let mut body = Vec::from_slice(alloc, front)?;
@@ -166,7 +150,7 @@ fn whole_message(
 ) -> Result<Message, ReadEnd>
     requires within { All (IsHeaderWithin (length bytes.items)) fields.now }
     ensures message { IfOk result (λ message.
-        message ≡ whole_of asked (map (header_bytes bytes.items) fields.now) body) }
+        message ≡ whole_of asked (fields_at bytes.items fields.now) body) }
     ensures memory { IfErr result (λ end. end ≡ ReadEnd.OutOfMemory) }
 {
     let fields = Vec::from_slice(alloc, fields)?;

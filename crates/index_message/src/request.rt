@@ -1,7 +1,8 @@
 //! The head of a request.
-ghost use Rattle.std.specs.Prelude.{◌≡◌, length, map, All, IfOk};
-ghost use Rattle.httparse.specs.Spans.{IsHeaderWithin, header_bytes};
-ghost use Rattle.index_message.specs.Fields.{value_of as value_of_lem, values_of as values_of_lem};
+ghost use Rattle.std.specs.Prelude.{◌≡◌, length, All, IfOk};
+ghost use Rattle.httparse.specs.Spans.{IsHeaderWithin};
+ghost use Rattle.index_message.specs.Fields.{AreValues, fields_at, value_of as value_of_lem, values_of as values_of_lem};
+ghost use Rattle.index_message.specs.Messages.{request_asked};
 
 use crate::fields::{each_value, first_value};
 use crate::resource::{Method, Resource};
@@ -85,8 +86,7 @@ impl Request {
 
     /// The values of all fields with this name, in order.
     pub fn values(&self, alloc: Global, name: &[u8]) -> Result<Vec<&[u8]>, AllocError>
-        ensures { IfOk result (λ values.
-            map (λ value. value.now) values.items ≡ values_of_lem name.now self.now.fields) }
+        ensures { IfOk result (AreValues (values_of_lem name.now self.now.fields)) }
     {
         each_value(alloc, self.bytes.as_slice(), self.fields.as_slice(), name)
     }
@@ -94,11 +94,7 @@ impl Request {
     /// The request that asks for this, with fields that lie in the bytes.
     pub(crate) fn new(asked: Asked, bytes: Vec<u8>, fields: Vec<HeaderSpan>) -> Request
         requires { All (IsHeaderWithin (length bytes.items)) fields.items }
-        ensures { result ≡ record {
-          method = asked.method;
-          resource = asked.resource;
-          fields = map (header_bytes bytes.items) fields.items;
-        } }
+        ensures { result ≡ request_asked asked (fields_at bytes.items fields.items) }
     {
         Request {
             asked,

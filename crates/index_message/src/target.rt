@@ -3,7 +3,7 @@ ghost use Rattle.std.specs.Prelude.{◌≡◌, ◌<◌, ◌==◌, Err, Ok, Some,
 ghost use Rattle.std.specs.List.{after_first, before_first};
 ghost use Rattle.percent_encoding.specs.Percent.{percent_decode};
 ghost use Rattle.index_message.specs.Messages.{target_by};
-ghost use Rattle.index_message.specs.Resources.{file_of_project as file_of_project_lem, resource_at as resource_at_lem, resource_of as resource_of_lem, resource_on as resource_on_lem, is_file_of_other as is_file_of_other_lem, tail_of as tail_of_lem};
+ghost use Rattle.index_message.specs.Resources.{file_at, resource_at as resource_at_lem, resource_of as resource_of_lem, resource_on as resource_on_lem, is_file_of_other as is_file_of_other_lem, tail_of as tail_of_lem};
 
 use crate::fault::MessageFault;
 use crate::resource::{Method, Resource};
@@ -85,8 +85,7 @@ fn resource_on(alloc: Global, route: Route, tail: &str) -> Result<Option<Resourc
 
 /// A file of a project, by the segments of both.
 fn file_of_project(alloc: Global, project: &str, file: &str) -> Result<Option<Resource>, AllocError>
-    ensures { IfOk result (λ found.
-        found ≡ file_of_project_lem (percent_decode project.now) (percent_decode file.now)) }
+    ensures { IfOk result (λ found. found ≡ file_at project.now file.now) }
 {
     let project = percent_decoded(alloc, project)?;
     let file = percent_decoded(alloc, file)?;

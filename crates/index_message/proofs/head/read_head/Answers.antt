@@ -1,4 +1,4 @@
-use Rattle.std.proofs.Common.{arith, ap, length, ◌∙◌, ◌≡◌, vec_len, ◌++◌, refl, length-append}
+use Rattle.std.proofs.Common.{arith, ap, length, ◌∙◌, ◌≡◌, vec_len, ◌++◌, refl, rules, length-append}
 use Rattle.std.proofs.KnownBytes.{Consumes-nil, Consumes-trans}
 use Rattle.index_message.proofs.HeadLemmas.{may_nothing, none_in_nothing, none_by_limit}
 use Rattle.index_message.proofs.head.read_head.Goals as goal
@@ -12,21 +12,29 @@ loop-source-init g c = record {
   steady = refl;
 }
 
-pub returns-in_err-read_more-clause-limit : goal.returns-in_err-read_more-clause-limit
-returns-in_err-read_more-clause-limit g c =
-    let more = c.read_more.ensures.limit in (
-      c.loop-source.held.items ++ more.0,
-      rw length-append (omega (arith, more.1, c.loop-source.held.ok.0)),
-      Consumes-trans _ _ _ _ _ c.loop-source.invariant.consumed more.2,
-    )
+pub returns-in_err-read_more-clause-reads : goal.returns-in_err-read_more-clause-reads
+returns-in_err-read_more-clause-reads g c =
+    let more = c.read_more.ensures.limit in
+    record {
+      failures = search rules;
+      limit = (
+        c.loop-source.held.items ++ more.0,
+        rw length-append (omega (arith, more.1, c.loop-source.held.ok.0)),
+        Consumes-trans _ _ _ _ _ c.loop-source.invariant.consumed more.2,
+      );
+    }
 
-pub returns-in-Whole-clause-limit : goal.returns-in-Whole-clause-limit
-returns-in-Whole-clause-limit g c =
-    let more = c.read_more.ensures.limit in (
-      c.loop-source.held.items ++ more.0,
-      rw length-append (omega (arith, more.1, c.loop-source.held.ok.0)),
-      Consumes-trans _ _ _ _ _ c.loop-source.invariant.consumed more.2,
-    )
+pub returns-in-Whole-clause-reads : goal.returns-in-Whole-clause-reads
+returns-in-Whole-clause-reads g c =
+    let more = c.read_more.ensures.limit in
+    record {
+      failures = search rules;
+      limit = (
+        c.loop-source.held.items ++ more.0,
+        rw length-append (omega (arith, more.1, c.loop-source.held.ok.0)),
+        Consumes-trans _ _ _ _ _ c.loop-source.invariant.consumed more.2,
+      );
+    }
 
 pub returns-clause-none : goal.returns-clause-none
 returns-clause-none g c _ = none_by_limit _ _ (omega (arith, c.loop-source.invariant.short, c.loop-source.held.ok.0)) c.loop-source.invariant.none

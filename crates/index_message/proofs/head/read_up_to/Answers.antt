@@ -1,14 +1,18 @@
-use Rattle.std.proofs.Common.{arith, ap, length, ◌∙◌, ◌≡◌, ℕ, ◌≤◌, ◌+◌, vec_len, ◌++◌, length-append}
+use Rattle.std.proofs.Common.{arith, rules, ap, length, ◌∙◌, ◌≡◌, ℕ, ◌≤◌, ◌+◌, vec_len, ◌++◌, length-append}
 use Rattle.std.proofs.KnownBytes.{Consumes-trans}
 use Rattle.index_message.proofs.head.read_up_to.Goals as goal
 
-pub returns-in_err-read_more-clause-limit : goal.returns-in_err-read_more-clause-limit
-returns-in_err-read_more-clause-limit g c =
+pub returns-in_err-read_more-clause-reads : goal.returns-in_err-read_more-clause-reads
+returns-in_err-read_more-clause-reads g c =
     let before = c.loop-source.invariant.consumed in
     let more = c.read_more.ensures.limit in
     let held : vec_len c.loop-source.held ≡ length c.args.held.now.items + length before.0 =
-    c.loop-source.held.ok.0 ∙ ap length before.1 ∙ length-append c.args.held.now.items before.0 in (
-      before.0 ++ more.0,
-      rw length-append (omega (arith, more.1, held)),
-      Consumes-trans _ _ _ _ _ before.2 more.2,
-    )
+    c.loop-source.held.ok.0 ∙ ap length before.1 ∙ length-append c.args.held.now.items before.0 in
+    record {
+      failures = search rules;
+      limit = (
+        before.0 ++ more.0,
+        rw length-append (omega (arith, more.1, held)),
+        Consumes-trans _ _ _ _ _ before.2 more.2,
+      );
+    }

@@ -22,7 +22,7 @@ returns-clause-message g c =
 
 pub returns-clause-limit : goal.returns-clause-limit
 returns-clause-limit g c =
-    let rest = c.read_rest.ensures.limit in (
+    let rest = c.read_rest.ensures.reads.limit in (
       c.read_head.new.held.items ++ rest.0,
       rw length-append (omega (arith, rest.1, c.in_ok-spans.ensures.short, c.read_head.new.held.ok.0)),
       Consumes-trans _ _ _ _ _ c.in_ok-spans.ensures.consumed rest.2,

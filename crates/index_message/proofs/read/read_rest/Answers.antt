@@ -25,17 +25,17 @@ returns-in-None-clause-message g c = λ found.
     let named : c.faulty_message-in-None.result ≡ Faulty ShortBody (is_head_name found.head.method) = rw (sym found.at.method) (rw c.as_slice-head.ensures.value at c.faulty_message-in-None.ensures) in
     (read.0, read.1, named ∙ follows_short _ _ _ _ _ found _ asked read.2.0 read.2.1)
 
-pub returns-in-Some-clause-limit : goal.returns-in-Some-clause-limit
-returns-in-Some-clause-limit g c =
-    let read = c.read_body.ensures.limit in
+pub returns-in-Some-clause-reads : goal.returns-in-Some-clause-reads
+returns-in-Some-clause-reads g c =
+    let read = c.read_body.ensures.reads.limit in
     let bound : c.in-Ok.asked.length ≤ 16777216 = rw c.in-Ok.is at c.in_ok-asked.ensures.bound in
-    (read.0, omega (arith, read.1, bound), read.2)
+    record { failures = search rules; limit = (read.0, omega (arith, read.1, bound), read.2) }
 
-pub returns-in-None-clause-limit : goal.returns-in-None-clause-limit
-returns-in-None-clause-limit g c =
-    let read = c.read_body.ensures.limit in
+pub returns-in-None-clause-reads : goal.returns-in-None-clause-reads
+returns-in-None-clause-reads g c =
+    let read = c.read_body.ensures.reads.limit in
     let bound : c.in-Ok.asked.length ≤ 16777216 = rw c.in-Ok.is at c.in_ok-asked.ensures.bound in
-    (read.0, omega (arith, read.1, bound), read.2)
+    record { failures = search rules; limit = (read.0, omega (arith, read.1, bound), read.2) }
 
 pub returns-in_err-body-clause-prompt : goal.returns-in_err-body-clause-prompt
 returns-in_err-body-clause-prompt g c = λ is found.
