@@ -29,6 +29,11 @@ use Rattle.index_message.specs.declared.resource.Resource.{Resource}
 abbrev pub Target : Type 0
 Target = Resource × Method
 
+-- a resource with a method, or why it has none
+abbrev pub to_resource : Resource → Result Method MessageFault → Result Target MessageFault
+to_resource resource (Err fault) = Err fault
+to_resource resource (Ok method) = Ok (resource, method)
+
 -- a resource with the method of this name, where it has that
 abbrev pub with_method : Resource → Option Method → Result Target MessageFault
 with_method resource None = Err (BadMethod (allowed_of resource))
@@ -105,6 +110,10 @@ IsUnfinished taken = AwaitsHead taken ⊎ ((head : RequestHead) × (front : Byte
 -- what was taken is no message yet
 abbrev pub EndsUnfinished : Option Bytes → Option Bytes → Type 0
 EndsUnfinished old new = (taken : Bytes) × Consumes old new taken × IsUnfinished taken
+
+-- where a read failed, what a source gave is no message yet
+abbrev pub FailsUnfinished : {S A : Type 0} → Ghosts S → S → S → Result A ReadEnd → Type 0
+FailsUnfinished g old new result = result ≡ Err ReadFault → EndsUnfinished (g.remaining old) (g.remaining new)
 
 -- ---- as it is read
 

@@ -1,7 +1,7 @@
 -- What reading does to a source.
 use Rattle.std.specs.Prelude.{◌≡◌, ◌≢◌, ℕ, ◌+◌, ◌<◌, ◌≤◌, List, [], ◌++◌, length, Option, Result, Err, unwrap_or}
 use Rattle.std.specs.Global.{Vec}
-use Rattle.std.specs.Io.KnownBytes.{Consumes, IsAtEnd}
+use Rattle.std.specs.Io.KnownBytes.{Consumes, IsAtEnd, Keeps}
 use Rattle.index_io.specs.Counts.{HasFailed}
 use Rattle.index_io.specs.declared.source.Source.{Ghosts}
 use Rattle.index_message.specs.declared.head.ReadEnd.{ReadEnd}
@@ -38,6 +38,11 @@ GivesUpTo g old new before most = (taken : List ℕ) × (before + length taken �
 abbrev pub FailsBelow : {S A : Type 0} → Ghosts S → S → S → ℕ → ℕ → Result A ReadEnd → Type 0
 FailsBelow g old new before wanted result =
     result ≡ Err ReadFault → (more : List ℕ) × (before + length more < wanted) × Gives g old new more
+
+-- where a read failed, it gave nothing, and what was held is as it was
+abbrev pub FailsAtOnce : {S A : Type 0} → Ghosts S → S → S → List ℕ → List ℕ → Result A ReadEnd → Type 0
+FailsAtOnce g old new before after result =
+    result ≡ Err ReadFault → (after ≡ before) × Keeps (g.remaining old) (g.remaining new)
 
 -- what it gave was put behind what was held
 abbrev pub Fills : {S : Type 0} → Ghosts S → S → S → Vec ℕ → Vec ℕ → Type 0

@@ -1,10 +1,10 @@
 //! One message, read from any source.
-ghost use Rattle.std.specs.Prelude.{◌≡◌, ◌≤◌, ◌+◌, length, Err, IfErr, IfOk, All};
+ghost use Rattle.std.specs.Prelude.{◌≡◌, ◌≤◌, ◌+◌, length, IfErr, IfOk, All};
 ghost use Rattle.httparse.specs.Spans.{IsHeaderWithin, IsRequestWithin, IsWithin, span_bytes};
 ghost use Rattle.index_message.specs.Fields.{fields_at};
 ghost use Rattle.index_message.specs.Heads.{longest_head};
 ghost use Rattle.index_message.specs.Lengths.{longest_upload};
-ghost use Rattle.index_message.specs.Messages.{BeginsWith, EndsUnfinished, FailsInBody, Follows, GivesBody, asked_at, is_head_name, whole_of};
+ghost use Rattle.index_message.specs.Messages.{BeginsWith, FailsInBody, FailsUnfinished, Follows, GivesBody, asked_at, is_head_name, whole_of};
 ghost use Rattle.index_message.specs.Reads.{FailsBelow, GivesAtMost, Reads, ReadsOnly};
 ghost use Rattle.index_message.specs.declared.message.Message.TheVariants.{Faulty};
 
@@ -31,8 +31,7 @@ pub fn read_message<S: Source>(
     source: &mut S,
 ) -> Result<Message, ReadEnd>
     ensures message { IfOk result (BeginsWith (S.remaining source.old)) }
-    ensures prompt { result ≡ Err ReadEnd.ReadFault
-        → EndsUnfinished (S.remaining source.old) (S.remaining source.new) }
+    ensures prompt { FailsUnfinished S.Source source.old source.new result }
     ensures reads { ReadsOnly (S.failures source.old) (S.failures source.new) result }
     ensures limit { GivesAtMost S.Source source.old source.new (longest_head + longest_upload) }
 {

@@ -1,8 +1,8 @@
 //! What the request line of a head asks for.
-ghost use Rattle.std.specs.Prelude.{◌≡◌, ◌<◌, ◌==◌, Err, Ok, Some, IfErr, IfOk};
+ghost use Rattle.std.specs.Prelude.{◌≡◌, ◌<◌, ◌==◌, Some, IfOk};
 ghost use Rattle.std.specs.List.{after_first, before_first};
 ghost use Rattle.percent_encoding.specs.Percent.{percent_decode};
-ghost use Rattle.index_message.specs.Messages.{target_by};
+ghost use Rattle.index_message.specs.Messages.{target_by, to_resource};
 ghost use Rattle.index_message.specs.Resources.{file_at, resource_at as resource_at_lem, resource_of as resource_of_lem, resource_on as resource_on_lem, is_file_of_other as is_file_of_other_lem, tail_of as tail_of_lem};
 
 use crate::fault::MessageFault;
@@ -35,9 +35,7 @@ pub fn resolve_target(
 
 /// The method of this name, where the resource has it.
 fn allowed_method(resource: &Resource, name: &[u8]) -> Result<Method, MessageFault>
-    ensures ok { IfOk result (λ method.
-        target_by name.now (Some resource.now) ≡ Ok (resource.now, method)) }
-    ensures err { IfErr result (λ fault. target_by name.now (Some resource.now) ≡ Err fault) }
+    ensures { target_by name.now (Some resource.now) ≡ to_resource resource.now result }
 {
     let allowed = resource.allowed();
     match Method::named(name) {

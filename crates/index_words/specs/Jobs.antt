@@ -1,6 +1,7 @@
 -- What the words of a command line ask for.
 use Rattle.std.specs.Prelude.{◌≡◌, ◌≤◌, ◌<◌, ◌^◌, ℕ, List, Option, Some, None}
 use Rattle.std.specs.Prelude.{IfSome, IsSome, IsSomeAnd, codes, option_map}
+use Rattle.std.specs.Borrow.{Bor}
 use Rattle.std.specs.Str.Parse.{IsNumeral, digits_value, without_leading_plus}
 use Rattle.clap.specs.Words.{Row, Text, first_of, found_of, rows_of, subcommand_of}
 use Rattle.clap.specs.declared.parser.matches.ArgMatches.{ArgMatches}
@@ -16,6 +17,10 @@ pub record Finds {A : Type 0} (P : A → Type 0) (result : Option A) : Type 0 wh
 -- the rows of the options that were given
 abbrev pub rows_in : ArgMatches → List Row
 rows_in given = rows_of (found_of given)
+
+-- the name of the subcommand that was entered, and the rows of its options
+abbrev pub rows_entered : Option (Bor Text × Bor ArgMatches) → Option (Text × List Row)
+rows_entered entered = option_map (λ found. (found.0.now, rows_in found.1.now)) entered
 
 -- the text is this number in decimal digits, which may have a plus before them
 abbrev pub IsDecimalText : ℕ → Text → Type 0

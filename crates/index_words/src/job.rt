@@ -1,9 +1,9 @@
 //! What the words of a command line ask for.
-ghost use Rattle.std.specs.Prelude.{◌≡◌, ◌≤◌, ◌<◌, ◌^◌, ℕ, [], Some, true};
-ghost use Rattle.std.specs.Prelude.{codes, map, option_map, string_bytes, IfErr, IfOk, IfSome, IsOk, IsSome};
+ghost use Rattle.std.specs.Prelude.{◌≡◌, ◌≤◌, ◌<◌, ◌^◌, [], Some, true};
+ghost use Rattle.std.specs.Prelude.{codes, map, option_map, string_bytes, IfErr, IfOk, IsOk};
 ghost use Rattle.clap.specs.Words.{fault_of, first_of, subcommand_rows_of, takes};
 ghost use Rattle.index_words.specs.Program.{index_app};
-ghost use Rattle.index_words.specs.Jobs.{AskFor, Finds, HasNumberOrNone, IsJob, IsDecimalText, rows_in};
+ghost use Rattle.index_words.specs.Jobs.{AskFor, Finds, HasNumberOrNone, IsJob, IsDecimalText, rows_entered, rows_in};
 ghost use Rattle.index_words.specs.Refusals.{IsRefusal};
 
 use crate::command;
@@ -125,8 +125,7 @@ fn job_of<'a>(matches: &ArgMatches<'a>) -> Option<Job<'a>>
 
 /// The subcommand that was entered, and its options.
 fn entered_subcommand<'m, 'a>(matches: &'m ArgMatches<'a>) -> Option<(&'a str, &'m ArgMatches<'a>)>
-    ensures { option_map (λ found. (found.0.now, rows_in found.1.now)) result
-        ≡ subcommand_rows_of matches.now }
+    ensures { rows_entered result ≡ subcommand_rows_of matches.now }
 {
     matches.subcommand()
 }
@@ -202,8 +201,7 @@ fn number_or_none(given: &ArgMatches<'_>, id: &str) -> Option<Option<u64>>
 
 /// A count of connections.
 fn count(text: &str) -> Option<u32>
-    ensures count { IfSome result (λ n. IsDecimalText n text.now × (1 ≤ n) × (n ≤ 1000000)) }
-    ensures found { (n : ℕ) → IsDecimalText n text.now → 1 ≤ n → n ≤ 1000000 → IsSome result }
+    ensures { Finds (λ n. IsDecimalText n text.now × (1 ≤ n) × (n ≤ 1000000)) result }
 {
     let count = number(text)?;
     if count == 0 || count > 1_000_000 {
@@ -214,8 +212,7 @@ fn count(text: &str) -> Option<u32>
 
 /// The number that a text is.
 fn number(text: &str) -> Option<u64>
-    ensures number { IfSome result (λ n. IsDecimalText n text.now × (n < 2 ^ 64)) }
-    ensures found { (n : ℕ) → IsDecimalText n text.now → n < 2 ^ 64 → IsSome result }
+    ensures { Finds (λ n. IsDecimalText n text.now × (n < 2 ^ 64)) result }
 {
     text.parse::<u64>().ok()
 }

@@ -1,4 +1,4 @@
-use Rattle.std.proofs.Common.{arith, rules, ap, length, ◌∙◌, ◌≡◌, ℕ, ◌≤◌, ◌+◌, vec_len, ◌++◌, length-append}
+use Rattle.std.proofs.Common.{arith, rules, ap, length, ◌∙◌, ◌≡◌, ◌+◌, vec_len, ◌++◌, length-append}
 use Rattle.std.proofs.KnownBytes.{Consumes-trans}
 use Rattle.index_message.proofs.head.read_up_to.Goals as goal
 
