@@ -111,8 +111,7 @@ fn fraction(bytes: &[u8]) -> Option<u16>
 
 /// Up to three digits after a point, in thousandths.
 fn thousandths(digits: &[u8]) -> Option<u16>
-    ensures value { result ≡ thousandths_lem digits.now }
-    ensures small { IfSome result (λ n. n ≤ 1000) }
+    ensures { result ≡ thousandths_lem digits.now }
 {
     match digits {
         [] => Some(0),
@@ -129,8 +128,7 @@ fn thousandths(digits: &[u8]) -> Option<u16>
 
 fn digit(byte: u8) -> u16
     requires { (48 ≤ byte) × (byte ≤ 57) }
-    ensures value { result + 48 ≡ byte }
-    ensures small { result ≤ 9 }
+    ensures { result + 48 ≡ byte }
 {
     u16::from(byte - b'0')
 }
