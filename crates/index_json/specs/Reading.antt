@@ -57,19 +57,21 @@ if_whole found = if found.1.left == 0 then Some found.0 else None
 abbrev pub read_whole : {A : Type 0} → Reading A → Data → Option A
 read_whole reading value = option_and_then if_whole (reading (whole_object value))
 
--- it is what is read, and of no row where nothing is; or memory ran out
+-- what was found, seen so, is what is read, and of no row where nothing is; or memory ran out
+abbrev pub ReadsAs : {A B : Type 0} → (A → B) → Result A Unread → Option B → Type 0
+ReadsAs seen result read =
+    IfOk result (λ found. read ≡ Some (seen found)) × (result ≡ Err NotARequest → read ≡ None)
+
+-- what was found is what is read
 abbrev pub Reads : {A : Type 0} → Result A Unread → Option A → Type 0
-Reads result read =
-    IfOk result (λ found. read ≡ Some found) × (result ≡ Err NotARequest → read ≡ None)
+Reads result read = ReadsAs (λ found. found) result read
 
 -- the same of an object, which is what its reader has after it
 abbrev pub ReadsTo : {A : Type 0} → ObjectReader → ObjectReader → Result A Unread → Reading A → Type 0
 ReadsTo before after result reading =
-    IfOk result (λ found. reading (object_of before) ≡ Some (found, object_of after))
-    × (result ≡ Err NotARequest → reading (object_of before) ≡ None)
+    ReadsAs (λ found. (found, object_of after)) result (reading (object_of before))
 
 -- the same of a text that is found where it stands
 abbrev pub ReadsTextTo : ObjectReader → ObjectReader → Result (Bor (List ℕ)) Unread → Reading (List ℕ) → Type 0
 ReadsTextTo before after result reading =
-    IfOk result (λ found. reading (object_of before) ≡ Some (found.now, object_of after))
-    × (result ≡ Err NotARequest → reading (object_of before) ≡ None)
+    ReadsAs (λ found. (found.now, object_of after)) result (reading (object_of before))

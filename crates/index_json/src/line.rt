@@ -4,7 +4,7 @@ ghost use Rattle.serde_json.specs.View.{view};
 ghost use Rattle.index_json.specs.Json.{json_of};
 ghost use Rattle.index_json.specs.Keys.{SaysLine, SaysRequest};
 ghost use Rattle.index_json.specs.Line.{call_row, line_of, line_row, row_of_word};
-ghost use Rattle.index_json.specs.Reading.{Reads, ReadsTo, read_whole};
+ghost use Rattle.index_json.specs.Reading.{Reads, ReadsAs, ReadsTo, read_whole};
 ghost use Rattle.index_json.specs.Requests.{request_of, request_row};
 
 use crate::object_reader::{ObjectReader, Unread};
@@ -80,8 +80,7 @@ fn request_read(alloc: Global, bytes: &[u8]) -> Result<Request, Unread>
 
 /// The value that bytes of JSON are. Bytes that are none are of no row.
 fn parse(alloc: Global, bytes: &[u8]) -> Result<Value, Unread>
-    ensures value { IfOk result (λ value. json_of bytes.now ≡ Some (view value)) }
-    ensures none { result ≡ Err Unread.NotARequest → json_of bytes.now ≡ None }
+    ensures { ReadsAs view result (json_of bytes.now) }
 {
     match Value::from_slice(alloc, bytes) {
         Ok(value) => Ok(value),

@@ -14,9 +14,8 @@ none_where false o h = refl
 refused : (bytes : List ℕ) → (IsUtf8 bytes → read bytes ≡ None) → json_of bytes ≡ None
 refused bytes h = none_where (is_utf8 bytes) (read bytes) (λ e. h (IsUtf8-from_is_utf8 bytes e))
 
-pub returns-in-Ok-clause-value : goal.returns-in-Ok-clause-value
-returns-in-Ok-clause-value c =
-    let text = is_utf8-from_IsUtf8 _ c.in-Ok.ensures.ok.0 in rw text c.in-Ok.ensures.ok.1
+pub returns-in-Ok : goal.returns-in-Ok
+returns-in-Ok c = let text = is_utf8-from_IsUtf8 _ c.in-Ok.ensures.ok.0 in (rw text c.in-Ok.ensures.ok.1, search rules)
 
-pub returns-in-Err-2-clause-none : goal.returns-in-Err-2-clause-none
-returns-in-Err-2-clause-none c = λ _. refused _ (c.in-Err.ensures.err (search rules))
+pub returns-in-Err-2 : goal.returns-in-Err-2
+returns-in-Err-2 c = (tt, λ _. refused _ (c.in-Err.ensures.err (search rules)))
