@@ -1,6 +1,6 @@
 -- Why words ask for nothing.
-use Rattle.std.specs.Prelude.{◌≡◌, ◌≢◌, ◌⊎◌, List, ⊤}
-use Rattle.clap.specs.Words.{IsAmong, Text, fault_of, kind_of}
+use Rattle.std.specs.Prelude.{◌≡◌, ◌≢◌, ◌⊎◌, [], true, List, Result, IfErr, IfOk, IsOk, ⊤}
+use Rattle.clap.specs.Words.{IsAmong, Text, fault_of, kind_of, takes}
 use Rattle.clap.specs.declared.error.Error.{Error}
 use Rattle.clap.specs.declared.error.ErrorKind.TheVariants.{MissingSubcommand, OutOfMemory as NoMemory}
 use Rattle.index_words.specs.declared.job.Job.{Job}
@@ -24,3 +24,12 @@ IsRefusal words OutOfMemory = ⊤
 IsRefusal words (Clap error) =
     IsAmong (kind_of error) (fault_of index_app words)
     ⊎ ((kind_of error ≡ MissingSubcommand) × AskNothing words)
+
+-- What is read of words. The job is the subcommand that clap reads; where clap takes the words and they ask for a job, it is
+-- read, as long as there is memory; it is read only where clap finds no fault in them, and a refusal has the kind of one that
+-- it finds.
+pub record ReadsJob (words : List Text) (result : Result Job WordsEnd) : Type 0 where
+  pub job : IfOk result (AskFor words)
+  pub read : takes index_app words ≡ true → (job : Job) → AskFor words job → IfErr result (λ end. end ≡ OutOfMemory)
+  pub taken : IsOk result → fault_of index_app words ≡ []
+  pub why : IfErr result (IsRefusal words)

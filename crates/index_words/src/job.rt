@@ -1,14 +1,14 @@
 //! What the words of a command line ask for.
 ghost use Rattle.std.specs.Prelude.{◌≡◌, ◌≤◌, ◌<◌, ◌^◌, [], Some, true};
 ghost use Rattle.std.specs.Prelude.{codes, map, option_map, string_bytes, IfErr, IfOk, IsOk};
-ghost use Rattle.clap.specs.Words.{fault_of, first_of, subcommand_rows_of, takes};
-ghost use Rattle.index_words.specs.Program.{index_app};
-ghost use Rattle.index_words.specs.Jobs.{AskFor, Finds, HasNumberOrNone, IsJob, IsDecimalText, rows_entered, rows_in};
-ghost use Rattle.index_words.specs.Refusals.{IsRefusal};
+ghost use Rattle.clap.specs.Words.{first_of, subcommand_rows_of};
+ghost use Rattle.index_words.specs.Program.{index_app, IsApp};
+ghost use Rattle.index_words.specs.Jobs.{Finds, HasNumberOrNone, IsJob, IsDecimalText, rows_entered, rows_in};
+ghost use Rattle.index_words.specs.Refusals.{ReadsJob};
 
 use crate::command;
 use clap::error::ErrorKind;
-use clap::{ArgMatches, Error};
+use clap::{ArgMatches, Command, Error};
 use std::alloc::{AllocError, Global};
 
 /// What the program is asked to do.
@@ -91,18 +91,19 @@ impl From<Error> for WordsEnd {
 ///
 /// `Clap` where `clap` refuses the words, or was asked for help or the version; `OutOfMemory` for want of memory.
 pub fn read_words<'a>(alloc: Global, words: &'a [String]) -> Result<Job<'a>, WordsEnd>
-    // The job is the subcommand that clap reads.
-    ensures job { IfOk result (AskFor (map string_bytes words.now)) }
-
-    // Where clap takes the words and they ask for a job, it is read, as long as there is memory.
-    ensures read { let said = map string_bytes words.now in takes index_app said ≡ true
-        → (job : Job) → AskFor said job → IfErr result (λ end. end ≡ WordsEnd.OutOfMemory) }
-
-    // A job is read only where clap finds no fault in the words, and a refusal has the kind of one that it finds.
-    ensures taken { IsOk result → fault_of index_app (map string_bytes words.now) ≡ [] }
-    ensures why { IfErr result (IsRefusal (map string_bytes words.now)) }
+    ensures { ReadsJob (map string_bytes words.now) result }
 {
     let mut command = command::index(alloc)?;
+    let read = job_in(&mut command, words);
+    drop(command);
+    read
+}
+
+/// The job that the words ask for, which the command takes.
+fn job_in<'a>(command: &mut Command<'a>, words: &'a [String]) -> Result<Job<'a>, WordsEnd>
+    requires { IsApp command.old index_app }
+    ensures { ReadsJob (map string_bytes words.now) result }
+{
     let matches = command.try_get_matches_from_mut(words)?;
     match job_of(&matches) {
         Some(job) => Ok(job),

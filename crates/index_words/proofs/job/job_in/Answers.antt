@@ -1,4 +1,4 @@
-use Rattle.std.proofs.Common.{◌≡◌, refl, inl, inr, [], List, true, Result, Ok, Err, IfErr, IsErrAnd, map, string_bytes, subst, sym}
+use Rattle.std.proofs.Common.{rules, ◌≡◌, refl, inl, inr, [], List, true, Result, Ok, Err, IfErr, IsErrAnd, map, string_bytes, subst, sym}
 use Rattle.clap.proofs.OnLiterals.{clap_on_literals}
 use Rattle.clap.specs.Words.{App, HasKind, IsAmong, Text, app_of, fault_of, is_simple_and_free, kind_of, takes}
 use Rattle.clap.specs.declared.error.Error.{Error}
@@ -8,7 +8,7 @@ use Rattle.index_words.specs.declared.job.WordsEnd.{WordsEnd}
 use Rattle.index_words.specs.declared.job.WordsEnd.TheVariants.{Clap, OutOfMemory}
 use Rattle.index_words.specs.Program.{index_app}
 use Rattle.index_words.specs.Refusals.{IsEndOf, IsRefusal}
-use Rattle.index_words.proofs.job.read_words.Goals as goal
+use Rattle.index_words.proofs.job.job_in.Goals as goal
 
 -- ---- the end that an error becomes
 
@@ -27,12 +27,6 @@ refusal words (Err (Clap told)) error (inr among) ends =
 of_same : (a b : App) (words : List Text) (P : Type 0) → a ≡ b → (takes a words ≡ true → P) → takes b words ≡ true → P
 of_same a b words P same passes taken = passes (subst (λ (x : App). takes x words ≡ true) (sym same) taken)
 
-pub returns-in_err-matches-clause-read : goal.returns-in_err-matches-clause-read
-returns-in_err-matches-clause-read c = λ taken job is.
-    out_of_memory _ c.in_err-matches.field-0.0
-    (of_same (app_of c.in_ok-command.command) index_app (map string_bytes c.args.words.now) _ c.in_ok-command.ensures.app c.in_err-matches.ensures.passes taken)
-    c.from_residual-in_err-matches.ensures.1
-
 -- the program's command line is one whose faults clap names
 simple : is_simple_and_free index_app ≡ true
 unfolding clap_on_literals
@@ -43,17 +37,31 @@ no_fault : (a b : App) (words : List Text) → a ≡ b → is_simple_and_free b 
 no_fault a b words same is holds =
     subst (λ (x : App). fault_of x words ≡ []) same (holds (subst (λ (x : App). is_simple_and_free x ≡ true) (sym same) is))
 
-pub returns-in-Some-clause-taken : goal.returns-in-Some-clause-taken
-returns-in-Some-clause-taken c = λ _.
-    no_fault (app_of c.in_ok-command.command) index_app (map string_bytes c.args.words.now) c.in_ok-command.ensures.app simple c.in_ok-matches.ensures.kinds
-
 -- the kind of an error of the command that was built
 has_kind : (a b : App) (words : List Text) (error : Error) → a ≡ b → is_simple_and_free b ≡ true → (is_simple_and_free a ≡ true → HasKind (fault_of a words) error) → HasKind (fault_of b words) error
 has_kind a b words error same is holds =
     subst (λ (x : App). HasKind (fault_of x words) error) same (holds (subst (λ (x : App). is_simple_and_free x ≡ true) (sym same) is))
 
-pub returns-in_err-matches-clause-why : goal.returns-in_err-matches-clause-why
-returns-in_err-matches-clause-why c =
-    refusal (map string_bytes c.args.words.now) _ c.in_err-matches.field-0.0
-    (has_kind (app_of c.in_ok-command.command) index_app (map string_bytes c.args.words.now) c.in_err-matches.field-0.0 c.in_ok-command.ensures.app simple c.in_err-matches.ensures.kinds)
-    c.from_residual-in_err-matches.ensures.1
+pub returns-in_err-matches : goal.returns-in_err-matches
+returns-in_err-matches c =
+    let words = map string_bytes c.args.words.now in
+    record {
+      job = search rules;
+      read = λ taken job is.
+          out_of_memory _ c.in_err-matches.field-0.0
+          (of_same (app_of c.args.command.now) index_app words _ c.requires.app c.in_err-matches.ensures.passes taken)
+          c.from_residual.ensures.1;
+      taken = search rules;
+      why =
+          refusal words _ c.in_err-matches.field-0.0
+          (has_kind (app_of c.args.command.now) index_app words c.in_err-matches.field-0.0 c.requires.app simple c.in_err-matches.ensures.kinds)
+          c.from_residual.ensures.1;
+    }
+
+pub returns-in-Some : goal.returns-in-Some
+returns-in-Some c = record {
+  job = search rules;
+  read = search rules;
+  taken = λ _. no_fault (app_of c.args.command.now) index_app (map string_bytes c.args.words.now) c.requires.app simple c.in_ok-matches.ensures.kinds;
+  why = tt;
+}
