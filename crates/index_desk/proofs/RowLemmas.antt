@@ -37,7 +37,7 @@ module _ (h : History) (T : Tables) (stands : StandsFor T h) where
   held_by n Held = refl
   held_by n Prohibited = refl
 
-  is_held_agrees : (n : Bytes) → is_held (get T.names n) ≡ is_held_now (state_after h n)
+  pub is_held_agrees : (n : Bytes) → is_held (get T.names n) ≡ is_held_now (state_after h n)
   is_held_agrees n = ap is_held (stands.names n) ∙ held_by n (state_after h n)
 
   held_found : (o : Option NameRecord) → option_map_or (λ record_of. is_held (Some record_of)) o false ≡ is_held o

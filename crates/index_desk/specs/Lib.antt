@@ -4,6 +4,7 @@ pub mod Standings
 pub mod Looks
 pub mod Invariants
 pub mod Crashes
+pub mod Takes
 pub mod Projects
 pub mod Pages
 pub mod PastRows

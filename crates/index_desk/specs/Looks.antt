@@ -1,11 +1,13 @@
--- What a look at the tables does beside what it finds.
-use Rattle.std.specs.Prelude.{◌≡◌, ℕ, false, Result, Ok, IfErr, OnOk}
+-- What a look at the tables finds, and what it does beside.
+use Rattle.std.specs.Prelude.{◌≡◌, ℕ, false, Result, Ok, IfErr, IfOk, OnOk}
 use Rattle.index_io.specs.Counts.{FailsAtMostOnce, HasFailed}
 use Rattle.index_rules.specs.declared.answer.Fault.{Fault}
 use Rattle.index_rules.specs.declared.answer.Fault.TheVariants.{Store}
 use Rattle.index_rules.specs.declared.books.Books.{Ghosts}
 use Rattle.index_rules.specs.declared.rows.WalkEnd.{WalkEnd}
 use Rattle.index_rules.specs.declared.rows.WalkEnd.TheVariants as end
+use Rattle.index_rules.specs.History.{History}
+use Rattle.index_rules.specs.StandsFor.{StandsFor}
 use Rattle.index_rules.specs.Tables.{Tables}
 use Rattle.index_rules.specs.Walks.{has_fault}
 
@@ -41,3 +43,26 @@ pub record WalksTables {S X : Type 0} (g : Ghosts S) (old new : S) (result : Res
   pub clean : g.IsClean new → g.IsClean old
   pub lasts : has_fault result ≡ false → g.IsHonest old → g.IsClean new → g.IsHonest new
   pub crash : (T : Tables) → g.may_leave new T → g.may_leave old T
+
+-- ---- what is found, and that nothing is done beside
+
+-- where it succeeds, this holds of the tables and of what it gives
+pub record LooksAt {S X : Type 0} (g : Ghosts S) (old new : S) (result : Result X Fault) (Holds : Tables → X → Type 0) : Type 0 where
+  pub found : g.IsHonest new → IfOk result (Holds (g.tables old))
+  pub look : ReadsTables g old new result
+
+-- and of each history for which the tables stand, and what it gives
+pub record LooksAtBoth {S X : Type 0} (g : Ghosts S) (old new : S) (result : Result X Fault)
+    (Holds : Tables → X → Type 0) (HoldsAfter : History → X → Type 0) : Type 0 where
+  pub found : g.IsHonest new → IfOk result (Holds (g.tables old))
+  pub history : g.IsHonest new → IfOk result (λ found. (h : History) → StandsFor (g.tables old) h → HoldsAfter h found)
+  pub look : ReadsTables g old new result
+
+-- a walk that hands over the rows of the tables, which are those of each history for which they stand; whatever the store
+-- did, it hands over some rows in this way
+pub record HandsOver {S X Rows : Type 0} (g : Ghosts S) (old new : S) (result : Result X WalkEnd)
+    (rows_in : Tables → Rows) (AreRowsAfter : History → Rows → Type 0) (Hands : Rows → Type 0) : Type 0 where
+  pub walked : g.IsHonest old → g.IsClean new → Hands (rows_in (g.tables old))
+  pub history : g.IsHonest old → g.IsClean new → (h : History) → StandsFor (g.tables old) h → (rows : Rows) × AreRowsAfter h rows × Hands rows
+  pub given : (rows : Rows) × Hands rows
+  pub look : WalksTables g old new result

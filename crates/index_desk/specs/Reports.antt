@@ -1,7 +1,10 @@
 -- The report: a line for each held or prohibited name.
-use Rattle.std.specs.Prelude.{ℕ, ◌-◌, ◌<◌, List, [], ◌∷◌, ◌++◌, length, take, replicate, Option, Result, Ok, Err, codes}
+use Rattle.std.specs.Prelude.{◌≡◌, ℕ, ◌-◌, ◌<◌, List, [], ◌∷◌, ◌++◌, length, take, replicate, Option, Result, Ok, Err, IfErr, OnOk, codes}
 use Rattle.std.specs.Fmt.{decimal}
 use Rattle.std.specs.Io.KnownBytes.{Appends, Keeps}
+use Rattle.index_io.specs.Counts.{FailsAtMostOnce, HasFailed}
+use Rattle.index_io.specs.declared.sink.Sink.{Ghosts as Outs}
+use Rattle.index_rules.specs.declared.books.Books.{Ghosts}
 use Rattle.index_rules.specs.declared.records.NameRecord.{NameRecord}
 use Rattle.index_rules.specs.declared.records.NameRecord.TheVariants.{Held, Prohibited}
 use Rattle.index_rules.specs.declared.rows.NameRow.{NameRow}
@@ -70,3 +73,11 @@ Reports text before after (Ok done) = Appends before after text
 Reports text before after (Err OutOfMemory) = Keeps before after
 Reports text before after (Err Store) = Keeps before after
 Reports text before after (Err (WriteFault count)) = (count < length text) × Appends before after (take count text)
+
+-- a write failed, or took no byte, and the books failed, where the result says so; one call of them fails at most, and none
+-- where it succeeds
+pub record ReportFailsOnly {S K : Type 0} (g : Ghosts S) (out : Outs K) (old new : S) (before after : K) (result : Result (Unit {0}) ReportFault) : Type 0 where
+  pub write_fault : IfErr result (λ fault. (count : ℕ) → fault ≡ WriteFault count → HasFailed (out.failures before) (out.failures after))
+  pub store : IfErr result (λ fault. fault ≡ Store → HasFailed (g.failures old) (g.failures new))
+  pub kept : OnOk result (g.failures new ≡ g.failures old)
+  pub failures : FailsAtMostOnce (g.failures old) (g.failures new)

@@ -1,8 +1,8 @@
 //! How many names have a wrong charge.
-ghost use Rattle.std.specs.Prelude.{◌≡◌, ◌==◌, IfOk, count_by, sum_by};
+ghost use Rattle.std.specs.Prelude.{◌≡◌, ◌==◌, count_by, sum_by};
 ghost use Rattle.index_rules.specs.Sound.{IsSound};
 ghost use Rattle.index_desk.specs.Checks.{charge_of as charge_of_lem, is_charged_wrong_in, wrong_charges_in};
-ghost use Rattle.index_desk.specs.Looks.{ReadsTables};
+ghost use Rattle.index_desk.specs.Looks.{LooksAt};
 
 use super::Desk;
 use index_rules::{Books, Fault, FileRow, NameRecord, NameRow};
@@ -16,11 +16,8 @@ impl<B: Books> Desk<B> {
     ///
     /// `OutOfMemory` for want of memory, and `Store` where the books fail.
     pub fn check(&mut self, alloc: Global) -> Result<u64, Fault>
-        ensures count { B.IsHonest self.new →
-            IfOk result (λ count. count ≡ wrong_charges_in (B.tables self.old)) }
-        ensures sound { B.IsHonest self.new → IsSound (B.tables self.old) →
-            IfOk result (λ count. count ≡ 0) }
-        ensures look { ReadsTables B.Books self.old self.new result }
+        ensures { LooksAt B.Books self.old self.new result
+            (λ T count. (count ≡ wrong_charges_in T) × (IsSound T → count ≡ 0)) }
     {
         let rows = self.books.names(alloc)?;
         wrong_charges(&mut self.books, alloc, rows.as_slice())
@@ -29,9 +26,8 @@ impl<B: Books> Desk<B> {
 
 /// How many of these names have a wrong charge. It changes no table.
 fn wrong_charges<B: Books>(books: &mut B, alloc: Global, rows: &[NameRow]) -> Result<u64, Fault>
-    ensures count { B.IsHonest books.new → IfOk result (λ count.
-        count ≡ count_by (is_charged_wrong_in (B.tables books.old)) rows.now) }
-    ensures look { ReadsTables B.Books books.old books.new result }
+    ensures { LooksAt B.Books books.old books.new result
+        (λ T count. count ≡ count_by (is_charged_wrong_in T) rows.now) }
 {
     let mut count = 0;
     for row in rows {
@@ -44,9 +40,8 @@ fn wrong_charges<B: Books>(books: &mut B, alloc: Global, rows: &[NameRow]) -> Re
 
 /// Whether a name's charge is not the sum of the sizes of its undeleted files. It changes no table.
 fn is_charged_wrong<B: Books>(books: &mut B, alloc: Global, row: &NameRow) -> Result<bool, Fault>
-    ensures wrong { B.IsHonest books.new → IfOk result (λ wrong.
-        wrong ≡ is_charged_wrong_in (B.tables books.old) row.now) }
-    ensures look { ReadsTables B.Books books.old books.new result }
+    ensures { LooksAt B.Books books.old books.new result
+        (λ T wrong. wrong ≡ is_charged_wrong_in T row.now) }
 {
     let files = books.files_of(alloc, &row.name)?;
     Ok(!is_sum(charge_of(row), files.as_slice()))

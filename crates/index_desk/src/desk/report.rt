@@ -1,8 +1,7 @@
 //! The report: a line for each held or prohibited name.
-ghost use Rattle.std.specs.Prelude.{◌≡◌, ◌++◌, ℕ, IfErr, IfOk, OnOk, replicate};
-ghost use Rattle.index_io.specs.Counts.{FailsAtMostOnce, HasFailed};
-ghost use Rattle.index_desk.specs.Looks.{LeavesTables, ReadsTables};
-ghost use Rattle.index_desk.specs.Reports.{Reports, at_left, at_right, name_columns, number_columns, report_in, report_line, report_of, state_text as state_text_lem};
+ghost use Rattle.std.specs.Prelude.{◌≡◌, ◌++◌, IfOk, OnOk, replicate};
+ghost use Rattle.index_desk.specs.Looks.{LooksAt, LeavesTables};
+ghost use Rattle.index_desk.specs.Reports.{ReportFailsOnly, Reports, at_left, at_right, name_columns, number_columns, report_in, report_line, report_of, state_text as state_text_lem};
 
 use super::Desk;
 use index_io::{Sink, write_bytes};
@@ -40,17 +39,10 @@ impl<B: Books> Desk<B> {
     /// All of it is made before the first byte goes out. So after `OutOfMemory`, and after `Store` where the books
     /// fail, nothing was written, and after `WriteFault` so many bytes were.
     pub fn report<S: Sink>(&mut self, alloc: Global, sink: &mut S) -> Result<(), ReportFault>
-        ensures report { B.IsHonest self.new →
-            let text = report_in (B.tables self.old) in
-            Reports text (S.contents sink.old) (S.contents sink.new) result }
-        ensures write_fault { IfErr result (λ fault. (count : ℕ) →
-            fault ≡ ReportFault.WriteFault count →
-            HasFailed (S.failures sink.old) (S.failures sink.new)) }
-        ensures store { IfErr result (λ fault. fault ≡ ReportFault.Store →
-            HasFailed (B.failures self.old) (B.failures self.new)) }
+        ensures report { B.IsHonest self.new → Reports (report_in (B.tables self.old))
+            (S.contents sink.old) (S.contents sink.new) result }
+        ensures fails { ReportFailsOnly B.Books S.Sink self.old self.new sink.old sink.new result }
         ensures leaves { LeavesTables B.Books self.old self.new }
-        ensures kept { OnOk result (B.failures self.new ≡ B.failures self.old) }
-        ensures failures { FailsAtMostOnce (B.failures self.old) (B.failures self.new) }
     {
         let text = report_text(&mut self.books, alloc)?;
         match write_bytes(sink, text.as_slice()) {
@@ -62,9 +54,7 @@ impl<B: Books> Desk<B> {
 
 /// The report. It changes no table.
 fn report_text<B: Books>(books: &mut B, alloc: Global) -> Result<Vec<u8>, Fault>
-    ensures text { B.IsHonest books.new →
-        IfOk result (λ text. text.items ≡ report_in (B.tables books.old)) }
-    ensures look { ReadsTables B.Books books.old books.new result }
+    ensures { LooksAt B.Books books.old books.new result (λ T text. text.items ≡ report_in T) }
 {
     let rows = books.names(alloc)?;
     let text = lines_of(alloc, rows.as_slice())?;

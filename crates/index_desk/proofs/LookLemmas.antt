@@ -1,0 +1,32 @@
+-- What a look finds in tables is so in each history for which they stand.
+use Rattle.std.proofs.Common.{Result, IfOk}
+use Rattle.std.proofs.lemmas.Result.{IfOk-weaker}
+use Rattle.index_rules.specs.declared.answer.Fault.{Fault}
+use Rattle.index_rules.specs.declared.books.Books.{Ghosts}
+use Rattle.index_rules.specs.declared.rows.WalkEnd.{WalkEnd}
+use Rattle.index_rules.specs.History.{History}
+use Rattle.index_rules.specs.StandsFor.{StandsFor}
+use Rattle.index_rules.specs.Tables.{Tables}
+use Rattle.index_desk.specs.Looks.{HandsOver, LooksAtBoth, ReadsTables, WalksTables}
+
+module _ {S : Type 0} (g : Ghosts S) (old new : S) where
+  pub looks_at_both : {X : Type 0} (result : Result X Fault) (Holds : Tables → X → Type 0) (HoldsAfter : History → X → Type 0)
+      → ((h : History) → StandsFor (g.tables old) h → (found : X) → Holds (g.tables old) found → HoldsAfter h found)
+      → (g.IsHonest new → IfOk result (Holds (g.tables old))) → ReadsTables g old new result
+      → LooksAtBoth g old new result Holds HoldsAfter
+  looks_at_both result Holds HoldsAfter after found look = record {
+    found = found;
+    history = λ honest. IfOk-weaker result _ _ (λ it holds h stands. after h stands it holds) (found honest);
+    look = look;
+  }
+
+  pub hands_over : {X Rows : Type 0} (result : Result X WalkEnd) (rows_in : Tables → Rows) (AreRowsAfter : History → Rows → Type 0) (Hands : Rows → Type 0)
+      → ((h : History) → StandsFor (g.tables old) h → AreRowsAfter h (rows_in (g.tables old)))
+      → (g.IsHonest old → g.IsClean new → Hands (rows_in (g.tables old))) → (rows : Rows) × Hands rows → WalksTables g old new result
+      → HandsOver g old new result rows_in AreRowsAfter Hands
+  hands_over result rows_in AreRowsAfter Hands after walked given look = record {
+    walked = walked;
+    history = λ honest clean h stands. (rows_in (g.tables old), after h stands, walked honest clean);
+    given = given;
+    look = look;
+  }

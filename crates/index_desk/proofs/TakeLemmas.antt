@@ -1,0 +1,126 @@
+-- What is known of a call that was decided and settled, and of calls in a row.
+use Rattle.std.proofs.Common.{◌≡◌, ◌∙◌, inl, inr, ap, subst, sym, List, Contains, Result, Ok}
+use Rattle.index_io.specs.Counts.{FailsAtMostOnce, HasFailed}
+use Rattle.index_rules.specs.declared.answer.Answer.{Answer}
+use Rattle.index_rules.specs.declared.answer.Answer.TheVariants.{Accepted, Fault}
+use Rattle.index_rules.specs.declared.answer.Fault.TheVariants.{Store}
+use Rattle.index_rules.specs.declared.books.Books.{Ghosts}
+use Rattle.index_rules.specs.declared.call.Call.{Call}
+use Rattle.index_rules.specs.declared.change.Change.{Change}
+use Rattle.index_rules.specs.declared.decision.Decision.{Decision}
+use Rattle.index_rules.specs.declared.decision.Stop.{Stop}
+use Rattle.index_rules.specs.Decided.{Decides}
+use Rattle.index_rules.specs.Effect.{effect, means}
+use Rattle.index_rules.specs.Facts.{HasOneBearer, facts_in}
+use Rattle.index_rules.specs.Runs.{Answers, Runs, tables_after, tables_after_change}
+use Rattle.index_rules.specs.Sound.{IsSound}
+use Rattle.index_rules.specs.Tables.{Tables}
+use Rattle.index_rules.specs.Verdict.{Verdict, verdict_now}
+use Rattle.index_rules.proofs.StandsOn.{CarriesOn-answer, CarriesOnBy-Runs, sound_when_legal}
+use Rattle.index_rules.proofs.OneBearer.{HasOneBearer-Runs, HasOneBearer-tables_after}
+use Rattle.index_rules.proofs.SoundLemmas.{IsSound-Runs, IsSound-tables_after}
+use Rattle.index_desk.specs.Crashes.{IsWithCall, LastsAll, LeavesAll, LeavesByAnswer}
+use Rattle.index_desk.specs.Invariants.{KeepsInvariants}
+use Rattle.index_desk.specs.Looks.{LooksAt}
+use Rattle.index_desk.specs.Takes.{ByTables, CrashByTables, Settles, SettlesBy, Takes, TakesInTurn}
+use Rattle.index_desk.proofs.CrashLemmas.{Lasts-earlier, LastsAll-weaker, Leaves-weaker, LeavesAllOf-LeavesAll}
+
+-- ---- one call
+
+-- by the tables alone it is known what a history says
+module _ {S : Type 0} (g : Ghosts S) (old new : S) (call : Call) (answer : Answer)
+    (verdict : ByTables g old new (λ T T'. Answers (verdict_now T call) answer))
+    (next : ByTables g old new (λ T T'. T' ≡ tables_after T call answer))
+    (crash : CrashByTables g old new (λ T. LeavesByAnswer (g.may_leave old) (IsWithCall T call) answer))
+    (settles : Settles g old new answer) where
+  takes_by_tables : Takes g old new call answer
+  takes_by_tables = record {
+    verdict = verdict;
+    next = next;
+    history = λ honest h legal stands. CarriesOn-answer h legal (g.tables old) stands call answer (g.tables new) (verdict honest) (next honest);
+    crash = crash;
+    crash_history = λ honest clean h legal stands T left.
+        Leaves-weaker _ _ _ _ (λ T' was. was)
+        (λ T' after. CarriesOn-answer h legal (g.tables old) stands call Accepted T' (λ _. after.0) (λ _. after.1))
+        answer T
+        (crash honest clean (sound_when_legal h legal (g.tables old) stands).one_bearer T left);
+    settles = settles;
+  }
+
+-- a look decided on it, and the decision was settled
+module _ {S : Type 0} (g : Ghosts S) (old now new : S) (call : Call) (answer : Answer) (decision : Result Decision Stop)
+    (looked : LooksAt g old now (Ok decision) (λ T decision. HasOneBearer T → Decides decision (verdict_now T call) (effect call.at call.request (facts_in T call))))
+    (settled : (verdict : Verdict) (change : Change) → Decides decision verdict change → SettlesBy g now new verdict change answer)
+    (settles : Settles g now new answer) where
+  abbrev change : Change
+  change = effect call.at call.request (facts_in (g.tables old) call)
+
+  settled_now : g.IsHonest now → HasOneBearer (g.tables old) → SettlesBy g now new (verdict_now (g.tables old) call) change answer
+  settled_now honest one = settled _ _ (looked.found honest one)
+
+  pub takes_settled : Takes g old new call answer
+  takes_settled =
+      let look = looked.look in
+      takes_by_tables g old new call answer
+      (λ honest one. (settled_now (settles.honest honest) one).told honest)
+      (λ honest one.
+      let then = settles.honest honest in
+      subst (λ T. g.tables new ≡ tables_after_change T change answer) (look.unchanged then) ((settled_now then one).next honest))
+      (λ honest clean one T left.
+      let clean_then = settles.clean clean in
+      let then = look.lasts honest clean_then in
+      Leaves-weaker _ _ _ _ look.crash
+      (λ T' after. (after.0, after.1 ∙ ap (means change) (look.unchanged then)))
+      answer T
+      ((settled_now then one).crash then T left))
+      (record {
+        unchanged = λ honest other. settles.unchanged honest other ∙ look.unchanged (settles.honest honest);
+        lasts = λ clean. Lasts-earlier answer _ _ _ (λ honest. look.lasts honest (settles.clean clean)) (settles.lasts clean);
+        nothing_new = λ T left. elim (settles.nothing_new T left) [ inl was ↦ inl (look.crash T was) | inr honest ↦ inr (look.honest honest) ];
+        store = λ is. subst (λ n. HasFailed n (g.failures new)) look.kept (settles.store is);
+        failures = subst (λ n. FailsAtMostOnce n (g.failures new)) look.kept settles.failures;
+        honest = λ honest. look.honest (settles.honest honest);
+        clean = λ clean. look.clean (settles.clean clean);
+      })
+
+pub takes_keep : {S : Type 0} (g : Ghosts S) (old new : S) (call : Call) (answer : Answer) → Takes g old new call answer → KeepsInvariants g old new
+takes_keep g old new call answer took = record {
+  one_bearer = λ honest one.
+      subst HasOneBearer (sym (took.next honest one))
+      (HasOneBearer-tables_after (g.tables old) one call answer (took.verdict honest one));
+  sound = λ honest sound.
+      subst IsSound (sym (took.next honest sound.one_bearer))
+      (IsSound-tables_after (g.tables old) sound call answer (took.verdict honest sound.one_bearer));
+  honest = took.settles.honest;
+  clean = took.settles.clean;
+}
+
+-- ---- calls in a row
+
+module _ {S : Type 0} (g : Ghosts S) (old new : S) (calls : List Call) (answers : List Answer)
+    (runs : ByTables g old new (λ T. Runs T calls answers)) where
+  pub takes_in_turn : CrashByTables g old new (λ T. LeavesAll T calls answers)
+      → (g.IsClean new → LastsAll answers (g.IsHonest old) (g.IsHonest new))
+      → (g.IsHonest new → (T : Tables) → g.may_leave new T → T ≡ g.tables new)
+      → (Contains answers (Fault Store) → HasFailed (g.failures old) (g.failures new))
+      → TakesInTurn g old new calls answers
+  takes_in_turn crash lasts settled store = record {
+    runs = runs;
+    history = λ honest h legal stands.
+        CarriesOnBy-Runs h legal _ stands calls answers _ (runs honest (sound_when_legal h legal _ stands).one_bearer);
+    crash = crash;
+    crash_history = λ honest clean h legal stands T left.
+        LeavesAllOf-LeavesAll h legal _ stands calls answers T
+        (crash honest clean (sound_when_legal h legal _ stands).one_bearer T left);
+    lasts = lasts;
+    alone = λ clean. LastsAll-weaker answers _ _ _ settled (lasts clean);
+    store = store;
+  }
+
+  pub runs_keep : (g.IsHonest new → g.IsHonest old) → (g.IsClean new → g.IsClean old) → KeepsInvariants g old new
+  runs_keep honest clean = record {
+    one_bearer = λ honest one. HasOneBearer-Runs _ one calls answers _ (runs honest one);
+    sound = λ honest sound. IsSound-Runs _ sound calls answers _ (runs honest sound.one_bearer);
+    honest = honest;
+    clean = clean;
+  }
