@@ -1,37 +1,25 @@
 -- What a message asks of a desk, and what a crash may leave once a call was taken.
-use Rattle.std.specs.Prelude.{◌≡◌, ◌⊎◌, ℕ, true, [], Option, Some, None, Result, if◌then◌else◌}
+use Rattle.std.specs.Prelude.{◌≡◌, ◌⊎◌, ℕ, Bool, true, [], Option, Some, None, Result, Err, if◌then◌else◌}
 use Rattle.index_io.specs.Bytes.{IsInput}
+use Rattle.index_io.specs.declared.sink.Sink.{Ghosts as Outs}
 use Rattle.index_rules.specs.declared.answer.Answer.{Answer}
 use Rattle.index_rules.specs.declared.books.Books.{Ghosts}
 use Rattle.index_rules.specs.declared.call.Call.{Call}
-use Rattle.index_rules.specs.Facts.{HasOneBearer}
 use Rattle.index_rules.specs.Maps.{Bytes}
-use Rattle.index_rules.specs.Runs.{Answers, tables_after}
 use Rattle.index_rules.specs.Tables.{Tables}
-use Rattle.index_rules.specs.Verdict.{verdict_now}
-use Rattle.index_desk.specs.Crashes.{IsWithCall, Lasts, LeavesByAnswer}
+use Rattle.index_desk.specs.Invariants.{KeepsInvariants}
+use Rattle.index_desk.specs.Looks.{LeavesTables}
+use Rattle.index_desk.specs.Takes.{Takes}
 use Rattle.index_message.specs.Messages.{IsMessage}
 use Rattle.index_message.specs.Resources.{is_head, is_put, is_reading}
 use Rattle.index_message.specs.declared.message.Message.{Message}
 use Rattle.index_message.specs.declared.message.Message.TheVariants.{Faulty, Whole}
-use Rattle.index_http.specs.Ends.{Ends}
+use Rattle.index_http.specs.Ends.{Ends, RepliesBy}
 use Rattle.index_http.specs.Exchanges.{call_of}
 use Rattle.index_http.specs.Replies.{answer_reply, reply_text}
-use Rattle.index_http.specs.Sends.{is_silent}
+use Rattle.index_http.specs.Sends.{SendsOnly, is_cut, is_silent}
 use Rattle.index_http.specs.declared.end.IoEnd.{IoEnd}
-
--- a call was taken: the answer is the verdict or a fault, the tables are those after it, and a crash leaves what it may
--- after this answer; of a store that was not honest it leaves nothing new
-pub record Takes {S : Type 0} (g : Ghosts S) (old new : S) (call : Call) (answer : Answer) : Type 0 where
-  pub verdict : g.IsHonest new → HasOneBearer (g.tables old) → Answers (verdict_now (g.tables old) call) answer
-  pub next : g.IsHonest new → HasOneBearer (g.tables old) → g.tables new ≡ tables_after (g.tables old) call answer
-  pub crash : g.IsHonest old → g.IsClean new → HasOneBearer (g.tables old) → (T : Tables)
-      → g.may_leave new T
-      → LeavesByAnswer (g.may_leave old) (IsWithCall (g.tables old) call) answer T
-  pub nothing_new : (T : Tables) → g.may_leave new T → g.may_leave old T ⊎ g.IsHonest old
-  pub lasts : g.IsClean new → Lasts answer (g.IsHonest old) (g.IsHonest new)
-  pub honest : g.IsHonest new → g.IsHonest old
-  pub clean : g.IsClean new → g.IsClean old
+use Rattle.index_http.specs.declared.end.IoEnd.TheVariants.{OutOfMemory}
 
 -- the call that a message makes at a moment: none where it only reads, or where its body is no request
 abbrev pub call_in : ℕ → Message → Option Call
@@ -56,3 +44,20 @@ Asks at given Looked Took before after result =
     (Looked × (is_silent result ≡ true))
     ⊎ ((input : Bytes) × (message : Message) × IsInput given input × IsMessage input message
     × AsksFor (call_in at message) (text_of_answer message) Looked Took before after result)
+
+-- so of a desk: what is taken of it is a call, and else no table changed, and a crash leaves nothing new
+abbrev pub AsksDesk : {S K : Type 0} → Ghosts S → Outs K → S → S → K → K → Result (Unit {0}) IoEnd → ℕ → Option Bytes → Type 0
+AsksDesk g out old new before after result at given =
+    Asks at given (LeavesTables g old new) (Takes g old new) (out.contents before) (out.contents after) result
+
+-- a message was answered at a desk that makes this call, or none: the reply is of this kind by the tables, and the text of
+-- the answer, where a call was taken; where memory ran out nothing was asked of the desk, or it was a look; and only a page
+-- is cut short, when no table changed
+pub record AnswersBy {S K : Type 0} (g : Ghosts S) (out : Outs K) (old new : S) (before after : K) (result : Result (Unit {0}) IoEnd)
+    (has_page is_look : Bool) (IsReply : Type 0 → Tables → Bytes → Tables → Type 0) (call : Option Call) (text_of : Answer → Bytes) : Type 0 where
+  pub tables : RepliesBy g out old new before after result IsReply
+  pub asks : AsksFor call text_of (LeavesTables g old new) (Takes g old new) (out.contents before) (out.contents after) result
+  pub memory : result ≡ Err OutOfMemory → (new ≡ old) ⊎ (is_look ≡ true)
+  pub cut : is_cut result ≡ true → LeavesTables g old new
+  pub sends : SendsOnly out before after has_page result
+  pub keeps : KeepsInvariants g old new

@@ -11,6 +11,7 @@ use Rattle.index_rules.specs.History.{History}
 use Rattle.index_rules.specs.Legal.{IsLegal}
 use Rattle.index_rules.specs.StandsFor.{StandsFor}
 use Rattle.index_desk.specs.Rules.{by_history}
+use Rattle.index_desk.specs.Takes.{ByHistory}
 use Rattle.index_http.specs.Exchanges.{RepliesToInput}
 use Rattle.index_http.specs.Sends.{SendsText}
 use Rattle.index_http.specs.declared.end.IoEnd.{IoEnd}
@@ -51,3 +52,8 @@ pub record EndsAfter (Cause : Type 0) (at : ℕ) (h : History) (given before aft
   pub ends : Ends (λ text. RepliesToInput by_history Cause at h given text later) (later ≡ h) before after result
   pub legal : IsLegal later
   pub stands : StandsFor T' later
+
+-- by each legal history for which the tables stood, where the store is honest at the end
+abbrev pub RepliesByHistory : {S K : Type 0} → Ghosts S → Outs K → S → S → K → K → Result (Unit {0}) IoEnd → ℕ → Option Bytes → Type 0
+RepliesByHistory g out old new before after result at given =
+    ByHistory g old new (λ h. EndsAfter (HasFailed (g.failures old) (g.failures new)) at h given (out.contents before) (out.contents after) result)

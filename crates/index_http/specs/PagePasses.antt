@@ -1,5 +1,6 @@
 -- The two passes over the rows of a page: the first counts its bytes, the second sends them.
 use Rattle.std.specs.Prelude.{◌≡◌, ◌⊎◌, ℕ, ◌<◌, ◌≤◌, Bool, true, false, length, Option, Some, None, Result, Ok, Err, IfOk, IfSome, is_err, ⊤}
+use Rattle.std.specs.Global.{Vec}
 use Rattle.std.specs.Io.KnownBytes.{Keeps}
 use Rattle.index_io.specs.Counts.{FailsAtMostOnce, HasFailed}
 use Rattle.index_io.specs.declared.sink.Sink.{Ghosts as Outs}
@@ -73,6 +74,10 @@ pub record MeasuresPass {S X : Type 0} (g : Ghosts S) (old new : S) (result : Re
   pub measured : g.IsHonest old → g.IsClean new → IsTold (g.tables old) (g.failures old) (g.failures new) result
   pub keeps : KeepsTables g old new (is_err result)
 
+-- the length of the page of the tables, where there is one
+abbrev pub MeasuresText : {S : Type 0} → Ghosts S → S → S → Result (Option ℕ) Fault → (Tables → Option Bytes) → Type 0
+MeasuresText g old new result page_of = MeasuresPass g old new result (λ T. MeasuresProject (page_of T))
+
 -- a page that was measured is there, and has this length
 pub record IsMeasured (page : Option Bytes) (count : ℕ) : Type 0 where
   pub bytes : Bytes
@@ -91,7 +96,6 @@ pub record SendsPage {S K : Type 0} (g : Ghosts S) (out : Outs K) (old new : S) 
   pub keeps : KeepsTables g old new (is_cut result)
 
 -- a text that was gathered is that of the page of the tables, none of which changes
-pub record Gathers {S X : Type 0} (g : Ghosts S) (old new : S) (result : Result (Option X) Fault)
-    (items : X → Bytes) (page_of : Tables → Option Bytes) : Type 0 where
-  pub text : g.IsHonest old → g.IsClean new → IfOk result (λ found. IfSome found (λ text. page_of (g.tables old) ≡ Some (items text)))
+pub record Gathers {S : Type 0} (g : Ghosts S) (old new : S) (result : Result (Option (Vec ℕ)) Fault) (page_of : Tables → Option Bytes) : Type 0 where
+  pub text : g.IsHonest old → g.IsClean new → IfOk result (λ found. IfSome found (λ text. page_of (g.tables old) ≡ Some text.items))
   pub look : ReadsTables g old new result

@@ -1,5 +1,5 @@
 -- The replies of the index, and their bytes (RFC 9112).
-use Rattle.std.specs.Prelude.{ℕ, ◌==◌, ◌++◌, Bool, [], ◌∷◌, length, decimal, codes, if◌then◌else◌, unwrap_or, ⊤}
+use Rattle.std.specs.Prelude.{◌≡◌, ℕ, ◌==◌, ◌≤◌, ◌++◌, Bool, [], ◌∷◌, length, decimal, codes, if◌then◌else◌, unwrap_or, ⊤}
 use Rattle.std.specs.List.{concat}
 use Rattle.http.specs.StatusCode.{code_digits, reason_phrase}
 use Rattle.index_rules.specs.Maps.{Bytes}
@@ -23,6 +23,11 @@ pub record Reply : Type 0 where
   pub body : Bytes
 
 -- ---- the bytes of a reply
+
+-- these bytes are this text, and are so many at most
+pub record IsShortText (most : ℕ) (text bytes : Bytes) : Type 0 where
+  pub is : bytes ≡ text
+  pub short : length bytes ≤ most
 
 -- the phrase of a status, or nothing where there is none (RFC 9112, section 4)
 unfoldable pub phrase_of : ℕ → Bytes

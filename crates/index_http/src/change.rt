@@ -1,14 +1,10 @@
 //! Requests that change something.
-ghost use Rattle.std.specs.Prelude.{◌≡◌, Err, Some, IfOk, false};
-ghost use Rattle.index_desk.specs.Invariants.{KeepsInvariants};
-ghost use Rattle.index_desk.specs.Looks.{LeavesTables};
+ghost use Rattle.std.specs.Prelude.{◌≡◌, Some, IfOk, false};
 ghost use Rattle.index_desk.specs.Rules.{by_tables};
 ghost use Rattle.index_json.specs.Requests.{request_of};
 ghost use Rattle.index_message.specs.declared.message.Message.TheVariants.{Whole};
-ghost use Rattle.index_http.specs.Asks.{AsksFor, Takes, text_of_answer};
-ghost use Rattle.index_http.specs.Ends.{RepliesBy};
+ghost use Rattle.index_http.specs.Asks.{AnswersBy, text_of_answer};
 ghost use Rattle.index_http.specs.Exchanges.{RepliesToRequest, asked_by as asked_by_lem, asked_of_file as asked_of_file_lem, call_of as call_of_lem};
-ghost use Rattle.index_http.specs.Sends.{SendsOnly};
 
 use crate::end::IoEnd;
 use crate::reply::{answer_reply, message_reply};
@@ -30,15 +26,9 @@ pub fn act<K: Sink, B: Books>(
     request: &Request,
     body: Bytes,
 ) -> Result<(), IoEnd>
-    ensures tables { RepliesBy B.Books K.Sink desk.old desk.new sink.old sink.new result
-        (λ cause T. RepliesToRequest by_tables cause at T request.now body false) }
-    ensures asks { AsksFor (call_of_lem at request.now body)
-        (text_of_answer (Whole request.now body))
-        (LeavesTables B.Books desk.old desk.new) (Takes B.Books desk.old desk.new)
-        (K.contents sink.old) (K.contents sink.new) result }
-    ensures memory { result ≡ Err IoEnd.OutOfMemory → desk.new ≡ desk.old }
-    ensures sends { SendsOnly K.Sink sink.old sink.new false result }
-    ensures keeps { KeepsInvariants B.Books desk.old desk.new }
+    ensures { AnswersBy B.Books K.Sink desk.old desk.new sink.old sink.new result false false
+        (λ cause T. RepliesToRequest by_tables cause at T request.now body false)
+        (call_of_lem at request.now body) (text_of_answer (Whole request.now body)) }
 {
     let method = request.method();
     let Some(call) = call_of(alloc, at, request, body)? else {

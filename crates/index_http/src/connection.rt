@@ -1,9 +1,5 @@
 //! One connection: one message and its reply.
 ghost use Rattle.std.specs.Prelude.{◌≡◌, ◌⊎◌, ◌+◌, true, Err};
-ghost use Rattle.index_io.specs.Counts.{HasFailed};
-ghost use Rattle.index_rules.specs.History.{History};
-ghost use Rattle.index_rules.specs.Legal.{IsLegal};
-ghost use Rattle.index_rules.specs.StandsFor.{StandsFor};
 ghost use Rattle.index_desk.specs.Invariants.{KeepsInvariants};
 ghost use Rattle.index_desk.specs.Looks.{LeavesTables};
 ghost use Rattle.index_desk.specs.Rules.{by_tables};
@@ -11,10 +7,10 @@ ghost use Rattle.index_message.specs.Heads.{longest_head};
 ghost use Rattle.index_message.specs.Lengths.{longest_upload};
 ghost use Rattle.index_message.specs.Messages.{EndsUnfinished};
 ghost use Rattle.index_message.specs.Reads.{TakesAtMost};
-ghost use Rattle.index_http.specs.Asks.{Asks, AsksFor, Takes, call_in, text_of_answer};
-ghost use Rattle.index_http.specs.Ends.{EndsAfter, RepliesBy};
+ghost use Rattle.index_http.specs.Asks.{AnswersBy, AsksDesk, call_in, text_of_answer};
+ghost use Rattle.index_http.specs.Ends.{RepliesBy, RepliesByHistory};
 ghost use Rattle.index_http.specs.Exchanges.{RepliesTo, RepliesToInput};
-ghost use Rattle.index_http.specs.Sends.{FailsOnly, SendsOnly, is_cut};
+ghost use Rattle.index_http.specs.Sends.{FailsOnly, is_cut};
 ghost use Rattle.index_http.specs.Shows.{GivesMessage, asks_page, is_look};
 
 use crate::change::act;
@@ -49,17 +45,13 @@ pub fn answer_one<S: Source, K: Sink, B: Keeper>(
         (λ cause T. RepliesToInput by_tables cause at T (S.remaining source.old)) }
 
     // By a legal history for which the tables stood: the same, and they stand for the history with what was accepted.
-    ensures history { B.IsHonest desk.new →
-        (h : History) → IsLegal h → StandsFor (B.tables desk.old) h →
-        let cause = HasFailed (B.failures desk.old) (B.failures desk.new) in
-        EndsAfter cause at h (S.remaining source.old)
-        (K.contents sink.old) (K.contents sink.new) result (B.tables desk.new) }
+    ensures history { RepliesByHistory B.Books K.Sink desk.old desk.new sink.old sink.new result
+        at (S.remaining source.old) }
 
     // The desk takes one call at most, that of the message, and the reply is that to its answer. Else no table changes, and
     // a crash leaves nothing new.
-    ensures asks { Asks at (S.remaining source.old)
-        (LeavesTables B.Books desk.old desk.new) (Takes B.Books desk.old desk.new)
-        (K.contents sink.old) (K.contents sink.new) result }
+    ensures asks { AsksDesk B.Books K.Sink desk.old desk.new sink.old sink.new result
+        at (S.remaining source.old) }
 
     // Where memory ran out nothing was asked of the desk, or it was a look: an answer to a call is always replied.
     ensures memory { result ≡ Err IoEnd.OutOfMemory → (desk.new ≡ desk.old)
@@ -95,16 +87,9 @@ fn answer<K: Sink, B: Keeper>(
     at: u64,
     message: Message,
 ) -> Result<(), IoEnd>
-    ensures tables { RepliesBy B.Books K.Sink desk.old desk.new sink.old sink.new result
-        (λ cause T. RepliesTo by_tables cause at T message) }
-    ensures asks { AsksFor (call_in at message) (text_of_answer message)
-        (LeavesTables B.Books desk.old desk.new) (Takes B.Books desk.old desk.new)
-        (K.contents sink.old) (K.contents sink.new) result }
-    ensures memory { result ≡ Err IoEnd.OutOfMemory →
-        (desk.new ≡ desk.old) ⊎ (is_look message ≡ true) }
-    ensures sends { SendsOnly K.Sink sink.old sink.new (asks_page message) result }
-    ensures cut { is_cut result ≡ true → LeavesTables B.Books desk.old desk.new }
-    ensures keeps { KeepsInvariants B.Books desk.old desk.new }
+    ensures { AnswersBy B.Books K.Sink desk.old desk.new sink.old sink.new result
+        (asks_page message) (is_look message) (λ cause T. RepliesTo by_tables cause at T message)
+        (call_in at message) (text_of_answer message) }
 {
     match message {
         Message::Faulty { fault, is_head } => send_reply(sink, is_head, message_reply(fault)),

@@ -18,8 +18,7 @@ pub fn gathered_root<B: Books>(
     desk: &mut Desk<B>,
     served: Served,
 ) -> Result<Option<Vec<u8>>, Fault>
-    ensures { Gathers B.Books desk.old desk.new result (λ text. text.items)
-        (λ T. text_in T served None) }
+    ensures { Gathers B.Books desk.old desk.new result (λ T. text_in T served None) }
 {
     let mut buffer = Buffer::new(alloc);
     let mut page = PageText::root(alloc, served, &mut buffer);
@@ -39,8 +38,7 @@ pub fn gathered_project<B: Books>(
     name: &NormalName,
     served: Served,
 ) -> Result<Option<Vec<u8>>, Fault>
-    ensures { Gathers B.Books desk.old desk.new result (λ text. text.items)
-        (λ T. text_in T served (Some name.now)) }
+    ensures { Gathers B.Books desk.old desk.new result (λ T. text_in T served (Some name.now)) }
 {
     let mut buffer = Buffer::new(alloc);
     let mut page = PageText::project(alloc, name, served, &mut buffer);

@@ -3,7 +3,7 @@ ghost use Rattle.std.specs.Prelude.{◌≡◌, ◌≢◌, Some, None, Err};
 ghost use Rattle.index_rules.specs.TableRows.{held_rows_in};
 ghost use Rattle.index_desk.specs.Pages.{text_in};
 ghost use Rattle.index_pages.specs.Pages.{root_page_of};
-ghost use Rattle.index_http.specs.PagePasses.{MeasuresPass, MeasuresPage, MeasuresProject, SendsPage, sent_by, without_stop as without_stop_lem};
+ghost use Rattle.index_http.specs.PagePasses.{MeasuresPass, MeasuresPage, MeasuresText, SendsPage, sent_by, without_stop as without_stop_lem};
 
 use crate::end::IoEnd;
 use index_desk::Desk;
@@ -55,8 +55,7 @@ pub fn project_length<B: Books>(
     name: &NormalName,
     served: Served,
 ) -> Result<Option<u64>, Fault>
-    ensures { MeasuresPass B.Books desk.old desk.new result
-        (λ T. MeasuresProject (text_in T served (Some name.now))) }
+    ensures { MeasuresText B.Books desk.old desk.new result (λ T. text_in T served (Some name.now)) }
 {
     let mut page = PageLength::project(alloc, name, served);
     let walked = desk.walk_project(alloc, name, &mut page);

@@ -4,10 +4,10 @@ ghost use Rattle.index_desk.specs.Looks.{LeavesTables};
 ghost use Rattle.index_desk.specs.Pages.{page_in};
 ghost use Rattle.index_desk.specs.Rules.{by_tables};
 ghost use Rattle.index_http.specs.Exchanges.{ShowsProject, ShowsRoot};
-ghost use Rattle.index_http.specs.PagePasses.{Gathers, IsMeasured, MeasuresPass, MeasuresProject, SendsPage};
+ghost use Rattle.index_http.specs.PagePasses.{Gathers, IsMeasured, MeasuresText, SendsPage};
 ghost use Rattle.index_http.specs.PageShows.{ShowsWhole, after_head};
 ghost use Rattle.index_http.specs.Replies.{page_reply, reply_text};
-ghost use Rattle.index_http.specs.Sends.{SendsOnly, SendsText, is_cut, is_write_fault};
+ghost use Rattle.index_http.specs.Sends.{Sends, SendsOnly, is_cut, is_write_fault};
 ghost use Rattle.index_http.specs.Shows.{ShowsBy};
 
 use crate::end::IoEnd;
@@ -111,8 +111,7 @@ fn gathered_text<B: Books>(
     page: Page<'_>,
     served: Served,
 ) -> Result<Option<Vec<u8>>, Fault>
-    ensures { Gathers B.Books desk.old desk.new result (λ text. text.items)
-        (λ T. page_in T served page.entry) }
+    ensures { Gathers B.Books desk.old desk.new result (λ T. page_in T served page.entry) }
 {
     match page {
         Page::Root => gathered_root(alloc, desk, served),
@@ -146,8 +145,7 @@ fn length_of<B: Books>(
     page: Page<'_>,
     served: Served,
 ) -> Result<Option<u64>, Fault>
-    ensures { MeasuresPass B.Books desk.old desk.new result
-        (λ T. MeasuresProject (page_in T served page.entry)) }
+    ensures { MeasuresText B.Books desk.old desk.new result (λ T. page_in T served page.entry) }
 {
     match page {
         Page::Root => Ok(Some(root_length(alloc, desk, served)?)),
@@ -167,8 +165,7 @@ fn send_page<K: Sink, B: Books>(
 ) -> Result<(), IoEnd>
     ensures sent { B.IsHonest desk.old → B.IsClean desk.new →
         (there : IsMeasured (page_in (B.tables desk.old) served page.entry) size) →
-        SendsText (reply_text to_head (page_reply served there.bytes))
-        (K.contents sink.old) (K.contents sink.new) result }
+        Sends K.Sink sink.old sink.new (reply_text to_head (page_reply served there.bytes)) result }
     ensures leaves { LeavesTables B.Books desk.old desk.new }
     ensures sends { SendsOnly K.Sink sink.old sink.new (not to_head) result }
 {

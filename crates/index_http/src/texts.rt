@@ -1,7 +1,7 @@
 //! The fixed texts of replies.
 ghost use Rattle.std.specs.Prelude.{◌≡◌, ◌≤◌, ◌++◌, length};
 ghost use Rattle.index_json.specs.AnswerText.{message_text_of};
-ghost use Rattle.index_http.specs.Replies.{message_fault_name, fields_text, phrase_of, IsFixed};
+ghost use Rattle.index_http.specs.Replies.{message_fault_name, fields_text, phrase_of, IsFixed, IsShortText};
 
 use crate::reply::Fields;
 use http::StatusCode;
@@ -72,8 +72,7 @@ fn fixed_lines(fields: Fields<'_>) -> &'static [u8]
 
 #[tactic(auto, unfolding(crate::specs::Replies::fields_text))]
 fn page_lines(served: Served) -> &'static [u8]
-    ensures text { result.now ≡ fields_text (Fields.Page served) }
-    ensures short { length result.now ≤ 256 }
+    ensures { IsShortText 256 (fields_text (Fields.Page served)) result.now }
 {
     match served {
         Served::PlainHtml => b"Content-Type: text/html\r\n",
@@ -84,8 +83,7 @@ fn page_lines(served: Served) -> &'static [u8]
 
 #[tactic(auto, unfolding(crate::specs::Replies::fields_text))]
 fn allow_lines(allowed: Allowed) -> &'static [u8]
-    ensures text { result.now ≡ fields_text (Fields.Allow allowed) }
-    ensures short { length result.now ≤ 256 }
+    ensures { IsShortText 256 (fields_text (Fields.Allow allowed)) result.now }
 {
     match allowed {
         Allowed::Reading => b"Content-Type: application/json\r\nAllow: GET, HEAD\r\n",

@@ -30,7 +30,7 @@ returns-in-Ok-Some g c = record {
   shown = λ honest clean.
       let found : is_some (read_file_name c.args.given.now) ≡ true = sym (rw c.in-Some.is at c.in_ok-file.ensures.found) in
       let name : c.in-Some.file ≡ c.args.given.now = rw c.in-Some.is at c.in_ok-file.ensures.file in
-      let body = rw (c.in-Ok-Some.field-0-is, name) at (c.in-Ok-Some.ensures.body (c.in-Ok-Some.ensures.look.lasts honest (c.keep_body.ensures.clean clean))) in
+      let body = rw (c.in-Ok-Some.field-0-is, name) at (c.in-Ok-Some.ensures.found (c.in-Ok-Some.ensures.look.lasts honest (c.keep_body.ensures.clean clean))).0 in
       shown_ends _ _ _ _ _ _ _ _ (c.file_reply-in-Ok-Some.ensures ∙ ap file_reply c.bytes-in-Ok-Some.ensures) (rw found (Some c.in-Ok-Some.body, body, refl)) c.send_reply-sent.ensures.sent;
   leaves = search rules;
   sends = search rules;
@@ -41,7 +41,7 @@ returns-in-Ok-None g c = record {
   shown = λ honest clean.
       let found : is_some (read_file_name c.args.given.now) ≡ true = sym (rw c.in-Some.is at c.in_ok-file.ensures.found) in
       let name : c.in-Some.file ≡ c.args.given.now = rw c.in-Some.is at c.in_ok-file.ensures.file in
-      let none = rw (c.in-Ok-None.field-0-is, name) at (c.in-Ok-None.ensures.body (c.in-Ok-None.ensures.look.lasts honest clean)) in
+      let none = rw (c.in-Ok-None.field-0-is, name) at (c.in-Ok-None.ensures.found (c.in-Ok-None.ensures.look.lasts honest clean)).0 in
       shown_ends _ _ _ _ _ _ _ _ c.refusal_reply-in-Ok-None.ensures (rw found (None, none, refl)) c.send_reply-in-Ok-None.ensures.sent;
   leaves = search rules;
   sends = search rules;

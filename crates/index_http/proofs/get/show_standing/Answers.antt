@@ -8,7 +8,7 @@ returns-in-Ok-text g c = record {
   shown = λ honest clean.
       let text = c.as_bytes.ensures.value ∙ c.in-Ok-text.ensures.text in
       shown_ends _ _ _ _ _ _ _ _ (c.json_reply.ensures ∙ ap json_reply text)
-      (c.in-Ok.standing, c.in-Ok.ensures.standing (c.in-Ok.ensures.look.lasts honest clean), refl) c.send_reply.ensures.sent;
+      (c.in-Ok.standing, c.in-Ok.ensures.found (c.in-Ok.ensures.look.lasts honest clean), refl) c.send_reply.ensures.sent;
   leaves = search rules;
   sends = search rules;
 }

@@ -7,7 +7,7 @@ use Rattle.index_http.proofs.page_replies.show_no_page.Goals as goal
 pub returns-in-Ok-true : goal.returns-in-Ok-true
 returns-in-Ok-true g c = record {
   shown = λ honest clean.
-      let held = sym (c.in-Ok-true.ensures.held (c.in-Ok-true.ensures.look.lasts honest clean)) ∙ c.in-Ok-true.field-0-test in
+      let held = sym (c.in-Ok-true.ensures.found (c.in-Ok-true.ensures.look.lasts honest clean)) ∙ c.in-Ok-true.field-0-test in
       shown_ends _ _ _ _ _ _ _ _ c.message_reply.ensures (Some (file_rows_in (g.B.Books.tables c.args.desk.now) c.args.name.now), sym (rows_of_held (g.B.Books.tables c.args.desk.now) c.args.name.now held), refl) c.send_reply.ensures.sent;
   leaves = search rules;
   sends = search rules;
@@ -16,7 +16,7 @@ returns-in-Ok-true g c = record {
 pub returns-in-Ok-false : goal.returns-in-Ok-false
 returns-in-Ok-false g c = record {
   shown = λ honest clean.
-      let free = sym (c.in-Ok-false.ensures.held (c.in-Ok-false.ensures.look.lasts honest clean)) ∙ c.in-Ok-false.field-0-test in
+      let free = sym (c.in-Ok-false.ensures.found (c.in-Ok-false.ensures.look.lasts honest clean)) ∙ c.in-Ok-false.field-0-test in
       shown_ends _ _ _ _ _ _ _ _ c.refusal_reply.ensures (None, sym (rows_of_none (g.B.Books.tables c.args.desk.now) c.args.name.now free), refl) c.send_reply-in-Ok-false.ensures.sent;
   leaves = search rules;
   sends = search rules;
