@@ -11,7 +11,7 @@ use Rattle.index_rules.proofs.RunLemmas.{Runs-push}
 use Rattle.index_desk.specs.Crashes.{LeavesAll}
 use Rattle.index_desk.specs.Looks.{LeavesTables}
 use Rattle.index_desk.proofs.CrashLemmas.{LeavesAll-push}
-use Rattle.index_http.specs.Asks.{Takes}
+use Rattle.index_desk.specs.Takes.{Takes}
 use Rattle.index_http.proofs.AskLemmas.{asks_map}
 use Rattle.index_json.specs.Line.{line_of}
 use Rattle.index_json.specs.declared.line.Line.{Line}
@@ -53,13 +53,13 @@ module _ {S : Type 0} (g : Ghosts S) where
       HasOneBearer-Runs (g.tables first) one calls answers (g.tables now) (taken.runs then one) in
       record {
         runs = λ honest one.
-            let then = took.honest honest in
+            let then = took.settles.honest honest in
             Runs-push (g.tables first) calls answers (g.tables now) call answer (g.tables new) (taken.runs then one)
             (took.verdict honest (before then one)) (took.next honest (before then one));
         left = λ honest clean one T left.
             LeavesAll-push (g.tables first) calls answers (g.tables now) call answer (g.may_leave now) (g.IsHonest now) (g.IsHonest new) T
-            (λ then. taken.runs then one) (taken.left honest (took.clean clean) one) (took.lasts clean) took.honest
-            (took.nothing_new T left) (λ then. took.crash then clean (before then one) T left);
+            (λ then. taken.runs then one) (taken.left honest (took.settles.clean clean) one) (took.settles.lasts clean) took.settles.honest
+            (took.settles.nothing_new T left) (λ then. took.crash then clean (before then one) T left);
       }
 
 -- ---- lines

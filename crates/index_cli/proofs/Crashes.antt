@@ -11,7 +11,7 @@ use Rattle.index_desk.specs.Crashes.{LeavesAll, LeavesAllOf}
 use Rattle.index_desk.specs.Looks.{LeavesTables}
 use Rattle.index_desk.specs.Rules.{by_tables}
 use Rattle.index_desk.proofs.CrashLemmas.{LeavesAllOf-LeavesAll}
-use Rattle.index_http.specs.Asks.{Takes}
+use Rattle.index_desk.specs.Takes.{Takes}
 use Rattle.index_cli.specs.declared.end.LineEnd.{LineEnd}
 use Rattle.index_cli.specs.Ends.{EndsRun}
 use Rattle.index_cli.specs.Serving.{AsksOne, ServesCalls}

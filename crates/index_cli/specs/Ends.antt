@@ -1,5 +1,5 @@
 -- What is known at each end of a run over lines.
-use Rattle.std.specs.Prelude.{◌≡◌, ◌≢◌, ◌⊎◌, ℕ, ◌<◌, List, [], ◌∷◌, ◌++◌, length, take, Option, Result, Ok, Err}
+use Rattle.std.specs.Prelude.{◌≡◌, ◌≢◌, ◌⊎◌, ℕ, ◌<◌, List, [], ◌∷◌, ◌++◌, length, take, Option, Result, Ok, Err, IfErr, OnErr, OnOk}
 use Rattle.std.specs.Io.KnownBytes.{Appends, Consumes, IsAtEnd}
 use Rattle.index_io.specs.Bytes.{IsInput}
 use Rattle.index_io.specs.Counts.{HasFailed}
@@ -76,3 +76,10 @@ pub record RunFailsOnly {S K : Type 0} (ins : Ins S) (out : Outs K) (old new : S
   pub write_fault : result ≡ Err WriteFault → HasFailed (out.failures before) (out.failures after)
   pub reads : result ≢ Err ReadFault → ins.failures new ≡ ins.failures old
   pub writes : result ≢ Err WriteFault → out.failures after ≡ out.failures before
+
+-- a text was written whole, and no write failed; or a write failed or took no byte, and a front of the text went out before it
+pub record WritesAll {K : Type 0} (out : Outs K) (before after : K) (text : List ℕ) (result : Result (Unit {0}) ℕ) : Type 0 where
+  pub whole : OnOk result (Appends (out.contents before) (out.contents after) text)
+  pub front : IfErr result (λ count. (count < length text) × Appends (out.contents before) (out.contents after) (take count text))
+  pub kept : OnOk result (out.failures after ≡ out.failures before)
+  pub failed : OnErr result (HasFailed (out.failures before) (out.failures after))

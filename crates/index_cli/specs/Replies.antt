@@ -8,7 +8,7 @@ use Rattle.index_rules.specs.Tables.{Tables}
 use Rattle.index_desk.specs.Invariants.{KeepsInvariants}
 use Rattle.index_desk.specs.Looks.{LeavesTables}
 use Rattle.index_desk.specs.Rules.{by_tables}
-use Rattle.index_http.specs.Asks.{Takes}
+use Rattle.index_desk.specs.Takes.{Takes}
 use Rattle.index_cli.specs.Causes.{HasCauses}
 use Rattle.index_cli.specs.Lines.{longest_line}
 use Rattle.index_cli.specs.Telling.{TellsLine, TellsStanding}

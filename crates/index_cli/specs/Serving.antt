@@ -5,7 +5,6 @@ use Rattle.index_io.specs.Counts.{HasFailed}
 use Rattle.index_rules.specs.declared.answer.Answer.{Answer}
 use Rattle.index_rules.specs.declared.books.Books.{Ghosts}
 use Rattle.index_rules.specs.declared.call.Call.{Call}
-use Rattle.index_rules.specs.Facts.{HasOneBearer}
 use Rattle.index_rules.specs.Tables.{Tables}
 use Rattle.index_rules.specs.History.{History}
 use Rattle.index_rules.specs.Legal.{IsLegal}
@@ -13,7 +12,8 @@ use Rattle.index_rules.specs.StandsFor.{StandsFor}
 use Rattle.index_desk.specs.Invariants.{KeepsInvariants}
 use Rattle.index_desk.specs.Looks.{LeavesTables}
 use Rattle.index_desk.specs.Rules.{Rules, by_history, by_tables}
-use Rattle.index_http.specs.Asks.{Asks, Takes}
+use Rattle.index_desk.specs.Takes.{ByHistory, ByTables, Takes}
+use Rattle.index_http.specs.Asks.{Asks}
 use Rattle.index_http.specs.Ends.{Ends}
 use Rattle.index_http.specs.Exchanges.{RepliesToInput}
 use Rattle.index_http.specs.declared.end.IoEnd.{IoEnd}
@@ -66,8 +66,8 @@ pub record AsksOne (at : ℕ) (Looked : Type 0) (Took : Call → Answer → Type
 -- the message of a connection at a moment is answered: by the tables, by a legal history for which they stood, and by what
 -- it asked of the desk
 pub record AnswersMessage {S : Type 0} (g : Ghosts S) (old new : S) (at : ℕ) : Type 0 where
-  pub tables : g.IsHonest new → HasOneBearer (g.tables old) → AnswersOne by_tables at (g.tables old) (g.tables new)
-  pub history : g.IsHonest new → (h : History) → IsLegal h → StandsFor (g.tables old) h → OneHistory h at (g.tables new)
+  pub tables : ByTables g old new (AnswersOne by_tables at)
+  pub history : ByHistory g old new (λ h. OneHistory h at)
   pub asks : AsksOne at (LeavesTables g old new) (Takes g old new)
   pub keeps : KeepsInvariants g old new
 

@@ -1,13 +1,9 @@
 //! Answers to the lines of an input.
 ghost use Rattle.std.specs.Prelude.{ℕ};
-ghost use Rattle.index_rules.specs.Facts.{HasOneBearer};
-ghost use Rattle.index_rules.specs.History.{History};
-ghost use Rattle.index_rules.specs.StandsFor.{StandsFor};
-ghost use Rattle.index_rules.specs.Legal.{IsLegal};
-ghost use Rattle.index_rules.specs.Tables.{Tables};
 ghost use Rattle.index_desk.specs.Crashes.{LeavesAll, LeavesAllOf};
 ghost use Rattle.index_desk.specs.Invariants.{KeepsInvariants};
 ghost use Rattle.index_desk.specs.Rules.{by_tables};
+ghost use Rattle.index_desk.specs.Takes.{ByHistory, ByTables, CrashByHistory, CrashByTables};
 ghost use Rattle.index_cli.specs.Causes.{HaveFailed, TellsFaults};
 ghost use Rattle.index_cli.specs.Ends.{EndsBy, RunFailsOnly};
 ghost use Rattle.index_cli.specs.Lines.{Charges};
@@ -42,29 +38,21 @@ pub fn apply_lines<S: Source, K: Sink, B: Books>(
     desk: &mut Desk<B>,
 ) -> Result<u64, LineEnd>
     // By the tables: what was told of which lines, at each end.
-    ensures tables { B.IsHonest desk.new → HasOneBearer (B.tables desk.old)
-        → EndsBy S.Source K.Sink source.old source.new sink.old sink.new result
-        (TellsLines by_tables (B.tables desk.old)) (B.tables desk.new) }
+    ensures tables { ByTables B.Books desk.old desk.new (λ T. EndsBy S.Source K.Sink
+        source.old source.new sink.old sink.new result (TellsLines by_tables T)) }
 
     // By a legal history for which the tables stood: the same.
-    ensures history { B.IsHonest desk.new
-        → (h : History) → IsLegal h → StandsFor (B.tables desk.old) h
-        → EndsBy S.Source K.Sink source.old source.new sink.old sink.new result
-        (TellsHistory h) (B.tables desk.new) }
+    ensures history { ByHistory B.Books desk.old desk.new (λ h. EndsBy S.Source K.Sink
+        source.old source.new sink.old sink.new result (TellsHistory h)) }
 
     // A crash leaves the tables after the accepted calls, or these with one call to which a fault was answered since the
     // last of them; also where a fault has shut the store.
-    ensures crash { B.IsHonest desk.old → B.IsClean desk.new → HasOneBearer (B.tables desk.old)
-        → (T : Tables) → B.may_leave desk.new T
-        → EndsBy S.Source K.Sink source.old source.new sink.old sink.new result
-        (TellsCalls (LeavesAll (B.tables desk.old))) T }
+    ensures crash { CrashByTables B.Books desk.old desk.new (λ T. EndsBy S.Source K.Sink
+        source.old source.new sink.old sink.new result (TellsCalls (LeavesAll T))) }
 
     // The former stand for the legal history with these calls, for which the tables stood without them.
-    ensures crash_history { B.IsHonest desk.old → B.IsClean desk.new
-        → (h : History) → IsLegal h → StandsFor (B.tables desk.old) h
-        → (T : Tables) → B.may_leave desk.new T
-        → EndsBy S.Source K.Sink source.old source.new sink.old sink.new result
-        (TellsCalls (LeavesAllOf h)) T }
+    ensures crash_history { CrashByHistory B.Books desk.old desk.new (λ h. EndsBy S.Source K.Sink
+        source.old source.new sink.old sink.new result (TellsCalls (LeavesAllOf h))) }
 
     // Each fault of the store that a line tells has a call of the store that failed.
     ensures store { (faults : ℕ) × HaveFailed faults (B.failures desk.old) (B.failures desk.new)

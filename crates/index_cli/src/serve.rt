@@ -1,14 +1,10 @@
 //! Connections from a listener, one after the other.
-ghost use Rattle.std.specs.Prelude.{◌≡◌, ◌<◌, true, ℕ, Err, None, IfErr, IfOk, IfSome, IsOk, IsSome};
-ghost use Rattle.index_rules.specs.Facts.{HasOneBearer};
-ghost use Rattle.index_rules.specs.History.{History};
-ghost use Rattle.index_rules.specs.Legal.{IsLegal};
-ghost use Rattle.index_rules.specs.StandsFor.{StandsFor};
-ghost use Rattle.index_rules.specs.Tables.{Tables};
+ghost use Rattle.std.specs.Prelude.{◌≡◌, ◌<◌, true, ℕ, Err, None, IfErr, IfOk, IfSome};
 ghost use Rattle.index_desk.specs.Crashes.{LeavesAll, LeavesAllOf};
 ghost use Rattle.index_desk.specs.Invariants.{KeepsInvariants};
 ghost use Rattle.index_desk.specs.Looks.{LeavesTables};
 ghost use Rattle.index_desk.specs.Rules.{by_tables};
+ghost use Rattle.index_desk.specs.Takes.{ByHistory, ByTables, CrashByHistory, CrashByTables};
 ghost use Rattle.index_cli.specs.Serving.{AnswersMessage, IsCount, Serves, ServesCalls, ServesHistory};
 
 use crate::end::ServeEnd;
@@ -50,27 +46,21 @@ pub fn serve_connections<B: Keeper>(
     desk: &mut Desk<B>,
 ) -> Result<(), ServeEnd>
     // By the tables: what was told of how many connections, and the tables after them.
-    ensures tables { B.IsHonest desk.new → HasOneBearer (B.tables desk.old) →
-        (count : ℕ) × IsCount requests result count
-        × Serves by_tables at count (B.tables desk.old) (B.tables desk.new) }
+    ensures tables { ByTables B.Books desk.old desk.new (λ T T'. (count : ℕ)
+        × IsCount requests result count × Serves by_tables at count T T') }
 
     // By a legal history for which the tables stood: the same, and they stand for the history with what was accepted.
-    ensures history { B.IsHonest desk.new →
-        (h : History) → IsLegal h → StandsFor (B.tables desk.old) h →
-        (count : ℕ) × IsCount requests result count
-        × ServesHistory h at count (B.tables desk.new) }
+    ensures history { ByHistory B.Books desk.old desk.new (λ h T. (count : ℕ)
+        × IsCount requests result count × ServesHistory h at count T) }
 
     // A crash leaves the tables after the accepted calls, or these with one call to which a fault was answered since the
     // last of them; also where a fault has shut the store.
-    ensures crash { B.IsHonest desk.old → B.IsClean desk.new → HasOneBearer (B.tables desk.old) →
-        (T : Tables) → B.may_leave desk.new T → (count : ℕ) × IsCount requests result count
-        × ServesCalls (LeavesAll (B.tables desk.old)) at count T }
+    ensures crash { CrashByTables B.Books desk.old desk.new (λ T T'. (count : ℕ)
+        × IsCount requests result count × ServesCalls (LeavesAll T) at count T') }
 
     // The former stand for the legal history with these calls, for which the tables stood without them.
-    ensures crash_history { B.IsHonest desk.old → B.IsClean desk.new →
-        (h : History) → IsLegal h → StandsFor (B.tables desk.old) h →
-        (T : Tables) → B.may_leave desk.new T → (count : ℕ) × IsCount requests result count
-        × ServesCalls (LeavesAllOf h) at count T }
+    ensures crash_history { CrashByHistory B.Books desk.old desk.new (λ h T. (count : ℕ)
+        × IsCount requests result count × ServesCalls (LeavesAllOf h) at count T) }
 
     // However it ends: one user at most bears a digest, and accounts that add up keep adding up.
     ensures keeps { KeepsInvariants B.Books desk.old desk.new }
@@ -128,8 +118,7 @@ fn is_shut<B: Keeper>(alloc: Global, desk: &mut Desk<B>, failures: u64) -> bool
 /// The moment that is given, or else that of the clock.
 fn moment_of(rt: &HostRuntime, at: Option<u64>) -> Result<u64, ServeEnd>
     ensures given { IfOk result (λ moment. IfSome at (λ given. moment ≡ given)) }
-    ensures always { IsSome at → IsOk result }
-    ensures clock { IfErr result (λ end. end ≡ ServeEnd.Clock) }
+    ensures clock { IfErr result (λ end. (end ≡ ServeEnd.Clock) × (at ≡ None)) }
 {
     match at {
         Some(at) => Ok(at),

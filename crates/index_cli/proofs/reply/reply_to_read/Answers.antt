@@ -9,7 +9,7 @@ returns-in-Some-Call g c = record {
   asks = search rules;
   leaves = search rules;
   causes = record {
-    told = answer_causes c.apply.result _ _ _ c.answer_text.ensures c.apply.ensures.failures c.apply.ensures.store;
+    told = answer_causes c.apply.result _ _ _ c.answer_text.ensures c.apply.ensures.takes.settles.failures c.apply.ensures.takes.settles.store;
     kept = search rules;
     memory = search rules;
   };
