@@ -1,7 +1,7 @@
 //! What takes bytes.
-ghost use Rattle.std.specs.Prelude.{◌≡◌, ◌<◌, ◌^◌, ℕ, List, Option, length, take, is_ok, IfErr, IfOk, OnErr, OnOk};
-ghost use Rattle.std.specs.Io.KnownBytes.{Appends, Keeps};
-ghost use Rattle.index_io.specs.Bytes.{AppendsFront, joined};
+ghost use Rattle.std.specs.Prelude.{◌≡◌, ◌<◌, ◌^◌, ℕ, List, Option, length, is_ok, OnErr, OnOk};
+ghost use Rattle.std.specs.Io.KnownBytes.{Keeps};
+ghost use Rattle.index_io.specs.Bytes.{WritesAll, WritesFront, WritesUpTo, joined};
 ghost use Rattle.index_io.specs.Counts.{next_count, HasFailed};
 
 use crate::source::Failed;
@@ -17,8 +17,7 @@ pub trait Sink {
 
     /// Takes a front of the bytes and answers its length, at least 1.
     fn take(&mut self, bytes: &[u8]) -> Result<usize, Failed>
-        ensures front { IfOk result
-            (AppendsFront bytes.now (contents self.old) (contents self.new)) }
+        ensures front { WritesFront contents self.old self.new bytes.now result }
         ensures kept { OnErr result (Keeps (contents self.old) (contents self.new)) }
         ensures failures { failures self.new ≡ next_count (failures self.old) (is_ok result) };
 }
@@ -60,8 +59,7 @@ impl<W: Write> Sink for Output<W> {
 
 /// Writes a front of the bytes, again where that was interrupted.
 fn write_again<W: Write>(writer: &mut W, bytes: &[u8]) -> Result<usize, Failed>
-    ensures front { IfOk result
-        (AppendsFront bytes.now (W.contents writer.old) (W.contents writer.new)) }
+    ensures front { WritesFront W.contents writer.old writer.new bytes.now result }
     ensures kept { OnErr result (Keeps (W.contents writer.old) (W.contents writer.new)) }
 {
     for _ in 0..u64::MAX {
@@ -81,9 +79,8 @@ fn write_again<W: Write>(writer: &mut W, bytes: &[u8]) -> Result<usize, Failed>
 ///
 /// How many of them went out, before a write failed or took no byte.
 pub fn write_bytes<K: Sink>(sink: &mut K, bytes: &[u8]) -> Result<(), usize>
-    ensures whole { OnOk result (Appends (K.contents sink.old) (K.contents sink.new) bytes.now) }
-    ensures front { IfErr result (λ count. (count < length bytes.now)
-        × Appends (K.contents sink.old) (K.contents sink.new) (take count bytes.now)) }
+    ensures whole { WritesAll K.contents sink.old sink.new bytes.now result }
+    ensures front { WritesUpTo K.contents sink.old sink.new bytes.now result }
     ensures kept { OnOk result (K.failures sink.new ≡ K.failures sink.old) }
     ensures failed { OnErr result (HasFailed (K.failures sink.old) (K.failures sink.new)) }
 {
@@ -104,10 +101,8 @@ pub fn write_bytes<K: Sink>(sink: &mut K, bytes: &[u8]) -> Result<(), usize>
 /// How many of their bytes went out, before a write failed or took no byte.
 pub fn write_pieces<K: Sink>(sink: &mut K, pieces: &[&[u8]]) -> Result<(), u64>
     requires { length (joined pieces.now) < 2 ^ 64 }
-    ensures whole { OnOk result
-        (Appends (K.contents sink.old) (K.contents sink.new) (joined pieces.now)) }
-    ensures front { IfErr result (λ count. (count < length (joined pieces.now))
-        × Appends (K.contents sink.old) (K.contents sink.new) (take count (joined pieces.now))) }
+    ensures whole { WritesAll K.contents sink.old sink.new (joined pieces.now) result }
+    ensures front { WritesUpTo K.contents sink.old sink.new (joined pieces.now) result }
     ensures kept { OnOk result (K.failures sink.new ≡ K.failures sink.old) }
     ensures failed { OnErr result (HasFailed (K.failures sink.old) (K.failures sink.new)) }
 {
