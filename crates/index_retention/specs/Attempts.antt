@@ -40,6 +40,11 @@ pub record Tally : Type 0 where
   pub pages : Bool
   pub first : Option ℕ
 
+-- a tally of these parts
+abbrev pub tally_from : ℕ → ℕ → Bool → Bool → Bool → Option ℕ → Tally
+tally_from attempts sent profile author pages first =
+    record { attempts = attempts; sent = sent; profile = profile; author = author; pages = pages; first = first }
+
 -- no attempt more is recorded
 abbrev pub is_full : Tally → Bool
 is_full tally = tally.attempts == most_attempts

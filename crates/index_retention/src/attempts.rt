@@ -1,6 +1,6 @@
 //! What a case keeps of the attempts to reach a name's owner.
 ghost use Rattle.std.specs.Prelude.{◌≡◌, ◌≤◌, ◌<◌, ◌↔◌, ℕ, List, [], ◌∷◌, IsTrue, IsSome, IfErr, OnOk, OnErr, SomeIff};
-ghost use Rattle.index_retention.specs.Attempts.{Attempt, IsTally, attempt_of, is_full, most_attempts, tally_with, tally_of};
+ghost use Rattle.index_retention.specs.Attempts.{Attempt, IsTally, attempt_of, is_full, most_attempts, tally_from, tally_with, tally_of};
 
 use crate::fault::CaseFault;
 use std::marker::Model;
@@ -91,14 +91,8 @@ impl CaseState {
         pages: bool,
         first: Option<u64>,
     ) -> Option<CaseState>
-        ensures { SomeIff result (IsTally attempts sent first) (record {
-          attempts = attempts;
-          sent = sent;
-          profile = profile;
-          author = author;
-          pages = pages;
-          first = first;
-        }) }
+        ensures { SomeIff result (IsTally attempts sent first)
+            (tally_from attempts sent profile author pages first) }
     {
         if sent > attempts || attempts > MOST_ATTEMPTS || first.is_some() != (sent > 0) {
             return None;
