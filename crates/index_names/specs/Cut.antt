@@ -1,11 +1,13 @@
 -- What the code's cut of a file name says of what is read.
-use Rattle.std.specs.Prelude.{◌≡◌, Option, Some, None, option_copied, IsTrue}
+use Rattle.std.specs.Prelude.{◌≡◌, ℕ, false, List, [], ◌∷◌, Option, Some, None, MatchOption, option_copied, IsTrue}
+use Rattle.std.specs.Borrow.{Bor}
+use Rattle.std.specs.List.{before_last, after_last, list_any, slice_split}
 use Rattle.index_names.specs.declared.cut.Cut.{Cut}
 use Rattle.index_names.specs.declared.wheel.WheelParts.{WheelParts}
 use Rattle.index_names.specs.Project.{is_project_name, normal_form}
 use Rattle.index_names.specs.Release.{is_version_text, named_release}
 use Rattle.index_names.specs.FileName.{Spelled}
-use Rattle.index_names.specs.Spelling.{WheelCut}
+use Rattle.index_names.specs.Spelling.{WheelCut, is_hyphen}
 
 -- the name and the version of a cut are such, and what is read are their project, their release and the kind
 pub record IsCutReadAs (cut : Cut) (spelled : Option Spelled) : Type 0 where
@@ -17,6 +19,19 @@ pub record IsCutReadAs (cut : Cut) (spelled : Option Spelled) : Type 0 where
 abbrev pub IsCutOf : Option Cut → Option Spelled → Type 0
 IsCutOf None spelled = spelled ≡ None
 IsCutOf (Some cut) spelled = IsCutReadAs cut spelled
+
+-- the parts before and after the first hyphen of a text, where it has one: it is parted there, and the second part at
+-- its hyphens
+abbrev pub CutsAtFirstHyphen : List ℕ → Option (Bor (List ℕ) × Bor (List ℕ)) → Type 0
+CutsAtFirstHyphen text cut =
+    MatchOption cut (slice_split is_hyphen text ≡ text ∷ [])
+    (λ parts. slice_split is_hyphen text ≡ parts.0.now ∷ slice_split is_hyphen parts.1.now)
+
+-- the parts before and after its last hyphen
+abbrev pub CutsAtLastHyphen : List ℕ → Option (Bor (List ℕ) × Bor (List ℕ)) → Type 0
+CutsAtLastHyphen text cut =
+    MatchOption cut (list_any is_hyphen text ≡ false)
+    (λ parts. (parts.0.now ≡ before_last is_hyphen text) × (parts.1.now ≡ after_last is_hyphen text))
 
 -- the parts of a wheel name as texts
 abbrev pub wheel_cut : WheelParts → WheelCut

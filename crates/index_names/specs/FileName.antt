@@ -1,5 +1,5 @@
 -- What file names are read as: what they spell.
-use Rattle.std.specs.Prelude.{◌≡◌, ◌↔◌, ℕ, ◌-◌, bytes_eq, nat_le, if◌then◌else◌, List, [], ◌∷◌, Option, Some, None, option_and_then, length, take, drop, codes}
+use Rattle.std.specs.Prelude.{◌≡◌, ◌↔◌, ℕ, ◌-◌, bytes_eq, nat_le, if◌then◌else◌, List, [], ◌∷◌, Option, Some, None, option_map, option_and_then, length, take, drop, codes}
 use Rattle.std.specs.List.{slice_split, before_last, after_last}
 use Rattle.std.specs.Option.{option_map_or}
 use Rattle.index_names.specs.declared.file_name.FileKind.{FileKind}
@@ -72,6 +72,14 @@ release_of f = option_map_or (λ spelled. spelled.release) (read_file_name f) []
 -- whether a file is a wheel or a source archive
 abbrev pub kind_of : List ℕ → FileKind
 kind_of f = option_map_or (λ spelled. spelled.kind) (read_file_name f) Source
+
+-- it spells what these say
+abbrev pub SpellsAsRead : List ℕ → Type 0
+SpellsAsRead f = Spells f (project_of f) (release_of f) (kind_of f)
+
+-- this is a part of what it is read as
+abbrev pub SpellsPart : {A : Type 0} → (Spelled → A) → List ℕ → A → Type 0
+SpellsPart part f value = option_map part (read_file_name f) ≡ Some value
 
 -- a file name spells at most one project, release and kind
 abbrev pub SpellsAtMostOne : List ℕ → Type 0

@@ -1,4 +1,5 @@
 pub mod Cut
+pub mod Faults
 pub mod FileName
 pub mod Printed
 pub mod Project

@@ -1,10 +1,10 @@
 //! The names of wheels (PEP 427) and source archives (PEP 625).
-ghost use Rattle.std.specs.Prelude.{◌≡◌, ◌⊎◌, ◌↔◌, None, Some, IfOk, OnOk, IfErr, IsErrOf, IsSome, IsTrue, option_map, bytes_eq, refl};
+ghost use Rattle.std.specs.Prelude.{◌≡◌, ◌↔◌, None, Some, IfOk, OnOk, IsErrOf, IsSome, IsTrue, bytes_eq, refl};
 ghost use Rattle.std.specs.Ordering.{nat_cmp};
 ghost use Rattle.std.specs.Cmp.{partial_equiv_from_equiv};
 ghost use Rattle.std.specs.Cmp.Lexicographic.{slice_cmp, nat_list_eq_equiv, nat_list_cmp_total, texts_ties, texts_po};
-ghost use Rattle.index_names.specs.FileName.{read_file_name, project_of, release_of, kind_of};
-ghost use Rattle.index_names.specs.Spelling.{Spells};
+ghost use Rattle.index_names.specs.Faults.{FailsByEither};
+ghost use Rattle.index_names.specs.FileName.{SpellsAsRead, SpellsPart, read_file_name, project_of, release_of, kind_of};
 
 use crate::cut::cut_of;
 use crate::fault::NameFault;
@@ -80,12 +80,10 @@ impl FileName {
     pub fn read(alloc: Global, bytes: &[u8]) -> Result<FileName, NameFault>
         ensures text { IfOk result (λ name. name ≡ bytes.now) }
         ensures read { OnOk result (IsSome (read_file_name bytes.now)) }
-        ensures spells { let f = bytes.now in
-            OnOk result (Spells f (project_of f) (release_of f) (kind_of f)) }
+        ensures spells { OnOk result (SpellsAsRead bytes.now) }
         ensures bad_file_name { IsErrOf result NameFault.BadFileName
             ↔ (read_file_name bytes.now ≡ None) }
-        ensures fault { IfErr result (λ fault.
-            (fault ≡ NameFault.BadFileName) ⊎ (fault ≡ NameFault.OutOfMemory)) }
+        ensures fault { FailsByEither result NameFault.BadFileName NameFault.OutOfMemory }
     {
         let Some(cut) = cut_of(bytes) else {
             return Err(NameFault::BadFileName);
@@ -109,8 +107,7 @@ impl FileName {
     /// The project that the file belongs to.
     pub fn project(&self) -> &NormalName
         ensures project { result.now ≡ project_of self.now }
-        ensures spelled { option_map (λ spelled. spelled.project) (read_file_name self.now)
-            ≡ Some result.now }
+        ensures spelled { SpellsPart (λ spelled. spelled.project) self.now result.now }
     {
         &self.project
     }
@@ -118,8 +115,7 @@ impl FileName {
     /// The release that the file belongs to.
     pub fn release(&self) -> &Release
         ensures release { result.now ≡ release_of self.now }
-        ensures spelled { option_map (λ spelled. spelled.release) (read_file_name self.now)
-            ≡ Some result.now }
+        ensures spelled { SpellsPart (λ spelled. spelled.release) self.now result.now }
     {
         &self.release
     }
@@ -127,8 +123,7 @@ impl FileName {
     /// Whether the file is a wheel or a source archive.
     pub fn kind(&self) -> FileKind
         ensures kind { result ≡ kind_of self.now }
-        ensures spelled { option_map (λ spelled. spelled.kind) (read_file_name self.now)
-            ≡ Some result }
+        ensures spelled { SpellsPart (λ spelled. spelled.kind) self.now result }
     {
         self.kind
     }

@@ -1,8 +1,9 @@
 //! Project names and their normal form (PEP 503, "Normalized Names").
-ghost use Rattle.std.specs.Prelude.{◌≡◌, ◌||◌, ◌++◌, ◌⊎◌, ◌↔◌, None, Some, IfOk, IfErr, OnOk, IsErrOf, IsSome, IsTrue, string_bytes};
+ghost use Rattle.std.specs.Prelude.{◌≡◌, ◌||◌, ◌++◌, ◌↔◌, None, Some, IfOk, OnOk, IsErrOf, IsSome, IsTrue, string_bytes};
 ghost use Rattle.std.specs.List.{list_all};
 ghost use Rattle.index_names.specs.Project.{is_separator, is_project_name, normal_form, read_name, IsNormalName};
 ghost use Rattle.std.specs.Char.{is_ascii_alphanumeric};
+ghost use Rattle.index_names.specs.Faults.{FailsByEither};
 ghost use Rattle.index_names.specs.Steps.{added};
 
 use crate::fault::NameFault;
@@ -85,8 +86,7 @@ pub fn is_name(bytes: &[u8]) -> bool
 pub fn normal(alloc: Global, bytes: &[u8]) -> Result<NormalName, NameFault>
     ensures normal { IfOk result (λ name. read_name bytes.now ≡ Some name) }
     ensures bad_name { IsErrOf result NameFault.BadName ↔ (read_name bytes.now ≡ None) }
-    ensures fault { IfErr result (λ fault.
-        (fault ≡ NameFault.BadName) ⊎ (fault ≡ NameFault.OutOfMemory)) }
+    ensures fault { FailsByEither result NameFault.BadName NameFault.OutOfMemory }
 {
     if !is_name(bytes) {
         return Err(NameFault::BadName);

@@ -1,6 +1,7 @@
 //! Releases: version texts in lower case.
-ghost use Rattle.std.specs.Prelude.{◌≡◌, ◌||◌, ◌⊎◌, ◌↔◌, None, Some, IfOk, IfErr, IsErrOf, IsSome, IsTrue};
+ghost use Rattle.std.specs.Prelude.{◌≡◌, ◌||◌, ◌↔◌, None, Some, IfOk, IsErrOf, IsSome, IsTrue};
 ghost use Rattle.std.specs.List.{list_all};
+ghost use Rattle.index_names.specs.Faults.{FailsByEither};
 ghost use Rattle.index_names.specs.Release.{is_version_byte, is_version_text, named_release, read_release, IsRelease};
 
 use crate::fault::NameFault;
@@ -73,8 +74,7 @@ impl Release {
 pub fn release_key(alloc: Global, bytes: &[u8]) -> Result<Release, NameFault>
     ensures release { IfOk result (λ release. read_release bytes.now ≡ Some release) }
     ensures bad_release { IsErrOf result NameFault.BadRelease ↔ (read_release bytes.now ≡ None) }
-    ensures fault { IfErr result (λ fault.
-        (fault ≡ NameFault.BadRelease) ⊎ (fault ≡ NameFault.OutOfMemory)) }
+    ensures fault { FailsByEither result NameFault.BadRelease NameFault.OutOfMemory }
 {
     if !is_version(bytes) {
         return Err(NameFault::BadRelease);
