@@ -1,6 +1,7 @@
 -- What a decision says of a verdict.
 use Rattle.std.specs.Prelude.{◌≡◌, List, [], Option, Some, None, Result, Ok, Err, find, length}
 use Rattle.index_rules.specs.declared.answer.Refusal.{Refusal}
+use Rattle.index_rules.specs.declared.call.Call.{Call}
 use Rattle.index_rules.specs.declared.call.Request.{Request}
 use Rattle.index_rules.specs.declared.call.Request.TheVariants.{Upload}
 use Rattle.index_rules.specs.declared.decision.Decision.{Decision}
@@ -11,8 +12,8 @@ use Rattle.index_rules.specs.declared.decision.context.Context.{Context}
 use Rattle.index_rules.specs.declared.change.Change.{Change}
 use Rattle.index_rules.specs.Projects.{Project}
 use Rattle.index_rules.specs.Maps.{Bytes}
-use Rattle.index_rules.specs.Facts.{facts_seen}
-use Rattle.index_rules.specs.Verdict.{Verdict, Accept, AlreadySo, Refuse, applies, verdict_of, file_refusals, is_already, refusals_of}
+use Rattle.index_rules.specs.Facts.{Facts, facts_seen}
+use Rattle.index_rules.specs.Verdict.{Verdict, Accept, AlreadySo, Refuse, applies, verdict_of, verdict_on, file_refusals, is_already, refusals_of}
 use Rattle.index_rules.specs.Effect.{effect, the_project, with_file}
 
 -- the decision is the verdict, and its change the effect; memory can run out only where the verdict is to accept
@@ -21,6 +22,10 @@ Decides (Ok decision.Already) verdict effect = verdict ≡ AlreadySo
 Decides (Ok (decision.Change change)) verdict effect = (verdict ≡ Accept) × (change ≡ effect)
 Decides (Err (stop.Refused refusal)) verdict effect = verdict ≡ Refuse refusal
 Decides (Err stop.OutOfMemory) verdict effect = verdict ≡ Accept
+
+-- the decision on a call by these facts
+abbrev pub DecidesBy : Call → Facts → Result Decision Stop → Type 0
+DecidesBy call facts result = Decides result (verdict_on call facts) (effect call.at call.request facts)
 
 -- the same of what an accepted request needs, before its change is made
 abbrev pub Finds : {A : Type 0} → Result (Option A) Stop → Verdict → A → Type 0

@@ -1,7 +1,9 @@
 -- The tables of a new index.
-use Rattle.std.specs.Prelude.{◌≡◌, ◌⊎◌, true, [], None}
+use Rattle.std.specs.Prelude.{◌≡◌, ◌⊎◌, ◌↔◌, true, [], None, Result, IsErrOf}
 use Rattle.std.specs.FinMap.{empty, insert}
 use Rattle.index_digest.specs.Digest.{sha256}
+use Rattle.index_rules.specs.declared.open.OpenFault.{OpenFault}
+use Rattle.index_rules.specs.declared.open.OpenFault.TheVariants.{BadFirstUser}
 use Rattle.index_rules.specs.declared.records.UserRecord.{UserRecord}
 use Rattle.index_rules.specs.Maps.{Bytes}
 use Rattle.index_rules.specs.Tables.{Tables}
@@ -27,3 +29,7 @@ first_tables user token = record {
 -- the bytes are no user id, or the digest is that of the empty text, which is no token
 abbrev pub IsBadFirstUser : Bytes → Bytes → Type 0
 IsBadFirstUser user token = (read_user user ≡ None) ⊎ (token ≡ sha256 [])
+
+-- these are refused as such exactly where they are
+abbrev pub RefusesBadFirstUser : {A : Type 0} → Bytes → Bytes → Result A OpenFault → Type 0
+RefusesBadFirstUser user token result = IsErrOf result BadFirstUser ↔ IsBadFirstUser user token

@@ -1,4 +1,5 @@
 pub mod Maps
+pub mod Results
 pub mod Users
 pub mod Texts
 pub mod Refusals

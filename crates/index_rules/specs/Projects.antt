@@ -33,6 +33,11 @@ pub record FitsProject (quota charge undeleted : ℕ) : Type 0 where
   pub quota_fits : quota ≤ largest_quota
   pub undeleted_fit : undeleted ≤ most_files
 
+-- a project of these parts
+abbrev pub project_from : Bytes → ℕ → ℕ → ℕ → Option ℕ → Project
+project_from shown quota charge undeleted last_upload =
+    record { shown = shown; quota = quota; charge = charge; undeleted = undeleted; last_upload = last_upload }
+
 -- the project of a name that is claimed in this spelling
 abbrev pub new_project : Bytes → Project
 new_project shown = record { shown = shown; quota = first_quota; charge = 0; undeleted = 0; last_upload = None }

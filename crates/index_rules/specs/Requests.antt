@@ -1,5 +1,5 @@
 -- The readable parts of a request.
-use Rattle.std.specs.Prelude.{◌≡◌, ◌⊎◌, Bool, true, false, Option, Some, None, IsSome, option_map, Result, IfOk, IfErr}
+use Rattle.std.specs.Prelude.{◌≡◌, ◌⊎◌, Bool, true, false, Option, Some, None, IsSome, IsTrue, option_map, Result, IfOk, IfErr}
 use Rattle.index_names.specs.Project.{read_name}
 use Rattle.index_names.specs.FileName.{read_file_name, project_of}
 use Rattle.index_names.specs.Release.{read_release}
@@ -10,11 +10,16 @@ use Rattle.index_rules.specs.declared.call.Request.TheVariants.{AddUser, SetToke
 use Rattle.index_rules.specs.declared.keys.Keys.{Keys}
 use Rattle.index_rules.specs.Maps.{Bytes}
 use Rattle.index_rules.specs.Users.{read_user}
-use Rattle.index_rules.specs.Texts.{read_token}
+use Rattle.index_rules.specs.Texts.{is_text, read_token}
 
 -- the file name that bytes are
 unfoldable pub read_file : Bytes → Option Bytes
 read_file file = option_map (λ spelled. file) (read_file_name file)
+
+-- bytes that are a file name, and a text of the Python versions that the file asks for
+pub record AreFileParts (file requires : Bytes) : Type 0 where
+  pub file_is : IsSome (read_file file)
+  pub text_is : IsTrue (is_text requires)
 
 -- the user that a request names
 abbrev pub user_key : Request → Option Bytes

@@ -1,5 +1,5 @@
 -- Texts and token digests that requests bring.
-use Rattle.std.specs.Prelude.{ℕ, Bool, not, ◌&&◌, nat_le, [], length, Option, Some, None, option_and_then, if◌then◌else◌}
+use Rattle.std.specs.Prelude.{ℕ, Bool, IsTrue, not, ◌&&◌, nat_le, [], length, Option, Some, None, option_and_then, if◌then◌else◌}
 use Rattle.std.specs.Char.{is_control}
 use Rattle.std.specs.List.{list_any}
 use Rattle.std.specs.Str.{is_utf8, chars}
@@ -17,6 +17,12 @@ is_text x = nat_le (length x) longest_text && is_utf8 x && not (list_any is_cont
 -- a text of one byte or more, as the three texts of a case are
 abbrev pub is_evidence : Bytes → Bool
 is_evidence x = nat_le 1 (length x) && is_text x
+
+-- the three texts of a case
+pub record AreEvidence (contact work why : Bytes) : Type 0 where
+  pub contact_is : IsTrue (is_evidence contact)
+  pub work_is : IsTrue (is_evidence work)
+  pub why_is : IsTrue (is_evidence why)
 
 -- the digest of a token that a text gives; the empty text is no token
 unfoldable pub read_token : Bytes → Option Bytes

@@ -32,3 +32,7 @@ EndsEarly takes stops rows before after Store = TookFront takes rows before afte
 abbrev pub Walks : {K R A : Type 0} → (K → R → K → Type 0) → (K → R → K → Type 0) → List R → K → K → Result A WalkEnd → Type 0
 Walks takes stops rows before after (Ok done) = Took takes rows before after
 Walks takes stops rows before after (Err end) = EndsEarly takes stops rows before after end
+
+-- a walk gave the taker some rows in this way
+abbrev pub WalksSome : {K R A : Type 0} → (K → R → K → Type 0) → (K → R → K → Type 0) → K → K → Result A WalkEnd → Type 0
+WalksSome {K} {R} takes stops before after result = (rows : List R) × Walks takes stops rows before after result

@@ -1,14 +1,13 @@
 //! The tables behind a trait.
-ghost use Rattle.std.specs.Prelude.{◌≡◌, ◌⊎◌, ℕ, List, IfOk, OnOk, OnErr, is_ok, not};
+ghost use Rattle.std.specs.Prelude.{◌≡◌, ◌⊎◌, ℕ, IfOk, OnOk, OnErr, is_ok};
 ghost use Rattle.std.specs.FinMap.{get};
-ghost use Rattle.index_rules.specs.declared.rows.FileRow.{FileRow as FileRowData};
-ghost use Rattle.index_rules.specs.declared.rows.NameRow.{NameRow as NameRowData};
 ghost use Rattle.index_rules.specs.Tables.{Tables, owners_in};
 ghost use Rattle.index_rules.specs.Facts.{Sees};
 ghost use Rattle.index_rules.specs.Effect.{means};
 ghost use Rattle.index_rules.specs.TableRows.{file_rows_in, held_rows_in, name_rows_in};
-ghost use Rattle.index_rules.specs.Calls.{Calls, LooksUp};
-ghost use Rattle.index_rules.specs.Walks.{Walks, has_fault};
+ghost use Rattle.index_rules.specs.Calls.{Calls, Looks, Scans};
+ghost use Rattle.index_rules.specs.Results.{Returns, ReturnsItems};
+ghost use Rattle.index_rules.specs.Walks.{Walks, WalksSome};
 
 use crate::answer::Fault;
 use crate::change::Change;
@@ -45,8 +44,7 @@ pub trait Books {
     /// The records that the keys name. It changes no table.
     fn view(&mut self, alloc: Global, keys: &Keys) -> Result<View, Fault>
         ensures found { IsHonest self.new → IfOk result (Sees (tables self.old) keys.now) }
-        ensures looks { LooksUp tables IsHonest IsClean may_leave failures
-            self.old self.new (is_ok result) };
+        ensures looks { Looks tables IsHonest IsClean may_leave failures self.old self.new result };
 
     /// Writes a change. After a fault the tables are what they were, and a crash may leave them as they were or with
     /// the change.
@@ -63,32 +61,25 @@ pub trait Books {
 
     /// The owners of a name in byte order. It changes no table.
     fn owners_of(&mut self, alloc: Global, name: &NormalName) -> Result<Owners, Fault>
-        ensures found { IsHonest self.new
-            → IfOk result (λ owners. owners ≡ owners_in (tables self.old) name.now) }
-        ensures looks { LooksUp tables IsHonest IsClean may_leave failures
-            self.old self.new (is_ok result) };
+        ensures found { IsHonest self.new → Returns result (owners_in (tables self.old) name.now) }
+        ensures looks { Looks tables IsHonest IsClean may_leave failures self.old self.new result };
 
     /// The bytes that are kept of a file, or `None` where none are: in sound tables, where it is not undeleted. It changes
     /// no table.
     fn bytes_of(&mut self, alloc: Global, file: &FileName) -> Result<Option<Sealed>, Fault>
-        ensures found { IsHonest self.new
-            → IfOk result (λ body. body ≡ get (tables self.old).bodies file.now) }
-        ensures looks { LooksUp tables IsHonest IsClean may_leave failures
-            self.old self.new (is_ok result) };
+        ensures found { IsHonest self.new → Returns result (get (tables self.old).bodies file.now) }
+        ensures looks { Looks tables IsHonest IsClean may_leave failures self.old self.new result };
 
     /// The held names and the prohibited ones with their records, in byte order. It changes no table.
     fn names(&mut self, alloc: Global) -> Result<Vec<NameRow>, Fault>
-        ensures found { IsHonest self.new
-            → IfOk result (λ rows. rows.items ≡ name_rows_in (tables self.old)) }
-        ensures looks { LooksUp tables IsHonest IsClean may_leave failures
-            self.old self.new (is_ok result) };
+        ensures found { IsHonest self.new → ReturnsItems result (name_rows_in (tables self.old)) }
+        ensures looks { Looks tables IsHonest IsClean may_leave failures self.old self.new result };
 
     /// The undeleted files of a name, in byte order. It changes no table.
     fn files_of(&mut self, alloc: Global, name: &NormalName) -> Result<Vec<FileRow>, Fault>
         ensures found { IsHonest self.new
-            → IfOk result (λ rows. rows.items ≡ file_rows_in (tables self.old) name.now) }
-        ensures looks { LooksUp tables IsHonest IsClean may_leave failures
-            self.old self.new (is_ok result) };
+            → ReturnsItems result (file_rows_in (tables self.old) name.now) }
+        ensures looks { Looks tables IsHonest IsClean may_leave failures self.old self.new result };
 
     /// Hands the held names to a taker one at a time, in byte order, until it wants no more. It changes no table.
     ///
@@ -96,12 +87,9 @@ pub trait Books {
     /// the taker is given some rows in this way, and nothing else is done to it.
     fn walk_held<K: NameTaker>(&mut self, alloc: Global, taker: &mut K) -> Result<(), WalkEnd>
         ensures walked { IsHonest self.old → IsClean self.new →
-            let rows = held_rows_in (tables self.old) in
-            Walks K.takes K.stops rows taker.old taker.new result }
-        ensures given { (rows : List NameRowData) ×
-            Walks K.takes K.stops rows taker.old taker.new result }
-        ensures looks { LooksUp tables IsHonest IsClean may_leave failures
-            self.old self.new (not (has_fault result)) };
+            Walks K.takes K.stops (held_rows_in (tables self.old)) taker.old taker.new result }
+        ensures given { WalksSome K.takes K.stops taker.old taker.new result }
+        ensures looks { Scans tables IsHonest IsClean may_leave failures self.old self.new result };
 
     /// Hands the undeleted files of a name to a taker one at a time, in byte order, until it wants no more. It changes
     /// no table.
@@ -117,10 +105,8 @@ pub trait Books {
         ensures walked { IsHonest self.old → IsClean self.new →
             let rows = file_rows_in (tables self.old) name.now in
             Walks K.takes K.stops rows taker.old taker.new result }
-        ensures given { (rows : List FileRowData) ×
-            Walks K.takes K.stops rows taker.old taker.new result }
-        ensures looks { LooksUp tables IsHonest IsClean may_leave failures
-            self.old self.new (not (has_fault result)) };
+        ensures given { WalksSome K.takes K.stops taker.old taker.new result }
+        ensures looks { Scans tables IsHonest IsClean may_leave failures self.old self.new result };
 
     /// An honest store is clean.
     ghost honest_is_clean: { (books : Self) → IsHonest books → IsClean books };

@@ -3,9 +3,7 @@ ghost use Rattle.std.specs.Prelude.{◌≡◌, false};
 ghost use Rattle.index_rules.specs.Tables.{Tables};
 ghost use Rattle.index_rules.specs.Requests.{is_upload, keys_of};
 ghost use Rattle.index_rules.specs.Facts.{HasOneBearer, Sees, facts_in, facts_seen};
-ghost use Rattle.index_rules.specs.Verdict.{verdict_now, verdict_on};
-ghost use Rattle.index_rules.specs.Effect.{effect};
-ghost use Rattle.index_rules.specs.Decided.{Decides, DecidesIn};
+ghost use Rattle.index_rules.specs.Decided.{DecidesBy, DecidesIn};
 
 use crate::answer::Refusal;
 use crate::call::{Call, Request};
@@ -63,19 +61,17 @@ impl From<AllocError> for Stop {
 /// `Refused` with the least refusal that applies, or `OutOfMemory`.
 pub fn decide(alloc: Global, call: Call, view: &View) -> Result<Decision, Stop>
     // By what the view has it is the verdict, and the change is the effect.
-    ensures seen { let facts = facts_seen view.now call.request in
-        Decides result (verdict_on call facts) (effect call.at call.request facts) }
+    ensures seen { DecidesBy call (facts_seen view.now call.request) result }
 
     // On every tables with that view it is the verdict on them, and the change is the effect there.
     ensures tables { (T : Tables) → HasOneBearer T → Sees T (keys_of call) view.now
-        → Decides result (verdict_now T call) (effect call.at call.request (facts_in T call)) }
+        → DecidesBy call (facts_in T call) result }
 {
     judge(alloc, call, view)
 }
 
 fn judge(alloc: Global, call: Call, view: &View) -> Result<Decision, Stop>
-    ensures { let facts = facts_seen view.now call.request in
-        Decides result (verdict_on call facts) (effect call.at call.request facts) }
+    ensures { DecidesBy call (facts_seen view.now call.request) result }
 {
     if call.at > LAST_MOMENT {
         drop(call);

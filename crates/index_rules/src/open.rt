@@ -1,6 +1,8 @@
 //! The opening of an index, and the first user of a new one.
-ghost use Rattle.std.specs.Prelude.{◌≡◌, ◌⊎◌, ◌↔◌, IfOk, IfErr, IsErrOf};
-ghost use Rattle.index_rules.specs.FirstTables.{IsBadFirstUser, first_record};
+ghost use Rattle.std.specs.Prelude.{◌≡◌};
+ghost use Rattle.index_names.specs.Faults.{FailsByEither};
+ghost use Rattle.index_rules.specs.FirstTables.{RefusesBadFirstUser, first_record};
+ghost use Rattle.index_rules.specs.Results.{Returns};
 
 use crate::records::UserRecord;
 use crate::user::{UserFault, UserId};
@@ -66,10 +68,9 @@ pub fn first_user(
     user: &[u8],
     token: Digest256,
 ) -> Result<(UserId, UserRecord), OpenFault>
-    ensures first { IfOk result (λ first. first ≡ (user.now, first_record token)) }
-    ensures bad_first_user { IsErrOf result OpenFault.BadFirstUser ↔ IsBadFirstUser user.now token }
-    ensures fault { IfErr result (λ fault.
-        (fault ≡ OpenFault.BadFirstUser) ⊎ (fault ≡ OpenFault.OutOfMemory)) }
+    ensures first { Returns result (user.now, first_record token) }
+    ensures bad_first_user { RefusesBadFirstUser user.now token result }
+    ensures fault { FailsByEither result OpenFault.BadFirstUser OpenFault.OutOfMemory }
 {
     if token == Digest256::of(b"") {
         return Err(OpenFault::BadFirstUser);

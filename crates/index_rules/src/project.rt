@@ -1,6 +1,6 @@
 //! Held names.
 ghost use Rattle.std.specs.Prelude.{◌≡◌, ◌<◌, ◌≤◌, ◌+◌, IfOk, SomeIff, nat_lt, not};
-ghost use Rattle.index_rules.specs.Projects.{FitsProject, new_project, largest_quota, most_files};
+ghost use Rattle.index_rules.specs.Projects.{FitsProject, new_project, project_from, largest_quota, most_files};
 ghost use Rattle.index_rules.specs.Effect.{later, with_file, without_file};
 
 use index_text::Text;
@@ -74,13 +74,8 @@ impl Project {
         undeleted: u64,
         last_upload: Option<u64>,
     ) -> Option<Project>
-        ensures { SomeIff result (FitsProject quota charge undeleted) (record {
-          shown = shown;
-          quota = quota;
-          charge = charge;
-          undeleted = undeleted;
-          last_upload = last_upload;
-        }) }
+        ensures { SomeIff result (FitsProject quota charge undeleted)
+            (project_from shown quota charge undeleted last_upload) }
     {
         if charge > quota || quota > LARGEST_QUOTA || undeleted > MOST_FILES {
             return None;

@@ -1,11 +1,12 @@
 //! What the bytes of a request are read as.
-ghost use Rattle.std.specs.Prelude.{◌≡◌, ◌↔◌, IfErr, IfOk, IfSome, IsSome, IsTrue, None, Some, if◌then◌else◌};
+ghost use Rattle.std.specs.Prelude.{◌≡◌, ◌↔◌, IfOk, IfSome, IsSome, IsTrue, None, Some, if◌then◌else◌};
 ghost use Rattle.std.specs.Char.{is_control};
 ghost use Rattle.std.specs.List.{list_any};
 ghost use Rattle.std.specs.Str.{chars};
 ghost use Rattle.index_names.specs.Project.{read_name};
 ghost use Rattle.index_names.specs.Release.{read_release};
 ghost use Rattle.index_rules.specs.Requests.{read_file};
+ghost use Rattle.index_rules.specs.Results.{ReturnsRead};
 ghost use Rattle.index_rules.specs.Users.{read_user};
 ghost use Rattle.index_rules.specs.Texts.{is_evidence as is_evidence_lem, is_text as is_text_lem, read_token};
 
@@ -23,8 +24,7 @@ const LONGEST_TEXT: usize = 512;
 
 /// The normal form of a name, where it can be read.
 pub fn readable_name(alloc: Global, name: &Bytes) -> Result<Option<NormalName>, AllocError>
-    ensures key { IfOk result (λ key. key ≡ read_name name.now) }
-    ensures readable { IfErr result (λ _. IsSome (read_name name.now)) }
+    ensures { ReturnsRead (read_name name.now) result }
 {
     match normal(alloc, name.as_slice()) {
         Ok(key) => Ok(Some(key)),
@@ -35,8 +35,7 @@ pub fn readable_name(alloc: Global, name: &Bytes) -> Result<Option<NormalName>, 
 
 /// A user id, where it can be read.
 pub fn readable_user(alloc: Global, user: &Bytes) -> Result<Option<UserId>, AllocError>
-    ensures key { IfOk result (λ key. key ≡ read_user user.now) }
-    ensures readable { IfErr result (λ _. IsSome (read_user user.now)) }
+    ensures { ReturnsRead (read_user user.now) result }
 {
     match UserId::read(alloc, user.as_slice()) {
         Ok(key) => Ok(Some(key)),
@@ -47,8 +46,7 @@ pub fn readable_user(alloc: Global, user: &Bytes) -> Result<Option<UserId>, Allo
 
 /// The release that a version text gives, where it is one.
 pub fn readable_release(alloc: Global, release: &Bytes) -> Result<Option<Release>, AllocError>
-    ensures key { IfOk result (λ key. key ≡ read_release release.now) }
-    ensures readable { IfErr result (λ _. IsSome (read_release release.now)) }
+    ensures { ReturnsRead (read_release release.now) result }
 {
     match release_key(alloc, release.as_slice()) {
         Ok(key) => Ok(Some(key)),
@@ -60,9 +58,8 @@ pub fn readable_release(alloc: Global, release: &Bytes) -> Result<Option<Release
 /// A file name, where it can be read.
 #[tactic(auto, unfolding(crate::specs::Requests::read_file))]
 pub fn readable_file(alloc: Global, file: &Bytes) -> Result<Option<FileName>, AllocError>
-    ensures file { IfOk result (λ key. key ≡ read_file file.now) }
+    ensures read { ReturnsRead (read_file file.now) result }
     ensures text { IfOk result (λ key. IfSome key (λ text. text ≡ file.now)) }
-    ensures readable { IfErr result (λ _. IsSome (read_file file.now)) }
 {
     match FileName::read(alloc, file.as_slice()) {
         Ok(key) => Ok(Some(key)),

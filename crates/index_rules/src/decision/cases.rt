@@ -1,11 +1,12 @@
 //! Requests on retention cases (PEP 541).
-ghost use Rattle.std.specs.Prelude.{◌≡◌, Some, IfOk, IsTrue, false};
+ghost use Rattle.std.specs.Prelude.{◌≡◌, false};
 ghost use Rattle.std.specs.Option.{option_map_or};
 ghost use Rattle.index_rules.specs.declared.call.Request.TheVariants.{AnswerCase, CloseCase, OpenCase, RecordAttempt, Transfer};
 ghost use Rattle.index_rules.specs.Maps.{same};
-ghost use Rattle.index_rules.specs.Texts.{is_evidence as is_evidence_lem};
+ghost use Rattle.index_rules.specs.Results.{Returns};
+ghost use Rattle.index_rules.specs.Texts.{AreEvidence};
 ghost use Rattle.index_rules.specs.Verdict.{refusal_of};
-ghost use Rattle.index_rules.specs.Effect.{new_case as new_case_lem};
+ghost use Rattle.index_rules.specs.Effect.{new_case};
 ghost use Rattle.index_rules.specs.Decided.{DecidesIn};
 
 use super::context::Context;
@@ -58,12 +59,9 @@ fn opened_case(
     work: &Bytes,
     why: &Bytes,
 ) -> Result<CaseRecord, AllocError>
-    requires contact { IsTrue (is_evidence_lem contact.now) }
-    requires work { IsTrue (is_evidence_lem work.now) }
-    requires why { IsTrue (is_evidence_lem why.now) }
+    requires { AreEvidence contact.now work.now why.now }
     ensures { let user = context.now.caller.now.user in
-        IfOk result (λ case.
-        case ≡ new_case_lem context.now.at user kind contact.now work.now why.now) }
+        Returns result (new_case context.now.at user kind contact.now work.now why.now) }
 {
     let candidate = context.caller.user.clone()?;
     let contact = to_text(context.alloc, contact)?;

@@ -1,10 +1,11 @@
 //! Requests on files.
-ghost use Rattle.std.specs.Prelude.{◌≡◌, [], Option, Some, IfOk, IsSome, IsTrue, is_some};
+ghost use Rattle.std.specs.Prelude.{◌≡◌, [], Option, Some, IsTrue, is_some};
 ghost use Rattle.index_rules.specs.declared.call.Request.TheVariants.{BanFile, Delete, Upload};
 ghost use Rattle.index_digest.specs.Digest.{read_digest, sha256};
 ghost use Rattle.index_names.specs.FileName.{project_of};
 ghost use Rattle.index_rules.specs.Maps.{Bytes};
-ghost use Rattle.index_rules.specs.Requests.{read_file};
+ghost use Rattle.index_rules.specs.Requests.{AreFileParts};
+ghost use Rattle.index_rules.specs.Results.{Returns};
 ghost use Rattle.index_rules.specs.Texts.{is_text as is_text_lem};
 ghost use Rattle.index_rules.specs.Facts.{facts_seen};
 ghost use Rattle.index_rules.specs.Verdict.{Accept, is_other_file};
@@ -66,8 +67,7 @@ fn decide_upload(
     body: Sealed,
     requires_python: &Bytes,
 ) -> Result<Decision, Stop>
-    requires file { IsSome (read_file file.now) }
-    requires text { IsTrue (is_text_lem requires_python.now) }
+    requires parts { AreFileParts file.now requires_python.now }
     ensures { (declared : Bytes) → read_digest declared ≡ Some (sha256 body)
         → DecidesOnFile context.now (Upload file.now declared body requires_python.now) result }
 {
@@ -123,8 +123,7 @@ fn upload_to(
     body: Sealed,
     requires_python: &Bytes,
 ) -> Result<Decision, Stop>
-    requires file { IsSome (read_file file.now) }
-    requires text { IsTrue (is_text_lem requires_python.now) }
+    requires parts { AreFileParts file.now requires_python.now }
     ensures { let ends_case = is_some context.now.view.now.case in
         Decides result Accept (upload_of project file.now body requires_python.now ends_case) }
 {
@@ -152,10 +151,9 @@ fn file_parts(
     body: &Sealed,
     requires_python: &Bytes,
 ) -> Result<(NormalName, FileName, FileRecord), AllocError>
-    requires file { IsSome (read_file file.now) }
-    requires text { IsTrue (is_text_lem requires_python.now) }
+    requires parts { AreFileParts file.now requires_python.now }
     ensures { let known = new_file (sha256 body.now) file.now body.now requires_python.now in
-        IfOk result (λ made. made ≡ (project_of file.now, file.now, known)) }
+        Returns result (project_of file.now, file.now, known) }
 {
     let file = to_file(alloc, file)?;
     let name = file.project().clone()?;
@@ -171,8 +169,7 @@ fn record_of(
     requires_python: &Bytes,
 ) -> Result<FileRecord, AllocError>
     requires { IsTrue (is_text_lem requires_python.now) }
-    ensures { let known = new_file (sha256 body.now) file.now body.now requires_python.now in
-        IfOk result (λ made. made ≡ known) }
+    ensures { Returns result (new_file (sha256 body.now) file.now body.now requires_python.now) }
 {
     let project = file.project().clone()?;
     let release = file.release().clone()?;
@@ -256,8 +253,7 @@ pub fn ban_file(context: &Context<'_>, file: &Bytes) -> Result<Decision, Stop>
 
 /// The held name without the file, where the file is undeleted.
 fn project_left(context: &Context<'_>) -> Result<Option<Project>, AllocError>
-    ensures { let facts = facts_seen context.now.view.now (BanFile []) in
-        IfOk result (λ left. left ≡ project_left_lem facts) }
+    ensures { Returns result (project_left_lem (facts_seen context.now.view.now (BanFile []))) }
 {
     match (&context.view.file, context.project()) {
         (Some(known), Some(project)) if known.is_undeleted => {
@@ -269,7 +265,7 @@ fn project_left(context: &Context<'_>) -> Result<Option<Project>, AllocError>
 
 /// The record of the file once it is deleted.
 fn deleted(known: &FileRecord) -> Result<FileRecord, AllocError>
-    ensures { IfOk result (λ gone. gone ≡ deleted_lem known.now) }
+    ensures { Returns result (deleted_lem known.now) }
 {
     let mut gone = known.clone()?;
     gone.is_undeleted = false;
