@@ -9,6 +9,7 @@ use Rattle.index_rules.specs.Tables.{Tables}
 use Rattle.index_rules.specs.Sound.{is_undeleted_of}
 use Rattle.index_rules.specs.Rows.{StoppedAmong}
 use Rattle.index_rules.specs.TableRows.{name_row, is_held_row, file_row_in}
+use Rattle.index_plain.specs.Seen.{rows_of_file}
 
 -- the rows of the held names among these
 abbrev pub held_rows_of : List (Bytes × NameRecord) → List NameRow
@@ -23,11 +24,7 @@ held_rows_first es left e split =
     ap held_rows_of split
     ∙ elim (is_held_row (name_row e)) as (λ b. cond b (name_row e ∷ held_rows_of left) (held_rows_of left) ≡ cond b (name_row e ∷ []) [] ++ held_rows_of left) [ true ↦ refl | false ↦ refl ]
 
--- the row of a file, where it is an undeleted one of the name
-abbrev pub file_row_alone : Tables → Bytes → Bytes × FileRecord → List FileRow
-file_row_alone T name e = cond (is_undeleted_of name e.1) (file_row_in T name e ∷ []) []
-
-pub file_rows_first : (T : Tables) (name : Bytes) (es left : List (Bytes × FileRecord)) (e : Bytes × FileRecord) → es ≡ e ∷ left → file_rows_of T name es ≡ file_row_alone T name e ++ file_rows_of T name left
+pub file_rows_first : (T : Tables) (name : Bytes) (es left : List (Bytes × FileRecord)) (e : Bytes × FileRecord) → es ≡ e ∷ left → file_rows_of T name es ≡ rows_of_file T name e ++ file_rows_of T name left
 file_rows_first T name es left e split =
     ap (file_rows_of T name) split
     ∙ elim (is_undeleted_of name e.1) as (λ b. map (file_row_in T name) (cond b (e ∷ filter (λ f. is_undeleted_of name f.1) left) (filter (λ f. is_undeleted_of name f.1) left)) ≡ cond b (file_row_in T name e ∷ []) [] ++ file_rows_of T name left) [ true ↦ refl | false ↦ refl ]

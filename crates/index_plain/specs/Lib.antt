@@ -2,3 +2,4 @@ pub mod Trees
 pub mod Pairs
 pub mod Bearers
 pub mod Plain
+pub mod Seen

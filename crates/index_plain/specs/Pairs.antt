@@ -1,10 +1,11 @@
 -- Maps of maps as maps from pairs.
-use Rattle.std.specs.Prelude.{not, List, [], ◌∷◌, ◌++◌, map}
+use Rattle.std.specs.Prelude.{◌≡◌, not, List, [], ◌∷◌, ◌++◌, map, Result}
 use Rattle.std.specs.declared.cmp.Ordering.{Ordering}
 use Rattle.std.specs.Ordering.{ordering_then, eq_by_cmp}
 use Rattle.std.specs.BTreeMap.{BTreeMap}
-use Rattle.std.specs.FinMap.{FinMap, entries, from_entries, retain_keys}
+use Rattle.std.specs.FinMap.{FinMap, entries, from_entries, insert, retain_keys}
 use Rattle.std.specs.FinMap.Entries.{where_key}
+use Rattle.index_plain.specs.Trees.{Puts, TurnsTo, map_of}
 
 module _ {A B : Type 0} (P : A → A → Ordering) (Q : B → B → Ordering) where
   -- by the first, and then by the second
@@ -28,3 +29,20 @@ module _ {A B : Type 0} (P : A → A → Ordering) (Q : B → B → Ordering) wh
     -- the map without what stands at this first key
     abbrev pub without_first : A → FinMap by_both X → FinMap by_both X
     without_first a m = retain_keys m (λ p. not (eq_by_cmp P a p.0))
+
+    -- the map from pairs that an ordered map of ordered maps is
+    abbrev pub pairs_in : BTreeMap A (BTreeMap B X) → FinMap by_both X
+    pairs_in m = pairs_of (map_of P m)
+
+    -- the map from pairs has become what this makes of it
+    abbrev pub TurnsBy : BTreeMap A (BTreeMap B X) → BTreeMap A (BTreeMap B X) → (FinMap by_both X → FinMap by_both X) → Type 0
+    TurnsBy old new change = pairs_in new ≡ change (pairs_in old)
+
+    -- it has this value at the pair, or stays as it was where memory ran out
+    abbrev pub PutsPair : {T E : Type 0} → BTreeMap A (BTreeMap B X) → BTreeMap A (BTreeMap B X) → A × B → X → Result T E → Type 0
+    PutsPair old new pair value result = Puts (pairs_in old) (pairs_in new) pair value result
+
+    -- so it has, and nothing else at the first key of the pair
+    abbrev pub PutsPairAlone : {T E : Type 0} → BTreeMap A (BTreeMap B X) → BTreeMap A (BTreeMap B X) → A × B → X → Result T E → Type 0
+    PutsPairAlone old new pair value result =
+        TurnsTo (pairs_in old) (pairs_in new) (insert (without_first pair.0 (pairs_in old)) pair value) result

@@ -1,26 +1,40 @@
 -- The tables that the ordered maps hold.
-use Rattle.std.specs.Prelude.{◌≡◌, ℕ, Bool, true, false, Result, OnOk, OnErr, ⊤}
+use Rattle.std.specs.Prelude.{◌≡◌, ◌≢◌, ℕ, Bool, true, false, List, Result, IfOk, IfErr, OnOk, OnErr, is_ok, ⊤}
+use Rattle.std.specs.FinMap.{remove}
+use Rattle.index_io.specs.Counts.{next_count}
+use Rattle.index_names.specs.Faults.{FailsByEither}
+use Rattle.index_rules.specs.declared.answer.Fault.{Fault}
+use Rattle.index_rules.specs.declared.answer.Fault.TheVariants as fault
 use Rattle.index_rules.specs.declared.change.Change.{Change}
 use Rattle.index_rules.specs.declared.change.Change.TheVariants.{SetQuota, Claim, AddOwner, RemoveOwner, Upload, Delete, BanFile, Yank, Unyank, Relinquish, Prohibit, Allow, OpenCase, RecordAttempt, Transfer, CloseCase, AnswerCase}
+use Rattle.index_rules.specs.declared.open.OpenFault.{OpenFault}
+use Rattle.index_rules.specs.declared.open.OpenFault.TheVariants as open_fault
+use Rattle.index_rules.specs.declared.rows.FileRow.{FileRow}
+use Rattle.index_rules.specs.declared.rows.NameRow.{NameRow}
+use Rattle.index_rules.specs.declared.rows.WalkEnd.{WalkEnd}
+use Rattle.index_rules.specs.declared.rows.WalkEnd.TheVariants as walk_end
 use Rattle.index_rules.specs.Calls as calls
-use Rattle.index_rules.specs.Maps.{bytes_cmp}
+use Rattle.index_rules.specs.FirstTables.{RefusesBadFirstUser, first_tables}
+use Rattle.index_rules.specs.Maps.{Bytes, bytes_cmp}
 use Rattle.index_rules.specs.Tables.{Tables}
-use Rattle.index_rules.specs.Effect.{means}
+use Rattle.index_rules.specs.Effect.{means, without_name}
+use Rattle.index_rules.specs.TableRows.{file_rows_in, held_rows_in}
+use Rattle.index_rules.specs.Walks.{Walks}
 use Rattle.index_plain.specs.declared.plain.PlainBooks.{PlainBooks}
-use Rattle.index_plain.specs.Trees.{map_of}
-use Rattle.index_plain.specs.Pairs.{pairs_of}
+use Rattle.index_plain.specs.Trees.{table_of}
+use Rattle.index_plain.specs.Pairs.{pairs_in}
 
 -- the tables that are kept here
 abbrev pub plain_tables : PlainBooks → Tables
 plain_tables b = record {
-  users = map_of bytes_cmp b.accounts.users;
-  names = map_of bytes_cmp b.names;
-  owners = pairs_of bytes_cmp bytes_cmp (map_of bytes_cmp b.owners);
-  files = map_of bytes_cmp b.files;
-  bodies = map_of bytes_cmp b.bodies;
-  yanks = pairs_of bytes_cmp bytes_cmp (map_of bytes_cmp b.yanks);
-  cases = map_of bytes_cmp b.cases;
-  bans = map_of bytes_cmp b.bans;
+  users = table_of b.accounts.users;
+  names = table_of b.names;
+  owners = pairs_in bytes_cmp bytes_cmp b.owners;
+  files = table_of b.files;
+  bodies = table_of b.bodies;
+  yanks = pairs_in bytes_cmp bytes_cmp b.yanks;
+  cases = table_of b.cases;
+  bans = table_of b.bans;
 }
 
 -- how many calls answered a fault
@@ -32,9 +46,13 @@ pub record Becomes (T : Tables) (old new : PlainBooks) : Type 0 where
   pub tables : plain_tables new ≡ T
   pub failures : failures_of new ≡ failures_of old
 
--- so the change is made
+-- they have become what this makes of them
+abbrev pub BecomesBy : (Tables → Tables) → PlainBooks → PlainBooks → Type 0
+BecomesBy change old new = Becomes (change (plain_tables old)) old new
+
+-- so a change is made
 abbrev pub Writes : Change → PlainBooks → PlainBooks → Type 0
-Writes change old new = Becomes (means change (plain_tables old)) old new
+Writes change = BecomesBy (means change)
 
 -- a change was made, or where memory ran out no table was changed; it is not counted here
 pub record Makes {E : Type 0} (change : Change) (old new : PlainBooks) (result : Result (Unit {0}) E) : Type 0 where
@@ -42,9 +60,57 @@ pub record Makes {E : Type 0} (change : Change) (old new : PlainBooks) (result :
   pub unchanged : OnErr result (plain_tables new ≡ plain_tables old)
   pub failures : failures_of new ≡ failures_of old
 
+-- a change was made, or where memory ran out no table was changed, and the failure is counted
+pub record MakesOrCounts (change : Change) (old new : PlainBooks) (result : Result (Unit {0}) Fault) : Type 0 where
+  pub written : OnOk result (plain_tables new ≡ means change (plain_tables old))
+  pub unchanged : OnErr result (plain_tables new ≡ plain_tables old)
+  pub failures : failures_of new ≡ next_count (failures_of old) (is_ok result)
+  pub memory : IfErr result (λ error. error ≡ fault.OutOfMemory)
+
 -- what the trait says of a look, of these books: they are always honest, and a crash leaves nothing of them
 abbrev pub LooksUp : (old new : PlainBooks) (succeeds : Bool) → Type 0
 LooksUp = calls.LooksUp plain_tables (λ books. ⊤) (λ books. ⊤) (λ books T. ⊥) failures_of
+
+-- a look that fails for want of memory alone
+pub record LooksInMemory {A : Type 0} (old new : PlainBooks) (result : Result A Fault) : Type 0 where
+  pub look : LooksUp old new (is_ok result)
+  pub memory : IfErr result (λ error. error ≡ fault.OutOfMemory)
+
+-- a walk over these rows, which no fault of a store ends
+pub record Hands {K R : Type 0} (takes stops : K → R → K → Type 0) (rows : List R) (before after : K) (result : Result (Unit {0}) WalkEnd) : Type 0 where
+  pub walked : Walks takes stops rows before after result
+  pub memory : IfErr result (λ end. end ≢ walk_end.Store)
+
+-- a walk over the held names of these books
+abbrev pub HandsNames : {K : Type 0} (takes stops : K → NameRow → K → Type 0) → PlainBooks → K → K → Result (Unit {0}) WalkEnd → Type 0
+HandsNames takes stops books = Hands takes stops (held_rows_in (plain_tables books))
+
+-- a walk over the undeleted files of a name
+abbrev pub HandsFiles : {K : Type 0} (takes stops : K → FileRow → K → Type 0) → PlainBooks → Bytes → K → K → Result (Unit {0}) WalkEnd → Type 0
+HandsFiles takes stops books name = Hands takes stops (file_rows_in (plain_tables books) name)
+
+-- the books of a new index, in which no call has failed, or why there are none
+pub record Opens (user token : Bytes) (result : Result PlainBooks OpenFault) : Type 0 where
+  pub tables : IfOk result (λ books. plain_tables books ≡ first_tables user token)
+  pub failures : IfOk result (λ books. failures_of books ≡ 0)
+  pub bad_first_user : RefusesBadFirstUser user token result
+  pub fault : FailsByEither result open_fault.BadFirstUser open_fault.OutOfMemory
+
+-- the tables without the case of a name
+abbrev pub without_case : Bytes → Tables → Tables
+without_case name T = record T { cases = remove T.cases name }
+
+-- without its yanks and its case
+abbrev pub without_yanks_and_case : Bytes → Tables → Tables
+without_yanks_and_case name T = record T { yanks = without_name name T.yanks; cases = remove T.cases name }
+
+-- without its owners, its yanks and its case
+abbrev pub without_all_but_record : Bytes → Tables → Tables
+without_all_but_record name T = record T {
+  owners = without_name name T.owners;
+  yanks = without_name name T.yanks;
+  cases = remove T.cases name;
+}
 
 -- a change of a release: of its files, or of its yank
 abbrev pub is_of_release : Change → Bool

@@ -3,10 +3,15 @@ use Rattle.std.specs.Prelude.{◌≡◌, Option, Some, None, Result, OnOk, OnErr
 use Rattle.std.specs.declared.cmp.Ordering.{Ordering}
 use Rattle.std.specs.BTreeMap.{BTreeMap}
 use Rattle.std.specs.FinMap.{FinMap, from_entries, insert, remove}
+use Rattle.index_rules.specs.Maps.{Bytes, Map, bytes_cmp}
 
 -- the finite map that a `BTreeMap` is
 abbrev pub map_of : {K X : Type 0} (R : K → K → Ordering) → BTreeMap K X → FinMap R X
 map_of R m = from_entries m.entries
+
+-- the table that an ordered map from texts is
+abbrev pub table_of : {X : Type 0} → BTreeMap Bytes X → Map X
+table_of m = map_of bytes_cmp m
 
 -- the map with this value at a key, or with nothing there
 abbrev pub with_at : {K X : Type 0} {R : K → K → Ordering} → FinMap R X → K → Option X → FinMap R X

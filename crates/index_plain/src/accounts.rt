@@ -1,9 +1,9 @@
 //! The users, and who bears which token.
-ghost use Rattle.std.specs.Prelude.{◌≡◌, None, false, option_map};
+ghost use Rattle.std.specs.Prelude.{◌≡◌, None, Some, false};
 ghost use Rattle.std.specs.FinMap.{empty, get};
-ghost use Rattle.index_rules.specs.Maps.{bytes_cmp, same};
-ghost use Rattle.index_plain.specs.Trees.{Puts, map_of};
-ghost use Rattle.index_plain.specs.Bearers.{AreBearers, bearers_of};
+ghost use Rattle.index_rules.specs.Maps.{same};
+ghost use Rattle.index_plain.specs.Trees.{Puts, table_of};
+ghost use Rattle.index_plain.specs.Bearers.{AreBearers, bearers_of, token_in};
 
 use crate::{pairs, table};
 use index_digest::Digest256;
@@ -16,7 +16,7 @@ use std::collections::BTreeMap;
 pub(crate) struct Accounts {
     pub(crate) users: BTreeMap<UserId, UserRecord>,
     pub(crate) bearers: BTreeMap<Digest256, BTreeMap<UserId, ()>>,
-    ghost agree: { AreBearers (map_of bytes_cmp users) (bearers_of bearers) },
+    ghost agree: { AreBearers (table_of users) (bearers_of bearers) },
 }
 
 // By hand: a drop is then one call at each exit of a function (docs/ARCHITECTURE.md, "What a proof costs").
@@ -32,7 +32,7 @@ impl Drop for Accounts {
 impl Accounts {
     /// No users.
     pub(crate) fn new(alloc: Global) -> Accounts
-        ensures { map_of bytes_cmp result.users ≡ empty }
+        ensures { table_of result.users ≡ empty }
     {
         Accounts {
             users: BTreeMap::new(alloc),
@@ -47,8 +47,7 @@ impl Accounts {
         user: &UserId,
         known: UserRecord,
     ) -> Result<(), AllocError>
-        ensures { let before = map_of bytes_cmp self.old.users in
-            Puts before (map_of bytes_cmp self.new.users) user.now known result }
+        ensures { Puts (table_of self.old.users) (table_of self.new.users) user.now known result }
     {
         match self.token_of(user) {
             Some(former) if former == known.token => table::put(&mut self.users, user, known),
@@ -59,8 +58,7 @@ impl Accounts {
 
     /// The digest of a user's token.
     fn token_of(&self, user: &UserId) -> Option<Digest256>
-        ensures { let known = get (map_of bytes_cmp self.now.users) user.now in
-            result ≡ option_map (λ account. account.token) known }
+        ensures { result ≡ token_in (table_of self.now.users) user.now }
     {
         match table::find(&self.users, user) {
             Some(known) => Some(known.token),
@@ -76,11 +74,9 @@ impl Accounts {
         former: Digest256,
         known: UserRecord,
     ) -> Result<(), AllocError>
-        requires former { let before = get (map_of bytes_cmp self.old.users) user.now in
-            option_map (λ account. account.token) before ≡ Some former }
+        requires former { token_in (table_of self.old.users) user.now ≡ Some former }
         requires other { same former known.token ≡ false }
-        ensures { let before = map_of bytes_cmp self.old.users in
-            Puts before (map_of bytes_cmp self.new.users) user.now known result }
+        ensures { Puts (table_of self.old.users) (table_of self.new.users) user.now known result }
     {
         put_both(alloc, &mut self.users, &mut self.bearers, user, known)?;
         pairs::remove(&mut self.bearers, &former, user);
@@ -96,10 +92,8 @@ fn put_both(
     user: &UserId,
     known: UserRecord,
 ) -> Result<(), AllocError>
-    requires { let before = bearers_of bearers.old in
-        get before (known.token, user.now) ≡ None }
-    ensures user { let before = map_of bytes_cmp users.old in
-        Puts before (map_of bytes_cmp users.new) user.now known result }
+    requires { get (bearers_of bearers.old) (known.token, user.now) ≡ None }
+    ensures user { Puts (table_of users.old) (table_of users.new) user.now known result }
     ensures bearer { let before = bearers_of bearers.old in
         Puts before (bearers_of bearers.new) (known.token, user.now) tt result }
 {

@@ -4,8 +4,8 @@ ghost use Rattle.std.specs.List.{list_any};
 ghost use Rattle.std.specs.FinMap.{entries, retain_keys};
 ghost use Rattle.index_rules.specs.Effect.{as_deleted_of, is_file_of};
 ghost use Rattle.index_rules.specs.Facts.{is_undeleted_of_release};
-ghost use Rattle.index_rules.specs.Maps.{bytes_cmp, change_values};
-ghost use Rattle.index_plain.specs.Trees.{map_of};
+ghost use Rattle.index_rules.specs.Maps.{change_values};
+ghost use Rattle.index_plain.specs.Trees.{table_of};
 
 use crate::table;
 use index_digest::Sealed;
@@ -19,7 +19,7 @@ pub fn has_undeleted(
     name: &NormalName,
     release: &Release,
 ) -> bool
-    ensures { let known = entries (map_of bytes_cmp files.now) in
+    ensures { let known = entries (table_of files.now) in
         result ≡ list_any (λ file. is_undeleted_of_release name.now release.now file.1) known }
 {
     files
@@ -35,8 +35,7 @@ fn is_undeleted(known: &FileRecord, name: &NormalName, release: &Release) -> boo
 
 /// Marks the files of a name as deleted. It looks at all files.
 pub fn mark_deleted(files: &mut BTreeMap<FileName, FileRecord>, name: &NormalName)
-    ensures { let before = map_of bytes_cmp files.old in
-        map_of bytes_cmp files.new ≡ change_values (as_deleted_of name.now) before }
+    ensures { table_of files.new ≡ change_values (as_deleted_of name.now) (table_of files.old) }
 {
     files.retain(|_, known| {
         if *name == known.project {
@@ -52,17 +51,15 @@ pub fn drop_bodies(
     files: &BTreeMap<FileName, FileRecord>,
     name: &NormalName,
 )
-    ensures { let before = map_of bytes_cmp bodies.old in
-        let known = map_of bytes_cmp files.now in
-        map_of bytes_cmp bodies.new
-        ≡ retain_keys before (λ file. not (is_file_of known name.now file)) }
+    ensures { let goes = is_file_of (table_of files.now) name.now in
+        table_of bodies.new ≡ retain_keys (table_of bodies.old) (λ file. not (goes file)) }
 {
     bodies.retain(|file, _| !is_of(files, file, name));
 }
 
 /// Whether a file has a record with the name.
 fn is_of(files: &BTreeMap<FileName, FileRecord>, file: &FileName, name: &NormalName) -> bool
-    ensures { result ≡ is_file_of (map_of bytes_cmp files.now) name.now file.now }
+    ensures { result ≡ is_file_of (table_of files.now) name.now file.now }
 {
     table::find(files, file).is_some_and(|known| *name == known.project)
 }

@@ -1,8 +1,7 @@
 //! A table by pairs, as a map of maps: what stands at a first key goes with one call.
 ghost use Rattle.std.specs.Prelude.{◌≡◌, MatchOption, IsSome, None, option_copied};
-ghost use Rattle.std.specs.FinMap.{get, insert, remove};
-ghost use Rattle.index_plain.specs.Trees.{Puts, TurnsTo, map_of};
-ghost use Rattle.index_plain.specs.Pairs.{pairs_of, without_first};
+ghost use Rattle.std.specs.FinMap.{get, remove};
+ghost use Rattle.index_plain.specs.Pairs.{PutsPair, PutsPairAlone, TurnsBy, pairs_in, without_first};
 
 use crate::key::Key;
 use crate::table;
@@ -15,8 +14,7 @@ pub fn find<'a, A: Key, B: Key, V>(
     first: &A,
     second: &B,
 ) -> Option<&'a V>
-    ensures { let pairs = pairs_of A.cmp B.cmp (map_of A.cmp map.now) in
-        option_copied result ≡ get pairs (first.now, second.now) }
+    ensures { option_copied result ≡ get (pairs_in A.cmp B.cmp map.now) (first.now, second.now) }
 {
     match table::find(map, first) {
         Some(inner) => table::find(inner, second),
@@ -29,7 +27,7 @@ pub fn first_at<'a, A: Key, B: Key, V>(
     map: &'a BTreeMap<A, BTreeMap<B, V>>,
     first: &A,
 ) -> Option<&'a B>
-    ensures { let pairs = pairs_of A.cmp B.cmp (map_of A.cmp map.now) in
+    ensures { let pairs = pairs_in A.cmp B.cmp map.now in
         MatchOption result ((second : B) → get pairs (first.now, second) ≡ None)
         (λ second. IsSome (get pairs (first.now, second.now))) }
 {
@@ -42,9 +40,7 @@ pub fn first_at<'a, A: Key, B: Key, V>(
 /// Takes away all that stands at a first key.
 #[tactic(auto, using(crate::proofs::PairLemmas::pairs_remove))]
 pub fn clear<A: Key, B: Key, V: Drop>(map: &mut BTreeMap<A, BTreeMap<B, V>>, first: &A)
-    ensures { let before = pairs_of A.cmp B.cmp (map_of A.cmp map.old) in
-        pairs_of A.cmp B.cmp (map_of A.cmp map.new)
-        ≡ without_first A.cmp B.cmp first.now before }
+    ensures { TurnsBy A.cmp B.cmp map.old map.new (without_first A.cmp B.cmp first.now) }
 {
     table::remove(map, first);
 }
@@ -57,9 +53,7 @@ pub fn put<A: Key, B: Key, V: Drop>(
     second: &B,
     value: V,
 ) -> Result<(), AllocError>
-    ensures { let before = pairs_of A.cmp B.cmp (map_of A.cmp map.old) in
-        let after = pairs_of A.cmp B.cmp (map_of A.cmp map.new) in
-        Puts before after (first.now, second.now) value result }
+    ensures { PutsPair A.cmp B.cmp map.old map.new (first.now, second.now) value result }
 {
     match map.get_mut(first) {
         Some(inner) => table::put(inner, second, value),
@@ -75,10 +69,7 @@ pub fn put_alone<A: Key, B: Key, V: Drop>(
     second: &B,
     value: V,
 ) -> Result<(), AllocError>
-    ensures { let before = pairs_of A.cmp B.cmp (map_of A.cmp map.old) in
-        let after = pairs_of A.cmp B.cmp (map_of A.cmp map.new) in
-        let rest = without_first A.cmp B.cmp first.now before in
-        TurnsTo before after (insert rest (first.now, second.now) value) result }
+    ensures { PutsPairAlone A.cmp B.cmp map.old map.new (first.now, second.now) value result }
 {
     let alone = table::one(alloc, second, value)?;
     table::put(map, first, alone)
@@ -86,8 +77,7 @@ pub fn put_alone<A: Key, B: Key, V: Drop>(
 
 /// Takes a pair away with its value.
 pub fn remove<A: Key, B: Key, V: Drop>(map: &mut BTreeMap<A, BTreeMap<B, V>>, first: &A, second: &B)
-    ensures { let before = pairs_of A.cmp B.cmp (map_of A.cmp map.old) in
-        pairs_of A.cmp B.cmp (map_of A.cmp map.new) ≡ remove before (first.now, second.now) }
+    ensures { TurnsBy A.cmp B.cmp map.old map.new (λ pairs. remove pairs (first.now, second.now)) }
 {
     take(map, first, second);
     if first_at(map, first).is_none() {
@@ -97,8 +87,7 @@ pub fn remove<A: Key, B: Key, V: Drop>(map: &mut BTreeMap<A, BTreeMap<B, V>>, fi
 
 /// Takes a pair away with its value, from an inner map that stays.
 fn take<A: Key, B: Key, V: Drop>(map: &mut BTreeMap<A, BTreeMap<B, V>>, first: &A, second: &B)
-    ensures { let before = pairs_of A.cmp B.cmp (map_of A.cmp map.old) in
-        pairs_of A.cmp B.cmp (map_of A.cmp map.new) ≡ remove before (first.now, second.now) }
+    ensures { TurnsBy A.cmp B.cmp map.old map.new (λ pairs. remove pairs (first.now, second.now)) }
 {
     if let Some(inner) = map.get_mut(first) {
         table::remove(inner, second);

@@ -1,7 +1,6 @@
 //! The tables in memory.
-ghost use Rattle.std.specs.Prelude.{◌≡◌, ◌≢◌, ◌⊎◌, ◌↔◌, IfOk, IfErr, IsErrOf, OnOk, OnErr, is_ok, false, not};
-ghost use Rattle.index_io.specs.Counts.{next_count};
-ghost use Rattle.index_rules.specs.Walks.{Walks, has_fault};
+ghost use Rattle.std.specs.Prelude.{◌≡◌, IfOk, false, not};
+ghost use Rattle.index_rules.specs.Walks.{has_fault};
 
 use crate::accounts::Accounts;
 use crate::table;
@@ -56,11 +55,12 @@ impl Drop for PlainBooks {
 }
 
 impl PlainBooks {
-    ghost use Rattle.index_rules.specs.FirstTables.{IsBadFirstUser, first_tables};
+    ghost use Rattle.index_names.specs.Faults.{FailsByEither};
+    ghost use Rattle.index_rules.specs.FirstTables.{RefusesBadFirstUser, first_tables};
     ghost use Rattle.index_rules.specs.Sound.{IsSound};
     ghost use Rattle.index_rules.specs.History.{begins};
     ghost use Rattle.index_rules.specs.StandsFor.{StandsFor};
-    ghost use Rattle.index_plain.specs.Plain.{LooksUp, failures_of, plain_tables};
+    ghost use Rattle.index_plain.specs.Plain.{LooksUp, Opens, failures_of, plain_tables};
 
     /// A new index with one user, who is of the office and whose token has this SHA-256 digest.
     ///
@@ -74,21 +74,14 @@ impl PlainBooks {
         ensures history { let h = begins user.now token in
             IfOk result (λ books. StandsFor (plain_tables books) h) }
         ensures failures { IfOk result (λ books. failures_of books ≡ 0) }
-        ensures bad_first_user { let bad = IsErrOf result OpenFault.BadFirstUser in
-            bad ↔ IsBadFirstUser user.now token }
-        ensures fault { IfErr result (λ fault.
-            (fault ≡ OpenFault.BadFirstUser) ⊎ (fault ≡ OpenFault.OutOfMemory)) }
+        ensures bad_first_user { RefusesBadFirstUser user.now token result }
+        ensures fault { FailsByEither result OpenFault.BadFirstUser OpenFault.OutOfMemory }
     {
         PlainBooks::opened(alloc, user, token)
     }
 
     fn opened(alloc: Global, user: &[u8], token: Digest256) -> Result<PlainBooks, OpenFault>
-        ensures tables { IfOk result (λ books. plain_tables books ≡ first_tables user.now token) }
-        ensures failures { IfOk result (λ books. failures_of books ≡ 0) }
-        ensures bad_first_user { let bad = IsErrOf result OpenFault.BadFirstUser in
-            bad ↔ IsBadFirstUser user.now token }
-        ensures fault { IfErr result (λ fault.
-            (fault ≡ OpenFault.BadFirstUser) ⊎ (fault ≡ OpenFault.OutOfMemory)) }
+        ensures { Opens user.now token result }
     {
         let (user, record) = first_user(alloc, user, token)?;
         let mut accounts = Accounts::new(alloc);
@@ -133,9 +126,9 @@ impl Books for PlainBooks {
     ghost use Rattle.std.specs.FinMap.{get};
     ghost use Rattle.index_rules.specs.Tables.{owners_in};
     ghost use Rattle.index_rules.specs.Facts.{Sees};
-    ghost use Rattle.index_rules.specs.Effect.{means};
-    ghost use Rattle.index_rules.specs.TableRows.{file_rows_in, held_rows_in, name_rows_in};
-    ghost use Rattle.index_plain.specs.Plain.{LooksUp, failures_of, plain_tables};
+    ghost use Rattle.index_rules.specs.Results.{Returns, ReturnsItems};
+    ghost use Rattle.index_rules.specs.TableRows.{file_rows_in, name_rows_in};
+    ghost use Rattle.index_plain.specs.Plain.{HandsFiles, HandsNames, LooksInMemory, LooksUp, MakesOrCounts, failures_of, plain_tables};
 
     ghost tables = { plain_tables };
 
@@ -153,8 +146,7 @@ impl Books for PlainBooks {
 
     fn view(&mut self, alloc: Global, keys: &Keys) -> Result<View, Fault>
         ensures found { IfOk result (Sees (plain_tables self.old) keys.now) }
-        ensures looks { LooksUp self.old self.new (is_ok result) }
-        ensures memory { IfErr result (λ fault. fault ≡ Fault.OutOfMemory) }
+        ensures looks { LooksInMemory self.old self.new result }
     {
         match self.look(alloc, keys) {
             Ok(view) => Ok(view),
@@ -163,11 +155,7 @@ impl Books for PlainBooks {
     }
 
     fn write(&mut self, alloc: Global, change: Change) -> Result<(), Fault>
-        ensures written { OnOk result
-            (plain_tables self.new ≡ means change (plain_tables self.old)) }
-        ensures unchanged { OnErr result (plain_tables self.new ≡ plain_tables self.old) }
-        ensures failures { failures_of self.new ≡ next_count (failures_of self.old) (is_ok result) }
-        ensures memory { IfErr result (λ fault. fault ≡ Fault.OutOfMemory) }
+        ensures { MakesOrCounts change self.old self.new result }
     {
         match self.make(alloc, change) {
             Ok(()) => Ok(()),
@@ -176,10 +164,8 @@ impl Books for PlainBooks {
     }
 
     fn owners_of(&mut self, alloc: Global, name: &NormalName) -> Result<Owners, Fault>
-        ensures found { IfOk result
-            (λ owners. owners ≡ owners_in (plain_tables self.old) name.now) }
-        ensures looks { LooksUp self.old self.new (is_ok result) }
-        ensures memory { IfErr result (λ fault. fault ≡ Fault.OutOfMemory) }
+        ensures found { Returns result (owners_in (plain_tables self.old) name.now) }
+        ensures looks { LooksInMemory self.old self.new result }
     {
         match self.owners_by_name(alloc, name) {
             Ok(owners) => Ok(owners),
@@ -188,9 +174,8 @@ impl Books for PlainBooks {
     }
 
     fn bytes_of(&mut self, _alloc: Global, file: &FileName) -> Result<Option<Sealed>, Fault>
-        ensures found { IfOk result (λ body. body ≡ get (plain_tables self.old).bodies file.now) }
-        ensures looks { LooksUp self.old self.new (is_ok result) }
-        ensures memory { IfErr result (λ fault. fault ≡ Fault.OutOfMemory) }
+        ensures found { Returns result (get (plain_tables self.old).bodies file.now) }
+        ensures looks { LooksInMemory self.old self.new result }
     {
         match table::copy_at(&self.bodies, file) {
             Ok(body) => Ok(body),
@@ -199,9 +184,8 @@ impl Books for PlainBooks {
     }
 
     fn names(&mut self, alloc: Global) -> Result<Vec<NameRow>, Fault>
-        ensures found { IfOk result (λ rows. rows.items ≡ name_rows_in (plain_tables self.old)) }
-        ensures looks { LooksUp self.old self.new (is_ok result) }
-        ensures memory { IfErr result (λ fault. fault ≡ Fault.OutOfMemory) }
+        ensures found { ReturnsItems result (name_rows_in (plain_tables self.old)) }
+        ensures looks { LooksInMemory self.old self.new result }
     {
         match self.name_rows(alloc) {
             Ok(rows) => Ok(rows),
@@ -210,10 +194,8 @@ impl Books for PlainBooks {
     }
 
     fn files_of(&mut self, alloc: Global, name: &NormalName) -> Result<Vec<FileRow>, Fault>
-        ensures found { let T = plain_tables self.old in
-            IfOk result (λ rows. rows.items ≡ file_rows_in T name.now) }
-        ensures looks { LooksUp self.old self.new (is_ok result) }
-        ensures memory { IfErr result (λ fault. fault ≡ Fault.OutOfMemory) }
+        ensures found { ReturnsItems result (file_rows_in (plain_tables self.old) name.now) }
+        ensures looks { LooksInMemory self.old self.new result }
     {
         match self.file_rows(alloc, name) {
             Ok(rows) => Ok(rows),
@@ -222,10 +204,8 @@ impl Books for PlainBooks {
     }
 
     fn walk_held<K: NameTaker>(&mut self, _alloc: Global, taker: &mut K) -> Result<(), WalkEnd>
-        ensures walked { let rows = held_rows_in (plain_tables self.old) in
-            Walks K.takes K.stops rows taker.old taker.new result }
+        ensures walked { HandsNames K.takes K.stops self.old taker.old taker.new result }
         ensures looks { LooksUp self.old self.new (not (has_fault result)) }
-        ensures memory { IfErr result (λ end. end ≢ WalkEnd.Store) }
     {
         let ended = self.hand_names(taker);
         self.count_walk(&ended);
@@ -238,10 +218,8 @@ impl Books for PlainBooks {
         name: &NormalName,
         taker: &mut K,
     ) -> Result<(), WalkEnd>
-        ensures walked { let rows = file_rows_in (plain_tables self.old) name.now in
-            Walks K.takes K.stops rows taker.old taker.new result }
+        ensures walked { HandsFiles K.takes K.stops self.old name.now taker.old taker.new result }
         ensures looks { LooksUp self.old self.new (not (has_fault result)) }
-        ensures memory { IfErr result (λ end. end ≢ WalkEnd.Store) }
     {
         let ended = self.hand_files(name, taker);
         self.count_walk(&ended);

@@ -3,6 +3,7 @@
 
 ghost use Rattle.std.specs.Prelude.{◌≡◌, IfOk, MatchOption, IsSome, option_and_then, option_copied};
 ghost use Rattle.std.specs.FinMap.{empty, get, insert, remove};
+ghost use Rattle.index_rules.specs.Results.{Returns};
 ghost use Rattle.index_plain.specs.Trees.{Puts, map_of, with_at};
 
 use crate::key::Key;
@@ -39,7 +40,7 @@ pub fn first_key<K: Key, V>(map: &BTreeMap<K, V>) -> Option<&K>
 /// A copy of the value at a key.
 pub fn copy_at<K: Key, V: Clone>(map: &BTreeMap<K, V>, key: &K) -> Result<Option<V>, AllocError>
     requires exact { (value copy : V) → V.is_clone value copy → copy ≡ value }
-    ensures { IfOk result (λ found. found ≡ get (map_of K.cmp map.now) key.now) }
+    ensures { Returns result (get (map_of K.cmp map.now) key.now) }
 {
     find(map, key).cloned()
 }
@@ -50,8 +51,7 @@ pub fn copy_at_key<K: Key, V: Clone>(
     key: &Option<K>,
 ) -> Result<Option<V>, AllocError>
     requires exact { (value copy : V) → V.is_clone value copy → copy ≡ value }
-    ensures { let table = map_of K.cmp map.now in
-        IfOk result (λ found. found ≡ option_and_then (get table) key.now) }
+    ensures { Returns result (option_and_then (get (map_of K.cmp map.now)) key.now) }
 {
     match key {
         Some(key) => copy_at(map, key),
@@ -80,7 +80,7 @@ pub fn replace<K: Key, V: Drop>(
     key: &K,
     value: V,
 ) -> Result<Option<V>, AllocError>
-    ensures former { IfOk result (λ former. former ≡ get (map_of K.cmp map.old) key.now) }
+    ensures former { Returns result (get (map_of K.cmp map.old) key.now) }
     ensures put { Puts (map_of K.cmp map.old) (map_of K.cmp map.new) key.now value result }
 {
     Ok(map.insert(key.clone()?, value)?)

@@ -1,8 +1,7 @@
 //! What is written where a case is opened, goes on or ends.
 ghost use Rattle.std.specs.Prelude.{◌≡◌, true};
-ghost use Rattle.std.specs.FinMap.{remove};
 ghost use Rattle.index_rules.specs.declared.change.Change.TheVariants.{Transfer};
-ghost use Rattle.index_plain.specs.Plain.{Makes, plain_tables, is_of_case};
+ghost use Rattle.index_plain.specs.Plain.{Makes, plain_tables, is_of_case, without_case};
 
 use crate::plain::PlainBooks;
 use crate::{pairs, table};
@@ -31,8 +30,7 @@ impl PlainBooks {
 
     /// Ends the case of a name, where one is open.
     pub(super) fn end_case(&mut self, name: &NormalName)
-        ensures tables { let T = plain_tables self.old in
-            plain_tables self.new ≡ record T { cases = remove T.cases name.now } }
+        ensures tables { plain_tables self.new ≡ without_case name.now (plain_tables self.old) }
         ensures rest { self.new ≡ record self.old { cases = self.new.cases } }
     {
         table::remove(&mut self.cases, name);

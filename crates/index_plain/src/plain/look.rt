@@ -1,12 +1,13 @@
 //! What the tables have at the keys of a call.
-ghost use Rattle.std.specs.Prelude.{◌≡◌, IfOk, false, option_and_then, option_map};
+ghost use Rattle.std.specs.Prelude.{◌≡◌, IfOk, false, option_map};
 ghost use Rattle.std.specs.Option.{option_map_or};
-ghost use Rattle.std.specs.FinMap.{get};
 ghost use Rattle.std.specs.BTreeMap.{IsOrdered, keys};
 ghost use Rattle.index_rules.specs.Facts.{AreOwners, IsBearer, IsBearerAs, Sees, at_both, caller_of, has_release_in, is_banned_in, of_both, yank_in};
 ghost use Rattle.index_rules.specs.Maps.{bytes_cmp};
+ghost use Rattle.index_rules.specs.Results.{Returns};
 ghost use Rattle.index_rules.specs.Tables.{owners_in};
 ghost use Rattle.index_plain.specs.Plain.{plain_tables};
+ghost use Rattle.index_plain.specs.Seen.{SeesFiles, SeesName, SeesUsers};
 
 use crate::plain::PlainBooks;
 use crate::{name_files, pairs, table};
@@ -80,14 +81,7 @@ impl PlainBooks {
     }
 
     fn users_at(&self, keys: &Keys) -> Result<UsersSeen, AllocError>
-        ensures caller { let k = keys.now in
-            IfOk result
-            (λ seen. IsBearerAs caller_of (plain_tables self.now) k.caller seen.caller) }
-        ensures user { let T = plain_tables self.now in
-            IfOk result (λ seen. seen.user ≡ option_and_then (get T.users) keys.now.user) }
-        ensures bearer { let k = keys.now in
-            let T = plain_tables self.now in
-            IfOk result (λ seen. IsBearerAs (λ user. user.0) T k.token seen.bearer) }
+        ensures { IfOk result (SeesUsers (plain_tables self.now) keys.now) }
     {
         let user = table::copy_at_key(&self.accounts.users, &keys.user)?;
         let caller = self.caller(keys.caller)?;
@@ -100,14 +94,7 @@ impl PlainBooks {
     }
 
     fn files_at(&self, keys: &Keys) -> Result<FilesSeen, AllocError>
-        ensures file { let T = plain_tables self.now in
-            IfOk result (λ seen. seen.file ≡ option_and_then (get T.files) keys.now.file) }
-        ensures is_banned { let banned = is_banned_in (plain_tables self.now) in
-            IfOk result (λ seen. seen.is_banned ≡ option_map_or banned keys.now.file false) }
-        ensures yank { let T = plain_tables self.now in let k = keys.now in
-            IfOk result (λ seen. seen.yank ≡ at_both (yank_in T) k.name k.release) }
-        ensures release { let T = plain_tables self.now in let k = keys.now in
-            IfOk result (λ seen. seen.has_release ≡ of_both (has_release_in T) k.name k.release) }
+        ensures { IfOk result (SeesFiles (plain_tables self.now) keys.now) }
     {
         let has_release = self.has_release(&keys.name, &keys.release);
         let is_banned = self.is_banned(&keys.file);
@@ -122,12 +109,7 @@ impl PlainBooks {
     }
 
     fn name_at(&self, alloc: Global, name: &Option<NormalName>) -> Result<NameSeen, AllocError>
-        ensures record { let T = plain_tables self.now in
-            IfOk result (λ seen. seen.record ≡ option_and_then (get T.names) name.now) }
-        ensures owners { IfOk result
-            (λ seen. AreOwners (plain_tables self.now) name.now seen.owners) }
-        ensures case { let T = plain_tables self.now in
-            IfOk result (λ seen. seen.case ≡ option_and_then (get T.cases) name.now) }
+        ensures { IfOk result (SeesName (plain_tables self.now) name.now) }
     {
         let case = table::copy_at_key(&self.cases, name)?;
         let owners = self.owners_by_key(alloc, name)?;
@@ -145,7 +127,7 @@ impl PlainBooks {
         alloc: Global,
         name: &NormalName,
     ) -> Result<Owners, AllocError>
-        ensures { IfOk result (λ owners. owners ≡ owners_in (plain_tables self.now) name.now) }
+        ensures { Returns result (owners_in (plain_tables self.now) name.now) }
     {
         match self.owners.get(name) {
             Some(users) => owners_from(alloc, users),
@@ -168,8 +150,7 @@ impl PlainBooks {
         name: &Option<NormalName>,
         release: &Option<Release>,
     ) -> Result<Option<Text>, AllocError>
-        ensures { let T = plain_tables self.now in
-            IfOk result (λ reason. reason ≡ at_both (yank_in T) name.now release.now) }
+        ensures { Returns result (at_both (yank_in (plain_tables self.now)) name.now release.now) }
     {
         match (name, release) {
             (Some(name), Some(release)) => pairs::find(&self.yanks, name, release).cloned(),
@@ -239,7 +220,7 @@ impl PlainBooks {
 
 /// These users in byte order.
 fn owners_from(alloc: Global, users: &BTreeMap<UserId, ()>) -> Result<Owners, AllocError>
-    ensures owners { IfOk result (λ owners. owners ≡ keys users.now) }
+    ensures owners { Returns result (keys users.now) }
     ensures rising { IsOrdered bytes_cmp users.now }
 {
     let mut copies = Vec::new(alloc);

@@ -1,9 +1,7 @@
 //! What is written where a name is claimed, given up or prohibited.
 ghost use Rattle.std.specs.Prelude.{◌≡◌, true};
-ghost use Rattle.std.specs.FinMap.{remove};
 ghost use Rattle.index_rules.specs.declared.change.Change.TheVariants.{Claim, Prohibit, Relinquish, SetQuota};
-ghost use Rattle.index_rules.specs.Effect.{without_name};
-ghost use Rattle.index_plain.specs.Plain.{Becomes, Makes, Writes, plain_tables, is_of_name};
+ghost use Rattle.index_plain.specs.Plain.{BecomesBy, Makes, Writes, is_of_name, without_all_but_record, without_yanks_and_case};
 
 use crate::plain::PlainBooks;
 use crate::{name_files, pairs, table};
@@ -79,13 +77,7 @@ impl PlainBooks {
     /// Takes away the owners, the yanks and the case of a name.
     #[tactic(auto, using(crate::proofs::OwnerLemmas::name_gone))]
     fn clear(&mut self, name: &NormalName)
-        ensures { let T = plain_tables self.old in
-            let left = record T {
-              owners = without_name name.now T.owners;
-              yanks = without_name name.now T.yanks;
-              cases = remove T.cases name.now;
-            } in
-            Becomes left self.old self.new }
+        ensures { BecomesBy (without_all_but_record name.now) self.old self.new }
     {
         pairs::clear(&mut self.owners, name);
         self.end_yanks_and_case(name);
@@ -94,9 +86,7 @@ impl PlainBooks {
     /// Takes away the yanks and the case of a name.
     #[tactic(auto, using(crate::proofs::OwnerLemmas::name_gone))]
     fn end_yanks_and_case(&mut self, name: &NormalName)
-        ensures { let T = plain_tables self.old in
-            let yanks = without_name name.now T.yanks in
-            Becomes (record T { yanks = yanks; cases = remove T.cases name.now }) self.old self.new }
+        ensures { BecomesBy (without_yanks_and_case name.now) self.old self.new }
     {
         pairs::clear(&mut self.yanks, name);
         self.end_case(name);

@@ -1,9 +1,10 @@
 //! The rows of the tables: whole lists of them, and walks that hand them to a taker one at a time.
-ghost use Rattle.std.specs.Prelude.{◌≡◌, ◌≢◌, ◌∷◌, [], IfErr, IfOk, filter, if◌then◌else◌};
+ghost use Rattle.std.specs.Prelude.{◌≡◌, ◌∷◌, [], filter};
 ghost use Rattle.index_rules.specs.Sound.{is_undeleted_of as is_undeleted_of_lem};
-ghost use Rattle.index_rules.specs.TableRows.{file_row_in, file_rows_in, held_rows_in, is_held_row, name_row as name_row_lem, name_rows_in};
-ghost use Rattle.index_rules.specs.Walks.{Walks};
-ghost use Rattle.index_plain.specs.Plain.{plain_tables};
+ghost use Rattle.index_rules.specs.TableRows.{file_row_in, file_rows_in, is_held_row, name_row as name_row_lem, name_rows_in};
+ghost use Rattle.index_rules.specs.Results.{Returns, ReturnsItems};
+ghost use Rattle.index_plain.specs.Plain.{Hands, HandsFiles, HandsNames, plain_tables};
+ghost use Rattle.index_plain.specs.Seen.{rows_of_file};
 
 use crate::pairs;
 use crate::plain::PlainBooks;
@@ -14,7 +15,7 @@ use std::alloc::{AllocError, Global};
 impl PlainBooks {
     /// The held names and the prohibited ones, in byte order.
     pub(crate) fn name_rows(&self, alloc: Global) -> Result<Vec<NameRow>, AllocError>
-        ensures { IfOk result (λ rows. rows.items ≡ name_rows_in (plain_tables self.now)) }
+        ensures { ReturnsItems result (name_rows_in (plain_tables self.now)) }
     {
         let mut rows = Vec::new(alloc);
         for (name, known) in self.names.iter() {
@@ -29,7 +30,7 @@ impl PlainBooks {
         alloc: Global,
         name: &NormalName,
     ) -> Result<Vec<FileRow>, AllocError>
-        ensures { IfOk result (λ rows. rows.items ≡ file_rows_in (plain_tables self.now) name.now) }
+        ensures { ReturnsItems result (file_rows_in (plain_tables self.now) name.now) }
     {
         let mut rows = Vec::new(alloc);
         for (file, known) in self.files.iter() {
@@ -42,9 +43,7 @@ impl PlainBooks {
 
     /// Hands the held names to a taker, in byte order.
     pub(crate) fn hand_names<K: NameTaker>(&self, taker: &mut K) -> Result<(), WalkEnd>
-        ensures walked { let rows = held_rows_in (plain_tables self.now) in
-            Walks K.takes K.stops rows taker.old taker.new result }
-        ensures memory { IfErr result (λ end. end ≢ WalkEnd.Store) }
+        ensures { HandsNames K.takes K.stops self.now taker.old taker.new result }
     {
         for (name, known) in self.names.iter() {
             hand_name(taker, name, known)?;
@@ -58,9 +57,7 @@ impl PlainBooks {
         name: &NormalName,
         taker: &mut K,
     ) -> Result<(), WalkEnd>
-        ensures walked { let rows = file_rows_in (plain_tables self.now) name.now in
-            Walks K.takes K.stops rows taker.old taker.new result }
-        ensures memory { IfErr result (λ end. end ≢ WalkEnd.Store) }
+        ensures { HandsFiles K.takes K.stops self.now name.now taker.old taker.new result }
     {
         for (file, entry) in self.files.iter() {
             self.hand_file(name, file, entry, taker)?;
@@ -76,11 +73,8 @@ impl PlainBooks {
         known: &FileRecord,
         taker: &mut K,
     ) -> Result<(), WalkEnd>
-        ensures walked { let T = plain_tables self.now in
-            let row = file_row_in T name.now (file.now, known.now) in
-            let rows = if is_undeleted_of_lem name.now known.now then row ∷ [] else [] in
-            Walks K.takes K.stops rows taker.old taker.new result }
-        ensures memory { IfErr result (λ end. end ≢ WalkEnd.Store) }
+        ensures { let rows = rows_of_file (plain_tables self.now) name.now (file.now, known.now) in
+            Hands K.takes K.stops rows taker.old taker.new result }
     {
         if !is_undeleted_of(known, name) {
             return Ok(());
@@ -101,7 +95,7 @@ impl PlainBooks {
         known: &FileRecord,
     ) -> Result<FileRow, AllocError>
         ensures { let T = plain_tables self.now in
-            IfOk result (λ row. row ≡ file_row_in T name.now (file.now, known.now)) }
+            Returns result (file_row_in T name.now (file.now, known.now)) }
     {
         let release = known.release.clone()?;
         let requires_python = known.requires_python.clone()?;
@@ -119,7 +113,7 @@ impl PlainBooks {
 }
 
 fn name_row(name: &NormalName, known: &NameRecord) -> Result<NameRow, AllocError>
-    ensures { IfOk result (λ row. row ≡ name_row_lem (name.now, known.now)) }
+    ensures { Returns result (name_row_lem (name.now, known.now)) }
 {
     let record = known.clone()?;
     let name = name.clone()?;
@@ -139,9 +133,8 @@ fn hand_name<K: NameTaker>(
     name: &NormalName,
     known: &NameRecord,
 ) -> Result<(), WalkEnd>
-    ensures walked { let rows = filter is_held_row (name_row_lem (name.now, known.now) ∷ []) in
-        Walks K.takes K.stops rows taker.old taker.new result }
-    ensures memory { IfErr result (λ end. end ≢ WalkEnd.Store) }
+    ensures { let rows = filter is_held_row (name_row_lem (name.now, known.now) ∷ []) in
+        Hands K.takes K.stops rows taker.old taker.new result }
 {
     if let NameRecord::Prohibited = known {
         return Ok(());
