@@ -1,5 +1,7 @@
 -- What a decision says of a verdict.
-use Rattle.std.specs.Prelude.{◌≡◌, List, [], Option, Some, None, Result, Ok, Err, find, length}
+use Rattle.std.specs.Prelude.{◌≡◌, Bool, false, is_some, List, [], Option, Some, None, Result, Ok, Err, find, length}
+use Rattle.std.specs.Option.{option_map_or}
+use Rattle.index_digest.specs.Digest.{read_digest, sha256}
 use Rattle.index_rules.specs.declared.answer.Refusal.{Refusal}
 use Rattle.index_rules.specs.declared.call.Call.{Call}
 use Rattle.index_rules.specs.declared.call.Request.{Request}
@@ -11,10 +13,10 @@ use Rattle.index_rules.specs.declared.decision.Stop.TheVariants as stop
 use Rattle.index_rules.specs.declared.decision.context.Context.{Context}
 use Rattle.index_rules.specs.declared.change.Change.{Change}
 use Rattle.index_rules.specs.Projects.{Project}
-use Rattle.index_rules.specs.Maps.{Bytes}
+use Rattle.index_rules.specs.Maps.{Bytes, same}
 use Rattle.index_rules.specs.Facts.{Facts, facts_seen}
 use Rattle.index_rules.specs.Verdict.{Verdict, Accept, AlreadySo, Refuse, applies, verdict_of, verdict_on, file_refusals, is_already, refusals_of}
-use Rattle.index_rules.specs.Effect.{effect, the_project, with_file}
+use Rattle.index_rules.specs.Effect.{effect, the_project, upload_of, with_file}
 
 -- the decision is the verdict, and its change the effect; memory can run out only where the verdict is to accept
 abbrev pub Decides : Result Decision Stop → Verdict → Change → Type 0
@@ -48,13 +50,24 @@ effect_seen context request = effect context.at request (facts_seen context.view
 abbrev pub DecidesIn : Context → Request → Result Decision Stop → Type 0
 DecidesIn context request result = Decides result (verdict_seen context (refusals_of request) request) (effect_seen context request)
 
--- the same on an upload whose parts are in order
-abbrev pub DecidesOnFile : Context → Request → Result Decision Stop → Type 0
-DecidesOnFile context request result = Decides result (verdict_seen context file_refusals request) (effect_seen context request)
+-- the same on an upload of these bytes whose parts are in order, whatever text declares their digest
+abbrev pub DecidesOnFile : Context → Bytes → Bytes → Bytes → Result Decision Stop → Type 0
+DecidesOnFile context file body requires result = (declared : Bytes) → read_digest declared ≡ Some (sha256 body) →
+    let request = Upload file declared body requires in
+    Decides result (verdict_seen context file_refusals request) (effect_seen context request)
 
--- the project with the body of such an upload, which declares this digest
-abbrev pub FindsProject : Context → Bytes → Bytes → Result (Option Project) Stop → Type 0
-FindsProject context declared body result =
+-- the project with the body of such an upload
+abbrev pub FindsProject : Context → Bytes → Result (Option Project) Stop → Type 0
+FindsProject context body result = (declared : Bytes) → read_digest declared ≡ Some (sha256 body) →
     let request = Upload [] declared body [] in
     let held = the_project (facts_seen context.view.now request) in
     Finds result (verdict_seen context file_refusals request) (with_file context.at (length body) held)
+
+-- the upload to a project that has the file in its charge is accepted
+abbrev pub Uploads : Context → Project → Bytes → Bytes → Bytes → Result Decision Stop → Type 0
+Uploads context project file body requires result =
+    Decides result Accept (upload_of project file body requires (is_some context.view.now.case))
+
+-- whether the caller opened the case
+abbrev pub is_candidate_seen : Context → Bool
+is_candidate_seen context = option_map_or (λ case. same case.candidate context.caller.now.user) context.view.now.case false

@@ -1,5 +1,5 @@
 //! What the bytes of a request are read as.
-ghost use Rattle.std.specs.Prelude.{◌≡◌, ◌↔◌, IfOk, IfSome, IsSome, IsTrue, None, Some, if◌then◌else◌};
+ghost use Rattle.std.specs.Prelude.{◌≡◌, ◌↔◌, IfOk, IsSome, IsTrue, None, Some, if◌then◌else◌};
 ghost use Rattle.std.specs.Char.{is_control};
 ghost use Rattle.std.specs.List.{list_any};
 ghost use Rattle.std.specs.Str.{chars};
@@ -58,8 +58,7 @@ pub fn readable_release(alloc: Global, release: &Bytes) -> Result<Option<Release
 /// A file name, where it can be read.
 #[tactic(auto, unfolding(crate::specs::Requests::read_file))]
 pub fn readable_file(alloc: Global, file: &Bytes) -> Result<Option<FileName>, AllocError>
-    ensures read { ReturnsRead (read_file file.now) result }
-    ensures text { IfOk result (λ key. IfSome key (λ text. text ≡ file.now)) }
+    ensures { ReturnsRead (read_file file.now) result }
 {
     match FileName::read(alloc, file.as_slice()) {
         Ok(key) => Ok(Some(key)),

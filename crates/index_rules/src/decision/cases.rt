@@ -1,13 +1,11 @@
 //! Requests on retention cases (PEP 541).
-ghost use Rattle.std.specs.Prelude.{◌≡◌, false};
-ghost use Rattle.std.specs.Option.{option_map_or};
+ghost use Rattle.std.specs.Prelude.{◌≡◌};
 ghost use Rattle.index_rules.specs.declared.call.Request.TheVariants.{AnswerCase, CloseCase, OpenCase, RecordAttempt, Transfer};
-ghost use Rattle.index_rules.specs.Maps.{same};
 ghost use Rattle.index_rules.specs.Results.{Returns};
 ghost use Rattle.index_rules.specs.Texts.{AreEvidence};
 ghost use Rattle.index_rules.specs.Verdict.{refusal_of};
 ghost use Rattle.index_rules.specs.Effect.{new_case};
-ghost use Rattle.index_rules.specs.Decided.{DecidesIn};
+ghost use Rattle.index_rules.specs.Decided.{DecidesIn, is_candidate_seen};
 
 use super::context::Context;
 use super::{Decision, Stop};
@@ -171,8 +169,7 @@ pub fn close_case(context: &Context<'_>, name: &Bytes) -> Result<Decision, Stop>
 
 /// Whether the caller opened the case.
 fn is_candidate(context: &Context<'_>) -> bool
-    ensures { let user = context.now.caller.now.user in
-        result ≡ option_map_or (λ case. same case.candidate user) context.now.view.now.case false }
+    ensures { result ≡ is_candidate_seen context.now }
 {
     match &context.view.case {
         Some(case) => case.candidate == context.caller.user,

@@ -1,16 +1,15 @@
 //! Requests on files.
-ghost use Rattle.std.specs.Prelude.{◌≡◌, [], Option, Some, IsTrue, is_some};
+ghost use Rattle.std.specs.Prelude.{◌≡◌, [], Option, Some, IsTrue};
 ghost use Rattle.index_rules.specs.declared.call.Request.TheVariants.{BanFile, Delete, Upload};
-ghost use Rattle.index_digest.specs.Digest.{read_digest, sha256};
+ghost use Rattle.index_digest.specs.Digest.{sha256};
 ghost use Rattle.index_names.specs.FileName.{project_of};
-ghost use Rattle.index_rules.specs.Maps.{Bytes};
 ghost use Rattle.index_rules.specs.Requests.{AreFileParts};
 ghost use Rattle.index_rules.specs.Results.{Returns};
 ghost use Rattle.index_rules.specs.Texts.{is_text as is_text_lem};
 ghost use Rattle.index_rules.specs.Facts.{facts_seen};
-ghost use Rattle.index_rules.specs.Verdict.{Accept, is_other_file};
-ghost use Rattle.index_rules.specs.Effect.{as_deleted as deleted_lem, project_left as project_left_lem, upload_of, new_file};
-ghost use Rattle.index_rules.specs.Decided.{Decides, DecidesIn, DecidesOnFile, FindsProject};
+ghost use Rattle.index_rules.specs.Verdict.{is_other_file};
+ghost use Rattle.index_rules.specs.Effect.{as_deleted as deleted_lem, project_left as project_left_lem, new_file};
+ghost use Rattle.index_rules.specs.Decided.{DecidesIn, DecidesOnFile, FindsProject, Uploads};
 
 use super::context::Context;
 use super::{Decision, Stop};
@@ -68,8 +67,7 @@ fn decide_upload(
     requires_python: &Bytes,
 ) -> Result<Decision, Stop>
     requires parts { AreFileParts file.now requires_python.now }
-    ensures { (declared : Bytes) → read_digest declared ≡ Some (sha256 body)
-        → DecidesOnFile context.now (Upload file.now declared body requires_python.now) result }
+    ensures { DecidesOnFile context.now file.now body requires_python.now result }
 {
     match project_with(context, &body) {
         Ok(Some(project)) => upload_to(context, project, file, body, requires_python),
@@ -86,8 +84,7 @@ fn decide_upload(
 
 /// The project with one more file of these bytes, or `None` where that file is undeleted already.
 fn project_with(context: &Context<'_>, body: &Sealed) -> Result<Option<Project>, Stop>
-    ensures { (declared : Bytes) → read_digest declared ≡ Some (sha256 body.now)
-        → FindsProject context.now declared body.now result }
+    ensures { FindsProject context.now body.now result }
 {
     let size = body.bytes().len() as u64;
     let Some(project) = context.project() else {
@@ -124,8 +121,7 @@ fn upload_to(
     requires_python: &Bytes,
 ) -> Result<Decision, Stop>
     requires parts { AreFileParts file.now requires_python.now }
-    ensures { let ends_case = is_some context.now.view.now.case in
-        Decides result Accept (upload_of project file.now body requires_python.now ends_case) }
+    ensures { Uploads context.now project file.now body requires_python.now result }
 {
     match file_parts(context.alloc, file, &body, requires_python) {
         Ok((name, file, record)) => Ok(Decision::Change(Change::Upload {
