@@ -3,3 +3,5 @@ pub mod Pairs
 pub mod Bearers
 pub mod Plain
 pub mod Seen
+pub mod Picked
+pub mod NameFiles

@@ -1,10 +1,9 @@
 //! The files of a name: their records and their bodies.
-ghost use Rattle.std.specs.Prelude.{◌≡◌, not};
-ghost use Rattle.std.specs.List.{list_any};
-ghost use Rattle.std.specs.FinMap.{entries, retain_keys};
+ghost use Rattle.std.specs.Prelude.{◌≡◌};
 ghost use Rattle.index_rules.specs.Effect.{as_deleted_of, is_file_of};
 ghost use Rattle.index_rules.specs.Facts.{is_undeleted_of_release};
 ghost use Rattle.index_rules.specs.Maps.{change_values};
+ghost use Rattle.index_plain.specs.NameFiles.{has_undeleted_of, without_bodies_of};
 ghost use Rattle.index_plain.specs.Trees.{table_of};
 
 use crate::table;
@@ -19,8 +18,7 @@ pub fn has_undeleted(
     name: &NormalName,
     release: &Release,
 ) -> bool
-    ensures { let known = entries (table_of files.now) in
-        result ≡ list_any (λ file. is_undeleted_of_release name.now release.now file.1) known }
+    ensures { result ≡ has_undeleted_of name.now release.now (table_of files.now) }
 {
     files
         .iter()
@@ -51,8 +49,8 @@ pub fn drop_bodies(
     files: &BTreeMap<FileName, FileRecord>,
     name: &NormalName,
 )
-    ensures { let goes = is_file_of (table_of files.now) name.now in
-        table_of bodies.new ≡ retain_keys (table_of bodies.old) (λ file. not (goes file)) }
+    ensures { table_of bodies.new
+        ≡ without_bodies_of name.now (table_of files.now) (table_of bodies.old) }
 {
     bodies.retain(|file, _| !is_of(files, file, name));
 }

@@ -1,7 +1,8 @@
 //! A table by pairs, as a map of maps: what stands at a first key goes with one call.
-ghost use Rattle.std.specs.Prelude.{◌≡◌, MatchOption, IsSome, None, option_copied};
+ghost use Rattle.std.specs.Prelude.{◌≡◌, option_copied};
 ghost use Rattle.std.specs.FinMap.{get, remove};
 ghost use Rattle.index_plain.specs.Pairs.{PutsPair, PutsPairAlone, TurnsBy, pairs_in, without_first};
+ghost use Rattle.index_plain.specs.Picked.{PicksSecond};
 
 use crate::key::Key;
 use crate::table;
@@ -27,9 +28,7 @@ pub fn first_at<'a, A: Key, B: Key, V>(
     map: &'a BTreeMap<A, BTreeMap<B, V>>,
     first: &A,
 ) -> Option<&'a B>
-    ensures { let pairs = pairs_in A.cmp B.cmp map.now in
-        MatchOption result ((second : B) → get pairs (first.now, second) ≡ None)
-        (λ second. IsSome (get pairs (first.now, second.now))) }
+    ensures { PicksSecond A.cmp B.cmp map.now first.now result }
 {
     match table::find(map, first) {
         Some(inner) => table::first_key(inner),

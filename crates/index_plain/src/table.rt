@@ -1,9 +1,10 @@
 //! A table as one ordered map.
 #![tactic(auto, using(crate::proofs::TreeLemmas::trees))]
 
-ghost use Rattle.std.specs.Prelude.{◌≡◌, IfOk, MatchOption, IsSome, option_and_then, option_copied};
+ghost use Rattle.std.specs.Prelude.{◌≡◌, IfOk, IsSome, option_and_then, option_copied};
 ghost use Rattle.std.specs.FinMap.{empty, get, insert, remove};
 ghost use Rattle.index_rules.specs.Results.{Returns};
+ghost use Rattle.index_plain.specs.Picked.{PicksKey};
 ghost use Rattle.index_plain.specs.Trees.{Puts, map_of, with_at};
 
 use crate::key::Key;
@@ -28,8 +29,7 @@ pub fn find<'a, K: Key, V>(map: &'a BTreeMap<K, V>, key: &K) -> Option<&'a V>
 
 /// A key that is there, where one is.
 pub fn first_key<K: Key, V>(map: &BTreeMap<K, V>) -> Option<&K>
-    ensures { let table = map_of K.cmp map.now in
-        MatchOption result (table ≡ empty) (λ key. IsSome (get table key.now)) }
+    ensures { PicksKey (map_of K.cmp map.now) result }
 {
     match map.first_key_value() {
         Some((key, _)) => Some(key),

@@ -1,10 +1,10 @@
 //! The rows of the tables: whole lists of them, and walks that hand them to a taker one at a time.
-ghost use Rattle.std.specs.Prelude.{◌≡◌, ◌∷◌, [], filter};
+ghost use Rattle.std.specs.Prelude.{◌≡◌};
 ghost use Rattle.index_rules.specs.Sound.{is_undeleted_of as is_undeleted_of_lem};
-ghost use Rattle.index_rules.specs.TableRows.{file_row_in, file_rows_in, is_held_row, name_row as name_row_lem, name_rows_in};
+ghost use Rattle.index_rules.specs.TableRows.{file_row_in, file_rows_in, name_row as name_row_lem, name_rows_in};
 ghost use Rattle.index_rules.specs.Results.{Returns, ReturnsItems};
 ghost use Rattle.index_plain.specs.Plain.{Hands, HandsFiles, HandsNames, plain_tables};
-ghost use Rattle.index_plain.specs.Seen.{rows_of_file};
+ghost use Rattle.index_plain.specs.Seen.{rows_of_file, rows_of_name};
 
 use crate::pairs;
 use crate::plain::PlainBooks;
@@ -133,8 +133,7 @@ fn hand_name<K: NameTaker>(
     name: &NormalName,
     known: &NameRecord,
 ) -> Result<(), WalkEnd>
-    ensures { let rows = filter is_held_row (name_row_lem (name.now, known.now) ∷ []) in
-        Hands K.takes K.stops rows taker.old taker.new result }
+    ensures { Hands K.takes K.stops (rows_of_name name.now known.now) taker.old taker.new result }
 {
     if let NameRecord::Prohibited = known {
         return Ok(());
