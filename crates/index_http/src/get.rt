@@ -1,5 +1,5 @@
 //! Looks at pages, files and standings. None changes a table.
-ghost use Rattle.std.specs.Prelude.{◌≡◌, IfOk, IfSome, Some, true, false, bytes_eq, is_some};
+ghost use Rattle.std.specs.Prelude.{◌≡◌, IfErr, IfOk, IfSome, IsSome, Some, true, false, bytes_eq, is_some};
 ghost use Rattle.index_names.specs.FileName.{read_file_name};
 ghost use Rattle.index_names.specs.Project.{read_name};
 ghost use Rattle.index_desk.specs.Rules.{by_tables};
@@ -67,6 +67,7 @@ fn accepted_type(alloc: Global, request: &Request) -> Result<Option<Served>, All
 /// The normal form of a name, or `None` where these bytes are no project name.
 fn name_of(alloc: Global, given: &Bytes) -> Result<Option<NormalName>, AllocError>
     ensures name { IfOk result (λ name. name ≡ read_name given.now) }
+    ensures readable { IfErr result (λ _. IsSome (read_name given.now)) }
 {
     match normal(alloc, given.as_slice()) {
         Ok(name) => Ok(Some(name)),
@@ -79,6 +80,7 @@ fn name_of(alloc: Global, given: &Bytes) -> Result<Option<NormalName>, AllocErro
 fn file_of(alloc: Global, given: &Bytes) -> Result<Option<FileName>, AllocError>
     ensures file { IfOk result (λ file. IfSome file (λ file. file ≡ given.now)) }
     ensures found { IfOk result (λ file. is_some file ≡ is_some (read_file_name given.now)) }
+    ensures readable { IfErr result (λ _. IsSome (read_file_name given.now)) }
 {
     match FileName::read(alloc, given.as_slice()) {
         Ok(file) => Ok(Some(file)),
