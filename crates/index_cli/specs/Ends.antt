@@ -78,7 +78,7 @@ pub record RunFailsOnly {S K : Type 0} (ins : Ins S) (out : Outs K) (old new : S
   pub writes : result ≢ Err WriteFault → out.failures after ≡ out.failures before
 
 -- a text was written whole, and no write failed; or a write failed or took no byte, and a front of the text went out before it
-pub record WritesAll {K : Type 0} (out : Outs K) (before after : K) (text : List ℕ) (result : Result (Unit {0}) ℕ) : Type 0 where
+pub record WritesText {K : Type 0} (out : Outs K) (before after : K) (text : List ℕ) (result : Result (Unit {0}) ℕ) : Type 0 where
   pub whole : OnOk result (Appends (out.contents before) (out.contents after) text)
   pub front : IfErr result (λ count. (count < length text) × Appends (out.contents before) (out.contents after) (take count text))
   pub kept : OnOk result (out.failures after ≡ out.failures before)

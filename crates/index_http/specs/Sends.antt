@@ -23,8 +23,8 @@ SendsText text before after (Err (WriteFault count)) = SendsFirst text before af
 SendsText text before after (Err (Cut count)) = SendsFirst text before after count
 
 -- the same of a writer
-abbrev pub Sends : {K : Type 0} → Outs K → K → K → Bytes → Result (Unit {0}) IoEnd → Type 0
-Sends out before after text result = SendsText text (out.contents before) (out.contents after) result
+abbrev pub SendsBytes : {K : Type 0} → Outs K → K → K → Bytes → Result (Unit {0}) IoEnd → Type 0
+SendsBytes out before after text result = SendsText text (out.contents before) (out.contents after) result
 
 -- the store, memory or the length of the page cut the page short
 abbrev pub is_cut : {A : Type 0} → Result A IoEnd → Bool

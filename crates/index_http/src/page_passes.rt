@@ -55,7 +55,8 @@ pub fn project_length<B: Books>(
     name: &NormalName,
     served: Served,
 ) -> Result<Option<u64>, Fault>
-    ensures { MeasuresText B.Books desk.old desk.new result (λ T. text_in T served (Some name.now)) }
+    ensures { MeasuresText B.Books desk.old desk.new result
+        (λ T. text_in T served (Some name.now)) }
 {
     let mut page = PageLength::project(alloc, name, served);
     let walked = desk.walk_project(alloc, name, &mut page);

@@ -7,7 +7,7 @@ ghost use Rattle.index_http.specs.Exchanges.{ShowsProject, ShowsRoot};
 ghost use Rattle.index_http.specs.PagePasses.{Gathers, IsMeasured, MeasuresText, SendsPage};
 ghost use Rattle.index_http.specs.PageShows.{ShowsWhole, after_head};
 ghost use Rattle.index_http.specs.Replies.{page_reply, reply_text};
-ghost use Rattle.index_http.specs.Sends.{Sends, SendsOnly, is_cut, is_write_fault};
+ghost use Rattle.index_http.specs.Sends.{SendsBytes, SendsOnly, is_cut, is_write_fault};
 ghost use Rattle.index_http.specs.Shows.{ShowsBy};
 
 use crate::end::IoEnd;
@@ -165,7 +165,8 @@ fn send_page<K: Sink, B: Books>(
 ) -> Result<(), IoEnd>
     ensures sent { B.IsHonest desk.old → B.IsClean desk.new →
         (there : IsMeasured (page_in (B.tables desk.old) served page.entry) size) →
-        Sends K.Sink sink.old sink.new (reply_text to_head (page_reply served there.bytes)) result }
+        SendsBytes K.Sink sink.old sink.new
+        (reply_text to_head (page_reply served there.bytes)) result }
     ensures leaves { LeavesTables B.Books desk.old desk.new }
     ensures sends { SendsOnly K.Sink sink.old sink.new (not to_head) result }
 {

@@ -3,7 +3,7 @@ ghost use Rattle.std.specs.Prelude.{◌≡◌, ◌<◌, ◌^◌, ◌++◌, false
 ghost use Rattle.http.specs.StatusCode.{code_digits};
 ghost use Rattle.index_io.specs.Bytes.{joined};
 ghost use Rattle.index_http.specs.Replies.{fields_text, head_text, phrase_of, reply_head, reply_of, reply_text};
-ghost use Rattle.index_http.specs.Sends.{Sends, SendsHead, SendsOnly};
+ghost use Rattle.index_http.specs.Sends.{SendsBytes, SendsHead, SendsOnly};
 ghost use Rattle.index_http.specs.Shows.{EndsFault};
 
 use crate::end::IoEnd;
@@ -30,7 +30,8 @@ pub fn send_head<K: Sink>(
 
 /// Writes a reply; one to `HEAD` without its body. Its one end is `WriteFault`.
 pub fn send_reply<K: Sink>(sink: &mut K, is_head: bool, reply: Reply<'_>) -> Result<(), IoEnd>
-    ensures sent { Sends K.Sink sink.old sink.new (reply_text is_head (reply_of reply.entry)) result }
+    ensures sent { SendsBytes K.Sink sink.old sink.new
+        (reply_text is_head (reply_of reply.entry)) result }
     ensures sends { SendsOnly K.Sink sink.old sink.new false result }
 {
     let size = reply.body.len() as u64;

@@ -5,7 +5,7 @@ use Rattle.httparse.specs.Spans.{IsRequestAt, IsRequestWithin}
 use Rattle.httparse.specs.declared.spans.HeaderSpan.{HeaderSpan}
 use Rattle.httparse.specs.declared.spans.RequestSpans.{RequestSpans}
 use Rattle.index_io.specs.declared.source.Source.{Ghosts}
-use Rattle.index_message.specs.Reads.{Gives}
+use Rattle.index_message.specs.Reads.{GivesBytes}
 use Rattle.index_message.specs.declared.head.ReadEnd.{ReadEnd}
 use Rattle.index_message.specs.declared.head.ReadEnd.TheVariants.{ReadFault}
 use Rattle.index_message.specs.declared.head.Tried.{Tried}
@@ -37,7 +37,7 @@ pub record AwaitsHead (taken : List ℕ) : Type 0 where
 
 -- where a read failed, these are the bytes that a source gave, and they are no head yet
 abbrev pub FailsInHead : {S A : Type 0} → Ghosts S → S → S → List ℕ → Result A ReadEnd → Type 0
-FailsInHead g old new taken result = result ≡ Err ReadFault → AwaitsHead taken × Gives g old new taken
+FailsInHead g old new taken result = result ≡ Err ReadFault → AwaitsHead taken × GivesBytes g old new taken
 
 -- ---- as it is found
 

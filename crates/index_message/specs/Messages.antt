@@ -12,7 +12,7 @@ use Rattle.index_rules.specs.Maps.{Bytes}
 use Rattle.index_message.specs.Heads.{AwaitsHead, HasHead, HasNoHead, IsHeadAt}
 use Rattle.index_message.specs.Fields.{Field, fields_at, fields_of}
 use Rattle.index_message.specs.Lengths.{body_length}
-use Rattle.index_message.specs.Reads.{Gives, and_left}
+use Rattle.index_message.specs.Reads.{GivesBytes, and_left}
 use Rattle.index_message.specs.Requests.{Request}
 use Rattle.index_message.specs.Resources.{allowed_of, allows, method_of, resource_of}
 use Rattle.index_message.specs.declared.fault.MessageFault.{MessageFault}
@@ -140,8 +140,8 @@ Follows g old new bytes fields spans message = (found : IsHeadAt bytes.items fie
 -- where a read failed, what a source gave behind them is no body yet
 abbrev pub FailsInBody : {S A : Type 0} → Ghosts S → S → S → Vec ℕ → List HeaderSpan → RequestSpans → Result A ReadEnd → Type 0
 FailsInBody g old new bytes fields spans result = result ≡ Err ReadFault → (found : IsHeadAt bytes.items fields spans)
-    → (more : Bytes) × AwaitsBody found.head (drop spans.len bytes.items ++ more) × Gives g old new more
+    → (more : Bytes) × AwaitsBody found.head (drop spans.len bytes.items ++ more) × GivesBytes g old new more
 
 -- a body of this length, of the front that was there and what a source gave
 abbrev pub GivesBody : {S : Type 0} → Ghosts S → S → S → ℕ → Bytes → Option Bytes → Type 0
-GivesBody g old new n front body = (more : Bytes) × Gives g old new more × TakesBody n front more (g.remaining new) body
+GivesBody g old new n front body = (more : Bytes) × GivesBytes g old new more × TakesBody n front more (g.remaining new) body

@@ -23,8 +23,8 @@ and_left bytes left = bytes ++ unwrap_or left []
 -- ---- of a source
 
 -- it gave these bytes
-abbrev pub Gives : {S : Type 0} → Ghosts S → S → S → List ℕ → Type 0
-Gives g old new bytes = Consumes (g.remaining old) (g.remaining new) bytes
+abbrev pub GivesBytes : {S : Type 0} → Ghosts S → S → S → List ℕ → Type 0
+GivesBytes g old new bytes = Consumes (g.remaining old) (g.remaining new) bytes
 
 -- it gave so many at most
 abbrev pub GivesAtMost : {S : Type 0} → Ghosts S → S → S → ℕ → Type 0
@@ -32,12 +32,12 @@ GivesAtMost g old new most = TakesAtMost most (g.remaining old) (g.remaining new
 
 -- behind so many bytes that were there it gave others, up to so many in all
 abbrev pub GivesUpTo : {S : Type 0} → Ghosts S → S → S → ℕ → ℕ → Type 0
-GivesUpTo g old new before most = (taken : List ℕ) × (before + length taken ≤ most) × Gives g old new taken
+GivesUpTo g old new before most = (taken : List ℕ) × (before + length taken ≤ most) × GivesBytes g old new taken
 
 -- where a read failed, it gave fewer than are wanted
 abbrev pub FailsBelow : {S A : Type 0} → Ghosts S → S → S → ℕ → ℕ → Result A ReadEnd → Type 0
 FailsBelow g old new before wanted result =
-    result ≡ Err ReadFault → (more : List ℕ) × (before + length more < wanted) × Gives g old new more
+    result ≡ Err ReadFault → (more : List ℕ) × (before + length more < wanted) × GivesBytes g old new more
 
 -- where a read failed, it gave nothing, and what was held is as it was
 abbrev pub FailsAtOnce : {S A : Type 0} → Ghosts S → S → S → List ℕ → List ℕ → Result A ReadEnd → Type 0
@@ -46,13 +46,13 @@ FailsAtOnce g old new before after result =
 
 -- what it gave was put behind what was held
 abbrev pub Fills : {S : Type 0} → Ghosts S → S → S → Vec ℕ → Vec ℕ → Type 0
-Fills g old new before after = (more : List ℕ) × (after.items ≡ before.items ++ more) × Gives g old new more
+Fills g old new before after = (more : List ℕ) × (after.items ≡ before.items ++ more) × GivesBytes g old new more
 
 -- it has none left
 abbrev pub HasEnded : {S : Type 0} → Ghosts S → S → Type 0
 HasEnded g source = IsAtEnd (g.remaining source)
 
 -- the result tells whether a read failed, and so many bytes were read at most
-pub record Reads {S A : Type 0} (g : Ghosts S) (old new : S) (most : ℕ) (result : Result A ReadEnd) : Type 0 where
+pub record ReadsWithin {S A : Type 0} (g : Ghosts S) (old new : S) (most : ℕ) (result : Result A ReadEnd) : Type 0 where
   pub failures : ReadsOnly (g.failures old) (g.failures new) result
   pub limit : GivesAtMost g old new most

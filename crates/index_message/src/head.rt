@@ -1,7 +1,7 @@
 //! The head of a request, read in whatever pieces it comes.
 ghost use Rattle.std.specs.Prelude.{◌≡◌, ◌≤◌, ◌<◌, ◌+◌, [], true, false, length, vec_len, None, Ok, Err, IfOk, IfSome, OnOk};
 ghost use Rattle.index_message.specs.Heads.{FailsInHead, HasNoHead, IsHeadAt, Tries, longest_head, most_fields};
-ghost use Rattle.index_message.specs.Reads.{FailsAtOnce, FailsBelow, Fills, Gives, GivesUpTo, HasEnded, Reads, ReadsOnly, and_left};
+ghost use Rattle.index_message.specs.Reads.{FailsAtOnce, FailsBelow, Fills, GivesBytes, GivesUpTo, HasEnded, ReadsWithin, ReadsOnly, and_left};
 
 use httparse::Status;
 use httparse::spans::{HeaderSpan, RequestSpans, parse_request};
@@ -44,11 +44,11 @@ pub fn read_head<S: Source>(
     requires empty { held.old.items ≡ [] }
     requires room { length fields.old ≡ most_fields }
     ensures short { vec_len held.new ≤ longest_head }
-    ensures consumed { OnOk result (Gives S.Source source.old source.new held.new.items) }
+    ensures consumed { OnOk result (GivesBytes S.Source source.old source.new held.new.items) }
     ensures head { IfOk result (λ found. IfSome found (IsHeadAt held.new.items fields.new)) }
     ensures none { result ≡ Ok None → HasNoHead (and_left held.new.items (S.remaining source.new)) }
     ensures prompt { FailsInHead S.Source source.old source.new held.new.items result }
-    ensures reads { Reads S.Source source.old source.new longest_head result }
+    ensures reads { ReadsWithin S.Source source.old source.new longest_head result }
 {
     while held.len() < LONGEST_HEAD {
         if read_more(source, held, LONGEST_HEAD)? == 0 {
@@ -85,7 +85,7 @@ pub fn read_up_to<S: Source>(
     ensures full { result ≡ Ok true → wanted ≤ vec_len held.new }
     ensures ended { result ≡ Ok false → (vec_len held.new < wanted) × HasEnded S.Source source.new }
     ensures prompt { FailsBelow S.Source source.old source.new (vec_len held.old) wanted result }
-    ensures reads { Reads S.Source source.old source.new wanted result }
+    ensures reads { ReadsWithin S.Source source.old source.new wanted result }
 {
     while held.len() < wanted {
         if read_more(source, held, wanted)? == 0 {

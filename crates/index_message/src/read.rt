@@ -5,7 +5,7 @@ ghost use Rattle.index_message.specs.Fields.{fields_at};
 ghost use Rattle.index_message.specs.Heads.{longest_head};
 ghost use Rattle.index_message.specs.Lengths.{longest_upload};
 ghost use Rattle.index_message.specs.Messages.{BeginsWith, FailsInBody, FailsUnfinished, Follows, GivesBody, asked_at, is_head_name, whole_of};
-ghost use Rattle.index_message.specs.Reads.{FailsBelow, GivesAtMost, Reads, ReadsOnly};
+ghost use Rattle.index_message.specs.Reads.{FailsBelow, GivesAtMost, ReadsWithin, ReadsOnly};
 ghost use Rattle.index_message.specs.declared.message.Message.TheVariants.{Faulty};
 
 use crate::fault::MessageFault;
@@ -58,7 +58,7 @@ fn read_rest<S: Source>(
     requires within { IsRequestWithin bytes.items fields.now spans }
     ensures message { IfOk result (Follows S.Source source.old source.new bytes fields.now spans) }
     ensures prompt { FailsInBody S.Source source.old source.new bytes fields.now spans result }
-    ensures reads { Reads S.Source source.old source.new longest_upload result }
+    ensures reads { ReadsWithin S.Source source.old source.new longest_upload result }
 {
     let head = bytes.as_slice();
     let fields = &fields[..spans.headers];
@@ -128,7 +128,7 @@ fn read_body<S: Source>(
 ) -> Result<Option<Bytes>, ReadEnd>
     ensures body { IfOk result (GivesBody S.Source source.old source.new size front.now) }
     ensures prompt { FailsBelow S.Source source.old source.new (length front.now) size result }
-    ensures reads { Reads S.Source source.old source.new size result }
+    ensures reads { ReadsWithin S.Source source.old source.new size result }
 {
     let size = size as usize;
     let mut body = Vec::from_slice(alloc, front)?;

@@ -1,20 +1,20 @@
 -- Texts that are put together from pieces.
 use Rattle.std.proofs.Common.{◌≡◌, [], ◌++◌, sym, subst, append_assoc, append-nil}
 use Rattle.index_rules.specs.Maps.{Bytes}
-use Rattle.index_pages.specs.Pieces.{Extends}
+use Rattle.index_pages.specs.Pieces.{ExtendsText}
 
 -- nothing was added
-pub adds_none : {O : Type 0} {holds : O → Bytes → Type 0} {out : O} → Extends holds out out []
+pub adds_none : {O : Type 0} {holds : O → Bytes → Type 0} {out : O} → ExtendsText holds out out []
 adds_none {O} {holds} {out} = record { behind = λ front h. subst (holds out) (sym (append-nil front)) h }
 
 -- two texts, one after the other
 pub adds_both : {O : Type 0} {holds : O → Bytes → Type 0} {before between after : O} {first second : Bytes}
-    → Extends holds before between first → Extends holds between after second → Extends holds before after (first ++ second)
+    → ExtendsText holds before between first → ExtendsText holds between after second → ExtendsText holds before after (first ++ second)
 adds_both {O} {holds} {before} {between} {after} {first} {second} one two = record {
   behind = λ front h. subst (holds after) (append_assoc front first second) (two.behind (front ++ first) (one.behind front h));
 }
 
 -- the same text in other words
 pub adds_same : {O : Type 0} {holds : O → Bytes → Type 0} {before after : O} {text same : Bytes}
-    → Extends holds before after text → text ≡ same → Extends holds before after same
-adds_same {O} {holds} {before} {after} {text} {same} adds e = subst (Extends holds before after) e adds
+    → ExtendsText holds before after text → text ≡ same → ExtendsText holds before after same
+adds_same {O} {holds} {before} {after} {text} {same} adds e = subst (ExtendsText holds before after) e adds

@@ -10,8 +10,8 @@ use Rattle.index_pages.specs.declared.project.ProjectPage.{ProjectPage}
 use Rattle.index_pages.specs.declared.root.RootPage.{RootPage}
 
 -- a page of the names
-abbrev pub root_left : RootPage → Bytes → Rest NameRow
-root_left page name = root_rest page.as_json page.is_started
+abbrev pub names_left : RootPage → Bytes → Rest NameRow
+names_left page name = root_rest page.as_json page.is_started
 
 -- the line of a held name on it
 abbrev pub held_line : RootPage → Bytes → Bytes → Bytes
@@ -22,8 +22,8 @@ abbrev pub held_text : RootPage → Bytes → Bytes → Bytes
 held_text page name shown = root_start page.as_json page.is_started ++ held_line page name shown
 
 -- a page of a project
-abbrev pub project_left : ProjectPage → Bytes → Rest FileRow
-project_left page project =
+abbrev pub files_left : ProjectPage → Bytes → Rest FileRow
+files_left page project =
     project_rest page.as_json project page.is_started page.releases.keys
 
 -- one in JSON

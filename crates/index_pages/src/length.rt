@@ -1,7 +1,7 @@
 //! The length of a page, row by row.
 ghost use Rattle.std.specs.Prelude.{◌≡◌, [], false, Err, Some, IfErr, IfOk, IsTrue, length as text_length};
 ghost use Rattle.index_rules.specs.Maps.{Bytes};
-ghost use Rattle.index_pages.specs.Left.{project_left, root_left};
+ghost use Rattle.index_pages.specs.Left.{files_left, names_left};
 ghost use Rattle.index_pages.specs.Pages.{project_page_of, root_page_of};
 ghost use Rattle.index_pages.specs.States.{count_state, BeginsCount, CountCloses, CountCuts, Counts, CountSends, CountStops, CountTakes, MeasuresGivenRows, StopsLength};
 
@@ -28,7 +28,7 @@ impl PageLength<'static, RootPage> {
     /// The length of the page of the names, of which nothing was counted. It takes rows of names. It takes no memory
     /// itself.
     pub fn root(served: Served) -> PageLength<'static, RootPage>
-        ensures { BeginsCount root_left result (root_page_of served) }
+        ensures { BeginsCount names_left result (root_page_of served) }
     {
         PageLength::new("", RootPage::new(served))
     }
@@ -42,7 +42,7 @@ impl<'p> PageLength<'p, ProjectPage> {
         name: &'p NormalName,
         served: Served,
     ) -> PageLength<'p, ProjectPage>
-        ensures { BeginsCount project_left result (project_page_of served name.now) }
+        ensures { BeginsCount files_left result (project_page_of served name.now) }
     {
         PageLength::new(name.text(), ProjectPage::new(alloc, served))
     }
@@ -125,12 +125,12 @@ impl<'p, P: Page> PageLength<'p, P> {
 }
 
 impl NameTaker for PageLength<'_, RootPage> {
-    ghost use Rattle.index_pages.specs.Left.{root_left};
+    ghost use Rattle.index_pages.specs.Left.{names_left};
     ghost use Rattle.index_pages.specs.States.{CountStops, CountTakes};
 
-    ghost takes = { λ before row after. CountTakes root_left before row after };
+    ghost takes = { λ before row after. CountTakes names_left before row after };
 
-    ghost stops = { λ before row after. CountStops root_left before row after };
+    ghost stops = { λ before row after. CountStops names_left before row after };
 
     fn take(&mut self, row: &NameRow) -> bool {
         self.take_row(row)
@@ -138,12 +138,12 @@ impl NameTaker for PageLength<'_, RootPage> {
 }
 
 impl FileTaker for PageLength<'_, ProjectPage> {
-    ghost use Rattle.index_pages.specs.Left.{project_left};
+    ghost use Rattle.index_pages.specs.Left.{files_left};
     ghost use Rattle.index_pages.specs.States.{CountStops, CountTakes};
 
-    ghost takes = { λ before row after. CountTakes project_left before row after };
+    ghost takes = { λ before row after. CountTakes files_left before row after };
 
-    ghost stops = { λ before row after. CountStops project_left before row after };
+    ghost stops = { λ before row after. CountStops files_left before row after };
 
     fn take(&mut self, row: &FileRow) -> bool {
         self.take_row(row)

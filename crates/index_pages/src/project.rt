@@ -2,7 +2,7 @@
 ghost use Rattle.std.specs.Prelude.{◌++◌, [], false};
 ghost use Rattle.serde_json.specs.Written.{comma_if};
 ghost use Rattle.index_pages.specs.Html.{project_top};
-ghost use Rattle.index_pages.specs.Left.{AddsFile, html_left, json_left, project_left};
+ghost use Rattle.index_pages.specs.Left.{AddsFile, html_left, json_left, files_left};
 ghost use Rattle.index_pages.specs.Pages.{project_page_of};
 ghost use Rattle.index_pages.specs.Parts.{file_line, files_bottom, files_top, json_text, once, project_rest, releases_text};
 ghost use Rattle.index_pages.specs.Pieces.{Adds};
@@ -41,7 +41,7 @@ impl Drop for ProjectPage {
 impl ProjectPage {
     /// A page of which no file came. It takes no memory.
     pub(crate) fn new(alloc: Global, served: Served) -> ProjectPage
-        ensures { (name : _) → IsWholeOf (project_left result name) (project_page_of served name) }
+        ensures { (name : _) → IsWholeOf (files_left result name) (project_page_of served name) }
     {
         ProjectPage {
             as_json: served.is_json(),

@@ -1,7 +1,7 @@
 //! The page of the names.
 ghost use Rattle.std.specs.Prelude.{◌≡◌, ◌++◌, [], true, OnOk};
 ghost use Rattle.serde_json.specs.Written.{comma_if};
-ghost use Rattle.index_pages.specs.Left.{held_line, held_text, root_left};
+ghost use Rattle.index_pages.specs.Left.{held_line, held_text, names_left};
 ghost use Rattle.index_pages.specs.Pages.{root_page_of};
 ghost use Rattle.index_pages.specs.Parts.{name_text, root_bottom, root_rest, root_start};
 ghost use Rattle.index_pages.specs.Pieces.{Adds};
@@ -26,7 +26,7 @@ pub struct RootPage {
 impl RootPage {
     /// A page of which no name came. It takes no memory.
     pub(crate) fn new(served: Served) -> RootPage
-        ensures { IsWholeOf (root_left result []) (root_page_of served) }
+        ensures { IsWholeOf (names_left result []) (root_page_of served) }
     {
         RootPage {
             as_json: served.is_json(),

@@ -1,7 +1,7 @@
 //! A page that is written row by row.
 ghost use Rattle.std.specs.Prelude.{◌≡◌, ◌+◌, ◌<◌, ◌≤◌, [], false, None, IfErr, IfOk, IfSome, IsTrue};
 ghost use Rattle.index_pages.specs.Ends.{most_bytes};
-ghost use Rattle.index_pages.specs.Left.{project_left, root_left};
+ghost use Rattle.index_pages.specs.Left.{files_left, names_left};
 ghost use Rattle.index_pages.specs.Pages.{project_page_of, root_page_of};
 ghost use Rattle.index_pages.specs.States.{page_state, Begins, ClosesInto, IsSteady, IsWritten, PageCloses, PageCuts, PageEnds, PageEndsStopped, PageSends, PageStaysEnded, PageStops, PageTakes};
 
@@ -39,7 +39,7 @@ impl<'a, K: Sink> PageText<'a, 'static, K, RootPage, Vec<u8>> {
         served: Served,
         sink: &'a mut K,
     ) -> PageText<'a, 'static, K, RootPage, Vec<u8>>
-        ensures { Begins K.Sink root_left result sink.entry (root_page_of served) }
+        ensures { Begins K.Sink names_left result sink.entry (root_page_of served) }
     {
         PageText::new(alloc, "", RootPage::new(served), sink)
     }
@@ -53,7 +53,7 @@ impl<'a, 'p, K: Sink> PageText<'a, 'p, K, ProjectPage, Vec<u8>> {
         served: Served,
         sink: &'a mut K,
     ) -> PageText<'a, 'p, K, ProjectPage, Vec<u8>>
-        ensures { Begins K.Sink project_left result sink.entry (project_page_of served name.now) }
+        ensures { Begins K.Sink files_left result sink.entry (project_page_of served name.now) }
     {
         PageText::new(alloc, name.text(), ProjectPage::new(alloc, served), sink)
     }
@@ -179,12 +179,12 @@ impl<'a, 'p, K: Sink, P: Page> PageText<'a, 'p, K, P, Vec<u8>> {
 }
 
 impl<K: Sink> NameTaker for PageText<'_, '_, K, RootPage, Vec<u8>> {
-    ghost use Rattle.index_pages.specs.Left.{root_left};
+    ghost use Rattle.index_pages.specs.Left.{names_left};
     ghost use Rattle.index_pages.specs.States.{PageStops, PageTakes};
 
-    ghost takes = { λ before row after. PageTakes K.Sink root_left before row after };
+    ghost takes = { λ before row after. PageTakes K.Sink names_left before row after };
 
-    ghost stops = { λ before row after. PageStops K.Sink root_left before row after };
+    ghost stops = { λ before row after. PageStops K.Sink names_left before row after };
 
     fn take(&mut self, row: &NameRow) -> bool {
         self.take_row(row)
@@ -192,12 +192,12 @@ impl<K: Sink> NameTaker for PageText<'_, '_, K, RootPage, Vec<u8>> {
 }
 
 impl<K: Sink> FileTaker for PageText<'_, '_, K, ProjectPage, Vec<u8>> {
-    ghost use Rattle.index_pages.specs.Left.{project_left};
+    ghost use Rattle.index_pages.specs.Left.{files_left};
     ghost use Rattle.index_pages.specs.States.{PageStops, PageTakes};
 
-    ghost takes = { λ before row after. PageTakes K.Sink project_left before row after };
+    ghost takes = { λ before row after. PageTakes K.Sink files_left before row after };
 
-    ghost stops = { λ before row after. PageStops K.Sink project_left before row after };
+    ghost stops = { λ before row after. PageStops K.Sink files_left before row after };
 
     fn take(&mut self, row: &FileRow) -> bool {
         self.take_row(row)

@@ -16,5 +16,5 @@ pub record FindsInTables {S A : Type 0} (g : Ghosts S) (old new : Held S) (resul
   pub reason : FailsForReason g old new result
 
 -- the answer is this of them
-abbrev pub Finds : {S A : Type 0} → Ghosts S → Held S → Held S → Result A Fault → (Tables → A) → Type 0
-Finds g old new result value = FindsInTables g old new result (λ T it. it ≡ value T)
+abbrev pub Gets : {S A : Type 0} → Ghosts S → Held S → Held S → Result A Fault → (Tables → A) → Type 0
+Gets g old new result value = FindsInTables g old new result (λ T it. it ≡ value T)

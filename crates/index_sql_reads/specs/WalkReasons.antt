@@ -20,7 +20,7 @@ EndsForReason g old new rows result =
     → IfErr result (λ end. end ≡ Store → HasReason (state g old) (state g new) ⊎ (2 ^ 64 - 1 ≤ length rows))
 
 -- any walk hands over some rows, and on a clean disk those of the tables; these stay as they are
-pub record WalksTables {S K R A : Type 0} (g : Ghosts S) (takes stops : K → R → K → Type 0) (rows_in : Tables → List R) (old new : Held S) (before after : K) (result : Result A WalkEnd) : Type 0 where
+pub record HandsRows {S K R A : Type 0} (g : Ghosts S) (takes stops : K → R → K → Type 0) (rows_in : Tables → List R) (old new : Held S) (before after : K) (result : Result A WalkEnd) : Type 0 where
   pub walked : HasCleanDisk (state g new) → Walks takes stops (rows_in (tables_of g old)) before after result
   pub given : (rows : List R) × Walks takes stops rows before after result
   pub looks : QueriesOnly g old new (not (has_fault result))

@@ -9,7 +9,7 @@ ghost use Rattle.index_sql_schema.specs.Looks.{QueriesOnly};
 ghost use Rattle.index_sql_schema.specs.Reasons.{FailsForReason};
 ghost use Rattle.index_sql_schema.specs.RecordRows.{IsBodyRow};
 ghost use Rattle.index_sql_records.specs.Reads.{ReadsOwned};
-ghost use Rattle.index_sql_reads.specs.Finds.{FindsInTables, Finds};
+ghost use Rattle.index_sql_reads.specs.Finds.{FindsInTables, Gets};
 ghost use Rattle.index_sql_reads.specs.ConnectionTables.{tables_of};
 ghost use Rattle.index_sql_reads.specs.Sealed.{digest_in, IsBoundTo};
 
@@ -54,7 +54,7 @@ fn find_digest<S: Alter>(
     conn: &mut IndexConnection<S>,
     file: &FileName,
 ) -> Result<Option<Digest256>, Fault>
-    ensures { Finds S.Store conn.old conn.new result (λ T. digest_in T file.now) }
+    ensures { Gets S.Store conn.old conn.new result (λ T. digest_in T file.now) }
 {
     match find_file(alloc, conn, file)? {
         Some(known) => Ok(Some(known.digest)),

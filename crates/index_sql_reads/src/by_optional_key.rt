@@ -3,7 +3,7 @@ ghost use Rattle.std.specs.Prelude.{false, option_and_then};
 ghost use Rattle.std.specs.Option.{option_map_or};
 ghost use Rattle.std.specs.FinMap.{get};
 ghost use Rattle.index_rules.specs.Facts.{AreOwners, IsBearerAs, at_both, caller_of, has_release_in, is_banned_in, of_both, yank_in};
-ghost use Rattle.index_sql_reads.specs.Finds.{FindsInTables, Finds};
+ghost use Rattle.index_sql_reads.specs.Finds.{FindsInTables, Gets};
 
 use crate::files::{find_file, find_yank, has_release, is_banned};
 use crate::lists::owners_of;
@@ -61,7 +61,7 @@ pub(crate) fn user_at<S: Alter>(
     conn: &mut IndexConnection<S>,
     user: &Option<UserId>,
 ) -> Result<Option<UserRecord>, Fault>
-    ensures { Finds S.Store conn.old conn.new result (λ T. option_and_then (get T.users) user.now) }
+    ensures { Gets S.Store conn.old conn.new result (λ T. option_and_then (get T.users) user.now) }
 {
     match user {
         Some(user) => find_user(alloc, conn, user),
@@ -75,7 +75,7 @@ pub(crate) fn name_at<S: Alter>(
     conn: &mut IndexConnection<S>,
     name: &Option<NormalName>,
 ) -> Result<Option<NameRecord>, Fault>
-    ensures { Finds S.Store conn.old conn.new result (λ T. option_and_then (get T.names) name.now) }
+    ensures { Gets S.Store conn.old conn.new result (λ T. option_and_then (get T.names) name.now) }
 {
     match name {
         Some(name) => find_name(alloc, conn, name),
@@ -103,7 +103,7 @@ pub(crate) fn case_at<S: Alter>(
     conn: &mut IndexConnection<S>,
     name: &Option<NormalName>,
 ) -> Result<Option<CaseRecord>, Fault>
-    ensures { Finds S.Store conn.old conn.new result (λ T. option_and_then (get T.cases) name.now) }
+    ensures { Gets S.Store conn.old conn.new result (λ T. option_and_then (get T.cases) name.now) }
 {
     match name {
         Some(name) => find_case(alloc, conn, name),
@@ -117,7 +117,7 @@ pub(crate) fn file_at<S: Alter>(
     conn: &mut IndexConnection<S>,
     file: &Option<FileName>,
 ) -> Result<Option<FileRecord>, Fault>
-    ensures { Finds S.Store conn.old conn.new result (λ T. option_and_then (get T.files) file.now) }
+    ensures { Gets S.Store conn.old conn.new result (λ T. option_and_then (get T.files) file.now) }
 {
     match file {
         Some(file) => find_file(alloc, conn, file),
@@ -130,7 +130,7 @@ pub(crate) fn ban_at<S: Alter>(
     conn: &mut IndexConnection<S>,
     file: &Option<FileName>,
 ) -> Result<bool, Fault>
-    ensures { Finds S.Store conn.old conn.new result
+    ensures { Gets S.Store conn.old conn.new result
         (λ T. option_map_or (is_banned_in T) file.now false) }
 {
     match file {
@@ -146,7 +146,7 @@ pub(crate) fn yank_at<S: Alter>(
     name: &Option<NormalName>,
     release: &Option<Release>,
 ) -> Result<Option<Text>, Fault>
-    ensures { Finds S.Store conn.old conn.new result
+    ensures { Gets S.Store conn.old conn.new result
         (λ T. at_both (yank_in T) name.now release.now) }
 {
     match (name, release) {
@@ -162,7 +162,7 @@ pub(crate) fn release_at<S: Alter>(
     name: &Option<NormalName>,
     release: &Option<Release>,
 ) -> Result<bool, Fault>
-    ensures { Finds S.Store conn.old conn.new result
+    ensures { Gets S.Store conn.old conn.new result
         (λ T. of_both (has_release_in T) name.now release.now) }
 {
     match (name, release) {

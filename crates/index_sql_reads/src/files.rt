@@ -2,7 +2,7 @@
 ghost use Rattle.std.specs.Prelude.{◌≡◌, true};
 ghost use Rattle.std.specs.FinMap.{get};
 ghost use Rattle.index_rules.specs.Facts.{has_release_in, is_banned_in, is_undeleted_of_release, yank_in};
-ghost use Rattle.index_sql_reads.specs.Finds.{Finds, FindsInTables};
+ghost use Rattle.index_sql_reads.specs.Finds.{Gets, FindsInTables};
 
 use crate::from_row::{first, has_row};
 use index_names::{FileName, NormalName, Release};
@@ -19,7 +19,7 @@ pub(crate) fn find_file<S: Alter>(
     conn: &mut IndexConnection<S>,
     file: &FileName,
 ) -> Result<Option<FileRecord>, Fault>
-    ensures { Finds S.Store conn.old conn.new result (λ T. get T.files file.now) }
+    ensures { Gets S.Store conn.old conn.new result (λ T. get T.files file.now) }
 {
     let rows = look(conn, SELECT_FILE, params![file.text()])?;
     first(alloc, rows.as_slice())
@@ -30,7 +30,7 @@ pub(crate) fn is_banned<S: Alter>(
     conn: &mut IndexConnection<S>,
     file: &FileName,
 ) -> Result<bool, Fault>
-    ensures { Finds S.Store conn.old conn.new result (λ T. is_banned_in T file.now) }
+    ensures { Gets S.Store conn.old conn.new result (λ T. is_banned_in T file.now) }
 {
     let rows = look(conn, SELECT_BAN, params![file.text()])?;
     Ok(has_row(rows.as_slice()))
@@ -43,7 +43,7 @@ pub(crate) fn find_yank<S: Alter>(
     name: &NormalName,
     release: &Release,
 ) -> Result<Option<Text>, Fault>
-    ensures { Finds S.Store conn.old conn.new result (λ T. yank_in T name.now release.now) }
+    ensures { Gets S.Store conn.old conn.new result (λ T. yank_in T name.now release.now) }
 {
     let rows = look(conn, SELECT_YANK, params![name.text(), release.text()])?;
     first(alloc, rows.as_slice())
@@ -57,7 +57,7 @@ pub(crate) fn has_release<S: Alter>(
     name: &NormalName,
     release: &Release,
 ) -> Result<bool, Fault>
-    ensures { Finds S.Store conn.old conn.new result
+    ensures { Gets S.Store conn.old conn.new result
         (λ T. has_release_in T name.now release.now) }
 {
     if has_usual_file(alloc, conn, name, release, b".tar.gz")? {
@@ -114,7 +114,7 @@ fn has_any_file<S: Alter>(
     name: &NormalName,
     release: &Release,
 ) -> Result<bool, Fault>
-    ensures { Finds S.Store conn.old conn.new result (λ T. has_release_in T name.now release.now) }
+    ensures { Gets S.Store conn.old conn.new result (λ T. has_release_in T name.now release.now) }
 {
     let rows = look(conn, SELECT_RELEASE, params![name.text(), release.text()])?;
     Ok(has_row(rows.as_slice()))

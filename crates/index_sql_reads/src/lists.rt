@@ -2,7 +2,7 @@
 ghost use Rattle.std.specs.Prelude.{◌≡◌};
 ghost use Rattle.index_rules.specs.Tables.{owners_in};
 ghost use Rattle.index_rules.specs.TableRows.{file_rows_in, name_rows_in};
-ghost use Rattle.index_sql_reads.specs.Finds.{FindsInTables, Finds};
+ghost use Rattle.index_sql_reads.specs.Finds.{FindsInTables, Gets};
 
 use crate::from_row::each;
 use index_names::NormalName;
@@ -22,7 +22,7 @@ pub fn owners_of<S: Alter>(
     conn: &mut IndexConnection<S>,
     name: &NormalName,
 ) -> Result<Owners, Fault>
-    ensures { Finds S.Store conn.old conn.new result (λ T. owners_in T name.now) }
+    ensures { Gets S.Store conn.old conn.new result (λ T. owners_in T name.now) }
 {
     let rows = look(conn, SELECT_OWNERS, params![name.text()])?;
     Ok(Owners::new(each(alloc, rows.as_slice())?))

@@ -1,6 +1,6 @@
 //! Look-ups of names.
 ghost use Rattle.std.specs.FinMap.{get};
-ghost use Rattle.index_sql_reads.specs.Finds.{Finds};
+ghost use Rattle.index_sql_reads.specs.Finds.{Gets};
 
 use crate::from_row::first;
 use index_names::NormalName;
@@ -16,7 +16,7 @@ pub(crate) fn find_name<S: Alter>(
     conn: &mut IndexConnection<S>,
     name: &NormalName,
 ) -> Result<Option<NameRecord>, Fault>
-    ensures { Finds S.Store conn.old conn.new result (λ T. get T.names name.now) }
+    ensures { Gets S.Store conn.old conn.new result (λ T. get T.names name.now) }
 {
     let rows = look(conn, SELECT_NAME, params![name.text()])?;
     first(alloc, rows.as_slice())
@@ -28,7 +28,7 @@ pub(crate) fn find_case<S: Alter>(
     conn: &mut IndexConnection<S>,
     name: &NormalName,
 ) -> Result<Option<CaseRecord>, Fault>
-    ensures { Finds S.Store conn.old conn.new result (λ T. get T.cases name.now) }
+    ensures { Gets S.Store conn.old conn.new result (λ T. get T.cases name.now) }
 {
     let rows = look(conn, SELECT_CASE, params![name.text()])?;
     first(alloc, rows.as_slice())

@@ -1,7 +1,7 @@
 //! Look-ups of users.
 ghost use Rattle.std.specs.FinMap.{get};
 ghost use Rattle.index_rules.specs.Facts.{IsBearer};
-ghost use Rattle.index_sql_reads.specs.Finds.{FindsInTables, Finds};
+ghost use Rattle.index_sql_reads.specs.Finds.{FindsInTables, Gets};
 
 use crate::from_row::first;
 use index_digest::Digest256;
@@ -17,7 +17,7 @@ pub(crate) fn find_user<S: Alter>(
     conn: &mut IndexConnection<S>,
     user: &UserId,
 ) -> Result<Option<UserRecord>, Fault>
-    ensures { Finds S.Store conn.old conn.new result (λ T. get T.users user.now) }
+    ensures { Gets S.Store conn.old conn.new result (λ T. get T.users user.now) }
 {
     let rows = look(conn, SELECT_USER, params![user.text()])?;
     first(alloc, rows.as_slice())

@@ -1,6 +1,6 @@
 //! The walks over the tables.
 ghost use Rattle.index_rules.specs.TableRows.{file_rows_in, held_rows_in};
-ghost use Rattle.index_sql_reads.specs.WalkReasons.{WalksTables};
+ghost use Rattle.index_sql_reads.specs.WalkReasons.{HandsRows};
 
 use crate::hand::{Files, Names};
 use crate::rows::walk;
@@ -23,7 +23,7 @@ pub fn walk_held<S: Alter, K: NameTaker>(
     conn: &mut IndexConnection<S>,
     taker: &mut K,
 ) -> Result<(), WalkEnd>
-    ensures { WalksTables S.Store K.takes K.stops held_rows_in
+    ensures { HandsRows S.Store K.takes K.stops held_rows_in
         conn.old conn.new taker.old taker.new result }
 {
     walk::<S, K, Names>(alloc, conn, SELECT_HELD, &[], taker)
@@ -43,7 +43,7 @@ pub fn walk_files<S: Alter, K: FileTaker>(
     name: &NormalName,
     taker: &mut K,
 ) -> Result<(), WalkEnd>
-    ensures { WalksTables S.Store K.takes K.stops (λ T. file_rows_in T name.now)
+    ensures { HandsRows S.Store K.takes K.stops (λ T. file_rows_in T name.now)
         conn.old conn.new taker.old taker.new result }
 {
     walk::<S, K, Files>(alloc, conn, SELECT_FILES, params![name.text()], taker)

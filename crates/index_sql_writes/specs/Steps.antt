@@ -26,8 +26,8 @@ pub record TakesStep {S A : Type 0} (g : Ghosts S) (change : Tables → Tables) 
   pub asked : GoesByAsk g ask old.now new.now result
 
 -- this step
-abbrev pub Takes : {S A : Type 0} → Ghosts S → Step → MutBor (Held S) → MutBor (Held S) → Result A Error → Type 0
-Takes g step = TakesStep g (step_by step) (step_ask step)
+abbrev pub RunsStep : {S A : Type 0} → Ghosts S → Step → MutBor (Held S) → MutBor (Held S) → Result A Error → Type 0
+RunsStep g step = TakesStep g (step_by step) (step_ask step)
 
 -- one that puts this
 abbrev pub TakesPut : {S A : Type 0} → Ghosts S → Put → MutBor (Held S) → MutBor (Held S) → Result A Error → Type 0

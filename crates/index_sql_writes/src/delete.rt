@@ -1,6 +1,6 @@
 //! Statements that take rows out, and the one that marks files as deleted. Where there is no such row, that is no
 //! error.
-ghost use Rattle.index_sql_writes.specs.Steps.{Takes, TakesDeletion};
+ghost use Rattle.index_sql_writes.specs.Steps.{RunsStep, TakesDeletion};
 ghost use Rattle.index_sql_writes.specs.declared.step.Deletion.{Deletion};
 ghost use Rattle.index_sql_writes.specs.declared.step.Step.{Step};
 
@@ -72,7 +72,7 @@ pub(crate) fn delete_body<S: Alter>(tx: &mut Transaction<'_, S>, file: &str) -> 
 
 /// Each file of the name is deleted.
 pub(crate) fn mark_files<S: Alter>(tx: &mut Transaction<'_, S>, name: &str) -> Result<(), Error>
-    ensures { Takes S.Store (Step.MarkFiles name.entry) tx.old.conn tx.new.conn result }
+    ensures { RunsStep S.Store (Step.MarkFiles name.entry) tx.old.conn tx.new.conn result }
 {
     run_statement(tx, UPDATE_FILES, params![name])
 }

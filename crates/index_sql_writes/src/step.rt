@@ -2,7 +2,7 @@
 ghost use Rattle.std.specs.Prelude.{◌<◌, length};
 ghost use Rattle.index_sql_writes.specs.Transaction.{WasOpenIfOk};
 ghost use Rattle.index_sql_writes.specs.Asks.{AnswersAll, CanAsk};
-ghost use Rattle.index_sql_writes.specs.Steps.{ChangesIndex, Takes, TakesDeletion, TakesPut};
+ghost use Rattle.index_sql_writes.specs.Steps.{ChangesIndex, RunsStep, TakesDeletion, TakesPut};
 ghost use Rattle.index_sql_writes.specs.StepAsks.{asks_by};
 ghost use Rattle.index_sql_writes.specs.Changed.{all_of};
 
@@ -107,7 +107,7 @@ fn take_deletion<S: Alter>(tx: &mut Transaction<'_, S>, deletion: Deletion<'_>) 
 
 /// Takes one step.
 fn take_step<S: Alter>(tx: &mut Transaction<'_, S>, step: &Step<'_>) -> Result<(), Error>
-    ensures { Takes S.Store step.now tx.old.conn tx.new.conn result }
+    ensures { RunsStep S.Store step.now tx.old.conn tx.new.conn result }
 {
     match *step {
         Step::Put(put) => take_put(tx, put),

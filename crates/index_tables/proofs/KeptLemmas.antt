@@ -11,7 +11,7 @@ use Rattle.index_rules.specs.declared.rows.WalkEnd.{WalkEnd}
 use Rattle.index_rules.specs.Tables.{Tables}
 use Rattle.index_rules.specs.Walks.{has_fault}
 use Rattle.index_sql_reads.specs.Finds.{FindsInTables}
-use Rattle.index_sql_reads.specs.WalkReasons.{WalksTables}
+use Rattle.index_sql_reads.specs.WalkReasons.{HandsRows}
 use Rattle.index_sql_schema.specs.Index.{IsIndex, version_in}
 use Rattle.index_sql_schema.specs.RecordRows.{AreRecords}
 use Rattle.index_sql_schema.specs.Records.{tables_in}
@@ -73,7 +73,7 @@ finds g old new result Has it counted = record {
 }
 
 pub walks : {S K R A : Type 0} (g : Ghosts S) (takes stops : K → R → K → Type 0) (rows_in : Tables → List R) (old new : BooksState S) (before after : K) (result : Result A WalkEnd)
-    → WalksTables g takes stops rows_in old.conn new.conn before after result → new.failures ≡ next_count old.failures (not (has_fault result)) → WalksBooks g takes stops rows_in old new before after result
+    → HandsRows g takes stops rows_in old.conn new.conn before after result → new.failures ≡ next_count old.failures (not (has_fault result)) → WalksBooks g takes stops rows_in old new before after result
 walks g takes stops rows_in old new before after result it counted = record {
   walked = λ honest. it.walked;
   given = it.given;

@@ -20,8 +20,8 @@ module _ {S : Type 0} (g : Ghosts S) where
   Calls = calls.Calls (λ kept. IsHonest (state g kept.conn)) (λ kept. HasCleanDisk (state g kept.conn)) (λ kept. kept.failures)
 
   -- and of each look
-  abbrev pub Looks : (old new : BooksState S) (succeeds : Bool) → Type 0
-  Looks = calls.LooksUp (λ kept. tables_of g kept.conn) (λ kept. IsHonest (state g kept.conn)) (λ kept. HasCleanDisk (state g kept.conn)) (λ kept. Leaves (state g kept.conn)) (λ kept. kept.failures)
+  abbrev pub LooksOrFails : (old new : BooksState S) (succeeds : Bool) → Type 0
+  LooksOrFails = calls.LooksUp (λ kept. tables_of g kept.conn) (λ kept. IsHonest (state g kept.conn)) (λ kept. HasCleanDisk (state g kept.conn)) (λ kept. Leaves (state g kept.conn)) (λ kept. kept.failures)
 
   -- the rows of its tables stay records
   abbrev pub KeepsRecords : (old new : BooksState S) → Type 0
@@ -29,7 +29,7 @@ module _ {S : Type 0} (g : Ghosts S) where
 
   -- a look, where they do so too
   pub record LooksUp (old new : BooksState S) (succeeds : Bool) : Type 0 where
-    pub looks : Looks old new succeeds
+    pub looks : LooksOrFails old new succeeds
     pub records : KeepsRecords old new
 
   -- a look that finds this of the tables of an honest store, and fails only for a reason

@@ -10,7 +10,7 @@ use Rattle.index_words.specs.declared.job.Job.TheVariants as job
 use Rattle.index_words.specs.Program.{index_app}
 
 -- what was found is so, and where something is so it is found
-pub record Finds {A : Type 0} (P : A → Type 0) (result : Option A) : Type 0 where
+pub record FindsExactly {A : Type 0} (P : A → Type 0) (result : Option A) : Type 0 where
   pub is : IfSome result P
   pub found : (x : A) → P x → IsSome result
 

@@ -3,7 +3,7 @@ ghost use Rattle.std.specs.Prelude.{◌≡◌, ◌≤◌, ◌<◌, ◌^◌, [], 
 ghost use Rattle.std.specs.Prelude.{codes, map, option_map, string_bytes, IfErr, IfOk, IsOk};
 ghost use Rattle.clap.specs.Words.{first_of, subcommand_rows_of};
 ghost use Rattle.index_words.specs.Program.{index_app, IsApp};
-ghost use Rattle.index_words.specs.Jobs.{Finds, HasNumberOrNone, IsJob, IsDecimalText, rows_entered, rows_in};
+ghost use Rattle.index_words.specs.Jobs.{FindsExactly, HasNumberOrNone, IsJob, IsDecimalText, rows_entered, rows_in};
 ghost use Rattle.index_words.specs.Refusals.{ReadsJob};
 
 use crate::command;
@@ -112,7 +112,7 @@ fn job_in<'a>(command: &mut Command<'a>, words: &'a [String]) -> Result<Job<'a>,
 }
 
 fn job_of<'a>(matches: &ArgMatches<'a>) -> Option<Job<'a>>
-    ensures { Finds (IsJob (subcommand_rows_of matches.now)) result }
+    ensures { FindsExactly (IsJob (subcommand_rows_of matches.now)) result }
 {
     match entered_subcommand(matches)? {
         ("init", given) => init_of(given),
@@ -133,7 +133,7 @@ fn entered_subcommand<'m, 'a>(matches: &'m ArgMatches<'a>) -> Option<(&'a str, &
 
 /// The job of the subcommand `init` with these options.
 fn init_of<'a>(given: &ArgMatches<'a>) -> Option<Job<'a>>
-    ensures { Finds (IsJob (Some (codes "init", rows_in given.now))) result }
+    ensures { FindsExactly (IsJob (Some (codes "init", rows_in given.now))) result }
 {
     let db = text(given, "db")?;
     let user = text(given, "user")?;
@@ -151,7 +151,7 @@ fn apply_of<'a>(given: &ArgMatches<'a>) -> Job<'a>
 
 /// The job of the subcommand `report` with these options.
 fn report_of<'a>(given: &ArgMatches<'a>) -> Option<Job<'a>>
-    ensures { Finds (IsJob (Some (codes "report", rows_in given.now))) result }
+    ensures { FindsExactly (IsJob (Some (codes "report", rows_in given.now))) result }
 {
     let db = text(given, "db")?;
     Some(Job::Report { db })
@@ -159,7 +159,7 @@ fn report_of<'a>(given: &ArgMatches<'a>) -> Option<Job<'a>>
 
 /// The job of the subcommand `check` with these options.
 fn check_of<'a>(given: &ArgMatches<'a>) -> Option<Job<'a>>
-    ensures { Finds (IsJob (Some (codes "check", rows_in given.now))) result }
+    ensures { FindsExactly (IsJob (Some (codes "check", rows_in given.now))) result }
 {
     let db = text(given, "db")?;
     Some(Job::Check { db })
@@ -167,7 +167,7 @@ fn check_of<'a>(given: &ArgMatches<'a>) -> Option<Job<'a>>
 
 /// The job of the subcommand `serve` with these options.
 fn serve_of<'a>(given: &ArgMatches<'a>) -> Option<Job<'a>>
-    ensures { Finds (IsJob (Some (codes "serve", rows_in given.now))) result }
+    ensures { FindsExactly (IsJob (Some (codes "serve", rows_in given.now))) result }
 {
     let db = text(given, "db")?;
     let listen = text(given, "listen")?;
@@ -192,7 +192,7 @@ fn text<'a>(given: &ArgMatches<'a>, id: &str) -> Option<&'a str>
 
 /// The number of an option, or that it is not given.
 fn number_or_none(given: &ArgMatches<'_>, id: &str) -> Option<Option<u64>>
-    ensures { Finds (HasNumberOrNone id.now (rows_in given.now)) result }
+    ensures { FindsExactly (HasNumberOrNone id.now (rows_in given.now)) result }
 {
     match text(given, id) {
         Some(text) => Some(Some(number(text)?)),
@@ -202,7 +202,7 @@ fn number_or_none(given: &ArgMatches<'_>, id: &str) -> Option<Option<u64>>
 
 /// A count of connections.
 fn count(text: &str) -> Option<u32>
-    ensures { Finds (λ n. IsDecimalText n text.now × (1 ≤ n) × (n ≤ 1000000)) result }
+    ensures { FindsExactly (λ n. IsDecimalText n text.now × (1 ≤ n) × (n ≤ 1000000)) result }
 {
     let count = number(text)?;
     if count == 0 || count > 1_000_000 {
@@ -213,7 +213,7 @@ fn count(text: &str) -> Option<u32>
 
 /// The number that a text is.
 fn number(text: &str) -> Option<u64>
-    ensures { Finds (λ n. IsDecimalText n text.now × (n < 2 ^ 64)) result }
+    ensures { FindsExactly (λ n. IsDecimalText n text.now × (n < 2 ^ 64)) result }
 {
     text.parse::<u64>().ok()
 }
