@@ -1,5 +1,5 @@
 -- Why the database failed, by what is known of it.
-use Rattle.std.specs.Prelude.{ℕ, Bool, true, false, ◌==◌, ◌&&◌, not, List, Option, Some, None, Result, Ok, Err, codes, find, option_map, if◌then◌else◌}
+use Rattle.std.specs.Prelude.{ℕ, Bool, true, false, ◌==◌, ◌&&◌, not, List, Option, Some, None, codes, find, option_map, if◌then◌else◌}
 use Rattle.std.specs.List.{list_any, starts_with}
 use Rattle.std.specs.declared.io.ErrorKind.{ErrorKind}
 use Rattle.std.specs.declared.io.ErrorKind.TheVariants as kind
@@ -29,13 +29,6 @@ is_store _ = false
 abbrev pub cause_in : End → Option Cause
 cause_in (end.Store cause) = cause
 cause_in _ = None
-
--- What came of work, by its end and by that of closing. Where the database failed in both, the end of closing has the
--- cause.
-abbrev pub ended_by : Result ℕ End → Result (Unit {0}) End → Result ℕ End
-ended_by done (Ok closed) = done
-ended_by (Ok count) (Err fault) = Err fault
-ended_by (Err e) (Err fault) = if is_store e && is_store fault then Err fault else Err e
 
 -- an error of SQLite
 abbrev pub cause_of_error : Error → Option Cause

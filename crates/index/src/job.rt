@@ -1,10 +1,10 @@
 //! The program's subcommands.
-ghost use Rattle.std.specs.Prelude.{◌≡◌, ◌↔◌, IfOk, codes};
+ghost use Rattle.std.specs.Prelude.{◌≡◌, ◌↔◌, Err, IfErr, IfOk, IsOk, IsTrue, codes, false};
 ghost use Rattle.std.specs.Process.{exit_status};
 ghost use Rattle.index_digest.specs.Digest.{sha256};
 ghost use Rattle.index_rules.specs.FirstTables.{first_tables};
 ghost use Rattle.index_rules.specs.Tables.{Tables};
-ghost use Rattle.index.specs.Causes.{ended_by};
+ghost use Rattle.index.specs.Causes.{is_store};
 
 use crate::database::{self, Work};
 use crate::end::End;
@@ -73,7 +73,13 @@ fn work_on<S: Start, W: Work>(
 
 /// What came of work, where it is as well closed. A database that failed in the work tells the cause as it is closed.
 fn ended_by(end: Result<u64, End>, closed: Result<(), End>) -> Result<u64, End>
-    ensures { result ≡ ended_by end closed }
+    ensures closed { IsOk closed → result ≡ end }
+    ensures ended { IfErr end (λ e. is_store e ≡ false → result ≡ Err e) }
+    ensures unclosed { IfErr closed (λ fault. IfOk end (λ _. result ≡ Err fault)) }
+    ensures failed { IfErr end (λ e. IsTrue (is_store e)
+        → IfErr closed (λ fault. IsTrue (is_store fault) → result ≡ Err fault)) }
+    ensures kept { IfErr end (λ e.
+        IfErr closed (λ fault. is_store fault ≡ false → result ≡ Err e)) }
 {
     let Err(fault) = closed else {
         return end;
