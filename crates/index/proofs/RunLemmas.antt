@@ -36,7 +36,8 @@ use Rattle.index_tables.specs.Adopted.{IsCommitted, IsCurrent, IsFound}
 use Rattle.index_tables.specs.BooksState.{IsWorking}
 use Rattle.index_tables.specs.Opened.{IsRefusedAs, IsTaken}
 use Rattle.index_tables.specs.declared.opening.Unopened.{Unopened}
-use Rattle.index.specs.Runs.{Began, Created, Holds, HoldsOnly, Interrupted, HoldsCurrent, HoldsAfterCrash, LeavesAsWas, LeavesOfShut, Ran, Refused, Worked}
+use Rattle.index.specs.Openings.{HoldsOnly, LeavesOfShut, Refused}
+use Rattle.index.specs.Runs.{Began, Created, Holds, Interrupted, HoldsCurrent, HoldsAfterCrash, LeavesAsWas, Ran, Worked}
 
 -- an index of today is found as it is, and never as one of version 1
 same_found : (db other : Database) (T found : Tables) → IsCurrent db T → IsFound other found → other.trees ≡ db.trees → found ≡ T

@@ -1,6 +1,7 @@
 -- Why the database failed, by what is known of it.
-use Rattle.std.specs.Prelude.{ℕ, Bool, true, false, ◌==◌, ◌&&◌, not, List, Option, Some, None, codes, find, option_map, if◌then◌else◌}
+use Rattle.std.specs.Prelude.{◌≡◌, ◌⊎◌, ℕ, Bool, true, false, ◌==◌, ◌&&◌, not, List, Option, Some, None, codes, find, option_map, if◌then◌else◌, string_bytes}
 use Rattle.std.specs.List.{list_any, starts_with}
+use Rattle.std.specs.Str.Lossy.{utf8_lossy}
 use Rattle.std.specs.declared.io.ErrorKind.{ErrorKind}
 use Rattle.std.specs.declared.io.ErrorKind.TheVariants as kind
 use Rattle.sqlite.specs.declared.error.Error.{Error}
@@ -12,7 +13,8 @@ use Rattle.sqlite_schema.specs.declared.schema.Schema.{Schema}
 use Rattle.sqlite_schema.specs.declared.schema.Table.{Table}
 use Rattle.index_cli.specs.declared.end.ServeEnd.TheVariants as serve_end
 use Rattle.index_rules.specs.declared.open.OpenFault.TheVariants as open_fault
-use Rattle.index_sql_schema.specs.Schema.{index_schema}
+use Rattle.index_sql_schema.specs.FirstVersion.{first_version_schema}
+use Rattle.index_sql_schema.specs.Schema.{index_schema, no_schema}
 use Rattle.index.specs.declared.cause.Cause.{Cause}
 use Rattle.index.specs.declared.cause.Cause.TheVariants as cause
 use Rattle.index.specs.declared.end.End.{End}
@@ -25,7 +27,13 @@ is_store (end.Open open_fault.Store) = true
 is_store (end.Connections serve_end.Store) = true
 is_store _ = false
 
--- and for this cause, where it is known
+-- or memory was wanting
+abbrev pub is_fault : End → Bool
+is_fault end.OutOfMemory = true
+is_fault (end.Open open_fault.OutOfMemory) = true
+is_fault end = is_store end
+
+-- the cause for which it failed, where that is known
 abbrev pub cause_in : End → Option Cause
 cause_in (end.Store cause) = cause
 cause_in _ = None
@@ -88,3 +96,11 @@ abbrev pub other_object : Schema → Option (List ℕ)
 other_object schema =
     or_else (option_map (λ table. table.name) (find (λ table. is_other table.name) schema.tables))
     (or_else (option_map (λ index. index.name) (find (λ index. is_other index.name) schema.indexes)) (option_map (λ view. view.name) (find (λ view. is_other view.name) schema.views)))
+
+-- the schema of nothing, of an index, or of one of version 1
+abbrev pub IsKnown : Schema → Type 0
+IsKnown schema = (schema ≡ no_schema) ⊎ ((schema ≡ index_schema) ⊎ (schema ≡ first_version_schema))
+
+-- an object of this name, as text
+abbrev pub IsObject : List ℕ → Option Cause → Type 0
+IsObject name told = (text : _) × (told ≡ Some (cause.Object text)) × (string_bytes text ≡ utf8_lossy name)

@@ -1,3 +1,4 @@
 pub mod Causes
 pub mod Printed
+pub mod Openings
 pub mod Runs

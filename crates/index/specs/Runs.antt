@@ -3,23 +3,16 @@
 use Rattle.std.specs.Prelude.{◌≡◌, ◌⊎◌, ◌≤◌, ℕ, false, IsTrue, List, Option, Result, Ok, Err, IfOk, IfErr, IfSome}
 use Rattle.sqlite.specs.Closing.{HoldsAlone}
 use Rattle.sqlite.specs.Effect.{Database}
-use Rattle.sqlite.specs.FileStore.{recovers}
 use Rattle.sqlite.specs.declared.FileStore.{FileStore}
-use Rattle.sqlite.specs.Files.{AreFoundIn, HoldsDatabase, IsCleanLeft, IsEmpty, IsNothing, IsOpened, file_state, image_of, over_files}
-use Rattle.sqlite.specs.Held.{Held}
-use Rattle.sqlite.specs.Start.{FindsIn}
+use Rattle.sqlite.specs.Files.{image_of, over_files}
 use Rattle.sqlite.specs.WalReads.{AreClean}
 use Rattle.sqlite_trees.specs.View.{IsClean}
-use Rattle.sqlite.specs.declared.file.Leftover.{Leftover}
-use Rattle.sqlite.specs.declared.file.Leftover.TheVariants as leftover
 use Rattle.sqlite.specs.Recovery.{Image}
 use Rattle.sqlite.specs.State.{HasCleanDisk, State}
 use Rattle.sqlite.specs.Tree.{Trees}
 use Rattle.sqlite.specs.WalFiles.{outcomes}
 use Rattle.sqlite_disk.specs.declared.Disk.{Ghosts}
 use Rattle.sqlite_disk.specs.declared.Files.{Files}
-use Rattle.sqlite_pool.specs.Stored.{StandsAs}
-use Rattle.sqlite_store.specs.Unopened.{state_of}
 use Rattle.index_sql_opening.specs.Names.{has_any_of}
 use Rattle.index_cli.specs.declared.end.LineEnd.{LineEnd}
 use Rattle.index_cli.specs.Ends.{EndsRun}
@@ -38,19 +31,15 @@ use Rattle.index_rules.specs.StandsFor.{StandsFor}
 use Rattle.index_rules.specs.Tables.{Tables}
 use Rattle.index_sql_schema.specs.Records.{tables_in}
 use Rattle.index_sql_schema.specs.Schema.{index_schema}
-use Rattle.index_tables.specs.Adopted.{IsCommitted, IsCurrent, IsFound, IsRaised}
+use Rattle.index_tables.specs.Adopted.{IsCommitted, IsCurrent, IsFound}
 use Rattle.index_tables.specs.BooksState.{AreCurrent, IsWorking}
 use Rattle.index.specs.declared.database.Left.{Left}
-use Rattle.index.specs.declared.database.Left.TheVariants as unused
 use Rattle.index.specs.declared.end.End.{End}
 use Rattle.index.specs.declared.end.End.TheVariants as end
+use Rattle.index_tables.specs.Adopted.{IsReason}
+use Rattle.index.specs.Openings.{HoldsOnly, IsUnfound, IsWhy, LeavesUnused}
 
 -- ---- two files
-
--- they recover to this database, and hold no other
-pub record HoldsOnly (image : Image) (db : Database) : Type 0 where
-  pub read : AreFoundIn image db.trees
-  pub alone : (other : Trees) → HoldsDatabase image other → db.trees ≡ other
 
 -- they hold an index with these tables, of this version or of version 1
 pub record Holds (image : Image) (T : Tables) : Type 0 where
@@ -98,59 +87,6 @@ pub record Created {D : Type 0} (g : Ghosts D) (T : Tables) (start : Image) (fil
   pub free : has_any_of db.schema index_schema.tables ≡ false
   pub left : HoldsAfterCrash g files T
 
--- ---- a run that is refused
-
--- they held a database that was refused: a crash leaves it as it was, or, where a fault has shut the connection, what was
--- made of it as a whole
-pub record Refused (Made : Database → Trees → Type 0) (start : Image) (now : State) : Type 0 where
-  pub db : Database
-  pub only : HoldsOnly start db
-  pub left : (found : Trees) → now.may_leave found → (found ≡ db.trees) ⊎ ((now.is_open ≡ false) × Made db found)
-
--- nothing was made of it
-abbrev pub MakesNothing : Database → Trees → Type 0
-MakesNothing was db = ⊥
-
--- no index was found in their database
-abbrev pub IsUnfound : Image → State → Type 0
-IsUnfound start now = HasCleanDisk now → Refused IsRaised start now
-
--- no index was made in their database, and no fault has shut the connection to it
-abbrev pub IsUnmade : Image → State → Type 0
-IsUnmade start now = IsTrue now.is_open → Refused MakesNothing start now
-
-module _ {D : Type 0} {g : Ghosts D} where
-  -- What a crash leaves of two files that can't be opened as a database. Before a write it is what they held. Where there
-  -- was no database, there is still none, or an empty one. Where there was one, its pages are those that it had. Once the
-  -- pages were read, an open finds what they held.
-  abbrev pub LeavesOfShut : Image → Leftover D g → Type 0
-  LeavesOfShut start (leftover.Files now) = (image : Image) → outcomes g now.log now.db image → image ≡ start
-  LeavesOfShut start (leftover.Unopened now) =
-      (image : Image) → (state_of now).may_leave image
-      → (image ≡ start) ⊎ ((IsNothing start × (IsNothing image ⊎ ∥ ((db : Trees) × HoldsDatabase image db × IsEmpty db) ∥₁))
-      ⊎ ((¬ IsNothing start) × (¬ IsNothing image) × StandsAs (state_of now).page_size start image))
-  LeavesOfShut start (leftover.Store now) =
-      (found : Trees) → recovers now found → AreFoundIn start found × ((db : Trees) → HoldsDatabase start db → found ≡ db)
-
-  -- that is what it leaves, where they have returned what was written
-  abbrev pub LeavesShut : Image → Leftover D g → Type 0
-  LeavesShut start left = IsCleanLeft left → LeavesOfShut start left
-
-  -- a crash leaves this of two files on which nothing was done
-  abbrev pub LeavesUnused : (Image → State → Type 0) → Image → Left D g → Type 0
-  LeavesUnused IsRefused start (unused.Shut left) = LeavesShut start left
-  LeavesUnused IsRefused start (unused.Refused left) = IsRefused start (file_state left.conn)
-
-  -- a connection was opened on files that held this, where its disk is clean
-  abbrev pub IsOpenedOn : Image → Held (FileStore D g) → Type 0
-  IsOpenedOn start conn = HasCleanDisk (file_state conn) → IsOpened conn × FindsIn start (file_state conn)
-
-  -- how the opening of files that held this ends
-  pub record EndsOpening (start : Image) (result : Result (Held (FileStore D g)) (End × Option (Leftover D g))) : Type 0 where
-    pub outside : IfOk result (λ conn. conn.in_transaction ≡ false)
-    pub opened : IfOk result (IsOpenedOn start)
-    pub shut : IfErr result (λ e. IfSome e.1 (LeavesShut start))
-
 -- ---- a run of work on the index in two files
 
 -- how it ends, by what the work does and what a crash may leave of it
@@ -162,6 +98,7 @@ pub record EndsRunOn {D : Type 0} (g : Ghosts D) (Does Leaves : Tables → Table
       → Interrupted (λ T T'. Leaves T T' done.1) start (over_files.recovers e.1)))
   -- what is refused is as it was, or an index of version 1 became one of today
   pub refused : IfErr result (λ e. IfSome e.1 (LeavesUnused IsUnfound start))
+  pub why : IfErr result (λ e. IsWhy (IsReason over_files) start e.0 e.1)
 
 -- ---- the same of a connection, before its files are known
 

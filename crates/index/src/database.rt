@@ -1,22 +1,22 @@
 //! The index in a database of SQLite: made or adopted, worked on, and closed.
-ghost use Rattle.std.specs.Prelude.{◌≡◌, false, not, ℕ, Result, None, Some, IfOk, IfErr, IfSome, IsErrOf, IsTrue, string_bytes};
-ghost use Rattle.std.specs.Str.Lossy.{utf8_lossy};
+ghost use Rattle.std.specs.Prelude.{◌≡◌, ◌↔◌, false, ℕ, Result, None, Some, IfOk, IfErr, IfSome, IsErrOf, IsTrue};
 ghost use Rattle.sqlite.specs.Closing.{IsCopied};
-ghost use Rattle.sqlite.specs.Files.{IsClosed};
+ghost use Rattle.sqlite.specs.Files.{IsClosed, over_files};
 ghost use Rattle.sqlite.specs.Held.{state};
 ghost use Rattle.sqlite.specs.Recovery.{Image};
 ghost use Rattle.sqlite.specs.State.{HasCleanDisk};
 ghost use Rattle.sqlite.specs.WalFiles.{image_at};
 ghost use Rattle.sqlite.specs.WalReads.{AreClean};
-ghost use Rattle.index_digest.specs.Digest.{is_digest_text, read_digest};
+ghost use Rattle.index_digest.specs.Digest.{read_digest};
 ghost use Rattle.index_rules.specs.Facts.{HasOneBearer};
 ghost use Rattle.index_rules.specs.FirstTables.{IsBadFirstUser, first_tables};
 ghost use Rattle.index_rules.specs.Tables.{Tables};
 ghost use Rattle.index_sql_schema.specs.Schema.{no_schema};
-ghost use Rattle.index_tables.specs.Adopted.{IsRaised};
+ghost use Rattle.index_tables.specs.Adopted.{IsRaised, IsReason};
 ghost use Rattle.index.specs.declared.end.End.{End as EndData};
-ghost use Rattle.index.specs.Causes.{is_store, other_object};
-ghost use Rattle.index.specs.Runs.{Created, EndsRunOn, EndsWork, IsMadeNew, IsOpenedOn, IsUnmade, LeavesAsWas, LeavesUnused, MakesNothing};
+ghost use Rattle.index.specs.Causes.{IsKnown, IsObject, is_fault, is_store, other_object};
+ghost use Rattle.index.specs.Openings.{AreBadFirst, IsOpenedOn, IsReasonOfNew, IsUnmade, IsWhy, LeavesUnused, MakesNothing};
+ghost use Rattle.index.specs.Runs.{Created, EndsRunOn, EndsWork, IsMadeNew, LeavesAsWas};
 
 use crate::cause::{Cause, cause_of_calls};
 use crate::end::End;
@@ -30,7 +30,7 @@ use index_sql_opening::{is_blank, is_first_version, is_ours};
 use index_tables::{SqlBooks, Unopened};
 use sqlite::{Alter, Connection, FileFrom, FileStore, Files, Leftover, Start};
 use sqlite_disk::Disk;
-use std::alloc::Global;
+use std::alloc::{AllocError, Global};
 
 /// What comes of closing: the files, or the fault for which the log was not copied, and the store that has it.
 pub type Closed<D> = Result<Files<D>, (End, FileStore<D>)>;
@@ -79,11 +79,12 @@ pub fn create<S: Start>(
     user: &str,
     token: &str,
 ) -> Result<Files<FileFrom<S>>, Unused<FileFrom<S>>>
-    ensures malformed { IsTrue (not (is_digest_text token.now))
-        → IsErrOf result (End.Open OpenFault.BadFirstUser, None) }
-    ensures bad_first_user { (digest : _) → read_digest token.now ≡ Some digest
-        → IsBadFirstUser user.now digest
-        → IsErrOf result (End.Open OpenFault.BadFirstUser, None) }
+    ensures bad_first_user { IsErrOf result (End.Open OpenFault.BadFirstUser, None)
+        ↔ AreBadFirst user.now token.now }
+    ensures why { (digest : _) → read_digest token.now ≡ Some digest
+        → (¬ IsBadFirstUser user.now digest)
+        → IfErr result (λ e. IsWhy (IsReasonOfNew user.now digest over_files)
+        (image_at S.Start) e.0 e.1) }
 
     // The files held nothing of an index, and hold the new one.
     ensures created { IfOk result (λ files. let g = ⟦<FileFrom<S> as Disk>⟧ in
@@ -139,6 +140,8 @@ fn create_and_close<D: Disk + Drop>(
         IsOpenedOn start conn → Created D.Disk (first_tables user.now token) start files) }
     ensures refused { IfErr result (λ e. IfSome e.1 (λ left. (start : Image) →
         IsOpenedOn start conn → LeavesUnused IsUnmade start left)) }
+    ensures why { IfErr result (λ e. (start : Image) → IsOpenedOn start conn →
+        IsWhy (IsReasonOfNew user.now token over_files) start e.0 e.1) }
 {
     match create_in(rt, conn, user, token) {
         Ok(conn) => match close(conn) {
@@ -180,6 +183,8 @@ fn create_in<S: Alter + Drop>(
         IsMadeNew (first_tables user.now token) (state S.Store conn) (state S.Store made)) }
     ensures refused { IfErr result (λ left. IsTrue (state S.Store left.conn).is_open
         → LeavesAsWas MakesNothing (state S.Store conn) (state S.Store left.conn)) }
+    ensures reason { IfErr result (λ left. HasCleanDisk (state S.Store left.conn)
+        → IsReasonOfNew user.now token S.Store conn left.conn left.why) }
 {
     match SqlBooks::create(rt.alloc(), conn, user.as_bytes(), token) {
         Ok(books) => Ok(books.into_connection()),
@@ -200,6 +205,8 @@ fn work_in<S: Alter + Drop, W: Work>(
         (state S.Store conn) (state S.Store done.0)) }
     ensures refused { IfErr result (λ left. HasCleanDisk (state S.Store left.conn)
         → LeavesAsWas IsRaised (state S.Store conn) (state S.Store left.conn)) }
+    ensures reason { IfErr result (λ left. HasCleanDisk (state S.Store left.conn)
+        → IsReason S.Store conn left.conn left.why) }
 {
     match SqlBooks::adopt(rt.alloc(), conn) {
         Ok(books) => {
@@ -214,9 +221,11 @@ fn work_in<S: Alter + Drop, W: Work>(
 /// Closes the database: the log of the last changes is copied into the file.
 ///
 /// `OutOfMemory` or `Store` where the copy fails. The changes are kept then too, by the log, which the store has.
+#[tactic(auto, using(crate::proofs::FaultLemmas::error_is_fault))]
 fn close<D: Disk + Drop>(conn: Connection<FileStore<D>>) -> Closed<D>
     ensures copied { IfOk result (λ it. AreClean D.Disk it.log it.db → IsCopied conn it) }
     ensures kept { IfErr result (λ e. IsClosed conn e.1) }
+    ensures fault { IfErr result (λ e. IsTrue (is_fault e.0)) }
 {
     match conn.close_files() {
         Ok(files) => Ok(files),
@@ -266,7 +275,7 @@ fn cause_of_refused<D: Disk + Drop>(
     alloc: Global,
     conn: Connection<FileStore<D>>,
 ) -> Option<Cause> {
-    let cause = cause_of_schema(alloc, &conn);
+    let cause = cause_of_schema(alloc, &conn).unwrap_or(None);
     let files = conn.into_store().close();
     if cause.is_some() {
         return cause;
@@ -274,22 +283,26 @@ fn cause_of_refused<D: Disk + Drop>(
     cause_of_calls(files.tally(), files.may_be_used())
 }
 
-/// Why a database was refused, where its schema tells that.
-fn cause_of_schema<S: Alter>(alloc: Global, conn: &Connection<S>) -> Option<Cause>
+/// Why a database was refused, where its schema tells that: by an object that no index has, or by tables that were not
+/// seen to be those of an index or of version 1.
+///
+/// `AllocError` for want of memory.
+fn cause_of_schema<S: Alter>(
+    alloc: Global,
+    conn: &Connection<S>,
+) -> Result<Option<Cause>, AllocError>
     ensures object { (name : _) → other_object (state S.Store conn.now).now.schema ≡ Some name
-        → IfSome result (λ cause. (text : _) × (cause ≡ Cause.Object text)
-        × (string_bytes text ≡ utf8_lossy name)) }
-    ensures blank { (state S.Store conn.now).now.schema ≡ no_schema → result ≡ None }
+        → IfOk result (IsObject name) }
+    ensures blank { (state S.Store conn.now).now.schema ≡ no_schema
+        → IfOk result (λ cause. cause ≡ None) }
+    ensures tables { IfOk result (λ cause. cause ≡ None
+        → IsKnown (state S.Store conn.now).now.schema) }
 {
-    match other_object(conn.schema()) {
-        Some(name) => match String::from_utf8_lossy(alloc, name) {
-            Ok(name) => Some(Cause::Object(name)),
-            Err(_) => None,
-        },
-        None if is_blank(conn) => None,
-        None => match (is_ours(alloc, conn), is_first_version(alloc, conn)) {
-            (Ok(false), Ok(false)) => Some(Cause::OtherTables),
-            _ => None,
-        },
+    if let Some(name) = other_object(conn.schema()) {
+        return Ok(Some(Cause::Object(String::from_utf8_lossy(alloc, name)?)));
     }
+    if is_blank(conn) || is_ours(alloc, conn)? || is_first_version(alloc, conn)? {
+        return Ok(None);
+    }
+    Ok(Some(Cause::OtherTables))
 }

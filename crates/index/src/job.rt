@@ -1,8 +1,8 @@
 //! The program's subcommands.
-ghost use Rattle.std.specs.Prelude.{◌≡◌, ◌↔◌, Err, IfErr, IfOk, IsOk, IsTrue, codes, false};
+ghost use Rattle.std.specs.Prelude.{◌≡◌, ◌↔◌, ◌⊎◌, Err, IfErr, IfOk, IsOk, IsTrue, codes, false};
 ghost use Rattle.std.specs.Process.{exit_status};
 ghost use Rattle.index_digest.specs.Digest.{sha256};
-ghost use Rattle.index_rules.specs.FirstTables.{first_tables};
+ghost use Rattle.index_rules.specs.FirstTables.{RefusesBadFirstUser, first_tables};
 ghost use Rattle.index_rules.specs.Tables.{Tables};
 ghost use Rattle.index.specs.Causes.{is_store};
 
@@ -94,6 +94,9 @@ fn ended_by(end: Result<u64, End>, closed: Result<(), End>) -> Result<u64, End>
 fn work_in_memory<W: Work>(rt: &HostRuntime, work: &mut W) -> Result<Result<u64, End>, OpenFault>
     ensures worked { let first = first_tables (codes "office") (sha256 (codes "office")) in
         IfOk result (λ end. (T : Tables) × W.does work.old work.new first T end) }
+    ensures bad_first_user { RefusesBadFirstUser (codes "office") (sha256 (codes "office")) result }
+    ensures fault { IfErr result (λ why.
+        (why ≡ OpenFault.BadFirstUser) ⊎ (why ≡ OpenFault.OutOfMemory)) }
 {
     let books = PlainBooks::new(rt.alloc(), b"office", Digest256::of(b"office"))?;
     let mut desk = Desk::new(Recent::new(rt.alloc(), books, work.keep_recent()));

@@ -1,10 +1,9 @@
 //! The opening of a database file, and the token of the first user of a new index.
-ghost use Rattle.std.specs.Prelude.{◌≡◌, ◌≢◌, not, Some, IfOk, IsErrOf, IsTrue};
+ghost use Rattle.std.specs.Prelude.{◌≡◌, ◌≢◌, ◌↔◌, ◌⊎◌, Some, IfErr, IfOk, IsErrOf, IsTrue};
 ghost use Rattle.sqlite.specs.WalFiles.{image_at};
-ghost use Rattle.index_digest.specs.Digest.{is_digest_text, read_digest};
-ghost use Rattle.index_rules.specs.FirstTables.{IsBadFirstUser};
-ghost use Rattle.index.specs.Causes.{end_of_error, is_store};
-ghost use Rattle.index.specs.Runs.{EndsOpening};
+ghost use Rattle.index_digest.specs.Digest.{read_digest};
+ghost use Rattle.index.specs.Causes.{end_of_error, is_fault, is_store};
+ghost use Rattle.index.specs.Openings.{AreBadFirst, EndsOpening};
 
 use crate::cause::Cause;
 use crate::end::End;
@@ -31,7 +30,9 @@ pub fn open<S: Start>(
 }
 
 /// The end that an error is of a database that could not be opened. What is found at its path may tell the cause.
+#[tactic(auto, using(crate::proofs::FaultLemmas::error_is_fault))]
 fn unopened(rt: &HostRuntime, path: &str, error: Error) -> End
+    ensures fault { IsTrue (is_fault result) }
     ensures told { error ≢ Error.SqliteFailure ErrorCode.CannotOpen → result ≡ end_of_error error }
     ensures store { error ≡ Error.SqliteFailure ErrorCode.CannotOpen → IsTrue (is_store result) }
 {
@@ -56,12 +57,14 @@ pub fn open_there<S: Start>(
 }
 
 /// The digest of the first user's token by its hex digits, where this user may be the first.
+///
+/// `BadFirstUser` exactly where the digits are malformed or the two can't be the first, else `OutOfMemory`.
 pub fn first_token(alloc: Global, user: &str, token: &str) -> Result<Digest256, OpenFault>
     ensures read { IfOk result (λ digest. read_digest token.now ≡ Some digest) }
-    ensures malformed { IsTrue (not (is_digest_text token.now))
-        → IsErrOf result OpenFault.BadFirstUser }
-    ensures bad_first_user { (digest : _) → read_digest token.now ≡ Some digest
-        → IsBadFirstUser user.now digest → IsErrOf result OpenFault.BadFirstUser }
+    ensures bad_first_user { IsErrOf result OpenFault.BadFirstUser
+        ↔ AreBadFirst user.now token.now }
+    ensures fault { IfErr result (λ why.
+        (why ≡ OpenFault.BadFirstUser) ⊎ (why ≡ OpenFault.OutOfMemory)) }
 {
     let Some(digest) = Digest256::read_hex(token.as_bytes()) else {
         return Err(OpenFault::BadFirstUser);

@@ -1,14 +1,23 @@
-use Rattle.std.proofs.Common.{ap, true≢false}
-use Rattle.std.specs.Prelude.{IsErrOf, is_ok}
+use Rattle.std.proofs.Common.{◌≡◌, IfErr, ap, rules, subst, sym, true≢false}
+use Rattle.std.specs.Prelude.{is_ok}
 use Rattle.std.proofs.lemmas.Option.{IfSome_then}
 use Rattle.std.proofs.lemmas.Result.{IfErr-weaker, IfOk-weaker}
-use Rattle.index_rules.specs.declared.open.OpenFault.TheVariants.{BadFirstUser}
+use Rattle.sqlite.specs.Files.{over_files}
+use Rattle.sqlite.specs.WalFiles.{image_at}
+use Rattle.index.specs.Openings.{IsReasonOfNew, IsWhy}
 use Rattle.index.proofs.database.create.Goals as goal
 
 pub returns-in-Ok-open-clause-bad_first_user : goal.returns-in-Ok-open-clause-bad_first_user
-returns-in-Ok-open-clause-bad_first_user g c = λ digest read bad.
-    let refused : IsErrOf c.first_token.result BadFirstUser = c.first_token.ensures.bad_first_user digest read bad in
-    absurd (true≢false (ap is_ok (rw c.in-Ok.is at refused)))
+returns-in-Ok-open-clause-bad_first_user g c = (
+  (λ refused. absurd (true≢false (sym ((rw refused at c.create_and_close.ensures.why) _ c.in-Ok-open.ensures.ends.opened)))),
+  (λ bad. absurd (true≢false (ap is_ok (c.in-Ok.ensures.bad_first_user.1 bad)))),
+)
+
+pub returns-in-Ok-open-clause-why : goal.returns-in-Ok-open-clause-why
+returns-in-Ok-open-clause-why g c = λ digest read fine.
+    let same : c.in-Ok.token ≡ digest = search rules in
+    subst (λ token. IfErr c.create_and_close.result (λ e. IsWhy (IsReasonOfNew c.args.user.now token over_files) (image_at g.S.Start) e.0 e.1)) same
+    (IfErr-weaker c.create_and_close.result _ _ (λ e why. why _ c.in-Ok-open.ensures.ends.opened) c.create_and_close.ensures.why)
 
 pub returns-in-Ok-open-clause-created : goal.returns-in-Ok-open-clause-created
 returns-in-Ok-open-clause-created g c =

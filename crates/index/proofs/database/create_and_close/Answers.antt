@@ -1,4 +1,5 @@
-use Rattle.index.specs.Runs.{MakesNothing}
+use Rattle.std.proofs.Common.{refl}
+use Rattle.index.specs.Openings.{MakesNothing}
 use Rattle.index.proofs.RunLemmas.{created_by, refused_by, working_of}
 use Rattle.index.proofs.database.create_and_close.Goals as goal
 
@@ -16,3 +17,6 @@ returns-in-Err-clause-refused g c = λ start first is_open.
     let leaves = c.in-Err.ensures.refused is_open in
     let opening = first leaves.was_clean in
     refused_by MakesNothing start c.args.conn c.in-Err.left.conn opening.0 opening.1 leaves
+
+pub returns-in-Err-clause-why : goal.returns-in-Err-clause-why
+returns-in-Err-clause-why g c = λ start first. (refl, λ clean. (c.args.conn, first, c.in-Err.ensures.reason clean))

@@ -1,3 +1,4 @@
+use Rattle.std.proofs.Common.{refl}
 use Rattle.std.proofs.lemmas.Result.{IfOk-weaker, IfErr-weaker}
 use Rattle.index_tables.specs.Adopted.{IsRaised}
 use Rattle.index.proofs.RunLemmas.{clean_before, interrupted_by, ran_by, refused_by, working_of}
@@ -21,6 +22,7 @@ returns-in-Ok g c = record {
             interrupted_by _ start c.args.conn conn e.1 opening.0 opening.1 (worked.began then opening.0.0.is_open) closed)
             c.close.ensures.kept;
         refused = tt;
+        why = tt;
       };
 }
 
@@ -33,5 +35,6 @@ returns-in-Err g c = record {
         let leaves = c.in-Err.ensures.refused clean in
         let opening = first leaves.was_clean in
         refused_by IsRaised start c.args.conn c.in-Err.left.conn opening.0 opening.1 leaves;
+    why = (refl, λ clean. (c.args.conn, first, c.in-Err.ensures.reason clean));
   };
 }

@@ -3,7 +3,7 @@ use Rattle.std.proofs.lemmas.Option.{IfSome_then}
 use Rattle.sqlite.specs.Recovery.{Image}
 use Rattle.sqlite.specs.WalFiles.{image_at}
 use Rattle.sqlite_disk.specs.Events.{Event, replay}
-use Rattle.index.specs.Runs.{LeavesShut}
+use Rattle.index.specs.Openings.{LeavesShut}
 use Rattle.index.proofs.RunLemmas.{settled_leaves, shut_by}
 use Rattle.index.proofs.opening.open.Goals as goal
 
@@ -25,7 +25,7 @@ returns-in-Err g c =
     (settled_leaves start.is_mixing start.log start.db files.log.is_log true files.log.key files.log.calls.log.events now.log log.0 log.1 may.0)
     (settled_leaves start.is_mixing start.log start.db files.db.is_log false files.db.key files.db.calls.log.events now.db db.0 db.1 may.1))
     (cause.3 clean).1) in
-    record { ends = record { outside = tt; opened = tt; shut = shut } }
+    record { ends = record { outside = tt; opened = tt; shut = shut; fault = search rules } }
 
 pub returns-in-Ok : goal.returns-in-Ok
-returns-in-Ok g c = record { ends = record { outside = search rules; opened = λ clean. (search rules, search rules); shut = tt } }
+returns-in-Ok g c = record { ends = record { outside = search rules; opened = λ clean. (search rules, search rules); shut = tt; fault = tt } }

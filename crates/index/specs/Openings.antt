@@ -1,0 +1,113 @@
+-- Two files that are opened, and a run that does nothing on them.
+use Rattle.std.specs.Prelude.{◌≡◌, ◌⊎◌, false, IsTrue, Option, Some, None, Result, IfOk, IfErr, IfSome}
+use Rattle.sqlite.specs.Effect.{Database}
+use Rattle.sqlite.specs.FileStore.{recovers}
+use Rattle.sqlite.specs.declared.FileStore.{FileStore}
+use Rattle.sqlite.specs.Files.{AreFoundIn, HoldsDatabase, IsCleanLeft, IsEmpty, IsNothing, IsOpened, file_state}
+use Rattle.sqlite.specs.Start.{FindsIn}
+use Rattle.sqlite.specs.declared.file.Leftover.{Leftover}
+use Rattle.sqlite.specs.declared.file.Leftover.TheVariants as leftover
+use Rattle.sqlite.specs.Recovery.{Image}
+use Rattle.sqlite.specs.State.{HasCleanDisk, State}
+use Rattle.sqlite.specs.Tree.{Trees}
+use Rattle.sqlite.specs.WalFiles.{outcomes}
+use Rattle.sqlite_pool.specs.Stored.{StandsAs}
+use Rattle.sqlite_store.specs.Unopened.{state_of}
+use Rattle.index_sql_opening.specs.Names.{has_any_of}
+use Rattle.index_sql_schema.specs.Schema.{index_schema}
+use Rattle.index_tables.specs.Adopted.{IsRaised}
+use Rattle.index.specs.declared.database.Left.{Left}
+use Rattle.index.specs.declared.database.Left.TheVariants as unused
+use Rattle.index.specs.declared.end.End.{End}
+use Rattle.index.specs.declared.end.End.TheVariants as end
+use Rattle.index_digest.specs.Digest.{read_digest}
+use Rattle.index_rules.specs.declared.open.OpenFault.{OpenFault}
+use Rattle.index_rules.specs.declared.open.OpenFault.TheVariants as open_fault
+use Rattle.index_rules.specs.FirstTables.{IsBadFirstUser, first_record}
+use Rattle.index_rules.specs.Maps.{Bytes}
+use Rattle.index_sql_opening.specs.NewAsks.{asks_of_new}
+use Rattle.index_tables.specs.Opened.{StoreForOthers}
+use Rattle.index.specs.Causes.{is_fault}
+use Rattle.sqlite.specs.Held.{Held, state}
+use Rattle.sqlite_disk.specs.declared.Disk as disk
+use Rattle.sqlite_trees.specs.declared.store.Store.{Ghosts}
+
+-- they recover to this database, and hold no other
+pub record HoldsOnly (image : Image) (db : Database) : Type 0 where
+  pub read : AreFoundIn image db.trees
+  pub alone : (other : Trees) → HoldsDatabase image other → db.trees ≡ other
+
+-- ---- the opening
+
+module _ {D : Type 0} {g : disk.Ghosts D} where
+  -- What a crash leaves of two files that can't be opened as a database. Before a write it is what they held. Where there
+  -- was no database, there is still none, or an empty one. Where there was one, its pages are those that it had. Once the
+  -- pages were read, an open finds what they held.
+  abbrev pub LeavesOfShut : Image → Leftover D g → Type 0
+  LeavesOfShut start (leftover.Files now) = (image : Image) → outcomes g now.log now.db image → image ≡ start
+  LeavesOfShut start (leftover.Unopened now) =
+      (image : Image) → (state_of now).may_leave image
+      → (image ≡ start) ⊎ ((IsNothing start × (IsNothing image ⊎ ∥ ((db : Trees) × HoldsDatabase image db × IsEmpty db) ∥₁))
+      ⊎ ((¬ IsNothing start) × (¬ IsNothing image) × StandsAs (state_of now).page_size start image))
+  LeavesOfShut start (leftover.Store now) =
+      (found : Trees) → recovers now found → AreFoundIn start found × ((db : Trees) → HoldsDatabase start db → found ≡ db)
+
+  -- that is what it leaves, where they have returned what was written
+  abbrev pub LeavesShut : Image → Leftover D g → Type 0
+  LeavesShut start left = IsCleanLeft left → LeavesOfShut start left
+
+  -- a connection was opened on files that held this, where its disk is clean
+  abbrev pub IsOpenedOn : Image → Held (FileStore D g) → Type 0
+  IsOpenedOn start conn = HasCleanDisk (file_state conn) → IsOpened conn × FindsIn start (file_state conn)
+
+  -- how the opening of files that held this ends
+  pub record EndsOpening (start : Image) (result : Result (Held (FileStore D g)) (End × Option (Leftover D g))) : Type 0 where
+    pub outside : IfOk result (λ conn. conn.in_transaction ≡ false)
+    pub opened : IfOk result (IsOpenedOn start)
+    pub shut : IfErr result (λ e. IfSome e.1 (LeavesShut start))
+    pub fault : IfErr result (λ e. IsTrue (is_fault e.0))
+
+-- ---- a database that is refused
+
+-- they held a database that was refused: a crash leaves it as it was, or, where a fault has shut the connection, what was
+-- made of it as a whole
+pub record Refused (Made : Database → Trees → Type 0) (start : Image) (now : State) : Type 0 where
+  pub db : Database
+  pub only : HoldsOnly start db
+  pub left : (found : Trees) → now.may_leave found → (found ≡ db.trees) ⊎ ((now.is_open ≡ false) × Made db found)
+
+-- nothing was made of it
+abbrev pub MakesNothing : Database → Trees → Type 0
+MakesNothing was db = ⊥
+
+-- no index was found in their database
+abbrev pub IsUnfound : Image → State → Type 0
+IsUnfound start now = HasCleanDisk now → Refused IsRaised start now
+
+-- no index was made in their database, and no fault has shut the connection to it
+abbrev pub IsUnmade : Image → State → Type 0
+IsUnmade start now = IsTrue now.is_open → Refused MakesNothing start now
+
+-- these hex digits are no digest, or that of a token with which this user can't be the first
+abbrev pub AreBadFirst : Bytes → Bytes → Type 0
+AreBadFirst user digits = (read_digest digits ≡ None) ⊎ ((digest : Bytes) × (read_digest digits ≡ Some digest) × IsBadFirstUser user digest)
+
+-- why no new index with this first user was made of it
+pub record IsReasonOfNew {S : Type 0} (user token : Bytes) (g : Ghosts S) (first last : Held S) (why : OpenFault) : Type 0 where
+  pub bad_first_user : why ≡ open_fault.BadFirstUser → IsBadFirstUser user token
+  pub taken : why ≡ open_fault.NotEmpty → IsTrue (has_any_of (state g first).now.schema index_schema.tables)
+  pub store : StoreForOthers g (asks_of_new user (first_record token)) first last why
+
+module _ {D : Type 0} {g : disk.Ghosts D} where
+  -- a crash leaves this of two files on which nothing was done
+  abbrev pub LeavesUnused : (Image → State → Type 0) → Image → Left D g → Type 0
+  LeavesUnused IsRefused start (unused.Shut left) = LeavesShut start left
+  LeavesUnused IsRefused start (unused.Refused left) = IsRefused start (file_state left.conn)
+
+  -- Why nothing was done on two files that held this. Those that can't be opened, or closed, have failed, or memory was
+  -- wanting. A database was refused for a reason of this kind, as far as its disk is clean.
+  abbrev pub IsWhy : (Held (FileStore D g) → Held (FileStore D g) → OpenFault → Type 0) → Image → End → Option (Left D g) → Type 0
+  IsWhy IsFor start told None = IsTrue (is_fault told)
+  IsWhy IsFor start told (Some (unused.Shut left)) = IsTrue (is_fault told)
+  IsWhy IsFor start told (Some (unused.Refused left)) =
+      (told ≡ end.Open left.why) × (HasCleanDisk (file_state left.conn) → (first : Held (FileStore D g)) × IsOpenedOn start first × IsFor first left.conn left.why)
