@@ -1,0 +1,133 @@
+"""Wrong bodies as they stand in files, and the sources of a crate with some of them made."""
+import os
+import re
+
+# the head of an impl that is of no trait, and of a function, in a file that `rt fmt` laid out
+IMPL = re.compile(r"impl\b(?:<.*?>)? (\w+)(?:<.*>)? \{$")
+FUNCTION = re.compile(r"( {4})?(?:pub(?:\(\w+\))? )?(?:const )?fn (\w+)")
+
+
+def open_text(file):
+    with open(file, encoding="utf-8") as it:
+        return it.read()
+
+
+class Edit:
+    """A wrong body: its function, and what is wrong with it if it can't be tried."""
+
+    def __init__(self, rt, crate, file):
+        self.file, self.is_of_must_fail = file, os.path.basename(os.path.dirname(file)) == "must-fail"
+        self.name = os.path.splitext(os.path.relpath(file, f"{os.path.dirname(crate.folder)}"))[0]
+        self.wrong = rt.read_edit(file, crate.folder)[1]
+        self.text = rt.rtlib.text_of(file) or ""
+        found = re.search(r"^fn: (\S+)$", self.text, re.M)
+        self.function = found and found[1]
+        self.is_alone = not self.wrong and bool(self.function) and not self.is_within(crate.folder)
+
+    def pairs(self):
+        """Yields the file, the text that goes and the text that comes, of each change."""
+        path = old = None
+        for line in self.text.split("\n"):
+            if line.startswith("file: "):
+                path = line[len("file: "):].strip()
+            elif line.startswith("old: "):
+                old = line[len("old: "):]
+            elif line.startswith("new:"):
+                yield path, old, re.sub(r"\A ", "", line[len("new:"):])
+
+    def is_within(self, folder):
+        """Returns whether the changes stand below the head of the function, and of no other: other text may be
+        what the edits beside this one are judged by."""
+        name, texts = self.function.rpartition("::")[2], {}
+        for path, old, new in self.pairs():
+            text = texts.get(path) or open_text(f"{folder}/{path}")
+            above = text[: text.index(old) + len(old)]
+            if re.findall(r"\bfn (\w+)", above)[-1:] != [name]:
+                return False
+            texts[path] = text.replace(old, new)
+        return True
+
+    def beside(self, folder, texts, asked):
+        """Returns the function that is to be asked for, and texts, the changed files by their path, with this edit
+        too, or two times None where it doesn't fit beside them. It is made in a copy of its function where that is
+        one of those that are asked for."""
+        if self.function in asked:
+            return self.in_a_copy(folder, texts, asked)
+        made = dict(texts)
+        for path, old, new in self.pairs():
+            text = made.get(path) or open_text(f"{folder}/{path}")
+            if text.count(old) != 1:
+                return None, None
+            made[path] = text.replace(old, new)
+        return self.function, made
+
+    def in_a_copy(self, folder, texts, asked):
+        """The same in a copy of the function, above it and by another name."""
+        pairs, number = list(self.pairs()), 2
+        while f"{self.function}_{number}" in asked:
+            number += 1
+        path, name = pairs[0][0], self.function.rpartition("::")[2]
+        whole = open_text(f"{folder}/{path}")
+        found = heads_of(whole, name)
+        nth = len([it for it in found if it <= whole.count("\n", 0, whole.index(pairs[0][1]))]) - 1
+        span = span_of(whole, found[nth])
+        if span is None or any(it[0] != path for it in pairs):
+            return None, None
+        copy = "\n".join(whole.split("\n")[span[0] : span[1] + 1])
+        for _, old, new in pairs:
+            if copy.count(old) != 1:
+                return None, None
+            copy = copy.replace(old, new)
+        copy = re.sub(rf"^( *(?:pub(?:\(\w+\))? )?(?:const )?fn {name})\b", rf"\1_{number}", copy, count=1, flags=re.M)
+        rows = texts[path].split("\n")
+        first, _ = span_of(texts[path], heads_of(texts[path], name)[nth])
+        return f"{self.function}_{number}", {**texts, path: "\n".join([*rows[:first], copy, "", *rows[first:]])}
+
+
+def heads_of(text, name):
+    """Returns the rows in which the head of a function of this name begins."""
+    heads = [FUNCTION.match(it) for it in text.split("\n")]
+    return [row for row, head in enumerate(heads) if head and head[2] == name]
+
+
+def span_of(text, head):
+    """Returns the first and the last row of the function whose head is in this one, or None where it is of a
+    trait."""
+    rows = text.split("\n")
+    indent = FUNCTION.match(rows[head])[1] or ""
+    block = next((it for it in reversed(rows[:head]) if it[:1] not in ("", " ")), "")
+    if indent and not IMPL.match(block):
+        return None
+    first = head
+    while first and rows[first - 1].strip() and rows[first - 1].startswith(indent):
+        first -= 1
+    return first, rows.index(f"{indent}}}", head)
+
+
+def written_in(crate, file):
+    """Returns the functions that a file of the crate has, but for those of traits, and of types of other files."""
+    module = os.path.relpath(file, f"{crate.folder}/src").removesuffix(".rt").replace("/", ".")
+    text, found, block = open_text(file), [], None
+    types = re.findall(r"^(?:pub(?:\(\w+\))? )?(?:struct|enum) (\w+)", text, re.M)
+    for line in text.split("\n"):
+        if line[:1] not in ("", " "):
+            block = line
+        head = FUNCTION.match(line)
+        owner = IMPL.match(block or "") if head and head[1] else None
+        if head and (owner[1] in types if owner else not head[1]):
+            path = ["" if module in ("lib", "main") else module, owner and owner[1], head[2]]
+            found.append(".".join(it for it in path if it))
+    return found
+
+
+def edits_of(rt, crate, parts):
+    """Returns the crate's edits, and the files that are none and stand among them."""
+    edits, strange = [], []
+    for part in parts:
+        folder = f"{crate.folder}/{part}"
+        for name in sorted(os.listdir(folder)) if os.path.isdir(folder) else []:
+            if name.endswith(".edit"):
+                edits.append(Edit(rt, crate, f"{folder}/{name}"))
+            elif not name.endswith(".md"):
+                strange.append(os.path.relpath(f"{folder}/{name}"))
+    return edits, strange
