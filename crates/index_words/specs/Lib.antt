@@ -1,3 +1,3 @@
 pub mod Program
 pub mod Jobs
-pub mod Refusals
+pub mod Reading

@@ -4,7 +4,7 @@ ghost use Rattle.std.specs.Prelude.{codes, map, option_map, string_bytes, IfErr,
 ghost use Rattle.clap.specs.Words.{first_of, subcommand_rows_of};
 ghost use Rattle.index_words.specs.Program.{index_app, IsApp};
 ghost use Rattle.index_words.specs.Jobs.{FindsExactly, HasNumberOrNone, IsJob, IsDecimalText, rows_entered, rows_in};
-ghost use Rattle.index_words.specs.Refusals.{ReadsJob};
+ghost use Rattle.index_words.specs.Reading.{ReadsJob};
 
 use crate::command;
 use clap::error::ErrorKind;
@@ -72,7 +72,7 @@ impl From<AllocError> for WordsEnd {
 }
 
 impl From<Error> for WordsEnd {
-    ghost use Rattle.index_words.specs.Refusals.{IsEndOf};
+    ghost use Rattle.index_words.specs.Reading.{IsEndOf};
 
     ghost from_gives = { IsEndOf };
 

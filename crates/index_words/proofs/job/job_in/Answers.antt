@@ -7,7 +7,7 @@ use Rattle.index_words.specs.declared.job.Job.{Job}
 use Rattle.index_words.specs.declared.job.WordsEnd.{WordsEnd}
 use Rattle.index_words.specs.declared.job.WordsEnd.TheVariants.{Clap, OutOfMemory}
 use Rattle.index_words.specs.Program.{index_app}
-use Rattle.index_words.specs.Refusals.{IsEndOf, IsRefusal}
+use Rattle.index_words.specs.Reading.{IsEndOf, IsRefusal}
 use Rattle.index_words.proofs.job.job_in.Goals as goal
 
 -- ---- the end that an error becomes

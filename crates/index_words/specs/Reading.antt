@@ -1,4 +1,4 @@
--- Why words ask for nothing.
+-- What is read of words, and why they ask for nothing.
 use Rattle.std.specs.Prelude.{◌≡◌, ◌≢◌, ◌⊎◌, [], true, List, Result, IfErr, IfOk, IsOk, ⊤}
 use Rattle.clap.specs.Words.{IsAmong, Text, fault_of, kind_of, takes}
 use Rattle.clap.specs.declared.error.Error.{Error}
