@@ -104,20 +104,32 @@ def span_of(text, head):
     return first, rows.index(f"{indent}}}", head)
 
 
-def written_in(crate, file):
-    """Returns the functions that a file of the crate has, but for those of traits, and of types of other files."""
-    module = os.path.relpath(file, f"{crate.folder}/src").removesuffix(".rt").replace("/", ".")
-    text, found, block = open_text(file), [], None
+def written_in(file, text):
+    """Yields the functions that a file below `src` with this text has, but for those of traits, and of types of other
+    files, each with the row of its head."""
+    module, block = file.removesuffix(".rt").replace("/", "."), None
     types = re.findall(r"^(?:pub(?:\(\w+\))? )?(?:struct|enum) (\w+)", text, re.M)
-    for line in text.split("\n"):
+    for row, line in enumerate(text.split("\n")):
         if line[:1] not in ("", " "):
             block = line
         head = FUNCTION.match(line)
         owner = IMPL.match(block or "") if head and head[1] else None
         if head and (owner[1] in types if owner else not head[1]):
             path = ["" if module in ("lib", "main") else module, owner and owner[1], head[2]]
-            found.append(".".join(it for it in path if it))
-    return found
+            yield ".".join(it for it in path if it), row
+
+
+def emptied(file, text, asked):
+    """Returns the text of a file below `src` in which the functions that are not asked for have no body of their own:
+    what is taken by its contract needs none, and the prover would read it all the same."""
+    rows = text.split("\n")
+    for path, head in reversed(list(written_in(file, text))):
+        indent = FUNCTION.match(rows[head])[1] or ""
+        ends = rows.index("", head) if "" in rows[head:] else len(rows)
+        opens = [it for it in range(head, ends) if re.match(rf"{indent}(\S.*)?\{{$", rows[it])]
+        if opens and path.replace(".", "::") not in asked:
+            rows[opens[0] + 1 : rows.index(f"{indent}}}", opens[0])] = [f"{indent}    unreachable!()"]
+    return "\n".join(rows)
 
 
 def edits_of(rt, crate, parts):
