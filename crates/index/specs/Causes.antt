@@ -12,6 +12,10 @@ use Rattle.sqlite_schema.specs.Names.{same_name}
 use Rattle.sqlite_schema.specs.declared.schema.Schema.{Schema}
 use Rattle.sqlite_schema.specs.declared.schema.Table.{Table}
 use Rattle.index_cli.specs.declared.end.ServeEnd.TheVariants as serve_end
+use Rattle.index_desk.specs.declared.desk.report.ReportFault.{ReportFault}
+use Rattle.index_desk.specs.declared.desk.report.ReportFault.TheVariants as report_fault
+use Rattle.index_rules.specs.declared.answer.Fault.{Fault}
+use Rattle.index_rules.specs.declared.answer.Fault.TheVariants as fault
 use Rattle.index_rules.specs.declared.open.OpenFault.TheVariants as open_fault
 use Rattle.index_sql_schema.specs.FirstVersion.{first_version_schema}
 use Rattle.index_sql_schema.specs.Schema.{index_schema, no_schema}
@@ -52,6 +56,16 @@ cause_of_error _ = None
 abbrev pub end_of_error : Error → End
 end_of_error (SqliteFailure code.OutOfMemory) = end.OutOfMemory
 end_of_error error = end.Store (cause_of_error error)
+
+-- the end that a fault of the desk is, and that of a report
+abbrev pub end_of_fault : Fault → End
+end_of_fault fault.OutOfMemory = end.OutOfMemory
+end_of_fault fault.Store = end.Store None
+
+abbrev pub end_of_report : ReportFault → End
+end_of_report report_fault.OutOfMemory = end.OutOfMemory
+end_of_report report_fault.Store = end.Store None
+end_of_report (report_fault.WriteFault count) = end.WriteFault
 
 -- what the failed calls of the files met, and whether each sync went well
 abbrev pub cause_of_calls : Tally → Bool → Option Cause

@@ -37,6 +37,7 @@ use Rattle.index.specs.declared.database.Left.{Left}
 use Rattle.index.specs.declared.end.End.{End}
 use Rattle.index.specs.declared.end.End.TheVariants as end
 use Rattle.index_tables.specs.Adopted.{IsReason}
+use Rattle.index.specs.Causes.{is_fault}
 use Rattle.index.specs.Openings.{HoldsOnly, IsUnfound, IsWhy, LeavesUnused}
 
 -- ---- two files
@@ -166,9 +167,10 @@ pub record WritesReport (had has : Option (List ℕ)) (T T' : Tables) : Type 0 w
   pub reports : Reports (report_in T) had has ended
   pub unchanged : T' ≡ T
 
--- the wrong charges were counted, and no table changed
+-- the wrong charges were counted, but for a fault, and no table changed
 pub record CountsWrong (T T' : Tables) (result : Result ℕ End) : Type 0 where
   pub count : IfOk result (λ count. count ≡ wrong_charges_in T)
+  pub fault : IfErr result (λ e. IsTrue (is_fault e))
   pub unchanged : T' ≡ T
 
 -- all of so many connections, or some of them where the work ended early

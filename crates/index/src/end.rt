@@ -70,30 +70,55 @@ impl fmt::Display for End {
 }
 
 impl From<AllocError> for End {
+    ghost use Rattle.std.specs.Prelude.{◌≡◌};
+    ghost use Rattle.index.specs.declared.end.End.TheVariants.{OutOfMemory};
+
+    ghost from_gives = { λ _ end. end ≡ OutOfMemory };
+
     fn from(_error: AllocError) -> End {
         End::OutOfMemory
     }
 }
 
 impl From<OpenFault> for End {
+    ghost use Rattle.std.specs.Prelude.{◌≡◌};
+    ghost use Rattle.index.specs.declared.end.End.TheVariants.{Open};
+
+    ghost from_gives = { λ fault end. end ≡ Open fault };
+
     fn from(fault: OpenFault) -> End {
         End::Open(fault)
     }
 }
 
 impl From<LineEnd> for End {
+    ghost use Rattle.std.specs.Prelude.{◌≡◌};
+    ghost use Rattle.index.specs.declared.end.End.TheVariants.{Lines};
+
+    ghost from_gives = { λ early end. end ≡ Lines early };
+
     fn from(early: LineEnd) -> End {
         End::Lines(early)
     }
 }
 
 impl From<ServeEnd> for End {
+    ghost use Rattle.std.specs.Prelude.{◌≡◌};
+    ghost use Rattle.index.specs.declared.end.End.TheVariants.{Connections};
+
+    ghost from_gives = { λ early end. end ≡ Connections early };
+
     fn from(early: ServeEnd) -> End {
         End::Connections(early)
     }
 }
 
 impl From<Fault> for End {
+    ghost use Rattle.std.specs.Prelude.{◌≡◌};
+    ghost use Rattle.index.specs.Causes.{end_of_fault};
+
+    ghost from_gives = { λ fault end. end ≡ end_of_fault fault };
+
     fn from(fault: Fault) -> End {
         match fault {
             Fault::OutOfMemory => End::OutOfMemory,
@@ -103,6 +128,11 @@ impl From<Fault> for End {
 }
 
 impl From<ReportFault> for End {
+    ghost use Rattle.std.specs.Prelude.{◌≡◌};
+    ghost use Rattle.index.specs.Causes.{end_of_report};
+
+    ghost from_gives = { λ fault end. end ≡ end_of_report fault };
+
     fn from(fault: ReportFault) -> End {
         match fault {
             ReportFault::OutOfMemory => End::OutOfMemory,

@@ -264,6 +264,7 @@ impl Work for Checking {
         0
     }
 
+    #[tactic(auto, using(crate::proofs::FaultLemmas::desk_fault_is_fault))]
     fn run<B: Keeper>(&mut self, rt: &HostRuntime, desk: &mut Desk<B>) -> Result<u64, End> {
         Ok(desk.check(rt.alloc())?)
     }
