@@ -17,7 +17,7 @@ class Edit:
 
     def __init__(self, rt, crate, file):
         self.file, self.is_of_must_fail = file, os.path.basename(os.path.dirname(file)) == "must-fail"
-        self.name = os.path.splitext(os.path.relpath(file, f"{os.path.dirname(crate.folder)}"))[0]
+        self.name = os.path.splitext(os.path.relpath(file, os.path.dirname(crate.folder)))[0]
         self.wrong = rt.read_edit(file, crate.folder)[1]
         self.text = rt.rtlib.text_of(file) or ""
         found = re.search(r"^fn: (\S+)$", self.text, re.M)
