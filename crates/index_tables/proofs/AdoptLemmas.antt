@@ -22,8 +22,8 @@ use Rattle.index_sql_schema.specs.Index.{version_in}
 use Rattle.index_sql_writes.proofs.GoingLemmas.{fault_since}
 use Rattle.index_tables.specs.declared.opening.Unopened.{Unopened}
 use Rattle.index_tables.specs.BooksState.{IsWorking, BooksState}
-use Rattle.index_tables.specs.Adopted.{FailsToOpen, IsFault, IsOurs, IsRaised, IsReason, TellsVersion, refusal_in}
-use Rattle.index_tables.specs.Opened.{AreOpened, IsUnopened, LeavesOr, StoreForRefusal, open_fault_by}
+use Rattle.index_tables.specs.Adopted.{FailsToOpen, IsOurs, IsRaised, IsReason, TellsVersion, refusal_in}
+use Rattle.index_tables.specs.Opened.{AreOpened, IsFault, IsUnopened, LeavesOr, StoreForRefusal, open_fault_by}
 
 -- the version that such a database tells leaves the store to blame
 store_alone : (db : Database) → IsOurs db → refusal_in db.schema (version_in db.trees) ≡ Store

@@ -31,8 +31,8 @@ use Rattle.index_sql_schema.specs.Schema.{index_schema}
 use Rattle.index_sql_schema.specs.CreateSteps.{no_tables}
 use Rattle.index_tables.specs.declared.opening.Unopened.{Unopened}
 use Rattle.index_tables.specs.BooksState.{BooksState, AreCurrent, IsHonest, IsWorking, Leaves}
-use Rattle.index_tables.specs.Adopted.{IsFault, IsFound, IsOurs}
-use Rattle.index_tables.specs.Opened.{AreOpened, IsUnopened}
+use Rattle.index_tables.specs.Adopted.{IsFound, IsOurs}
+use Rattle.index_tables.specs.Opened.{AreOpened, IsFault, IsUnopened}
 use Rattle.index_tables.specs.Reopened.{MayLeave, IsLeft, IsOver, OpensOnly}
 use Rattle.index_tables.specs.Laws.{IsSettled, current}
 

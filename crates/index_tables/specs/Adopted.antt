@@ -47,10 +47,6 @@ TellsFirst db = IsFirstVersion db × (version_in db.trees ≡ Some 1)
 abbrev pub IsOurs : Database → Type 0
 IsOurs db = (IsIndex db × (version_in db.trees ≡ Some 2)) ⊎ TellsFirst db
 
--- for want of memory, or by a fault of the store
-abbrev pub IsFault : OpenFault → Type 0
-IsFault why = (why ≡ OutOfMemory) ⊎ (why ≡ Store)
-
 -- an index is found in it, with these tables
 abbrev pub IsFound : Database → Tables → Type 0
 IsFound db T = IsCurrent db T ⊎ IsFirst db T

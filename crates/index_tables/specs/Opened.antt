@@ -35,6 +35,18 @@ abbrev pub open_fault_by : Fault → OpenFault
 open_fault_by fault.OutOfMemory = open_fault.OutOfMemory
 open_fault_by fault.Store = open_fault.Store
 
+-- for want of memory, or by a fault of the store
+abbrev pub IsFault : OpenFault → Type 0
+IsFault why = (why ≡ open_fault.OutOfMemory) ⊎ (why ≡ open_fault.Store)
+
+-- a reason for which no new index is made
+abbrev pub RefusesNew : OpenFault → Type 0
+RefusesNew why = (why ≡ open_fault.BadFirstUser) ⊎ ((why ≡ open_fault.NotEmpty) ⊎ IsFault why)
+
+-- a reason for which no index is found
+abbrev pub RefusesFound : OpenFault → Type 0
+RefusesFound why = (why ≡ open_fault.NotAnIndex) ⊎ ((why ≡ open_fault.OtherVersion) ⊎ IsFault why)
+
 -- the first user will do, and a table has the name of one of ours
 abbrev pub IsTaken : Bytes → Bytes → Schema → Type 0
 IsTaken user token schema = (¬ IsBadFirstUser user token) × IsTrue (has_any_of schema index_schema.tables)

@@ -14,7 +14,7 @@ use Rattle.index_sql_reads.specs.ConnectionTables.{tables_of}
 use Rattle.index_rules.specs.Tables.{Tables}
 use Rattle.index_tables.specs.declared.opening.Unopened.{Unopened}
 use Rattle.index_tables.specs.BooksState.{BooksState, IsHonest, Leaves}
-use Rattle.index_tables.specs.Adopted.{IsFault}
+use Rattle.index_tables.specs.Opened.{IsFault}
 
 -- a crash at this moment may leave these two files
 abbrev pub MayLeave : {D : Type 0} {g : disk.Ghosts D} → Held (FileStore D g) → Image → Type 0

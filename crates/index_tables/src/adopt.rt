@@ -8,8 +8,8 @@ ghost use Rattle.index_sql_opening.specs.Making.{IsAtRest};
 ghost use Rattle.index_sql_opening.specs.Migrated.{asks_of_migration};
 ghost use Rattle.index_sql_opening.specs.Names.{has_meta};
 ghost use Rattle.index_sql_reads.specs.ConnectionTables.{tables_of};
-ghost use Rattle.index_tables.specs.Opened.{AreOpened, HaveTables, IsRefusedAs, IsUnopened, StoreForRefusal};
-ghost use Rattle.index_tables.specs.Adopted.{HasSchema, IsFault, IsFound, IsOfKind, IsOurs, IsRaised, IsReason, TellsFirst, refusal_by, foreign_tables_fault};
+ghost use Rattle.index_tables.specs.Opened.{AreOpened, HaveTables, IsFault, IsRefusedAs, IsUnopened, RefusesFound, StoreForRefusal};
+ghost use Rattle.index_tables.specs.Adopted.{HasSchema, IsFound, IsOfKind, IsOurs, IsRaised, IsReason, TellsFirst, refusal_by, foreign_tables_fault};
 
 use crate::opening::{Unopened, open_fault_of};
 use crate::tables::SqlBooks;
@@ -46,6 +46,7 @@ impl<S: Alter> SqlBooks<S> {
         ensures found { IfOk result (HaveTables S.Store (IsFound (state S.Store conn).now)) }
         ensures one_bearer { IfOk result (HaveTables S.Store HasOneBearer) }
         ensures opened { IfOk result (AreOpened S.Store IsRaised conn) }
+        ensures why { IfErr result (λ refused. RefusesFound refused.why) }
         ensures refused { IfErr result (IsUnopened S.Store IsRaised (IsReason S.Store) conn) }
         ensures no_meta { has_meta (state S.Store conn).now.schema ≡ false
             → IsRefusedAs OpenFault.NotAnIndex result }
@@ -92,6 +93,7 @@ fn adopt_kind<S: Alter>(conn: Connection<S>, kind: Kind) -> Result<SqlBooks<S>, 
     requires kind { IsTrue (state S.Store conn).is_open → IsOfKind (state S.Store conn).now kind }
     ensures found { IfOk result (HaveTables S.Store (IsFound (state S.Store conn).now)) }
     ensures opened { IfOk result (AreOpened S.Store IsRaised conn) }
+    ensures why { IfErr result (λ refused. RefusesFound refused.why) }
     ensures refused { IfErr result (IsUnopened S.Store IsRaised (IsReason S.Store) conn) }
 {
     let has_first = has_version_1_tables(conn.schema());
@@ -116,7 +118,8 @@ fn adopt_kind<S: Alter>(conn: Connection<S>, kind: Kind) -> Result<SqlBooks<S>, 
 
 /// Why a database is refused that tells this version, and has all tables of version 1 by name, and that of the bans.
 fn refusal(version: Option<u64>, has_first: bool, has_bans: bool) -> OpenFault
-    ensures { result ≡ refusal_by version has_first has_bans }
+    ensures is { result ≡ refusal_by version has_first has_bans }
+    ensures why { RefusesFound result }
 {
     match version {
         None => OpenFault::NotAnIndex,
@@ -128,7 +131,8 @@ fn refusal(version: Option<u64>, has_first: bool, has_bans: bool) -> OpenFault
 
 /// Tables that are there by name, but are not as an index has them.
 fn foreign_tables_fault(has_all: bool) -> OpenFault
-    ensures { result ≡ foreign_tables_fault has_all }
+    ensures is { result ≡ foreign_tables_fault has_all }
+    ensures why { RefusesFound result }
 {
     if has_all {
         OpenFault::Store
@@ -141,6 +145,7 @@ fn foreign_tables_fault(has_all: bool) -> OpenFault
 fn refuse_other<S: Alter>(conn: Connection<S>) -> Unopened<S>
     requires rest { IsAtRest S.Store conn }
     requires meta { IsTrue (has_meta (state S.Store conn).now.schema) }
+    ensures why { RefusesFound result.why }
     ensures refused { IsUnopened S.Store IsRaised (IsReason S.Store) conn result }
 {
     let has_first = has_version_1_tables(conn.schema());
@@ -165,7 +170,7 @@ fn migrate_and_adopt<S: Alter>(conn: Connection<S>) -> Result<SqlBooks<S>, Unope
         → TellsFirst (state S.Store conn).now }
     ensures made { IfOk result (HaveTables S.Store
         (λ T. T ≡ without_bans (tables_of S.Store conn))) }
-    ensures fault { IfErr result (λ refused. IsFault refused.why) }
+    ensures why { IfErr result (λ refused. IsFault refused.why) }
     ensures opened { IfOk result (AreOpened S.Store IsRaised conn) }
     ensures refused { let Reason = StoreForRefusal S.Store asks_of_migration in
         IfErr result (IsUnopened S.Store IsRaised Reason conn) }

@@ -1,5 +1,5 @@
 //! A new index in a database with nothing in it.
-ghost use Rattle.std.specs.Prelude.{◌≡◌, ◌≢◌, ◌⊎◌, ◌↔◌, false, IfOk, IfErr, IsTrue};
+ghost use Rattle.std.specs.Prelude.{◌≡◌, ◌⊎◌, ◌↔◌, false, IfOk, IfErr, IsTrue};
 ghost use Rattle.sqlite.specs.Held.{state};
 ghost use Rattle.sqlite.specs.State.{IsLive};
 ghost use Rattle.index_rules.specs.FirstTables.{IsBadFirstUser, first_record, first_tables};
@@ -11,7 +11,7 @@ ghost use Rattle.index_sql_opening.specs.Names.{has_any_of};
 ghost use Rattle.index_sql_opening.specs.NewAsks.{asks_of_new};
 ghost use Rattle.index_sql_opening.specs.Created.{one_user};
 ghost use Rattle.index_sql_opening.specs.Making.{IsAtRest};
-ghost use Rattle.index_tables.specs.Opened.{AreNew, HasOthers, HaveTables, IsAmongOthers, IsNotMade, IsRefusedAs, IsTaken};
+ghost use Rattle.index_tables.specs.Opened.{AreNew, HasOthers, HaveTables, IsAmongOthers, IsFault, IsNotMade, IsRefusedAs, IsTaken, RefusesNew};
 
 use crate::opening::{Unopened, open_fault_of};
 use crate::tables::SqlBooks;
@@ -51,6 +51,7 @@ impl<S: Alter> SqlBooks<S> {
             → IsRefusedAs OpenFault.NotEmpty result ⊎ IsRefusedAs OpenFault.OutOfMemory result }
         ensures among_others { IsAmongOthers user.now token (state S.Store conn).now.schema
             → IsRefusedAs OpenFault.Store result ⊎ IsRefusedAs OpenFault.OutOfMemory result }
+        ensures why { IfErr result (λ refused. RefusesNew refused.why) }
         ensures refused { IfErr result (IsNotMade S.Store (first_tables user.now token)
             (asks_of_new user.now (first_record token)) conn) }
     {
@@ -71,7 +72,8 @@ fn fill_blank<S: Alter>(
     requires rest { IsAtRest S.Store conn }
     requires live { IsLive (state S.Store conn) }
     ensures made { IfOk result (AreNew S.Store (one_user user.now account.now) conn) }
-    ensures first_user { IfErr result (λ refused. refused.why ≢ OpenFault.BadFirstUser) }
+    ensures why { IfErr result (λ refused.
+        (refused.why ≡ OpenFault.NotEmpty) ⊎ IsFault refused.why) }
     ensures taken { IsRefusedAs OpenFault.NotEmpty result
         → IsTrue (has_any_of (state S.Store conn).now.schema index_schema.tables) }
     ensures not_empty { IsTrue (has_any_of (state S.Store conn).now.schema index_schema.tables)

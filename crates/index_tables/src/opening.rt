@@ -1,6 +1,6 @@
 //! Why no index was opened on a connection.
 ghost use Rattle.std.specs.Prelude.{◌≡◌};
-ghost use Rattle.index_tables.specs.Opened.{open_fault_by};
+ghost use Rattle.index_tables.specs.Opened.{IsFault, open_fault_by};
 
 use index_rules::{Fault, OpenFault};
 use sqlite::{Alter, Connection};
@@ -13,7 +13,8 @@ pub struct Unopened<S: Alter> {
 
 /// The reason that a fault is.
 pub(crate) fn open_fault_of(fault: Fault) -> OpenFault
-    ensures { result ≡ open_fault_by fault }
+    ensures is { result ≡ open_fault_by fault }
+    ensures fault { IsFault result }
 {
     match fault {
         Fault::OutOfMemory => OpenFault::OutOfMemory,

@@ -27,4 +27,4 @@ returns-in-FirstVersion-Ok-Some-eq1-clause-refused g c =
     let mid = c.read_version.new.conn in
     let first : IsTrue (state g.S.Store old).is_open → IsFirstVersion (state g.S.Store old).now = search rules in
     let told : HasCleanDisk (state g.S.Store mid) → version_in (state g.S.Store old).now.trees ≡ Some 1 = search rules in
-    both_refused c.migrate_and_adopt.result (λ refused fault it. refused_after g.S.Store old mid c.in-FirstVersion-Ok-Some-eq1.ensures.looks refused c.requires.meta first told fault it) c.migrate_and_adopt.ensures.fault c.migrate_and_adopt.ensures.refused
+    both_refused c.migrate_and_adopt.result (λ refused fault it. refused_after g.S.Store old mid c.in-FirstVersion-Ok-Some-eq1.ensures.looks refused c.requires.meta first told fault it) c.migrate_and_adopt.ensures.why c.migrate_and_adopt.ensures.refused
