@@ -1,5 +1,5 @@
 -- Why the database failed, by what is known of it.
-use Rattle.std.specs.Prelude.{◌≡◌, ◌⊎◌, ℕ, Bool, true, false, ◌==◌, ◌&&◌, not, List, Option, Some, None, codes, find, option_map, if◌then◌else◌, string_bytes}
+use Rattle.std.specs.Prelude.{◌≡◌, ◌⊎◌, ℕ, Bool, ◌==◌, ◌&&◌, not, List, Option, Some, None, codes, find, option_map, if◌then◌else◌, string_bytes}
 use Rattle.std.specs.List.{list_any, starts_with}
 use Rattle.std.specs.Str.Lossy.{utf8_lossy}
 use Rattle.std.specs.declared.io.ErrorKind.{ErrorKind}
@@ -11,36 +11,10 @@ use Rattle.sqlite_disk.specs.declared.tally.Tally.{Tally}
 use Rattle.sqlite_schema.specs.Names.{same_name}
 use Rattle.sqlite_schema.specs.declared.schema.Schema.{Schema}
 use Rattle.sqlite_schema.specs.declared.schema.Table.{Table}
-use Rattle.index_cli.specs.declared.end.ServeEnd.TheVariants as serve_end
-use Rattle.index_desk.specs.declared.desk.report.ReportFault.{ReportFault}
-use Rattle.index_desk.specs.declared.desk.report.ReportFault.TheVariants as report_fault
-use Rattle.index_rules.specs.declared.answer.Fault.{Fault}
-use Rattle.index_rules.specs.declared.answer.Fault.TheVariants as fault
-use Rattle.index_rules.specs.declared.open.OpenFault.TheVariants as open_fault
 use Rattle.index_sql_schema.specs.FirstVersion.{first_version_schema}
 use Rattle.index_sql_schema.specs.Schema.{index_schema, no_schema}
 use Rattle.index.specs.declared.cause.Cause.{Cause}
 use Rattle.index.specs.declared.cause.Cause.TheVariants as cause
-use Rattle.index.specs.declared.end.End.{End}
-use Rattle.index.specs.declared.end.End.TheVariants as end
-
--- the database failed
-abbrev pub is_store : End → Bool
-is_store (end.Store cause) = true
-is_store (end.Open open_fault.Store) = true
-is_store (end.Connections serve_end.Store) = true
-is_store _ = false
-
--- or memory was wanting
-abbrev pub is_fault : End → Bool
-is_fault end.OutOfMemory = true
-is_fault (end.Open open_fault.OutOfMemory) = true
-is_fault end = is_store end
-
--- the cause for which it failed, where that is known
-abbrev pub cause_in : End → Option Cause
-cause_in (end.Store cause) = cause
-cause_in _ = None
 
 -- an error of SQLite
 abbrev pub cause_of_error : Error → Option Cause
@@ -51,21 +25,6 @@ cause_of_error (SqliteFailure code.SystemIoFailure) = Some cause.DiskFailed
 cause_of_error (SqliteFailure code.DiskFull) = Some cause.Full
 cause_of_error (SqliteFailure code.Closed) = Some cause.Shut
 cause_of_error _ = None
-
--- the end that such an error is
-abbrev pub end_of_error : Error → End
-end_of_error (SqliteFailure code.OutOfMemory) = end.OutOfMemory
-end_of_error error = end.Store (cause_of_error error)
-
--- the end that a fault of the desk is, and that of a report
-abbrev pub end_of_fault : Fault → End
-end_of_fault fault.OutOfMemory = end.OutOfMemory
-end_of_fault fault.Store = end.Store None
-
-abbrev pub end_of_report : ReportFault → End
-end_of_report report_fault.OutOfMemory = end.OutOfMemory
-end_of_report report_fault.Store = end.Store None
-end_of_report (report_fault.WriteFault count) = end.WriteFault
 
 -- what the failed calls of the files met, and whether each sync went well
 abbrev pub cause_of_calls : Tally → Bool → Option Cause

@@ -1,4 +1,5 @@
 pub mod Causes
-pub mod Printed
+pub mod Ends
 pub mod Openings
+pub mod Printed
 pub mod Runs

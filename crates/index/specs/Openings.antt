@@ -11,26 +11,26 @@ use Rattle.sqlite.specs.Recovery.{Image}
 use Rattle.sqlite.specs.State.{HasCleanDisk, State}
 use Rattle.sqlite.specs.Tree.{Trees}
 use Rattle.sqlite.specs.WalFiles.{outcomes}
+use Rattle.sqlite.specs.Held.{Held, state}
+use Rattle.sqlite_trees.specs.declared.store.Store.{Ghosts}
+use Rattle.sqlite_disk.specs.declared.Disk as disk
 use Rattle.sqlite_pool.specs.Stored.{StandsAs}
 use Rattle.sqlite_store.specs.Unopened.{state_of}
-use Rattle.index_sql_opening.specs.Names.{has_any_of}
-use Rattle.index_sql_schema.specs.Schema.{index_schema}
-use Rattle.index_tables.specs.Adopted.{IsRaised}
-use Rattle.index.specs.declared.database.Left.{Left}
-use Rattle.index.specs.declared.database.Left.TheVariants as unused
-use Rattle.index.specs.declared.end.End.{End}
-use Rattle.index.specs.declared.end.End.TheVariants as end
 use Rattle.index_digest.specs.Digest.{read_digest}
 use Rattle.index_rules.specs.declared.open.OpenFault.{OpenFault}
 use Rattle.index_rules.specs.declared.open.OpenFault.TheVariants as open_fault
 use Rattle.index_rules.specs.FirstTables.{IsBadFirstUser, first_record}
 use Rattle.index_rules.specs.Maps.{Bytes}
+use Rattle.index_sql_schema.specs.Schema.{index_schema}
+use Rattle.index_sql_opening.specs.Names.{has_any_of}
 use Rattle.index_sql_opening.specs.NewAsks.{asks_of_new}
-use Rattle.index_tables.specs.Opened.{StoreForOthers}
-use Rattle.index.specs.Causes.{is_fault}
-use Rattle.sqlite.specs.Held.{Held, state}
-use Rattle.sqlite_disk.specs.declared.Disk as disk
-use Rattle.sqlite_trees.specs.declared.store.Store.{Ghosts}
+use Rattle.index_tables.specs.Adopted.{IsRaised, IsReason}
+use Rattle.index_tables.specs.Opened.{RefusesFound, RefusesNew, StoreForOthers}
+use Rattle.index.specs.declared.database.Left.{Left}
+use Rattle.index.specs.declared.database.Left.TheVariants as unused
+use Rattle.index.specs.declared.end.End.{End}
+use Rattle.index.specs.declared.end.End.TheVariants as end
+use Rattle.index.specs.Ends.{is_fault}
 
 -- they recover to this database, and hold no other
 pub record HoldsOnly (image : Image) (db : Database) : Type 0 where
@@ -89,14 +89,21 @@ abbrev pub IsUnmade : Image → State → Type 0
 IsUnmade start now = IsTrue now.is_open → Refused MakesNothing start now
 
 -- these hex digits are no digest, or that of a token with which this user can't be the first
-abbrev pub AreBadFirst : Bytes → Bytes → Type 0
-AreBadFirst user digits = (read_digest digits ≡ None) ⊎ ((digest : Bytes) × (read_digest digits ≡ Some digest) × IsBadFirstUser user digest)
+abbrev pub IsBadFirstUserByHex : Bytes → Bytes → Type 0
+IsBadFirstUserByHex user digits = (read_digest digits ≡ None) ⊎ ((digest : Bytes) × (read_digest digits ≡ Some digest) × IsBadFirstUser user digest)
 
 -- why no new index with this first user was made of it
-pub record IsReasonOfNew {S : Type 0} (user token : Bytes) (g : Ghosts S) (first last : Held S) (why : OpenFault) : Type 0 where
+pub record IsWhyUnmade {S : Type 0} (user token : Bytes) (g : Ghosts S) (first last : Held S) (why : OpenFault) : Type 0 where
+  pub kind : RefusesNew why
   pub bad_first_user : why ≡ open_fault.BadFirstUser → IsBadFirstUser user token
   pub taken : why ≡ open_fault.NotEmpty → IsTrue (has_any_of (state g first).now.schema index_schema.tables)
-  pub store : StoreForOthers g (asks_of_new user (first_record token)) first last why
+  -- a fault of the store has a cause, where its disk is clean
+  pub store : HasCleanDisk (state g last) → StoreForOthers g (asks_of_new user (first_record token)) first last why
+
+-- why no index was found in it; what it has and tells is known of a clean disk alone
+pub record IsWhyUnfound {S : Type 0} (g : Ghosts S) (first last : Held S) (why : OpenFault) : Type 0 where
+  pub kind : RefusesFound why
+  pub reason : HasCleanDisk (state g last) → IsReason g first last why
 
 module _ {D : Type 0} {g : disk.Ghosts D} where
   -- a crash leaves this of two files on which nothing was done
@@ -105,9 +112,9 @@ module _ {D : Type 0} {g : disk.Ghosts D} where
   LeavesUnused IsRefused start (unused.Refused left) = IsRefused start (file_state left.conn)
 
   -- Why nothing was done on two files that held this. Those that can't be opened, or closed, have failed, or memory was
-  -- wanting. A database was refused for a reason of this kind, as far as its disk is clean.
-  abbrev pub IsWhy : (Held (FileStore D g) → Held (FileStore D g) → OpenFault → Type 0) → Image → End → Option (Left D g) → Type 0
-  IsWhy IsFor start told None = IsTrue (is_fault told)
-  IsWhy IsFor start told (Some (unused.Shut left)) = IsTrue (is_fault told)
-  IsWhy IsFor start told (Some (unused.Refused left)) =
-      (told ≡ end.Open left.why) × (HasCleanDisk (file_state left.conn) → (first : Held (FileStore D g)) × IsOpenedOn start first × IsFor first left.conn left.why)
+  -- wanting. A database was refused for a reason of this kind.
+  abbrev pub IsWhyUnused : (Held (FileStore D g) → Held (FileStore D g) → OpenFault → Type 0) → Image → End → Option (Left D g) → Type 0
+  IsWhyUnused IsFor start told None = IsTrue (is_fault told)
+  IsWhyUnused IsFor start told (Some (unused.Shut left)) = IsTrue (is_fault told)
+  IsWhyUnused IsFor start told (Some (unused.Refused left)) =
+      (told ≡ end.Open left.why) × ((first : Held (FileStore D g)) × IsOpenedOn start first × IsFor first left.conn left.why)

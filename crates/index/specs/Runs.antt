@@ -35,10 +35,8 @@ use Rattle.index_tables.specs.Adopted.{IsCommitted, IsCurrent, IsFound}
 use Rattle.index_tables.specs.BooksState.{AreCurrent, IsWorking}
 use Rattle.index.specs.declared.database.Left.{Left}
 use Rattle.index.specs.declared.end.End.{End}
-use Rattle.index.specs.declared.end.End.TheVariants as end
-use Rattle.index_tables.specs.Adopted.{IsReason}
-use Rattle.index.specs.Causes.{is_fault}
-use Rattle.index.specs.Openings.{HoldsOnly, IsUnfound, IsWhy, LeavesUnused}
+use Rattle.index.specs.Ends.{end_of, end_of_reporting, is_fault}
+use Rattle.index.specs.Openings.{HoldsOnly, IsUnfound, IsWhyUnfound, IsWhyUnused, LeavesUnused}
 
 -- ---- two files
 
@@ -99,7 +97,7 @@ pub record EndsRunOn {D : Type 0} (g : Ghosts D) (Does Leaves : Tables → Table
       → Interrupted (λ T T'. Leaves T T' done.1) start (over_files.recovers e.1)))
   -- what is refused is as it was, or an index of version 1 became one of today
   pub refused : IfErr result (λ e. IfSome e.1 (LeavesUnused IsUnfound start))
-  pub why : IfErr result (λ e. IsWhy (IsReason over_files) start e.0 e.1)
+  pub why : IfErr result (λ e. IsWhyUnused (IsWhyUnfound over_files) start e.0 e.1)
 
 -- ---- the same of a connection, before its files are known
 
@@ -138,11 +136,6 @@ pub record LeavesAsWas (Made : Database → Trees → Type 0) (was now : State) 
 
 -- ---- what each kind of work makes of the tables
 
--- the end of a run over lines, as an end of the program
-abbrev pub end_of : Result ℕ LineEnd → Result ℕ End
-end_of (Ok count) = Ok count
-end_of (Err early) = Err (end.Lines early)
-
 -- the lines of what a reader had were answered up to this end: by the tables, and by each legal history for which they
 -- stood, so that the tables after it stand for the history with the calls that were accepted
 pub record AnswersLines (given left had has : Option (List ℕ)) (T T' : Tables) (result : Result ℕ End) : Type 0 where
@@ -161,9 +154,10 @@ pub record LeavesLines (given left had has : Option (List ℕ)) (T T' : Tables) 
   pub history : (h : History) → IsLegal h → StandsFor T h
       → EndsRun (TellsCalls (LeavesAllOf h)) T' given left had has ended
 
--- the report was written, or a front of it, and no table changed
-pub record WritesReport (had has : Option (List ℕ)) (T T' : Tables) : Type 0 where
+-- the report was written, or a front of it, up to this end, and no table changed
+pub record WritesReport (had has : Option (List ℕ)) (T T' : Tables) (result : Result ℕ End) : Type 0 where
   pub ended : Result (Unit {0}) ReportFault
+  pub is : result ≡ end_of_reporting ended
   pub reports : Reports (report_in T) had has ended
   pub unchanged : T' ≡ T
 

@@ -12,10 +12,11 @@ ghost use Rattle.index_rules.specs.Facts.{HasOneBearer};
 ghost use Rattle.index_rules.specs.FirstTables.{IsBadFirstUser, first_tables};
 ghost use Rattle.index_rules.specs.Tables.{Tables};
 ghost use Rattle.index_sql_schema.specs.Schema.{no_schema};
-ghost use Rattle.index_tables.specs.Adopted.{IsRaised, IsReason};
+ghost use Rattle.index_tables.specs.Adopted.{IsRaised};
 ghost use Rattle.index.specs.declared.end.End.{End as EndData};
-ghost use Rattle.index.specs.Causes.{IsKnown, IsObject, is_fault, is_store, other_object};
-ghost use Rattle.index.specs.Openings.{AreBadFirst, IsOpenedOn, IsReasonOfNew, IsUnmade, IsWhy, LeavesUnused, MakesNothing};
+ghost use Rattle.index.specs.Causes.{IsKnown, IsObject, other_object};
+ghost use Rattle.index.specs.Ends.{is_fault, is_store};
+ghost use Rattle.index.specs.Openings.{IsBadFirstUserByHex, IsOpenedOn, IsUnmade, IsWhyUnfound, IsWhyUnmade, IsWhyUnused, LeavesUnused, MakesNothing};
 ghost use Rattle.index.specs.Runs.{Created, EndsRunOn, EndsWork, IsMadeNew, LeavesAsWas};
 
 use crate::cause::{Cause, cause_of_calls};
@@ -80,10 +81,10 @@ pub fn create<S: Start>(
     token: &str,
 ) -> Result<Files<FileFrom<S>>, Unused<FileFrom<S>>>
     ensures bad_first_user { IsErrOf result (End.Open OpenFault.BadFirstUser, None)
-        ↔ AreBadFirst user.now token.now }
+        ↔ IsBadFirstUserByHex user.now token.now }
     ensures why { (digest : _) → read_digest token.now ≡ Some digest
         → (¬ IsBadFirstUser user.now digest)
-        → IfErr result (λ e. IsWhy (IsReasonOfNew user.now digest over_files)
+        → IfErr result (λ e. IsWhyUnused (IsWhyUnmade user.now digest over_files)
         (image_at S.Start) e.0 e.1) }
 
     // The files held nothing of an index, and hold the new one.
@@ -141,7 +142,7 @@ fn create_and_close<D: Disk + Drop>(
     ensures refused { IfErr result (λ e. IfSome e.1 (λ left. (start : Image) →
         IsOpenedOn start conn → LeavesUnused IsUnmade start left)) }
     ensures why { IfErr result (λ e. (start : Image) → IsOpenedOn start conn →
-        IsWhy (IsReasonOfNew user.now token over_files) start e.0 e.1) }
+        IsWhyUnused (IsWhyUnmade user.now token over_files) start e.0 e.1) }
 {
     match create_in(rt, conn, user, token) {
         Ok(conn) => match close(conn) {
@@ -183,8 +184,8 @@ fn create_in<S: Alter + Drop>(
         IsMadeNew (first_tables user.now token) (state S.Store conn) (state S.Store made)) }
     ensures refused { IfErr result (λ left. IsTrue (state S.Store left.conn).is_open
         → LeavesAsWas MakesNothing (state S.Store conn) (state S.Store left.conn)) }
-    ensures reason { IfErr result (λ left. HasCleanDisk (state S.Store left.conn)
-        → IsReasonOfNew user.now token S.Store conn left.conn left.why) }
+    ensures why { IfErr result (λ left.
+        IsWhyUnmade user.now token S.Store conn left.conn left.why) }
 {
     match SqlBooks::create(rt.alloc(), conn, user.as_bytes(), token) {
         Ok(books) => Ok(books.into_connection()),
@@ -205,8 +206,7 @@ fn work_in<S: Alter + Drop, W: Work>(
         (state S.Store conn) (state S.Store done.0)) }
     ensures refused { IfErr result (λ left. HasCleanDisk (state S.Store left.conn)
         → LeavesAsWas IsRaised (state S.Store conn) (state S.Store left.conn)) }
-    ensures reason { IfErr result (λ left. HasCleanDisk (state S.Store left.conn)
-        → IsReason S.Store conn left.conn left.why) }
+    ensures why { IfErr result (λ left. IsWhyUnfound S.Store conn left.conn left.why) }
 {
     match SqlBooks::adopt(rt.alloc(), conn) {
         Ok(books) => {

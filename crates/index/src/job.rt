@@ -1,10 +1,11 @@
 //! The program's subcommands.
-ghost use Rattle.std.specs.Prelude.{◌≡◌, ◌↔◌, ◌⊎◌, Err, IfErr, IfOk, IsOk, IsTrue, codes, false};
+ghost use Rattle.std.specs.Prelude.{◌≡◌, ◌↔◌, Err, IfErr, IfOk, IsOk, IsTrue, codes, false};
 ghost use Rattle.std.specs.Process.{exit_status};
 ghost use Rattle.index_digest.specs.Digest.{sha256};
+ghost use Rattle.index_names.specs.Faults.{FailsByEither};
 ghost use Rattle.index_rules.specs.FirstTables.{RefusesBadFirstUser, first_tables};
 ghost use Rattle.index_rules.specs.Tables.{Tables};
-ghost use Rattle.index.specs.Causes.{is_store};
+ghost use Rattle.index.specs.Ends.{is_store};
 
 use crate::database::{self, Work};
 use crate::end::End;
@@ -95,8 +96,7 @@ fn work_in_memory<W: Work>(rt: &HostRuntime, work: &mut W) -> Result<Result<u64,
     ensures worked { let first = first_tables (codes "office") (sha256 (codes "office")) in
         IfOk result (λ end. (T : Tables) × W.does work.old work.new first T end) }
     ensures bad_first_user { RefusesBadFirstUser (codes "office") (sha256 (codes "office")) result }
-    ensures fault { IfErr result (λ why.
-        (why ≡ OpenFault.BadFirstUser) ⊎ (why ≡ OpenFault.OutOfMemory)) }
+    ensures fault { FailsByEither result OpenFault.BadFirstUser OpenFault.OutOfMemory }
 {
     let books = PlainBooks::new(rt.alloc(), b"office", Digest256::of(b"office"))?;
     let mut desk = Desk::new(Recent::new(rt.alloc(), books, work.keep_recent()));
@@ -224,8 +224,7 @@ impl<K: Sink> Work for Reporting<K> {
     ghost use Rattle.std.specs.Prelude.{◌≡◌};
     ghost use Rattle.index.specs.Runs.{WritesReport};
 
-    ghost does = { λ old new T T' _.
-        WritesReport (K.contents old.sink) (K.contents new.sink) T T' };
+    ghost does = { λ old new. WritesReport (K.contents old.sink) (K.contents new.sink) };
 
     ghost leaves = { λ _ _ T T' _. T' ≡ T };
 

@@ -1,9 +1,10 @@
 //! The opening of a database file, and the token of the first user of a new index.
-ghost use Rattle.std.specs.Prelude.{◌≡◌, ◌≢◌, ◌↔◌, ◌⊎◌, Some, IfErr, IfOk, IsErrOf, IsTrue};
+ghost use Rattle.std.specs.Prelude.{◌≡◌, ◌≢◌, ◌↔◌, Some, IfOk, IsErrOf, IsTrue};
 ghost use Rattle.sqlite.specs.WalFiles.{image_at};
 ghost use Rattle.index_digest.specs.Digest.{read_digest};
-ghost use Rattle.index.specs.Causes.{end_of_error, is_fault, is_store};
-ghost use Rattle.index.specs.Openings.{AreBadFirst, EndsOpening};
+ghost use Rattle.index_names.specs.Faults.{FailsByEither};
+ghost use Rattle.index.specs.Ends.{end_of_error, is_fault, is_store};
+ghost use Rattle.index.specs.Openings.{EndsOpening, IsBadFirstUserByHex};
 
 use crate::cause::Cause;
 use crate::end::End;
@@ -62,9 +63,8 @@ pub fn open_there<S: Start>(
 pub fn first_token(alloc: Global, user: &str, token: &str) -> Result<Digest256, OpenFault>
     ensures read { IfOk result (λ digest. read_digest token.now ≡ Some digest) }
     ensures bad_first_user { IsErrOf result OpenFault.BadFirstUser
-        ↔ AreBadFirst user.now token.now }
-    ensures fault { IfErr result (λ why.
-        (why ≡ OpenFault.BadFirstUser) ⊎ (why ≡ OpenFault.OutOfMemory)) }
+        ↔ IsBadFirstUserByHex user.now token.now }
+    ensures fault { FailsByEither result OpenFault.BadFirstUser OpenFault.OutOfMemory }
 {
     let Some(digest) = Digest256::read_hex(token.as_bytes()) else {
         return Err(OpenFault::BadFirstUser);

@@ -4,7 +4,7 @@ use Rattle.std.proofs.lemmas.Option.{IfSome_then}
 use Rattle.std.proofs.lemmas.Result.{IfErr-weaker, IfOk-weaker}
 use Rattle.sqlite.specs.Files.{over_files}
 use Rattle.sqlite.specs.WalFiles.{image_at}
-use Rattle.index.specs.Openings.{IsReasonOfNew, IsWhy}
+use Rattle.index.specs.Openings.{IsWhyUnmade, IsWhyUnused}
 use Rattle.index.proofs.database.create.Goals as goal
 
 pub returns-in-Ok-open-clause-bad_first_user : goal.returns-in-Ok-open-clause-bad_first_user
@@ -16,7 +16,7 @@ returns-in-Ok-open-clause-bad_first_user g c = (
 pub returns-in-Ok-open-clause-why : goal.returns-in-Ok-open-clause-why
 returns-in-Ok-open-clause-why g c = λ digest read fine.
     let same : c.in-Ok.token ≡ digest = search rules in
-    subst (λ token. IfErr c.create_and_close.result (λ e. IsWhy (IsReasonOfNew c.args.user.now token over_files) (image_at g.S.Start) e.0 e.1)) same
+    subst (λ token. IfErr c.create_and_close.result (λ e. IsWhyUnused (IsWhyUnmade c.args.user.now token over_files) (image_at g.S.Start) e.0 e.1)) same
     (IfErr-weaker c.create_and_close.result _ _ (λ e why. why _ c.in-Ok-open.ensures.ends.opened) c.create_and_close.ensures.why)
 
 pub returns-in-Ok-open-clause-created : goal.returns-in-Ok-open-clause-created

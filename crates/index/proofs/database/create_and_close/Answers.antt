@@ -19,4 +19,4 @@ returns-in-Err-clause-refused g c = λ start first is_open.
     refused_by MakesNothing start c.args.conn c.in-Err.left.conn opening.0 opening.1 leaves
 
 pub returns-in-Err-clause-why : goal.returns-in-Err-clause-why
-returns-in-Err-clause-why g c = λ start first. (refl, λ clean. (c.args.conn, first, c.in-Err.ensures.reason clean))
+returns-in-Err-clause-why g c = λ start first. (refl, (c.args.conn, first, c.in-Err.ensures.why))

@@ -3,7 +3,7 @@ use Rattle.sqlite.specs.Effect.{Database}
 use Rattle.sqlite.specs.Held.{state}
 use Rattle.index_sql_opening.specs.Names.{has_any_of}
 use Rattle.index_sql_schema.specs.Schema.{index_schema}
-use Rattle.index.specs.Openings.{IsReasonOfNew}
+use Rattle.index.specs.Openings.{IsWhyUnmade}
 use Rattle.index.proofs.RunLemmas.{clean_if_open, free_of}
 use Rattle.index.proofs.database.create_in.Goals as goal
 
@@ -23,11 +23,12 @@ returns-in-Err-clause-refused g c = λ is_open.
       left = λ was_open settled db may. inl (g.met.S.Store.settled last.store db is_open may ∙ ap (λ (d : Database). d.trees) (stays.committed_is is_open ∙ sym settled));
     }
 
-pub returns-in-Err-clause-reason : goal.returns-in-Err-clause-reason
-returns-in-Err-clause-reason g c = λ clean.
+pub returns-in-Err-clause-why : goal.returns-in-Err-clause-why
+returns-in-Err-clause-why g c =
     let same : c.as_bytes.result.now ≡ c.args.user.now = search rules in
-    subst (λ user. IsReasonOfNew user c.args.token g.S.Store c.args.conn c.in-Err.refused.conn c.in-Err.refused.why) same (record {
+    subst (λ user. IsWhyUnmade user c.args.token g.S.Store c.args.conn c.in-Err.refused.conn c.in-Err.refused.why) same (record {
+      kind = c.in-Err.ensures.why;
       bad_first_user = c.in-Err.ensures.bad_first_user.0;
       taken = λ is. (c.in-Err.ensures.taken is).1;
-      store = c.in-Err.ensures.refused.reason clean;
+      store = c.in-Err.ensures.refused.reason;
     })

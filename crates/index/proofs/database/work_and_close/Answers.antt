@@ -35,6 +35,6 @@ returns-in-Err g c = record {
         let leaves = c.in-Err.ensures.refused clean in
         let opening = first leaves.was_clean in
         refused_by IsRaised start c.args.conn c.in-Err.left.conn opening.0 opening.1 leaves;
-    why = (refl, λ clean. (c.args.conn, first, c.in-Err.ensures.reason clean));
+    why = (refl, (c.args.conn, first, c.in-Err.ensures.why));
   };
 }

@@ -1,0 +1,58 @@
+-- The ends of the program with the status 1: which of them tell a fault, and the ends that faults of other layers are.
+use Rattle.std.specs.Prelude.{ℕ, Bool, true, false, Option, None, Result, Ok, Err}
+use Rattle.sqlite.specs.declared.error.Error.{Error}
+use Rattle.sqlite.specs.declared.error.Error.TheVariants.{SqliteFailure}
+use Rattle.sqlite.specs.declared.error.ErrorCode.TheVariants as code
+use Rattle.index_cli.specs.declared.end.LineEnd.{LineEnd}
+use Rattle.index_cli.specs.declared.end.ServeEnd.TheVariants as serve_end
+use Rattle.index_desk.specs.declared.desk.report.ReportFault.{ReportFault}
+use Rattle.index_desk.specs.declared.desk.report.ReportFault.TheVariants as report_fault
+use Rattle.index_rules.specs.declared.answer.Fault.{Fault}
+use Rattle.index_rules.specs.declared.answer.Fault.TheVariants as fault
+use Rattle.index_rules.specs.declared.open.OpenFault.TheVariants as open_fault
+use Rattle.index.specs.declared.cause.Cause.{Cause}
+use Rattle.index.specs.declared.end.End.{End}
+use Rattle.index.specs.declared.end.End.TheVariants as end
+use Rattle.index.specs.Causes.{cause_of_error}
+
+-- the database failed
+abbrev pub is_store : End → Bool
+is_store (end.Store cause) = true
+is_store (end.Open open_fault.Store) = true
+is_store (end.Connections serve_end.Store) = true
+is_store _ = false
+
+-- or memory was wanting
+abbrev pub is_fault : End → Bool
+is_fault end.OutOfMemory = true
+is_fault (end.Open open_fault.OutOfMemory) = true
+is_fault end = is_store end
+
+-- the cause for which it failed, where that is known
+abbrev pub cause_in : End → Option Cause
+cause_in (end.Store cause) = cause
+cause_in _ = None
+
+-- the end that an error of SQLite is
+abbrev pub end_of_error : Error → End
+end_of_error (SqliteFailure code.OutOfMemory) = end.OutOfMemory
+end_of_error error = end.Store (cause_of_error error)
+
+-- the end that a fault of the desk is, and that of a report
+abbrev pub end_of_fault : Fault → End
+end_of_fault fault.OutOfMemory = end.OutOfMemory
+end_of_fault fault.Store = end.Store None
+
+abbrev pub end_of_report : ReportFault → End
+end_of_report report_fault.OutOfMemory = end.OutOfMemory
+end_of_report report_fault.Store = end.Store None
+end_of_report (report_fault.WriteFault count) = end.WriteFault
+
+-- what comes of a run over lines, and of a report, which finds no number
+abbrev pub end_of : Result ℕ LineEnd → Result ℕ End
+end_of (Ok count) = Ok count
+end_of (Err early) = Err (end.Lines early)
+
+abbrev pub end_of_reporting : Result (Unit {0}) ReportFault → Result ℕ End
+end_of_reporting (Ok done) = Ok 0
+end_of_reporting (Err fault) = Err (end_of_report fault)
