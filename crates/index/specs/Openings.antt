@@ -94,6 +94,7 @@ IsBadFirstUserByHex user digits = (read_digest digits ≡ None) ⊎ ((digest : B
 
 -- why no new index with this first user was made of it
 pub record IsWhyUnmade {S : Type 0} (user token : Bytes) (g : Ghosts S) (first last : Held S) (why : OpenFault) : Type 0 where
+  pub was_clean : HasCleanDisk (state g last) → HasCleanDisk (state g first)
   pub kind : RefusesNew why
   pub bad_first_user : why ≡ open_fault.BadFirstUser → IsBadFirstUser user token
   pub taken : why ≡ open_fault.NotEmpty → IsTrue (has_any_of (state g first).now.schema index_schema.tables)
@@ -102,6 +103,7 @@ pub record IsWhyUnmade {S : Type 0} (user token : Bytes) (g : Ghosts S) (first l
 
 -- why no index was found in it; what it has and tells is known of a clean disk alone
 pub record IsWhyUnfound {S : Type 0} (g : Ghosts S) (first last : Held S) (why : OpenFault) : Type 0 where
+  pub was_clean : HasCleanDisk (state g last) → HasCleanDisk (state g first)
   pub kind : RefusesFound why
   pub reason : HasCleanDisk (state g last) → IsReason g first last why
 

@@ -27,6 +27,7 @@ pub returns-in-Err-clause-why : goal.returns-in-Err-clause-why
 returns-in-Err-clause-why g c =
     let same : c.as_bytes.result.now ≡ c.args.user.now = search rules in
     subst (λ user. IsWhyUnmade user c.args.token g.S.Store c.args.conn c.in-Err.refused.conn c.in-Err.refused.why) same (record {
+      was_clean = c.in-Err.ensures.refused.was_clean;
       kind = c.in-Err.ensures.why;
       bad_first_user = c.in-Err.ensures.bad_first_user.0;
       taken = λ is. (c.in-Err.ensures.taken is).1;
