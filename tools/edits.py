@@ -104,18 +104,40 @@ def span_of(text, head):
     return first, rows.index(f"{indent}}}", head)
 
 
+def words_of(text):
+    """Returns the names in the text of a type, without lifetimes and the modules of paths."""
+    return re.findall(r"\w+(?!\w|::)", re.sub(r"'\w+", "", text))
+
+
+def name_of_impl(head, types):
+    """Returns the name that a check gives to what has the methods of an impl with this head, or None where that isn't
+    told by the head: of a type of another file, which these are not, and of what is no impl."""
+    found = re.match(r"impl\b(?:<(.*?)>)? (?:([^{]+?) for )?([^{]+) \{$", head)
+    if not found:
+        return None
+    parameters = {words_of(it)[0] for it in (found[1] or "").split(",") if words_of(it)}
+    trait, names = found[2], words_of(found[3])
+    owner, *given = [f"Tuple{len(names)}", *names] if found[3].startswith("(") else names
+    if trait and trait != "Drop":
+        return "".join(it[0].upper() + it[1:] for it in [owner, *given, *words_of(trait)] if it not in parameters)
+    if owner not in types:
+        return None
+    # (one that is of some types alone has them in its name)
+    return owner if set(given) <= parameters else "+".join([owner, *given])
+
+
 def written_in(file, text):
-    """Yields the functions that a file below `src` with this text has, but for those of traits, and of types of other
-    files, each with the row of its head."""
-    module, block = file.removesuffix(".rt").replace("/", "."), None
+    """Yields the functions that a file below `src` with this text has, but for those of types of other files, each
+    with the row of its head."""
+    module, block = file.removesuffix(".rt").replace("/", "."), ""
     types = re.findall(r"^(?:pub(?:\(\w+\))? )?(?:struct|enum) (\w+)", text, re.M)
     for row, line in enumerate(text.split("\n")):
         if line[:1] not in ("", " "):
             block = line
         head = FUNCTION.match(line)
-        owner = IMPL.match(block or "") if head and head[1] else None
-        if head and (owner[1] in types if owner else not head[1]):
-            path = ["" if module in ("lib", "main") else module, owner and owner[1], head[2]]
+        owner = name_of_impl(block, types) if head and head[1] else None
+        if head and (owner or not head[1]):
+            path = ["" if module in ("lib", "main") else module, owner, head[2]]
             yield ".".join(it for it in path if it), row
 
 
