@@ -110,8 +110,9 @@ def words_of(text):
 
 
 def name_of_impl(head, types):
-    """Returns the name that a check gives to what has the methods of an impl with this head, or None where that isn't
-    told by the head: of a type of another file, which these are not, and of what is no impl."""
+    """Returns the name under which a check tells the methods of an impl with this head: of a trait's impl the names of
+    the type and of the trait, each with the types that it is given, else that of the type. None for a type that is not
+    among these, which are those of its file, and for what is no impl."""
     found = re.match(r"impl\b(?:<(.*?)>)? (?:([^{]+?) for )?([^{]+) \{$", head)
     if not found:
         return None
