@@ -8,8 +8,8 @@ import tempfile
 import time
 from contextlib import closing
 
-from figures import ROUNDS, accepted, goal, line, load, median, memory_of
-from rates import TOKEN, upload
+from bench.figures import ROUNDS, accepted, goal, line, load, median, memory_of
+from bench.rates import TOKEN, upload
 from serving import JSON_PAGE, Index, make_index, sha256
 
 UPLOADS, MEBIBYTE = 2_000, 1 << 20

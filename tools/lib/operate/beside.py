@@ -3,9 +3,9 @@ import http.server
 import json
 import threading
 
-from checks import tells, told
-from front import Front
-from kept import TOKEN, Kept, accepted, claim, upload
+from operate.checks import tells, told
+from operate.front import Front
+from operate.kept import TOKEN, Kept, accepted, claim, upload
 from serving import Index
 
 

@@ -6,7 +6,7 @@ import shutil
 import ssl
 import subprocess
 
-from checks import run
+from operate.checks import run
 from serving import TOP, Running, asked, free_port, listens
 
 OPERATE = f"{TOP}/operate"

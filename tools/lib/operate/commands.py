@@ -7,9 +7,9 @@ import subprocess
 import sys
 import threading
 
-from checks import ends, run, told
-from front import OPERATE
-from kept import Kept, TOKEN, claim
+from operate.checks import ends, run, told
+from operate.front import OPERATE
+from operate.kept import Kept, TOKEN, claim
 from packages import make_wheel, wheel_files, wheel_name
 from serving import free_port, sha256
 

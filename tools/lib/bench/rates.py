@@ -12,7 +12,7 @@ import time
 import urllib.request
 from contextlib import ExitStack, contextmanager, nullcontext
 
-from figures import ROUNDS, accepted, goal, line, load
+from bench.figures import ROUNDS, accepted, goal, line, load
 from serving import JSON_PAGE, Index, Running, free_port, sha256
 
 SECONDS = 1

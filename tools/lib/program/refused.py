@@ -11,7 +11,7 @@ from contextlib import ExitStack
 
 from judge import Judge, copy_index, rows_of, seen_by_sqlite
 from old_version import make_old_version
-from refusals import Lines, Messages, Refusals, rests
+from program.refusals import Lines, Messages, Refusals, rests
 from serving import JSON_PAGE, OFFICE, TOP, parts_of, sha256
 from trying import kill_after, run
 from workload import REQUESTS, lines_of

@@ -5,8 +5,8 @@ import subprocess
 import tempfile
 import time
 
-from figures import goal, line, load, median, memory_of
-from rates import bytes_of, claim, upload
+from bench.figures import goal, line, load, median, memory_of
+from bench.rates import bytes_of, claim, upload
 from serving import Index, sha256
 
 USERS, CLAIMS, FILES, MEBIBYTE = 10_000, 20_000, 10_000, 1 << 20

@@ -10,7 +10,7 @@ import tempfile
 import time
 from contextlib import suppress
 
-TOP = os.path.dirname(os.path.dirname(os.path.abspath(__file__)))
+TOP = os.path.dirname(os.path.dirname(os.path.dirname(os.path.abspath(__file__))))
 PROGRAM = f"{TOP}/crates/index/out/index"
 JSON_PAGE = "application/vnd.pypi.simple.v1+json"
 

@@ -14,7 +14,7 @@ import threading
 import time
 
 sys.dont_write_bytecode = True
-ROOT = os.path.dirname(os.path.dirname(os.path.realpath(__file__)))
+ROOT = os.path.dirname(os.path.dirname(os.path.dirname(os.path.realpath(__file__))))
 # tasks side by side plan on no more memory than this, in bytes, and on no more than this part of what is free
 MOST_MEMORY, MOST_OF_FREE = 18_000_000_000, 0.85
 # a crate has at most so many jobs, and each job after the first takes this part of the memory of the first

@@ -5,7 +5,7 @@ import shutil
 import sys
 import tempfile
 
-from checks import run, told
+from operate.checks import run, told
 from serving import TOP
 
 BREAKS = f"{TOP}/tools/caught/operate.edits"

@@ -1,4 +1,5 @@
-"""The packages that the tools upload: small wheels, and a source archive that is built without a network."""
+"""packages.py FOLDER: makes the packages that the tools upload, small wheels and a source archive that builds offline."""
+import argparse
 import base64
 import hashlib
 import io
@@ -81,3 +82,13 @@ def make_packages(folder):
     wheel("spam-nest", "spam_nest", "1.0+fix.1", uses, needs=["frob>=0.9"], requires=">=3.7")
     wheel("spam-nest", "spam_nest", "2.0", uses, needs=["frob>=0.9"], requires=">=99")
     return made
+
+
+def main():
+    parser = argparse.ArgumentParser(description=__doc__)
+    parser.add_argument("folder", metavar="FOLDER", help="a folder that exists")
+    make_packages(parser.parse_args().folder)
+
+
+if __name__ == "__main__":
+    main()

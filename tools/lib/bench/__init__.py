@@ -1,0 +1,1 @@
+"""Parts of tools/bench; load serves tools/bench-behind-nginx too."""
