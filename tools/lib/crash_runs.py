@@ -6,7 +6,7 @@ from images import ANSWERED, SYNCED, read_record
 from judge import copy_index, seen_by_sqlite
 from old_version import make_old_version
 from serving import OFFICE, Index, reply_to
-from trying import built, kill_after, run
+from running import built, kill_after, run
 from workload import REQUESTS, lines_of, message_of, of_name, upload
 
 # more than the program keeps in memory of one change, and than the log holds before it is copied
@@ -62,7 +62,7 @@ class Recording:
         self.library, self.record = built("record_calls", folder), f"{folder}/record"
         self.path = f"{folder}/recorded/index.db"
         os.makedirs(f"{folder}/recorded", exist_ok=True)
-        self.more = {"LD_PRELOAD": self.library, "RECORD_UNDER": f"{folder}/recorded", "RECORD_TO": self.record}
+        self.setting = {"LD_PRELOAD": self.library, "RECORD_UNDER": f"{folder}/recorded", "RECORD_TO": self.record}
 
     def begin(self, first):
         copy_index(first or "", self.path)
@@ -75,25 +75,25 @@ class Recording:
     def lines(self, lines):
         """Requests by `apply`, to its end."""
         first = self.begin(self.judge.new)
-        run(self.program, "apply", "--db", self.path, given=b"".join(lines), more=self.more)
+        run(self.program, "apply", "--db", self.path, given=b"".join(lines), setting=self.setting)
         states = [self.judge.rows(lines[:count]) for count in range(len(lines) + 1)]
         return self.recorded("apply", first, states)
 
     def opening(self, killed, rows):
         """An index that was killed is opened, checked and closed, and so its log is copied into the file."""
         first = self.begin(killed)
-        run(self.program, "check", "--db", self.path, more=self.more)
+        run(self.program, "check", "--db", self.path, setting=self.setting)
         return self.recorded("opening", first, (rows, rows))
 
     def init(self):
         first = self.begin(None)
-        run(self.program, "init", "--db", self.path, *OFFICE, more=self.more)
+        run(self.program, "init", "--db", self.path, *OFFICE, setting=self.setting)
         return self.recorded("init", first, (None, self.judge.rows(())))
 
     def migration(self):
         first = self.begin(make_old_version(f"{self.folder}/old.db"))
         _, before = seen_by_sqlite(self.path)
-        run(self.program, "check", "--db", self.path, more=self.more)
+        run(self.program, "check", "--db", self.path, setting=self.setting)
         _, rows = seen_by_sqlite(self.path)
         return self.recorded("migration", first, (rows, rows), before=(before,))
 
@@ -101,14 +101,14 @@ class Recording:
         """A large file by `serve`: it doesn't fit into memory as one change, and the log is copied while it serves."""
         messages = [message_of(request) for request in large_requests()]
         states = [self.served(messages[:count]) for count in range(len(messages) + 1)]
-        self.served(messages, self.more)
+        self.served(messages, self.setting)
         return self.recorded("serve", (content(self.judge.new), content(f"{self.judge.new}-wal")), states, is_served=True)
 
-    def served(self, messages, more={}):
+    def served(self, messages, setting=None):
         """The rows behind these messages."""
         self.begin(self.judge.new)
         if messages:
-            with Index(self.program, len(messages), self.path, more=more, at=7) as index:
+            with Index(self.program, len(messages), self.path, setting=setting, at=7) as index:
                 for message in messages:
                     reply_to(index.port, message)
                 index.process.wait(timeout=30)

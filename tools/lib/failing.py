@@ -3,7 +3,7 @@ import errno
 import struct
 from dataclasses import dataclass
 
-from trying import built
+from running import built
 
 KINDS = ("open", "pread", "pwrite", "fsync", "fdatasync", "ftruncate", "read", "write", "recv", "send", "accept")
 FILE_KINDS, STREAM_KINDS, PEER_KINDS = KINDS[:6], KINDS[6:8], KINDS[8:]
@@ -65,12 +65,12 @@ class Failing:
         return {**dict(zip(KINDS, numbers)), "failed": numbers[FAILED]}
 
 
-def faults_of(counted, kinds, tried, count):
+def faults_of(counted, kinds, trial, count):
     """About so many faults of a run that makes these calls, as many of each kind, and how many there are in all."""
     found, of_all = [], 0
     for kind in kinds:
         every = [Fault(kind, at, how, is_lasting) for at in range(1, counted[kind] + 1) for how in HOWS[kind]
                  for is_lasting in ((False,) if how in ONCE_ONLY else (False, True))]
-        found += tried.chosen(every, max(1, count // len(kinds)))
+        found += trial.chosen(every, max(1, count // len(kinds)))
         of_all += len(every)
     return found, of_all

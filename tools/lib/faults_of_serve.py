@@ -20,10 +20,10 @@ MESSAGES = [message_of(request) for request in REQUESTS] + [look(path) for path 
 class Served:
     """What came of a server that was asked for all messages: the replies, its status, and what it said on standard error."""
 
-    def __init__(self, program, path, more):
+    def __init__(self, program, path, setting):
         self.replies, self.status, self.said = [], 1, b""
         try:
-            with Index(program, len(MESSAGES), path, more=more, at=MOMENT) as index:
+            with Index(program, len(MESSAGES), path, setting=setting, at=MOMENT) as index:
                 self.ask(index.port)
                 self.status = index.process.wait(timeout=30)
                 self.said = index.errors()
@@ -72,8 +72,8 @@ class Judged:
         self.whole = [part is not None and len(part[2]) == int(part[1][b"Content-Length"]) for part in parts]
         self.parts = parts
 
-    def told(self, name, is_well, seen=None):
-        self.bench.tried.told(f"{self.name}: {name}", is_well, seen or (self.served.replies, self.served.said))
+    def check(self, name, is_well, seen=None):
+        self.bench.trial.check(f"{self.name}: {name}", is_well, seen or (self.served.replies, self.served.said))
 
     def answers(self, unknown):
         """The answers to the requests. `unknown` is the answer to a request whose reply did not come."""
@@ -82,7 +82,7 @@ class Judged:
     def statuses_are_right(self):
         pairs = list(zip(MESSAGES, self.parts))[:len(REQUESTS)]
         wrong = [part for message, part in pairs if part and part[0] not in status_of(part[2], message.startswith(b"PUT"))]
-        self.told("statuses", not wrong, wrong)
+        self.check("statuses", not wrong, wrong)
 
     def looks_are_right(self, lines):
         """Each page and the file is that of the tables, or Store, or a part of a page that the server tells as cut."""
@@ -92,7 +92,7 @@ class Judged:
         for text, part, reply, is_whole in zip(wanted, *(found[-len(LOOKS):] for found in (self.parts, self.served.replies, self.whole))):
             is_right = is_whole and (part[2] in (text, STORE) or text is None and part[0] == 404)
             is_cut = not is_whole and b"index: connection: Cut\n" in self.served.said and (not part or (text or b"").startswith(part[2]))
-            self.told("a look", is_right or is_cut, (text, reply, self.served.said))
+            self.check("a look", is_right or is_cut, (text, reply, self.served.said))
 
 
 def try_serve(bench, share):
@@ -102,13 +102,13 @@ def try_serve(bench, share):
     bench.begin(bench.judge.new)
     served = Served(bench.program, bench.path, setting(bench.under))
     judged = Judged(bench, "serve without a fault", served)
-    judged.told("answers", tuple(judged.answers(None)) == bench.judge.answers(lines) and served.status == 0 and all(judged.whole))
-    judged.told("looks", [part[0] for part in judged.parts[-len(LOOKS):]] == [200] * len(LOOKS))
+    judged.check("answers", tuple(judged.answers(None)) == bench.judge.answers(lines) and served.status == 0 and all(judged.whole))
+    judged.check("looks", [part[0] for part in judged.parts[-len(LOOKS):]] == [200] * len(LOOKS))
     judged.looks_are_right(lines)
     counted = bench.failing.counted()
     for kinds, tries in ((FILE_KINDS, file_fault), (PEER_KINDS, peer_fault)):
-        found, of_all = faults_of(counted, kinds, bench.tried, int(bench.rounds * share / 2))
-        bench.tried.says(f"serve: {len(found)} of {of_all} faults of {', '.join(kinds)}")
+        found, of_all = faults_of(counted, kinds, bench.trial, int(bench.rounds * share / 2))
+        bench.trial.note(f"serve: {len(found)} of {of_all} faults of {', '.join(kinds)}")
         for fault in bench.each(found):
             bench.begin(bench.judge.new)
             served = Served(bench.program, bench.path, setting(bench.under, fault))
@@ -118,11 +118,11 @@ def try_serve(bench, share):
 def file_fault(bench, judged, fault, lines):
     """The server goes on, or ends with Store. What was not asked any more was not answered."""
     answers = judged.answers(STORE)
-    judged.told("each reply is whole", all(judged.whole[:len(REQUESTS)]))
-    judged.told("answers", answers_are_right(bench.judge, lines, answers))
+    judged.check("each reply is whole", all(judged.whole[:len(REQUESTS)]))
+    judged.check("answers", answers_are_right(bench.judge, lines, answers))
     judged.statuses_are_right()
     said = judged.served.said.replace(b"index: connection: Cut\n", b"")
-    judged.told("its end", (judged.served.status, said) == (0, b"") or judged.served.status == 1 and said.startswith(b"index: Store\n"),
+    judged.check("its end", (judged.served.status, said) == (0, b"") or judged.served.status == 1 and said.startswith(b"index: Store\n"),
                 (judged.served.status, judged.served.said))
     judged.looks_are_right(kept_lines(lines, answers)[0])
     bench.is_kept(judged.name, lines, answers)
@@ -147,10 +147,10 @@ def peer_fault(bench, judged, fault, lines):
         said = judged.served.said.splitlines()
         is_well = judged.served.status == 0 and len(said) >= max(1, len(lost)) and {*said} == {b"index: connection: WriteFault"}
         made = range(len(REQUESTS))
-    judged.told("its end", is_well, (judged.served.status, judged.served.said, lost, count))
+    judged.check("its end", is_well, (judged.served.status, judged.served.said, lost, count))
     judged.statuses_are_right()
     asked = tuple(lines[at] for at in made)
     wanted, answers = bench.judge.answers(asked), judged.answers(None)
-    judged.told("answers", all(answers[at] in (None, answer) for at, answer in zip(made, wanted)), (wanted, answers))
+    judged.check("answers", all(answers[at] in (None, answer) for at, answer in zip(made, wanted)), (wanted, answers))
     is_whole, rows = seen_by_sqlite(bench.path)
-    judged.told("the rows", is_whole and rows == bench.judge.rows(asked), (asked, rows))
+    judged.check("the rows", is_whole and rows == bench.judge.rows(asked), (asked, rows))

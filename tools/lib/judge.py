@@ -5,7 +5,7 @@ import sqlite3
 from contextlib import closing
 
 from serving import make_index, sha256
-from trying import new_folder, run
+from running import new_folder, run
 from workload import STORE
 
 TABLES = ("meta", "users", "names", "owners", "files", "blobs", "yanks", "cases", "bans")

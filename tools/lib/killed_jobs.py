@@ -5,15 +5,15 @@ import time
 from judge import Judge, copy_index, seen_by_sqlite
 from old_version import make_old_version
 from serving import OFFICE
-from trying import kill_after, run
+from running import kill_after, run
 from workload import REQUESTS, lines_of
 
 
 class Killing:
-    """Runs the program so often on each subcommand, and tells of what is there after it was killed."""
+    """Runs the program so often on each subcommand, and checks what is there after it was killed."""
 
-    def __init__(self, program, folder, random, told):
-        self.program, self.folder, self.random, self.told = program, folder, random, told
+    def __init__(self, program, folder, trial):
+        self.program, self.folder, self.random, self.check = program, folder, trial.random, trial.check
         self.judge, self.path = Judge(program, folder), f"{folder}/killed.db"
         self.lines = lines_of(REQUESTS)
         self.ended = 0
@@ -49,21 +49,21 @@ class Killing:
         for number in range(1, rounds + 1):
             self.begin(first)
             yield f"{name} {number}", self.killed(longest, *words, given=given)
-        self.told(f"{name}: {rounds - self.ended} of {rounds} runs were killed in time", self.ended < rounds)
+        self.check(f"{name}: {rounds - self.ended} of {rounds} runs were killed in time", self.ended < rounds)
 
     def is_there(self, name, allowed):
         """The database is opened, its charges are right, and its rows are among these."""
         checked = run(self.program, "check", "--db", self.path)
         is_sound, rows = seen_by_sqlite(self.path)
         is_well = (checked.returncode, checked.stdout, checked.stderr) == (0, b"0\n", b"") and is_sound and rows in allowed
-        self.told(f"killed {name}: what is there", is_well, (checked, is_sound, rows))
+        self.check(f"killed {name}: what is there", is_well, (checked, is_sound, rows))
 
     def init(self, rounds):
         words = "init", "--db", self.path, *OFFICE
         for name, output in self.each(rounds, "init", None, *words):
             again = run(self.program, *words)
             is_well = again.stderr.startswith(b"index: NotEmpty\n") or not output and again.stdout == b"created\n"
-            self.told(f"killed {name}: init again", output in (b"", b"created\n") and is_well, (output, again))
+            self.check(f"killed {name}: init again", output in (b"", b"created\n") and is_well, (output, again))
             self.is_there(name, [self.judge.rows(())])
 
     def migration(self, rounds):
@@ -72,7 +72,7 @@ class Killing:
         run(self.program, "check", "--db", self.path)
         _, wanted = seen_by_sqlite(self.path)
         for name, output in self.each(rounds, "migration", first, "check", "--db", self.path):
-            self.told(f"killed {name}: its output", output in (b"", b"0\n"), output)
+            self.check(f"killed {name}: its output", output in (b"", b"0\n"), output)
             self.is_there(name, [wanted])
 
     def apply(self, rounds):
@@ -80,7 +80,7 @@ class Killing:
         for name, output in self.each(rounds, "apply", self.judge.new, *words, given=b"".join(lines)):
             answers = tuple(output.splitlines())
             told = self.judge.answers(lines)[:len(answers)]
-            self.told(f"killed {name}: {len(answers)} answers", b"\n".join(told).startswith(b"\n".join(answers)), output)
+            self.check(f"killed {name}: {len(answers)} answers", b"\n".join(told).startswith(b"\n".join(answers)), output)
             self.is_there(name, [self.judge.rows(lines[:count]) for count in (len(answers), len(answers) + 1)])
 
     def reading(self, rounds, job):

@@ -1,5 +1,4 @@
 """What tools/build and tools/try-edits share: the kit's own code, and tasks that go side by side."""
-import argparse
 import copy
 import importlib.machinery
 import importlib.util
@@ -13,8 +12,9 @@ import tempfile
 import threading
 import time
 
-sys.dont_write_bytecode = True
-ROOT = os.path.dirname(os.path.dirname(os.path.dirname(os.path.realpath(__file__))))
+from serving import TOP
+from trial import whole_number
+
 # tasks side by side plan on no more memory than this, in bytes, and on no more than this part of what is free
 MOST_MEMORY, MOST_OF_FREE = 18_000_000_000, 0.85
 # a crate has at most so many jobs, and each job after the first takes this part of the memory of the first
@@ -67,7 +67,7 @@ def libraries_of_ci(rt, crates):
     the kit keep nothing: then there are none."""
     if not hasattr(rt, "Kept"):
         return set()
-    rt.Crate.allowed, found = rt.handles_of(ROOT), set()
+    rt.Crate.allowed, found = rt.handles_of(TOP), set()
     kept = rt.Kept(crates)
     for it in crates:
         try:
@@ -89,18 +89,14 @@ def youngest(rt, crate):
     """Returns when the crate's list, files and folders, and the libraries below it, were last changed."""
     files = [*rt.rtlib.files_of(crate.folder)]
     folders = {f"{crate.folder}/{part}" for part in rt.rtlib.PARTS} | {os.path.dirname(it) for it in files}
-    others = [f"{ROOT}/crates.txt", *[f"{it.rlib}/format" for it in crate.deps]]
+    others = [f"{TOP}/crates.txt", *[f"{it.rlib}/format" for it in crate.deps]]
     return max(os.path.getmtime(it) for it in [*files, *folders, *others] if os.path.exists(it))
 
 
 def lanes_of(asked):
     """Adds --lanes N to a tool's arguments."""
-    def number(word):
-        if not word.isdigit() or word == "0":
-            raise argparse.ArgumentTypeError("a number above 0 is wanted")
-        return int(word)
     how = "how many processors to use; as many as there are, if left out"
-    asked.add_argument("--lanes", type=number, metavar="N", help=how)
+    asked.add_argument("--lanes", type=whole_number, metavar="N", help=how)
 
 
 def room(rt):

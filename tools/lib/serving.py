@@ -1,6 +1,7 @@
 """What the tools share: a server that is started and always stopped, and requests that are sent to it."""
 import hashlib
 import http.client
+import json
 import os
 import re
 import select
@@ -13,6 +14,7 @@ from contextlib import suppress
 TOP = os.path.dirname(os.path.dirname(os.path.dirname(os.path.abspath(__file__))))
 PROGRAM = f"{TOP}/crates/index/out/index"
 JSON_PAGE = "application/vnd.pypi.simple.v1+json"
+ACCEPTED, ALREADY = b'{"answer":"accepted"}', b'{"answer":"already"}'
 
 
 def sha256(data):
@@ -41,7 +43,7 @@ def listens(port, patience=10):
     return False
 
 
-def asked(connection, method, path, body, headers):
+def exchange(connection, method, path, body, headers):
     """The status, the headers and the body of the reply on this connection. `X_Index_Token` stands for `X-Index-Token`."""
     try:
         connection.request(method, path, body, {name.replace("_", "-"): value for name, value in headers.items()})
@@ -102,17 +104,44 @@ def make_index(program, path):
     return path
 
 
-class Index(Running):
+class Asking:
+    """What has a call `ask`: an index, or what stands in front of one. Each request is made with a token, that of `office`
+    if none is given, and returns the status, the headers and the body of the reply."""
+
+    def request(self, token="office", **request):
+        return self.ask("POST", "/requests", json.dumps(request), X_Index_Token=token)
+
+    def claim(self, name, token="office"):
+        return self.request(token, do="claim", name=name)
+
+    def upload(self, project, file, body, requires="", token="office"):
+        headers = {"X_Index_Token": token, "X_Index_SHA256": sha256(body)}
+        headers.update({"X_Requires_Python": requires} if requires else {})
+        return self.ask("PUT", f"/files/{project}/{file}", body, **headers)
+
+
+def is_accepted(reply):
+    return reply[0] in (200, 201) and reply[2] == ACCEPTED
+
+
+def accepted(reply):
+    """Returns the body of a reply, or ends the run if its request was not accepted."""
+    if not is_accepted(reply):
+        raise SystemExit(f"a request was answered {reply[0]} {reply[2][:200]!r}")
+    return reply[2]
+
+
+class Index(Running, Asking):
     """The built program, serving on loopback the index in a file, or a new one. What it says on standard error is kept."""
 
-    def __init__(self, program, requests=1_000_000, path=None, patience=10, more={}, port=0, at=None, keep=None):
+    def __init__(self, program, requests=1_000_000, path=None, patience=10, setting=None, port=0, at=None, keep=None):
         self.patience = patience
         self.said, self.folder = tempfile.TemporaryFile(), tempfile.TemporaryDirectory()
         self.path = path or f"{self.folder.name}/index.db"
         words = [program, "serve", "--db", self.path, "--listen", f"127.0.0.1:{port}", "--requests", str(requests)]
         words += [] if at is None else ["--at", str(at)]
         words += [] if keep is None else ["--keep-recent", str(keep)]
-        super().__init__(words, stdout=subprocess.PIPE, stderr=self.said, env={**os.environ, **more})
+        super().__init__(words, stdout=subprocess.PIPE, stderr=self.said, env={**os.environ, **(setting or {})})
 
     def __enter__(self):
         if not os.path.exists(self.path):
@@ -149,4 +178,4 @@ class Index(Running):
         return self.said.read()
 
     def ask(self, method, path, body=None, **headers):
-        return asked(http.client.HTTPConnection("127.0.0.1", self.port, timeout=30), method, path, body, headers)
+        return exchange(http.client.HTTPConnection("127.0.0.1", self.port, timeout=30), method, path, body, headers)

@@ -1,10 +1,9 @@
 """Some thirty requests, of every kind, as lines of `apply` and as messages of `serve`."""
 import json
 
-from serving import sha256
+from serving import ACCEPTED, ALREADY, sha256
 
 STORE = b'{"answer":"fault","name":"Store"}'
-ACCEPTED, ALREADY = b'{"answer":"accepted"}', b'{"answer":"already"}'
 # longer than a page of the database, and with no two pages alike
 LARGE = bytes(at * at % 251 for at in range(9_000))
 WHEEL = "spam-2.0-py3-none-any.whl"

@@ -29,9 +29,3 @@ def memory_of(process, row):
     """A row of the memory that a process takes, as VmHWM for the most that was resident, in KiB."""
     with open(f"/proc/{process.pid}/status") as kept:
         return next(int(line.split()[1]) for line in kept if line.startswith(f"{row}:"))
-
-
-def accepted(reply):
-    """Ends the measurement where a request was not accepted."""
-    if reply[0] not in (200, 201) or reply[2] != b'{"answer":"accepted"}':
-        raise SystemExit(f"bench: the index answered {reply[0]} {reply[2]!r}")

@@ -6,8 +6,8 @@ import tempfile
 import time
 
 from bench.figures import goal, line, load, median, memory_of
-from bench.rates import bytes_of, claim, upload
-from serving import Index, sha256
+from bench.rates import bytes_of
+from serving import Index, accepted, sha256
 
 USERS, CLAIMS, FILES, MEBIBYTE = 10_000, 20_000, 10_000, 1 << 20
 ACCEPTED = b'{"answer":"accepted"}\n'
@@ -65,10 +65,10 @@ def peaks(program):
     """The peaks of a server after a page of one file and after one of many, beside the same files, and the length of that."""
     with Index(program) as index:
         for name in ("big", "small"):
-            claim(index, name)
+            accepted(index.claim(name))
         for number in range(FILES):
-            upload(index, "big", f"big-1.{number}.tar.gz", b"%d" % number)
-        upload(index, "small", "small-1.0.tar.gz", b"0")
+            accepted(index.upload("big", f"big-1.{number}.tar.gz", b"%d" % number))
+        accepted(index.upload("small", "small-1.0.tar.gz", b"0"))
         reset_peak(index.process)
         bytes_of(index, "/simple/small/")
         small = memory_of(index.process, "VmHWM")
@@ -89,10 +89,10 @@ def bench_file_memory(program):
     """What stays of a large file that went in and out, in a server that keeps nothing at hand and in one that does."""
     for keep in (0, 64 * MEBIBYTE):
         with Index(program, keep=keep) as index:
-            claim(index, "big")
+            accepted(index.claim("big"))
             before = memory_of(index.process, "VmRSS")
             body = os.urandom(16 * MEBIBYTE)
-            upload(index, "big", "big-1.0.tar.gz", body)
+            accepted(index.upload("big", "big-1.0.tar.gz", body))
             if bytes_of(index, "/files/big/big-1.0.tar.gz") != body:
                 raise SystemExit("bench: the file came back as another")
             after, peak = (memory_of(index.process, row) for row in ("VmRSS", "VmHWM"))

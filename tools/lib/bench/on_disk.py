@@ -8,9 +8,9 @@ import tempfile
 import time
 from contextlib import closing
 
-from bench.figures import ROUNDS, accepted, goal, line, load, median, memory_of
-from bench.rates import TOKEN, upload
-from serving import JSON_PAGE, Index, make_index, sha256
+from bench.figures import ROUNDS, goal, line, load, median, memory_of
+from running import new_folder
+from serving import JSON_PAGE, Index, accepted, make_index, sha256
 
 UPLOADS, MEBIBYTE = 2_000, 1 << 20
 # of other projects, 100 each, and of the one project with a release for each file
@@ -80,13 +80,8 @@ def statement_time(program, folder, number):
         return 1e6 * (time.process_time() - begun) / UPLOADS
 
 
-def memory_folder():
-    """A folder on a file system in memory, where there is one, so that no disk counts."""
-    return tempfile.TemporaryDirectory(dir="/dev/shm" if os.access("/dev/shm", os.W_OK) else None)
-
-
 def bench_uploads(program):
-    with memory_folder() as folder:
+    with new_folder() as folder:
         ours = median(upload_time, program, folder)
         theirs = median(statement_time, program, folder)
         where = "in memory" if folder.startswith("/dev/shm") else "on a disk"
@@ -118,7 +113,7 @@ def milliseconds(ask):
 
 def changed(index, request_of, number):
     """The milliseconds of a request, which is the one of this number."""
-    return milliseconds(lambda: index.ask("POST", "/requests", json.dumps(request_of(number)), **TOKEN))
+    return milliseconds(lambda: index.request(**request_of(number)))
 
 
 def page_time(index, number):
@@ -126,8 +121,7 @@ def page_time(index, number):
 
 
 def upload_time_beside(index, number):
-    return milliseconds(lambda: index.ask("PUT", f"/files/other0/{file_name('other0', 100 + number)}", b"abc",
-                                          X_Index_SHA256=sha256(b"abc"), **TOKEN))
+    return milliseconds(lambda: index.upload("other0", file_name("other0", 100 + number), b"abc"))
 
 
 def release(number):
@@ -151,7 +145,7 @@ def rows_of(path):
 def bench_costs(program):
     """What requests take beside many files, and how long that database takes to open."""
     with tempfile.TemporaryDirectory() as folder:
-        with memory_folder() as made_in:
+        with new_folder() as made_in:
             filled(program, made_in)
             path = shutil.copytree(made_in, f"{folder}/made") + "/many.db"
         begun = time.monotonic()
@@ -173,9 +167,9 @@ def bench_large(program, mebibytes=256):
     with tempfile.TemporaryDirectory() as folder:
         path = make_index(program, f"{folder}/index.db")
         with Index(program, path=path) as index:
-            accepted(index.ask("POST", "/requests", '{"do":"claim","name":"big"}', **TOKEN))
+            accepted(index.claim("big"))
             for number in range(mebibytes):
-                upload(index, "big", file_name("big", number), os.urandom(MEBIBYTE))
+                accepted(index.upload("big", file_name("big", number), os.urandom(MEBIBYTE)))
         length = os.path.getsize(path)
         begun = time.monotonic()
         with Index(program, path=path, patience=120) as index:

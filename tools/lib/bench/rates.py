@@ -1,8 +1,6 @@
 """What bench measures over loopback: a page and a file beside servers of plain files, as requests a second and as ratios."""
-import json
 import os
 import shutil
-import socket
 import statistics
 import subprocess
 import sys
@@ -12,11 +10,10 @@ import time
 import urllib.request
 from contextlib import ExitStack, contextmanager, nullcontext
 
-from bench.figures import ROUNDS, accepted, goal, line, load
-from serving import JSON_PAGE, Index, Running, free_port, sha256
+from bench.figures import ROUNDS, goal, line, load
+from serving import JSON_PAGE, Index, Running, accepted, free_port, listens
 
 SECONDS = 1
-TOKEN = {"X_Index_Token": "office"}
 PATHS = {"page": "/simple/page/", "file": "/files/file/file-1.0.tar.gz"}
 WHAT = {"page": "a page of 100 files in JSON", "file": "a file"}
 NGINX = """worker_processes 1;
@@ -38,31 +35,11 @@ http {{
 """
 
 
-def claim(index, name):
-    accepted(index.ask("POST", "/requests", json.dumps({"do": "claim", "name": name}), **TOKEN))
-
-
-def upload(index, project, file, body):
-    headers = {"X_Index_SHA256": sha256(body), "X_Requires_Python": ">=3.8", **TOKEN}
-    accepted(index.ask("PUT", f"/files/{project}/{file}", body, **headers))
-
-
 def bytes_of(index, path):
     status, _, body = index.ask("GET", path, Accept=JSON_PAGE)
     if status != 200:
         raise SystemExit(f"bench: {path} has the status {status}")
     return body
-
-
-def wait_for(port):
-    """Waits until somebody listens on this port, five seconds at most."""
-    until = time.monotonic() + 5
-    while time.monotonic() < until:
-        try:
-            return socket.create_connection(("127.0.0.1", port), timeout=1).close()
-        except OSError:
-            time.sleep(0.02)
-    raise SystemExit(f"bench: nobody listens on port {port}")
 
 
 def file_servers(folder):
@@ -92,10 +69,10 @@ def check_same(addresses):
 def fill(index, body):
     """A project with 100 files, and one with this file."""
     for name in PATHS:
-        claim(index, name)
+        accepted(index.claim(name))
     for number in range(100):
-        upload(index, "page", f"page-1.{number}-py3-none-any.whl", b"%d" % number)
-    upload(index, "file", "file-1.0.tar.gz", body)
+        accepted(index.upload("page", f"page-1.{number}-py3-none-any.whl", b"%d" % number, ">=3.8"))
+    accepted(index.upload("file", "file-1.0.tar.gz", body, ">=3.8"))
 
 
 def write_files(index, folder):
@@ -118,7 +95,7 @@ def claims_between(index):
     def claim_on():
         number = 0
         while not is_over.wait(timeout=1):
-            claim(index, f"between-{time.monotonic_ns()}-{number}")
+            accepted(index.claim(f"between-{time.monotonic_ns()}-{number}"))
             number += 1
 
     claimer = threading.Thread(target=claim_on, daemon=True)
@@ -184,6 +161,7 @@ def bench_rates(program, client):
         servers = file_servers(folder)
         for words, port in servers.values():
             running.enter_context(Running(words, stdout=subprocess.DEVNULL, stderr=subprocess.DEVNULL))
-            wait_for(port)
+            if not listens(port, patience=5):
+                raise SystemExit(f"bench: nobody listens on port {port}")
         measure(client, index, servers, lengths, MEASURED)
         measure(client, keeps_none, servers, lengths, MEASURED_FIRST)

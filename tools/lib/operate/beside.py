@@ -3,10 +3,10 @@ import http.server
 import json
 import threading
 
-from operate.checks import tells, told
+from operate.checks import check, replies
 from operate.front import Front
-from operate.kept import TOKEN, Kept, accepted, claim, upload
-from serving import Index
+from operate.kept import Kept
+from serving import Index, accepted
 
 
 class Stranger(http.server.BaseHTTPRequestHandler):
@@ -29,18 +29,18 @@ def try_pypi(place):
     program, folder, certificate = place.program, place.folder, place.certificate
     with Kept(program, f"{folder}/ours.db") as ours, http.server.ThreadingHTTPServer(("127.0.0.1", 0), Stranger) as pypi:
         threading.Thread(target=pypi.serve_forever, kwargs={"poll_interval": 0.05}, daemon=True).start()
-        accepted(claim(ours, "frob"))
-        accepted(upload(ours, "frob", "frob-1.0.tar.gz", b"ours"))
+        accepted(ours.claim("frob"))
+        accepted(ours.upload("frob", "frob-1.0.tar.gz", b"ours"))
         with Front(f"{folder}/pypi", certificate, ours.port, pypi=pypi.server_port) as front:
-            tells("a name that we don't hold is PyPI's", front.ask("GET", "/simple/other/"), 200, "text/html", b"a stranger's")
+            replies("a name that we don't hold is PyPI's", front.ask("GET", "/simple/other/"), 200, "text/html", b"a stranger's")
             page = front.ask("GET", "/simple/frob/")
-            told("a name that we hold is ours", page[0] == 200 and b"frob-1.0" in page[2] and b"99.0" not in page[2], page)
-            tells("no other path leads to PyPI", front.ask("GET", "/simple/x/../frob/"), 404, "application/json", b"NoRoute")
-            tells("another spelling is moved", front.ask("GET", "/simple/FROB/"), 301)
-            tells("a file is not PyPI's", front.ask("GET", "/files/frob/frob-99.0.tar.gz"), 404, None, b"NoFile")
+            check("a name that we hold is ours", page[0] == 200 and b"frob-1.0" in page[2] and b"99.0" not in page[2], page)
+            replies("no other path leads to PyPI", front.ask("GET", "/simple/x/../frob/"), 404, "application/json", b"NoRoute")
+            replies("another spelling is moved", front.ask("GET", "/simple/FROB/"), 301)
+            replies("a file is not PyPI's", front.ask("GET", "/files/frob/frob-99.0.tar.gz"), 404, None, b"NoFile")
             with ours.away():
                 reply = front.ask("GET", "/simple/frob/", Accept="x/y, */*")
-            tells("nor is a name of ours while the index is away", reply, 503, "application/json", b"Unavailable")
+            replies("nor is a name of ours while the index is away", reply, 503, "application/json", b"Unavailable")
         pypi.shutdown()
 
 
@@ -52,9 +52,9 @@ def try_shards(place):
         with Front(f"{folder}/shards", certificate, *(it.port for it in indexes)) as front:
             for name, index in zip(("Frob", "ham", "x-ray"), indexes):
                 body, normal = json.dumps({"do": "claim", "name": name}), name.lower()
-                accepted(front.ask("POST", "/requests", body, X_Index_Name=name, **TOKEN))
-                accepted(upload(front, normal, f"{normal}-1.0.tar.gz", name.encode()))
-                tells(f"{name} is on its index", index.ask("GET", f"/names/{name}"), 200, None, b'"held"')
-                tells(f"the page of {name}", front.ask("GET", f"/simple/{normal}/"), 200, "text/html", b"-1.0.tar.gz")
-            tells("a POST without a name", claim(front, "frob"), 404, "application/json", b"NoIndexName")
-            tells("the health of one", front.ask("GET", "/health?index=2"), 200, None, b'"state"')
+                accepted(front.ask("POST", "/requests", body, X_Index_Name=name, X_Index_Token="office"))
+                accepted(front.upload(normal, f"{normal}-1.0.tar.gz", name.encode()))
+                replies(f"{name} is on its index", index.ask("GET", f"/names/{name}"), 200, None, b'"held"')
+                replies(f"the page of {name}", front.ask("GET", f"/simple/{normal}/"), 200, "text/html", b"-1.0.tar.gz")
+            replies("a POST without a name", front.claim("frob"), 404, "application/json", b"NoIndexName")
+            replies("the health of one", front.ask("GET", "/health?index=2"), 200, None, b'"state"')

@@ -5,7 +5,8 @@ import shutil
 import sys
 import tempfile
 
-from operate.checks import run, told
+from operate.checks import check
+from running import run_command
 from serving import TOP
 
 BREAKS = f"{TOP}/tools/caught/operate.edits"
@@ -55,7 +56,7 @@ class Break:
         with tempfile.TemporaryDirectory() as folder:
             os.chmod(folder, 0o755)
             made = self.make(f"{folder}/copy", program)
-            ended = run([sys.executable, f"{folder}/copy/tools/try-operate", made, "--only", *self.part.split()], MOST_SECONDS)
+            ended = run_command([sys.executable, f"{folder}/copy/tools/try-operate", "--program", made, "--only", *self.part.split()], MOST_SECONDS)
         return {same(name) for name in re.findall(r"^FAILED (.*?): ", ended.stdout, re.M)}
 
 
@@ -78,9 +79,9 @@ def try_listed(names):
             with open(f"{TOP}/{path}") as kept:
                 if kept.read().count(old) != 1:
                     stale.append((it.name, path))
-    told("each break can be made", not stale, stale)
+    check("each break can be made", not stale, stale)
     never = sorted({same(name) for name in names} - {same(name) for it in breaks for name in it.fails})
-    told("each check stands at a break", not never, never)
+    check("each check stands at a break", not never, never)
 
 
 def try_breaks(program, names):
@@ -94,4 +95,4 @@ def try_breaks(program, names):
             continue
         failed = it.tried(program)
         unseen = [name for name in it.fails if same(name) not in failed]
-        told(f"{it.name} is seen", it.fails and not unseen, f"these did not fail: {unseen}; these did: {sorted(failed)}")
+        check(f"{it.name} is seen", it.fails and not unseen, f"these did not fail: {unseen}; these did: {sorted(failed)}")

@@ -1,21 +1,17 @@
 """What try-operate runs of the commands: index-upload with each of its ends, index-health, install and the units."""
 import http.server
-import json
 import os
 import shutil
 import subprocess
 import sys
 import threading
 
-from operate.checks import ends, run, told
+from operate.checks import check, ends
 from operate.front import OPERATE
-from operate.kept import Kept, TOKEN, claim
+from operate.kept import Kept
 from packages import make_wheel, wheel_files, wheel_name
+from running import run_command
 from serving import free_port, sha256
-
-
-def post(index, **request):
-    return index.ask("POST", "/requests", json.dumps(request), **TOKEN)
 
 
 class Uploads:
@@ -36,7 +32,7 @@ class Uploads:
 
     def run(self, *words, **setting):
         words, setting = self.words(*words, **setting)
-        return run(words, **setting)
+        return run_command(words, **setting)
 
     def wheel(self, name, version, inside=None, more="", requires=""):
         """A wheel whose metadata may have another name than the file."""
@@ -55,22 +51,22 @@ def try_uploads(place):
     ends("index-upload again", by.run(by.dist), 0, "is there already", "3 of 3 files are there")
     ends("Requires-Python", by.run(by.wheel("frob", "1.2", requires=">=99")), 0, "frob-1.2")
     page = place.front.ask("GET", "/simple/frob/", Accept="text/html")
-    told("it stands on the page", b'data-requires-python="&gt;=99"' in page[2], page[2])
+    check("it stands on the page", b'data-requires-python="&gt;=99"' in page[2], page[2])
 
 
 def try_refused_uploads(place):
     """What the index refuses: status 1, the refusal, and what to do."""
     by, index = Uploads(place), place.index
     ends("a token of nobody", by.run(by.dist, INDEX_TOKEN="x"), 1, "BadToken", "INDEX_TOKEN", "0 of 3")
-    post(index, do="add_user", user="ann", office=False, token_sha256=sha256(b"abc"))
+    index.request(do="add_user", user="ann", office=False, token_sha256=sha256(b"abc"))
     ends("a project of others", by.run(by.wheel("frob", "2.0"), INDEX_TOKEN="abc"), 1, "NotOwner", "add_owner")
     ends("other bytes", by.run(by.wheel("frob", "1.0", more="# other bytes")), 1, "FileNameTaken", "Raise the version")
-    post(index, do="ban_file", file="frob-1.1-py3-none-any.whl")
+    index.request(do="ban_file", file="frob-1.1-py3-none-any.whl")
     ends("a banned file", by.run(f"{by.dist}/frob-1.1-py3-none-any.whl"), 1, "FileBanned", "Raise the version")
-    claim(index, "small")
-    post(index, do="set_quota", name="small", quota=1)
+    index.claim("small")
+    index.request(do="set_quota", name="small", quota=1)
     ends("a full quota", by.run(by.wheel("small", "1.0")), 1, "OverQuota", "quota is full")
-    post(index, do="prohibit", name="evil")
+    index.request(do="prohibit", name="evil")
     ends("a prohibited name", by.run("--claim", by.wheel("evil", "1.0")), 1, "NameProhibited", "Ask the office")
 
 
@@ -90,7 +86,7 @@ def try_wrong_uploads(place):
     ends("an address in the clear", by.run(fine, INDEX_URL="http://packages.example"), 2, "https")
     ends("a certificate that nobody vouches for", by.run(fine, INDEX_CA=None), 2, "INDEX_CA")
     reply = place.index.ask("GET", f"/files/frob/{os.path.basename(fine)}")
-    told("no file went out beside a wrong one", reply[0] == 404, reply)
+    check("no file went out beside a wrong one", reply[0] == 404, reply)
 
 
 def try_late_uploads(place):
@@ -102,9 +98,9 @@ def try_late_uploads(place):
     with index.away():
         late = subprocess.Popen(words, stderr=subprocess.PIPE, stdout=subprocess.PIPE, env={**os.environ, **setting}, text=True)
         said = late.stderr.readline()
-    told("an index that is away is asked again", "Again in" in said, said)
+    check("an index that is away is asked again", "Again in" in said, said)
     said = late.communicate(timeout=60)[0]
-    told("an index that comes back", late.returncode == 0 and "1 of 1 files are there" in said, said)
+    check("an index that comes back", late.returncode == 0 and "1 of 1 files are there" in said, said)
 
 
 class Failing(http.server.BaseHTTPRequestHandler):
@@ -122,11 +118,11 @@ def try_health(place):
     """index-health asks for a new start where the index fails, and only there."""
     words = [sys.executable, f"{OPERATE}/index-health"]
     with Kept(place.program, f"{place.folder}/health.db") as index:
-        ends("an index that answers", run([*words, f"http://127.0.0.1:{index.port}"]), 0)
-    ends("an index that starts", run([*words, f"http://127.0.0.1:{index.port}"]), 0)
+        ends("an index that answers", run_command([*words, f"http://127.0.0.1:{index.port}"]), 0)
+    ends("an index that starts", run_command([*words, f"http://127.0.0.1:{index.port}"]), 0)
     with http.server.HTTPServer(("127.0.0.1", 0), Failing) as failing:
         threading.Thread(target=failing.serve_forever, kwargs={"poll_interval": 0.05}, daemon=True).start()
-        ends("an index that fails", run([*words, f"http://127.0.0.1:{failing.server_port}"]), 1, "500", "Store")
+        ends("an index that fails", run_command([*words, f"http://127.0.0.1:{failing.server_port}"]), 1, "500", "Store")
         failing.shutdown()
 
 
@@ -134,23 +130,23 @@ def try_install(place):
     """install into a folder, again, over another's file, and away again; and what systemd says of the units."""
     root = f"{place.folder}/root"
     words = [sys.executable, f"{OPERATE}/install", "--root", root, "--program", place.program]
-    ends("install", run(words), 0, "put     " + root + "/usr/local/bin/index\n", "What is left to do")
-    ends("install again", run(words), 0, "there   " + root + "/usr/local/bin/index\n")
+    ends("install", run_command(words), 0, "put     " + root + "/usr/local/bin/index\n", "What is left to do")
+    ends("install again", run_command(words), 0, "there   " + root + "/usr/local/bin/index\n")
     modes = [os.stat(f"{root}/var/{it}").st_mode & 0o777 for it in ("lib/index", "backups/index", "cache/nginx")]
-    told("the database is kept from others", modes == [0o700, 0o700, 0o755], modes)
+    check("the database is kept from others", modes == [0o700, 0o700, 0o755], modes)
     try_units(root, f"{place.folder}/units")
     edited = f"{root}/etc/nginx/conf.d/packages.conf"
     with open(edited, "a") as conf:
         conf.write("# mine\n")
     os.remove(f"{root}/usr/local/bin/uncache")
-    ends("install over another's file", run(words), 1, f"OTHER   {edited}", "nothing was done")
-    told("it did nothing", not os.path.exists(f"{root}/usr/local/bin/uncache"))
+    ends("install over another's file", run_command(words), 1, f"OTHER   {edited}", "nothing was done")
+    check("it did nothing", not os.path.exists(f"{root}/usr/local/bin/uncache"))
     if shutil.which("systemctl"):
         # links to what --remove takes away
-        run(["systemctl", f"--root={root}", "enable", "index.service", "index-backup.timer", "index-health.timer"])
-    ends("install --remove", run([*words, "--remove"]), 1, f"LEFT    {edited}")
+        run_command(["systemctl", f"--root={root}", "enable", "index.service", "index-backup.timer", "index-health.timer"])
+    ends("install --remove", run_command([*words, "--remove"]), 1, f"LEFT    {edited}")
     left = sorted(os.path.join(at, it)[len(root):] for at, _, inside in os.walk(root) for it in inside)
-    told("another's file is all that is left", left == ["/etc/nginx/conf.d/packages.conf"], left)
+    check("another's file is all that is left", left == ["/etc/nginx/conf.d/packages.conf"], left)
 
 
 def try_units(root, folder):
@@ -163,5 +159,5 @@ def try_units(root, folder):
     for name in os.listdir(places):
         with open(f"{places}/{name}") as kept, open(f"{folder}/{name}", "w") as made:
             made.write(kept.read().replace("/usr/local/bin/", f"{root}/usr/local/bin/"))
-    ended = run(["systemd-analyze", "verify", *(f"{folder}/{name}" for name in sorted(os.listdir(folder)))])
-    told("systemd-analyze verify", (ended.returncode, ended.stdout) == (0, ""), ended.stdout)
+    ended = run_command(["systemd-analyze", "verify", *(f"{folder}/{name}" for name in sorted(os.listdir(folder)))])
+    check("systemd-analyze verify", (ended.returncode, ended.stdout) == (0, ""), ended.stdout)

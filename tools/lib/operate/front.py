@@ -6,8 +6,8 @@ import shutil
 import ssl
 import subprocess
 
-from operate.checks import run
-from serving import TOP, Running, asked, free_port, listens
+from running import run_command
+from serving import TOP, Asking, Running, exchange, free_port, listens
 
 OPERATE = f"{TOP}/operate"
 # What a distribution's nginx.conf says around the server.
@@ -48,7 +48,7 @@ def kept(name):
 def make_certificate(folder):
     host = ["-subj", "/CN=127.0.0.1", "-addext", "subjectAltName=IP:127.0.0.1"]
     kind = ["-x509", "-newkey", "ec", "-pkeyopt", "ec_paramgen_curve:prime256v1", "-nodes", "-days", "2"]
-    ended = run(["openssl", "req", *kind, *host, "-keyout", f"{folder}/key", "-out", f"{folder}/pem"])
+    ended = run_command(["openssl", "req", *kind, *host, "-keyout", f"{folder}/key", "-out", f"{folder}/pem"])
     if ended.returncode:
         raise SystemExit(f"openssl ended with {ended.stdout}")
     return f"{folder}/pem"
@@ -71,7 +71,7 @@ class Nginx(Running):
             made.write(replaced(text, **places))
 
     def __enter__(self):
-        tested = run([*self.words, "-t"])
+        tested = run_command([*self.words, "-t"])
         if tested.returncode:
             raise SystemExit(f"nginx refuses its configuration: {tested.stdout}")
         super().__enter__()
@@ -86,7 +86,7 @@ class Nginx(Running):
             return [line for line in log if re.search(r"\[(alert|emerg)\]", line)]
 
 
-class Front(Nginx):
+class Front(Nginx, Asking):
     """nginx in front of the indexes at these ports; with several, as shards.conf has it. A plain one speaks no TLS."""
 
     def __init__(self, folder, certificate, *behind, pypi=None, is_plain=False):
@@ -107,7 +107,7 @@ class Front(Nginx):
 
     def ask(self, method, path, body=None, **headers):
         connection = http.client.HTTPSConnection("127.0.0.1", self.port, timeout=60, context=self.trust)
-        return asked(connection, method, path, body, headers)
+        return exchange(connection, method, path, body, headers)
 
 
 def is_here():

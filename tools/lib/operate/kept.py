@@ -1,35 +1,19 @@
 """An index that is started anew as soon as it ends, as systemd does, and somebody who uploads to it all the while."""
 import http.client
-import json
 import os
 import random
 import threading
 import time
 from contextlib import contextmanager
 
-from serving import Index, free_port, sha256
+from serving import Asking, Index, free_port
 
 # how long systemd waits before it starts the index anew
 PAUSE = 0.2
 MOST_REQUESTS = 1_000_000
-TOKEN = {"X_Index_Token": "office"}
 
 
-def claim(index, name):
-    return index.ask("POST", "/requests", json.dumps({"do": "claim", "name": name}), **TOKEN)
-
-
-def upload(index, project, file, body, requires=""):
-    headers = {"X_Index_SHA256": sha256(body), "X_Requires_Python": requires, **TOKEN}
-    return index.ask("PUT", f"/files/{project}/{file}", body, **headers)
-
-
-def accepted(reply):
-    if reply[0] not in (200, 201):
-        raise SystemExit(f"a request was answered {reply[0]} {reply[2][:200]!r}")
-
-
-class Kept:
+class Kept(Asking):
     """The index on one port. It ends by itself after so many connections, and is then started anew."""
 
     def __init__(self, program, path, requests=MOST_REQUESTS):
@@ -99,7 +83,7 @@ class Uploader(threading.Thread):
     def __init__(self, index, project, until):
         super().__init__(daemon=True)
         self.index, self.project, self.until, self.files = index, project, until, {}
-        while claim(index, project)[0] == 503:
+        while index.claim(project)[0] == 503:
             time.sleep(0.5)
 
     def run(self):
@@ -107,7 +91,7 @@ class Uploader(threading.Thread):
         while time.monotonic() < self.until:
             file, body = f"{self.project}-1.{number}.tar.gz", os.urandom(random.randrange(60_000))
             try:
-                reply = upload(self.index, self.project, file, body)
+                reply = self.index.upload(self.project, file, body)
             except (OSError, http.client.HTTPException):
                 time.sleep(0.1)
                 continue

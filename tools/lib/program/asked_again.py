@@ -9,7 +9,7 @@ from serving import JSON_PAGE, Index, make_index, sha256
 
 # a moment a year after the upload of `old`, and more than six weeks after the attempts to reach its owner
 NOW = 50_000_000
-OFFICE, BOB = {"X_Index_Token": "office"}, {"X_Index_Token": "hello"}
+BOB = "hello"
 BODIES = {f"frob-{release}.tar.gz": f"the bytes of {release}".encode() for release in ("1.0", "1.1", "2.0")}
 FIRST, SECOND, THIRD = BODIES
 OLD, NEW = "old-1.0.tar.gz", "old-2.0.tar.gz"
@@ -35,14 +35,6 @@ LINES = b"".join((
 ))
 
 
-def do(index, caller, **asked):
-    return index.ask("POST", "/requests", json.dumps(asked), **caller)[0]
-
-
-def put(index, caller, project, file, body):
-    return index.ask("PUT", f"/files/{project}/{file}", body, X_Index_SHA256=sha256(body), **caller)[0]
-
-
 def twice(index, path, accept):
     """The status and the body of a reply, which the same request has again."""
     replies = [index.ask("GET", path, Accept=accept) for _ in range(2)]
@@ -61,9 +53,9 @@ def page(index, project):
     return files if links == set(files) else ("other links", shown)
 
 
-def listed(files, yanked={}):
+def listed(files, yanked=None):
     """The page that has these files."""
-    return {file: (sha256(body), yanked.get(file, False)) for file, body in files.items()}
+    return {file: (sha256(body), (yanked or {}).get(file, False)) for file, body in files.items()}
 
 
 def only(*names):
@@ -76,61 +68,61 @@ def body_of(index, project, file):
     return body if status == 200 else status
 
 
-def try_files(index, told):
+def try_files(index, check):
     """A page and its files before and after each change that the page shows."""
 
     def stands(name, status, wanted, *gone):
-        told(f"{name} is accepted", status in (200, 201), status)
-        told(f"the page after {name}", page(index, "frob") == wanted, page(index, "frob"))
+        check(f"{name} is accepted", status in (200, 201), status)
+        check(f"the page after {name}", page(index, "frob") == wanted, page(index, "frob"))
         found = {file: body_of(index, "frob", file) for file in BODIES}
         kept = {file: BODIES[file] if isinstance(wanted, dict) and file in wanted else 404 for file in BODIES}
-        told(f"the files after {name}", found == kept, found)
+        check(f"the files after {name}", found == kept, found)
 
-    told("the page of a project without files", page(index, "frob") == {}, page(index, "frob"))
-    stands("a PUT", put(index, OFFICE, "frob", FIRST, BODIES[FIRST]), listed(only(FIRST)))
-    stands("a second PUT", put(index, OFFICE, "frob", SECOND, BODIES[SECOND]), listed(only(FIRST, SECOND)))
-    stands("a third PUT", put(index, OFFICE, "frob", THIRD, BODIES[THIRD]), listed(BODIES))
-    stands("a DELETE", index.ask("DELETE", f"/files/frob/{SECOND}", **OFFICE)[0], listed(only(FIRST, THIRD)))
-    yank = do(index, OFFICE, do="yank", name="frob", release="2.0", reason="broken")
+    check("the page of a project without files", page(index, "frob") == {}, page(index, "frob"))
+    stands("a PUT", index.upload("frob", FIRST, BODIES[FIRST])[0], listed(only(FIRST)))
+    stands("a second PUT", index.upload("frob", SECOND, BODIES[SECOND])[0], listed(only(FIRST, SECOND)))
+    stands("a third PUT", index.upload("frob", THIRD, BODIES[THIRD])[0], listed(BODIES))
+    stands("a DELETE", index.ask("DELETE", f"/files/frob/{SECOND}", X_Index_Token="office")[0], listed(only(FIRST, THIRD)))
+    yank = index.request(do="yank", name="frob", release="2.0", reason="broken")[0]
     stands("a yank", yank, listed(only(FIRST, THIRD), {THIRD: "broken"}))
-    stands("its end", do(index, OFFICE, do="unyank", name="frob", release="2.0"), listed(only(FIRST, THIRD)))
-    stands("a ban", do(index, OFFICE, do="ban_file", file=FIRST), listed(only(THIRD)))
-    told("a PUT of a banned file", put(index, OFFICE, "frob", FIRST, BODIES[FIRST]) == 403)
-    told("the page after it", page(index, "frob") == listed(only(THIRD)), page(index, "frob"))
-    stands("a prohibition", do(index, OFFICE, do="prohibit", name="frob"), (404, 404))
+    stands("its end", index.request(do="unyank", name="frob", release="2.0")[0], listed(only(FIRST, THIRD)))
+    stands("a ban", index.request(do="ban_file", file=FIRST)[0], listed(only(THIRD)))
+    check("a PUT of a banned file", index.upload("frob", FIRST, BODIES[FIRST])[0] == 403)
+    check("the page after it", page(index, "frob") == listed(only(THIRD)), page(index, "frob"))
+    stands("a prohibition", index.request(do="prohibit", name="frob")[0], (404, 404))
 
 
-def try_transfer(index, told):
+def try_transfer(index, check):
     """The page of a project before and after it passes to another user."""
     before = listed({OLD: b"old"})
-    told("the page before a transfer", page(index, "old") == before, page(index, "old"))
-    told("a transfer is accepted", do(index, OFFICE, do="transfer", name="old", quiet=True) == 200)
-    told("the page after a transfer", page(index, "old") == before, page(index, "old"))
-    told("a PUT of the former owner", put(index, OFFICE, "old", NEW, b"new") == 403)
-    told("the page after that PUT", page(index, "old") == before, page(index, "old"))
-    told("a PUT of the new owner", put(index, BOB, "old", NEW, b"new") == 201)
+    check("the page before a transfer", page(index, "old") == before, page(index, "old"))
+    check("a transfer is accepted", index.request(do="transfer", name="old", quiet=True)[0] == 200)
+    check("the page after a transfer", page(index, "old") == before, page(index, "old"))
+    check("a PUT of the former owner", index.upload("old", NEW, b"new")[0] == 403)
+    check("the page after that PUT", page(index, "old") == before, page(index, "old"))
+    check("a PUT of the new owner", index.upload("old", NEW, b"new", token=BOB)[0] == 201)
     after = listed({OLD: b"old", NEW: b"new"})
-    told("the page of the new owner's file", page(index, "old") == after, page(index, "old"))
-    told("a file of another project", body_of(index, "old", OLD) == b"old", body_of(index, "old", OLD))
+    check("the page of the new owner's file", page(index, "old") == after, page(index, "old"))
+    check("a file of another project", body_of(index, "old", OLD) == b"old", body_of(index, "old", OLD))
 
 
-def try_spoilt(program, path, told):
+def try_spoilt(program, path, check):
     """A page whose file was spoilt by another hand between two openings."""
     with closing(sqlite3.connect(path)) as other:
         other.execute("UPDATE files SET digest = x'61' WHERE file = ?", (OLD,))
         other.commit()
     with Index(program, path=path) as index:
-        told("the page of a spoilt file", twice(index, "/simple/old/", JSON_PAGE) == FAULT)
-        told("the bytes of a spoilt file", twice(index, f"/files/old/{OLD}", "*/*") == FAULT)
-        told("the page of the names beside it", twice(index, "/simple/", JSON_PAGE)[0] == 200)
+        check("the page of a spoilt file", twice(index, "/simple/old/", JSON_PAGE) == FAULT)
+        check("the bytes of a spoilt file", twice(index, f"/files/old/{OLD}", "*/*") == FAULT)
+        check("the page of the names beside it", twice(index, "/simple/", JSON_PAGE)[0] == 200)
 
 
-def try_asked_again(program, folder, told):
+def try_asked_again(program, folder, check):
     path = make_index(program, f"{folder}/again.db")
     ended = subprocess.run([program, "apply", "--db", path], input=LINES, stdout=subprocess.PIPE, timeout=60)
-    told("the lines before", ended.stdout == b'{"answer":"accepted"}\n' * LINES.count(b"\n"), ended)
+    check("the lines before", ended.stdout == b'{"answer":"accepted"}\n' * LINES.count(b"\n"), ended)
     spoilt = shutil.copy(path, f"{folder}/spoilt-page.db")
     with Index(program, path=path, at=NOW) as index:
-        try_files(index, told)
-        try_transfer(index, told)
-    try_spoilt(program, spoilt, told)
+        try_files(index, check)
+        try_transfer(index, check)
+    try_spoilt(program, spoilt, check)

@@ -1,12 +1,11 @@
 """The causes of `index: Store`, which a second line tells with the path: each by its own words, and what is left in the folder."""
 import os
 import shutil
-import sqlite3
 import subprocess
-from contextlib import closing
 
 from failing import Failing, Fault
 from old_version import make_old_version
+from running import by_sqlite, run
 from serving import OFFICE, Index, make_index, sha256
 
 NOBODY = "setpriv", "--reuid=65534", "--regid=65534", "--clear-groups"
@@ -28,20 +27,11 @@ def words_of(job, path):
     return job, "--db", path, *more.get(job, ())
 
 
-def by_sqlite(path, *statements):
-    """Runs statements on a database by another hand."""
-    with closing(sqlite3.connect(path)) as other:
-        for statement in statements:
-            other.execute(statement)
-        other.commit()
-    return path
-
-
 class Causes:
     """Databases that fail, each in a folder of its own, which is to have no other file after the run."""
 
-    def __init__(self, program, folder, told):
-        self.program, self.folder, self.told = program, f"{folder}/causes", told
+    def __init__(self, program, folder, check):
+        self.program, self.folder, self.check = program, f"{folder}/causes", check
         os.makedirs(self.folder)
         self.failing = Failing(self.folder)
         self.index = make_index(program, f"{self.folder}/index.db")
@@ -58,26 +48,26 @@ class Causes:
                 file.write(data)
         return path
 
-    def run(self, *words, by=(), more={}):
-        return subprocess.run([*by, self.program, *words], stdin=subprocess.DEVNULL, stdout=subprocess.PIPE, stderr=subprocess.PIPE,
-                              timeout=60, env={**os.environ, **more})
+    def run(self, *words, by=(), setting=None):
+        program, *rest = *by, self.program, *words
+        return run(program, *rest, setting=setting)
 
     def ends(self, name, ended, path, cause):
         """It ended as Store, with this cause and the path on a second line, or with none."""
         said = f"index: Store\nindex: {path}: {cause}\n" if cause else "index: Store\n"
-        self.told(name, (ended.returncode, ended.stdout, ended.stderr) == (1, b"", said.encode()), ended)
+        self.check(name, (ended.returncode, ended.stdout, ended.stderr) == (1, b"", said.encode()), ended)
 
     def each(self, name, path, cause, jobs=WORKING, **how):
         """Each of these subcommands ends so, and what is at the path stays as it was."""
         was = bytes_at(path)
         for job in jobs:
             self.ends(f"{job}: {name}", self.run(*words_of(job, path), **how), path, cause)
-        self.told(f"{name}: it is as it was", bytes_at(path) == was)
+        self.check(f"{name}: it is as it was", bytes_at(path) == was)
 
     def leaves(self, name, path, *files):
         """The folder of this path has these files, and no other."""
         seen = sorted(os.listdir(os.path.dirname(path)))
-        self.told(f"{name}: no new file", seen == sorted(files), seen)
+        self.check(f"{name}: no new file", seen == sorted(files), seen)
 
     def all(self):
         self.paths()
@@ -135,7 +125,7 @@ class Causes:
         for name, user, digest in (("no user id", "Office", sha256(b"office")), ("the digest of no token", "office", sha256(b"")),
                                    ("malformed digits", "office", "BA78")):
             ended = self.run("init", "--db", path, "--user", user, "--token-sha256", digest)
-            self.told(f"init: {name}", (ended.returncode, ended.stdout, ended.stderr) == (1, b"", b"index: BadFirstUser\n"), ended)
+            self.check(f"init: {name}", (ended.returncode, ended.stdout, ended.stderr) == (1, b"", b"index: BadFirstUser\n"), ended)
             self.leaves(name, path)
 
     def objects(self):
@@ -167,7 +157,7 @@ class Causes:
             under = os.path.dirname(under)
         path = self.new("right")
         os.chmod(path, 0o000)
-        self.told("a file of no rights", not can_read(path, by))
+        self.check("a file of no rights", not can_read(path, by))
         self.each("no right", path, NO_RIGHT, ALL, by=by)
         os.chmod(path, 0o444)
         self.each("no right to write", path, NO_RIGHT, ALL, by=by)
@@ -194,7 +184,7 @@ class Causes:
         def fails(kind, at, how, job, cause, data=None, is_lasting=True):
             fault = Fault(kind, at, how, is_lasting)
             path = self.new(f"{kind}-{at}-{how}-{job}".lower(), data)
-            ended = self.run(*words_of(job, path), more=self.failing.setting(os.path.dirname(path), fault))
+            ended = self.run(*words_of(job, path), setting=self.failing.setting(os.path.dirname(path), fault))
             self.ends(f"{job}, {fault}", ended, path, cause)
 
         fails("pread", 1, "EIO", "check", DISK)

@@ -9,7 +9,7 @@ import time
 from contextlib import suppress
 
 from serving import Index
-from trying import built
+from running import built
 
 MOMENT, PATIENCE = 10, 60
 
@@ -23,7 +23,7 @@ class Refusals:
             kept.write(bytes(24))
             kept.flush()
             self.numbers = memoryview(mmap.mmap(kept.fileno(), 24)).cast("Q")
-        self.more = {"LD_PRELOAD": library, "REFUSALS": path}
+        self.setting = {"LD_PRELOAD": library, "REFUSALS": path}
 
     def begin(self, number=0):
         """The allocation of this number is refused to the program that is started next, or none."""
@@ -53,7 +53,7 @@ class Lines:
     def __init__(self, program, path, refusals):
         refusals.begin()
         words, pipe = [program, "apply", *(("--db", path) if path else ())], subprocess.PIPE
-        self.process = subprocess.Popen(words, bufsize=0, stdin=pipe, stdout=pipe, stderr=pipe, env={**os.environ, **refusals.more})
+        self.process = subprocess.Popen(words, bufsize=0, stdin=pipe, stdout=pipe, stderr=pipe, env={**os.environ, **refusals.setting})
 
     def ask(self, line):
         """The answer, or nothing where the run ended."""
@@ -83,7 +83,7 @@ class Messages(Index):
 
     def __init__(self, program, path, refusals, keep):
         refusals.begin()
-        super().__init__(program, path=path, more=refusals.more, at=MOMENT)
+        super().__init__(program, path=path, setting=refusals.setting, at=MOMENT)
         self.words += ["--keep-recent", str(keep)]
         self.said_before = 0
 

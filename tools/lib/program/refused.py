@@ -6,14 +6,13 @@ second, and so on, until all are made. Where it went through all the same, and e
 asked again and the tables are looked at by others; the next program then begins from the tables before it."""
 import itertools
 import re
-import time
 from contextlib import ExitStack
 
 from judge import Judge, copy_index, rows_of, seen_by_sqlite
 from old_version import make_old_version
 from program.refusals import Lines, Messages, Refusals, rests
 from serving import JSON_PAGE, OFFICE, TOP, parts_of, sha256
-from trying import kill_after, run
+from running import kill_after, run
 from workload import REQUESTS, lines_of
 
 FAULT = b'{"answer":"fault","name":"OutOfMemory"}'
@@ -88,17 +87,14 @@ KEPT = [(put(WHEEL, b"abc", 3), 201), (PAGE, 200), (PAGE, 200), (FILE, 200), (FI
 class Refusing:
     """Refuses allocations of a program, and tells of what it does then. What is asked again is one in so many."""
 
-    def __init__(self, program, folder, told, step, seconds):
-        self.program, self.folder, self.told, self.step = program, folder, told, step
+    def __init__(self, program, folder, trial, step):
+        self.program, self.folder, self.check, self.step = program, folder, trial.check, step
         self.refusals, self.judge, self.path = Refusals(folder), Judge(program, folder), f"{folder}/refused.db"
-        self.until, self.count, self.replies = time.monotonic() + seconds, 0, {}
+        self.is_over, self.count, self.replies = trial.is_over, 0, {}
 
     def says(self, name):
         print(f"{self.count} allocations refused: {name}{', until the time was over' if self.is_over() else ''}", flush=True)
         self.count = 0
-
-    def is_over(self):
-        return time.monotonic() > self.until
 
     def each(self, rest, ask):
         """By number what comes of asking while the allocation of this number is refused, and last while none is."""
@@ -133,9 +129,9 @@ class Refusing:
 
         for number, came in self.each(rest, lambda: running[0].ask(line)):
             if not number:
-                self.told(f"{name}, none refused", came == answer and running.pop().end() == (0, b""), came)
+                self.check(f"{name}, none refused", came == answer and running.pop().end() == (0, b""), came)
                 break
-            self.told(f"{name}, allocation {number} refused", came in (answer, FAULT, b""), came)
+            self.check(f"{name}, allocation {number} refused", came in (answer, FAULT, b""), came)
             if came != FAULT or number % self.step == 0:
                 self.again(f"{name}, behind allocation {number}", running.pop(), front, line, came, new)
 
@@ -154,10 +150,10 @@ class Refusing:
         wanted = self.judge.answers(made + (line,))[-1]
         again = running.ask(line) if came else b""
         ended = running.end()
-        self.told(f"{name}: its end", ended == ((0, b"") if came else (1, NO_MEMORY)), ended)
+        self.check(f"{name}: its end", ended == ((0, b"") if came else (1, NO_MEMORY)), ended)
         if new and not came:
             again = run(self.program, "apply", "--db", self.path, given=line).stdout.rstrip(b"\n")
-        self.told(f"{name}: asked again", again == wanted or not new and not came, again)
+        self.check(f"{name}: asked again", again == wanted or not new and not came, again)
         if new:
             self.is_kept(name, made + (line,))
 
@@ -165,7 +161,7 @@ class Refusing:
         """The database has the rows that these lines make, and its charges are right."""
         checked, rows = run(self.program, "check", "--db", self.path), rows_of(self.path)
         is_well = (checked.returncode, checked.stdout) == (0, b"0\n") and rows == self.judge.rows(lines)
-        self.told(f"{name}: what is kept", is_well, (checked, rows))
+        self.check(f"{name}: what is kept", is_well, (checked, rows))
 
     # messages
 
@@ -174,7 +170,7 @@ class Refusing:
         front = ()
         for message, status in asked:
             whole = self.reply(front + (message,), first, keep)[0]
-            self.told(f"{name}: {message[:60]!r} has {status}", (parts_of(whole) or [0])[0] == status, whole)
+            self.check(f"{name}: {message[:60]!r} has {status}", (parts_of(whole) or [0])[0] == status, whole)
             self.message(f"{name}: {message[:60]!r}", front, message, whole, first, keep)
             front += (message,)
 
@@ -201,9 +197,9 @@ class Refusing:
 
             for number, (reply, said) in self.each(rest, lambda: indexes[0].send(message)):
                 if not number:
-                    self.told(f"{name}, none refused", (reply, said) == (whole, b""), (reply, said))
+                    self.check(f"{name}, none refused", (reply, said) == (whole, b""), (reply, said))
                     break
-                self.told(f"{name}, allocation {number} refused", is_right(message, whole, reply, said), (reply, said))
+                self.check(f"{name}, allocation {number} refused", is_right(message, whole, reply, said), (reply, said))
                 if reply == whole or number % self.step == 0:
                     made = front + (message,) if reply == whole else front
                     self.sees(f"{name}, behind allocation {number}", indexes.pop(), made + (message,), first, keep)
@@ -213,7 +209,7 @@ class Refusing:
         """The server answers the last of these messages, and what is looked up behind it, as if no allocation had been refused."""
         came = index.send(messages[-1])[0], [index.send(it)[0] for it in LOOKS]
         wanted = self.reply(messages, first, keep)
-        self.told(f"{name}: asked again", came == wanted and index.process.poll() is None, (came, wanted))
+        self.check(f"{name}: asked again", came == wanted and index.process.poll() is None, (came, wanted))
 
     # whole runs
 
@@ -222,12 +218,12 @@ class Refusing:
         for number in itertools.count(1, self.step):
             copy_index(first or "", self.path)
             self.refusals.begin(number)
-            ended = run(self.program, *words, given=given, more=self.refusals.more)
+            ended = run(self.program, *words, given=given, setting=self.refusals.setting)
             if not self.refusals.was_refused() or self.is_over():
                 break
             self.count += 1
             yield f"{name}, allocation {number} refused", ended
-        self.told(f"{name}: allocations were refused", number > 1 or self.is_over(), number)
+        self.check(f"{name}: allocations were refused", number > 1 or self.is_over(), number)
 
     def apply(self, new):
         """The stored run, in memory and on a database."""
@@ -238,7 +234,7 @@ class Refusing:
                 kept = tuple(line for line, answer in zip(lines, told) if answer != FAULT)
                 is_front = self.judge.answers(kept) == tuple(answer for answer in told if answer != FAULT)
                 is_whole = (ended.returncode, ended.stderr) == (0, b"") and len(told) == len(lines)
-                self.told(name, is_front and (is_whole or (ended.returncode, ended.stderr) == (1, NO_MEMORY)), ended)
+                self.check(name, is_front and (is_whole or (ended.returncode, ended.stderr) == (1, NO_MEMORY)), ended)
                 if words:
                     self.is_kept(name, kept)
 
@@ -246,10 +242,10 @@ class Refusing:
         words = "init", "--db", self.path, *OFFICE
         for name, ended in self.runs("init", None, *words):
             is_made = (ended.returncode, ended.stdout, ended.stderr) == (0, b"created\n", b"")
-            self.told(name, is_made or (ended.returncode, ended.stdout, ended.stderr) == (1, b"", NO_MEMORY), ended)
+            self.check(name, is_made or (ended.returncode, ended.stdout, ended.stderr) == (1, b"", NO_MEMORY), ended)
             again = run(self.program, *words)
             is_there = again.stderr == b"index: NotEmpty\n"
-            self.told(f"{name}: again", is_there or not is_made and again.stdout == b"created\n", again)
+            self.check(f"{name}: again", is_there or not is_made and again.stdout == b"created\n", again)
             self.is_kept(name, ())
 
     def migration(self):
@@ -257,8 +253,8 @@ class Refusing:
         first = make_old_version(f"{self.folder}/old.db")
         wanted = self.rows_behind(first)
         for name, ended in self.runs("migration", first, "check", "--db", self.path):
-            self.told(name, is_end(ended, b"0\n"), ended)
-            self.told(f"{name}: the rows", self.rows_behind(self.path) == wanted)
+            self.check(name, is_end(ended, b"0\n"), ended)
+            self.check(f"{name}: the rows", self.rows_behind(self.path) == wanted)
 
     def rows_behind(self, path):
         """What the rows of a copy of a database are behind `check`."""
@@ -275,8 +271,8 @@ class Refusing:
         for words, output in ((("check", "--db", self.path), b"0\n"), (("report", "--db", self.path), report), (serve, None)):
             for name, ended in self.runs(words[0], first, *words):
                 is_well = is_end(ended, output) or output is None and (ended.returncode, ended.stderr) == (1, b"index: Listen\n")
-                self.told(name, is_well, ended)
-                self.told(f"{name}: the rows", self.rows_behind(self.path) == wanted)
+                self.check(name, is_well, ended)
+                self.check(f"{name}: the rows", self.rows_behind(self.path) == wanted)
 
     def all(self):
         new = self.judge.new

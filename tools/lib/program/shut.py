@@ -3,16 +3,14 @@ import os
 import subprocess
 
 from failing import Failing, Fault
-from serving import Index, make_index
+from serving import ACCEPTED, ALREADY, Index, make_index
 
-OFFICE = {"X_Index_Token": "office"}
-ACCEPTED, ALREADY = b'{"answer":"accepted"}', b'{"answer":"already"}'
 STORE = b'{"answer":"fault","name":"Store"}'
 
 
 def claim(index, name):
     """The status and the body of the reply to a claim."""
-    status, _, body = index.ask("POST", "/requests", b'{"do":"claim","name":"%s"}' % name, **OFFICE)
+    status, _, body = index.claim(name)
     return status, body
 
 
@@ -36,12 +34,12 @@ def shut_at(path):
 
 def syncs_before(program, path, failing, under):
     """How many syncs a server makes before its second claim."""
-    with Index(program, 2, path, more=failing.setting(under)) as index:
-        claim(index, b"a")
+    with Index(program, 2, path, setting=failing.setting(under)) as index:
+        claim(index, "a")
         return failing.counted()["fdatasync"]
 
 
-def try_shut(program, folder, told):
+def try_shut(program, folder, check):
     """A sync fails once: the claim in hand is answered by Store, and the server ends with status 1. The next one has what
     was acknowledged, and takes the claim again."""
     under = f"{folder}/shut"
@@ -51,37 +49,37 @@ def try_shut(program, folder, told):
     for later in range(2):
         path = make_index(program, f"{under}/index{later}.db")
         fault = Fault("fdatasync", before + 1 + later, "EIO", False)
-        with Index(program, 10, path, more=failing.setting(under, fault)) as index:
-            told(f"{fault}: the claim before", claim(index, b"a") == (200, ACCEPTED))
-            seen = claim(index, b"b")
-            told(f"{fault}: the claim in hand", seen == (500, STORE), seen)
+        with Index(program, 10, path, setting=failing.setting(under, fault)) as index:
+            check(f"{fault}: the claim before", claim(index, "a") == (200, ACCEPTED))
+            seen = claim(index, "b")
+            check(f"{fault}: the claim in hand", seen == (500, STORE), seen)
             status = end_of(index)
-            told(f"{fault}: its end", (status, index.errors()) == (1, shut_at(path)), (status, index.errors()))
+            check(f"{fault}: its end", (status, index.errors()) == (1, shut_at(path)), (status, index.errors()))
         with Index(program, 10, path) as index:
-            told(f"{fault}: what was acknowledged", is_held(index, "a"))
-            seen = claim(index, b"b")
-            told(f"{fault}: asked again", seen in ((200, ACCEPTED), (200, ALREADY)), seen)
-            told(f"{fault}: then it is there", is_held(index, "b"))
+            check(f"{fault}: what was acknowledged", is_held(index, "a"))
+            seen = claim(index, "b")
+            check(f"{fault}: asked again", seen in ((200, ACCEPTED), (200, ALREADY)), seen)
+            check(f"{fault}: then it is there", is_held(index, "b"))
 
 
 def before_and_after_a_claim(index):
     """What three clients are told, or why one of them is told nothing."""
     try:
-        return [is_held(index, "a"), claim(index, b"a"), is_held(index, "a")]
+        return [is_held(index, "a"), claim(index, "a"), is_held(index, "a")]
     except OSError as error:
         return error
 
 
-def try_accepting(program, folder, told):
+def try_accepting(program, folder, check):
     """A connection that can't be accepted is tried again, and no client sees it."""
     under = f"{folder}/accepting"
     os.mkdir(under)
     failing = Failing(folder)
     for how in ("EMFILE", "ENFILE", "ECONNABORTED"):
         fault = Fault("accept", 2, how, False)
-        with Index(program, 3, f"{under}/{how}.db", more=failing.setting(under, fault)) as index:
+        with Index(program, 3, f"{under}/{how}.db", setting=failing.setting(under, fault)) as index:
             seen = before_and_after_a_claim(index)
-            told(f"{fault}: the clients", seen == [False, (200, ACCEPTED), True], seen)
+            check(f"{fault}: the clients", seen == [False, (200, ACCEPTED), True], seen)
             status = end_of(index)
-            told(f"{fault}: its end", (status, index.errors()) == (0, b""), (status, index.errors()))
-        told(f"{fault}: it was met", failing.counted()["failed"] == 1)
+            check(f"{fault}: its end", (status, index.errors()) == (0, b""), (status, index.errors()))
+        check(f"{fault}: it was met", failing.counted()["failed"] == 1)
