@@ -1,0 +1,1 @@
+"""Parts of tools/check-docs, tools/draw-crates and tools/draw-rates."""

@@ -1,0 +1,23 @@
+"""The texts of the repository that pages are made of and held to."""
+import os
+
+from serving import TOP
+
+
+def read(path):
+    with open(f"{TOP}/{path}", encoding="utf-8") as file:
+        return file.read()
+
+
+def write(path, text):
+    with open(f"{TOP}/{path}", "w", encoding="utf-8") as file:
+        file.write(text)
+
+
+def pages():
+    """The paths of all pages of the repository, from its top."""
+    found = []
+    for folder, inner, files in os.walk(TOP):
+        inner[:] = sorted(name for name in inner if name not in ("out", ".git", "try"))
+        found += [os.path.relpath(f"{folder}/{name}", TOP) for name in sorted(files) if name.endswith(".md")]
+    return found
