@@ -15,8 +15,8 @@ LARGE = 8_400_000
 
 @dataclass(frozen=True)
 class Recorded:
-    """A run. `states` are the rows behind each number of answers, with None where there is no index yet; `before` are rows
-    of another version that SQLite may see as long as nothing was answered."""
+    """A run. `states` are the rows behind each number of answers, with None where there is no index yet; `before` are
+    rows of another version that SQLite may see as long as nothing was answered."""
     name: str
     first: tuple
     entries: tuple
@@ -33,7 +33,8 @@ class Recorded:
         """The same run with a record in which these syncs are no syncs."""
         kept = [not (entry.done == SYNCED and is_left_out(at, entry)) for at, entry in enumerate(self.entries)]
         pairs = [pair for pair, is_kept in zip(zip(self.entries, self.answers), kept) if is_kept]
-        return replace(self, name=name, entries=tuple(entry for entry, _ in pairs), answers=tuple(number for _, number in pairs))
+        return replace(self, name=name, entries=tuple(entry for entry, _ in pairs),
+                       answers=tuple(number for _, number in pairs))
 
 
 def content(path):
@@ -102,7 +103,8 @@ class Recording:
         messages = [message_of(request) for request in large_requests()]
         states = [self.served(messages[:count]) for count in range(len(messages) + 1)]
         self.served(messages, self.setting)
-        return self.recorded("serve", (content(self.judge.new), content(f"{self.judge.new}-wal")), states, is_served=True)
+        return self.recorded("serve", (content(self.judge.new), content(f"{self.judge.new}-wal")), states,
+                             is_served=True)
 
     def served(self, messages, setting=None):
         """The rows behind these messages."""
@@ -118,15 +120,17 @@ class Recording:
 def large_requests():
     piece = bytes(at * at % 253 for at in range(65_536))
     large = piece * (LARGE // len(piece) + 1)
-    return [of_name("office", "claim", "frob"), upload("office", "frob-1.0.tar.gz", b"abc"), upload("office", "frob-1.1.tar.gz", large),
-            upload("office", "frob-1.2.tar.gz", b"a")]
+    return [
+        of_name("office", "claim", "frob"),
+        upload("office", "frob-1.0.tar.gz", b"abc"),
+        upload("office", "frob-1.1.tar.gz", large),
+        upload("office", "frob-1.2.tar.gz", b"a")
+    ]
 
 
 def all_runs(recording, judge):
     """The runs, and of each how large a share of the rounds it gets."""
     lines = lines_of(REQUESTS)
     killed = kill_after(recording.program, copy_index(judge.new, f"{recording.folder}/killed.db"), lines)
-    return [(recording.lines(lines), 0.45), (recording.opening(killed, judge.rows(lines)), 0.15), (recording.init(), 0.15),
-            (recording.migration(), 0.2), (recording.large(), 0.05)]
-
-
+    return [(recording.lines(lines), 0.45), (recording.opening(killed, judge.rows(lines)), 0.15),
+            (recording.init(), 0.15), (recording.migration(), 0.2), (recording.large(), 0.05)]

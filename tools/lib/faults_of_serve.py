@@ -18,7 +18,8 @@ MESSAGES = [message_of(request) for request in REQUESTS] + [look(path) for path 
 
 
 class Served:
-    """What came of a server that was asked for all messages: the replies, its status, and what it said on standard error."""
+    """What came of a server that was asked for all messages: the replies, its status, and what it said on standard
+    error."""
 
     def __init__(self, program, path, setting):
         self.replies, self.status, self.said = [], 1, b""
@@ -81,7 +82,8 @@ class Judged:
 
     def statuses_are_right(self):
         pairs = list(zip(MESSAGES, self.parts))[:len(REQUESTS)]
-        wrong = [part for message, part in pairs if part and part[0] not in status_of(part[2], message.startswith(b"PUT"))]
+        wrong = [part for message, part in pairs
+                 if part and part[0] not in status_of(part[2], message.startswith(b"PUT"))]
         self.check("statuses", not wrong, wrong)
 
     def looks_are_right(self, lines):
@@ -89,9 +91,11 @@ class Judged:
         if len(self.parts) < len(MESSAGES):
             return
         wanted = shown(self.bench.judge.rows(lines))
-        for text, part, reply, is_whole in zip(wanted, *(found[-len(LOOKS):] for found in (self.parts, self.served.replies, self.whole))):
+        for text, part, reply, is_whole in zip(
+                wanted, *(found[-len(LOOKS):] for found in (self.parts, self.served.replies, self.whole))):
             is_right = is_whole and (part[2] in (text, STORE) or text is None and part[0] == 404)
-            is_cut = not is_whole and b"index: connection: Cut\n" in self.served.said and (not part or (text or b"").startswith(part[2]))
+            is_begun = not part or (text or b"").startswith(part[2])
+            is_cut = not is_whole and b"index: connection: Cut\n" in self.served.said and is_begun
             self.check("a look", is_right or is_cut, (text, reply, self.served.said))
 
 
@@ -102,7 +106,8 @@ def try_serve(bench, share):
     bench.begin(bench.judge.new)
     served = Served(bench.program, bench.path, setting(bench.under))
     judged = Judged(bench, "serve without a fault", served)
-    judged.check("answers", tuple(judged.answers(None)) == bench.judge.answers(lines) and served.status == 0 and all(judged.whole))
+    judged.check("answers",
+                 tuple(judged.answers(None)) == bench.judge.answers(lines) and served.status == 0 and all(judged.whole))
     judged.check("looks", [part[0] for part in judged.parts[-len(LOOKS):]] == [200] * len(LOOKS))
     judged.looks_are_right(lines)
     counted = bench.failing.counted()
@@ -122,8 +127,9 @@ def file_fault(bench, judged, fault, lines):
     judged.check("answers", answers_are_right(bench.judge, lines, answers))
     judged.statuses_are_right()
     said = judged.served.said.replace(b"index: connection: Cut\n", b"")
-    judged.check("its end", (judged.served.status, said) == (0, b"") or judged.served.status == 1 and said.startswith(b"index: Store\n"),
-                (judged.served.status, judged.served.said))
+    status = judged.served.status
+    judged.check("its end", (status, said) == (0, b"") or status == 1 and said.startswith(b"index: Store\n"),
+                 (status, judged.served.said))
     judged.looks_are_right(kept_lines(lines, answers)[0])
     bench.is_kept(judged.name, lines, answers)
 
@@ -140,12 +146,14 @@ def peer_fault(bench, judged, fault, lines):
     elif fault.is_harmless():
         is_well, made = not lost and (judged.served.status, judged.served.said) == (0, b""), range(len(REQUESTS))
     elif fault.kind == "recv":
-        is_well = lost and (judged.served.status, judged.served.said) == (0, b"index: connection: ReadFault\n" * len(lost))
+        said = b"index: connection: ReadFault\n" * len(lost)
+        is_well = lost and (judged.served.status, judged.served.said) == (0, said)
         made = [at for at in range(len(REQUESTS)) if at not in lost]
     else:
         # what was gathered of a reply may go out by a second send, after the first was told as failed
         said = judged.served.said.splitlines()
-        is_well = judged.served.status == 0 and len(said) >= max(1, len(lost)) and {*said} == {b"index: connection: WriteFault"}
+        is_named = {*said} == {b"index: connection: WriteFault"}
+        is_well = judged.served.status == 0 and len(said) >= max(1, len(lost)) and is_named
         made = range(len(REQUESTS))
     judged.check("its end", is_well, (judged.served.status, judged.served.said, lost, count))
     judged.statuses_are_right()

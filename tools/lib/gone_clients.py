@@ -22,12 +22,15 @@ def resets(port, message):
 
 
 def try_gone(program, check):
-    """A reset in the midst of a head, and one before a short reply is sent: each is told by one line, and the next is served."""
+    """A reset in the midst of a head, and one before a short reply is sent: each is told by one line, and the next is
+    served."""
     with Index(program) as index:
         resets(index.port, HELD[:20])
         status, _, body = index.ask("GET", "/names/frob")
-        check("the next behind a reset in a head", (status, body) == (200, b'{"name":"frob","state":"free"}'), (status, body))
-        check("a reset in a head is told by one line", index.errors() == b"index: connection: ReadFault\n", index.errors())
+        check("the next behind a reset in a head", (status, body) == (200, b'{"name":"frob","state":"free"}'),
+              (status, body))
+        check("a reset in a head is told by one line",
+              index.errors() == b"index: connection: ReadFault\n", index.errors())
         # stopped, the program can't answer before the client is gone
         os.kill(index.process.pid, signal.SIGSTOP)
         try:

@@ -1,8 +1,8 @@
 """What a crash may leave of a database and its log, made from the record of a run (record_calls).
 
 Between two syncs of a file each range that was written may hold what was there, what was written, or anything, and the
-length is any between the least and the greatest; what lies past the least may be anything. All else is as it was. A file
-whose name was not synced with its folder may be gone, and one that was removed is."""
+length is any between the least and the greatest; what lies past the least may be anything. All else is as it was. A
+file whose name was not synced with its folder may be gone, and one that was removed is."""
 import struct
 from dataclasses import dataclass
 

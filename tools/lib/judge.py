@@ -79,15 +79,18 @@ class Judge:
 
 
 def kept_lines(lines, answers):
-    """The lines that were not answered by Store; and of those that were, the ones behind which nothing came of the tables."""
+    """The lines that were not answered by Store; and of those that were, the ones behind which nothing came of the
+    tables."""
     stopped = [at for at, answer in enumerate(answers) if answer == STORE]
-    last = max((at for at, answer in enumerate(answers) if answer != STORE and not answer.startswith(MESSAGE)), default=-1)
+    last = max((at for at, answer in enumerate(answers) if answer != STORE and not answer.startswith(MESSAGE)),
+               default=-1)
     kept = tuple(line for at, line in enumerate(lines[:len(answers)]) if at not in stopped)
     return kept, tuple(lines[at] for at in stopped if at > last)
 
 
 def answers_are_right(judge, lines, answers):
-    """Whether each answer is the verdict on the tables at its point, or Store, which changes nothing that is seen later."""
+    """Whether each answer is the verdict on the tables at its point, or Store, which changes nothing that is seen
+    later."""
     kept, _ = kept_lines(lines, answers)
     return judge.answers(kept) == tuple(answer for answer in answers if answer != STORE)
 

@@ -55,7 +55,8 @@ class Killing:
         """The database is opened, its charges are right, and its rows are among these."""
         checked = run(self.program, "check", "--db", self.path)
         is_sound, rows = seen_by_sqlite(self.path)
-        is_well = (checked.returncode, checked.stdout, checked.stderr) == (0, b"0\n", b"") and is_sound and rows in allowed
+        is_right = (checked.returncode, checked.stdout, checked.stderr) == (0, b"0\n", b"")
+        is_well = is_right and is_sound and rows in allowed
         self.check(f"killed {name}: what is there", is_well, (checked, is_sound, rows))
 
     def init(self, rounds):
@@ -80,7 +81,8 @@ class Killing:
         for name, output in self.each(rounds, "apply", self.judge.new, *words, given=b"".join(lines)):
             answers = tuple(output.splitlines())
             told = self.judge.answers(lines)[:len(answers)]
-            self.check(f"killed {name}: {len(answers)} answers", b"\n".join(told).startswith(b"\n".join(answers)), output)
+            self.check(f"killed {name}: {len(answers)} answers", b"\n".join(told).startswith(b"\n".join(answers)),
+                       output)
             self.is_there(name, [self.judge.rows(lines[:count]) for count in (len(answers), len(answers) + 1)])
 
     def reading(self, rounds, job):

@@ -75,7 +75,9 @@ def libraries_of_ci(rt, crates):
                 sums = json.load(entry)["files"]
         except (OSError, ValueError, KeyError):
             continue
-        if not it.is_program and sums == [[path, rt.rtlib.sum_of(f"{it.folder}/out/{path}")] for path in kept.made(it, False)]:
+        if it.is_program:
+            continue
+        if sums == [[path, rt.rtlib.sum_of(f"{it.folder}/out/{path}")] for path in kept.made(it, False)]:
             kept.is_built(it)
             found.add(it.name)
     return found

@@ -1,4 +1,5 @@
-"""packages.py FOLDER: makes the packages that the tools upload, small wheels and a source archive that builds offline."""
+"""packages.py FOLDER: makes the packages that the tools upload, small wheels and a source archive that builds
+offline."""
 import argparse
 import base64
 import hashlib

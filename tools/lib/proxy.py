@@ -31,7 +31,8 @@ class Handler(BaseHTTPRequestHandler):
 
 
 class Proxy:
-    """Runs as long as the block does, and keeps of each request its path, its status, and the types asked for and got."""
+    """Runs as long as the block does, and keeps of each request its path, its status, and the types asked for and
+    got."""
 
     def __init__(self, behind, accept=None):
         self.server = ThreadingHTTPServer(("127.0.0.1", 0), Handler)

@@ -1,4 +1,5 @@
-"""Runs of the built program and of other commands, and what they need: folders, C libraries, databases of other hands."""
+"""Runs of the built program and of other commands, and what they need: folders, C libraries, databases of other
+hands."""
 import os
 import sqlite3
 import subprocess
@@ -10,7 +11,8 @@ from serving import TOP
 
 
 def new_folder():
-    """A folder for one run, in memory if there is a file system for that: a sync takes no time there, and a kill loses none."""
+    """A folder for one run, in memory if there is a file system for that: a sync takes no time there, and a kill loses
+    none."""
     memory = "/dev/shm"
     return tempfile.TemporaryDirectory(dir=memory if os.access(memory, os.W_OK) else None)
 
@@ -24,8 +26,8 @@ def built(name, folder):
 
 
 def run(program, *words, given=b"", setting=None, patience=60, **streams):
-    """The end of the program on these words: its status, standard output and standard error. It reads the bytes `given`,
-    unless `streams` has a standard input; `setting` is added to its environment."""
+    """The end of the program on these words: its status, standard output and standard error. It reads the bytes
+    `given`, unless `streams` has a standard input; `setting` is added to its environment."""
     if "stdin" not in streams:
         streams["input"] = given
     streams = {"stdout": subprocess.PIPE, "stderr": subprocess.PIPE, **streams}
@@ -34,9 +36,12 @@ def run(program, *words, given=b"", setting=None, patience=60, **streams):
 
 def run_command(words, seconds=60, **setting):
     """The end of another command: its status, and its output with its errors. It finds nothing in its environment that
-    changes pip, Python, proxies or `operate/index-upload`, but what `setting` has. One that takes too long has status -1."""
-    clean = {name: value for name, value in os.environ.items()
-             if not name.lower().startswith(("pip_", "python", "index_")) and not name.lower().endswith(("_proxy", "_ca_bundle"))}
+    changes pip, Python, proxies or `operate/index-upload`, but what `setting` has. One that takes too long has status
+    -1."""
+    def is_kept(name):
+        return not name.startswith(("pip_", "python", "index_")) and not name.endswith(("_proxy", "_ca_bundle"))
+
+    clean = {name: value for name, value in os.environ.items() if is_kept(name.lower())}
     clean.update(PIP_CONFIG_FILE=os.devnull, NO_PROXY="*", LC_ALL="C.UTF-8", PYTHONDONTWRITEBYTECODE="1", **setting)
     try:
         return subprocess.run(words, stdin=subprocess.DEVNULL, stdout=subprocess.PIPE, stderr=subprocess.STDOUT,

@@ -44,7 +44,8 @@ def listens(port, patience=10):
 
 
 def exchange(connection, method, path, body, headers):
-    """The status, the headers and the body of the reply on this connection. `X_Index_Token` stands for `X-Index-Token`."""
+    """The status, the headers and the body of the reply on this connection. `X_Index_Token` stands for
+    `X-Index-Token`."""
     try:
         connection.request(method, path, body, {name.replace("_", "-"): value for name, value in headers.items()})
         reply = connection.getresponse()
@@ -98,15 +99,16 @@ class Running:
 def make_index(program, path):
     """Makes a new index in this file. Its one user is `office`, with the token `office`."""
     words = [program, "init", "--db", path, *OFFICE]
-    ended = subprocess.run(words, stdin=subprocess.DEVNULL, stdout=subprocess.PIPE, stderr=subprocess.STDOUT, timeout=10)
+    ended = subprocess.run(words, stdin=subprocess.DEVNULL, stdout=subprocess.PIPE, stderr=subprocess.STDOUT,
+                           timeout=10)
     if (ended.returncode, ended.stdout) != (0, b"created\n"):
         raise SystemExit(f"{program} init ended with {ended.returncode} {ended.stdout!r}")
     return path
 
 
 class Asking:
-    """What has a call `ask`: an index, or what stands in front of one. Each request is made with a token, that of `office`
-    if none is given, and returns the status, the headers and the body of the reply."""
+    """What has a call `ask`: an index, or what stands in front of one. Each request is made with a token, that of
+    `office` if none is given, and returns the status, the headers and the body of the reply."""
 
     def request(self, token="office", **request):
         return self.ask("POST", "/requests", json.dumps(request), X_Index_Token=token)
@@ -132,7 +134,8 @@ def accepted(reply):
 
 
 class Index(Running, Asking):
-    """The built program, serving on loopback the index in a file, or a new one. What it says on standard error is kept."""
+    """The built program, serving on loopback the index in a file, or a new one. What it says on standard error is
+    kept."""
 
     def __init__(self, program, requests=1_000_000, path=None, patience=10, setting=None, port=0, at=None, keep=None):
         self.patience = patience

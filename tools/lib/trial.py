@@ -20,7 +20,8 @@ def parser_of(text, rounds=None, what="", seconds=None, step=None, has_seed=Fals
     for name, default, meaning in (("rounds", rounds, what), ("step", step, "one of so many is tried"),
                                    ("seconds", seconds, "after so many seconds nothing more is begun")):
         if default is not None:
-            parser.add_argument(f"--{name}", metavar="N", type=whole_number, default=default, help=f"{meaning}; {default} if left out")
+            parser.add_argument(f"--{name}", metavar="N", type=whole_number, default=default,
+                                help=f"{meaning}; {default} if left out")
     if has_seed:
         parser.add_argument("--seed", metavar="N", type=int, default=random.randrange(10 ** 6),
                             help="of what is chosen at random; printed first")
@@ -35,13 +36,12 @@ def whole_number(word):
 
 
 class Trial:
-    """Counts checks and prints those that failed, or all of them. Several threads may check at once. Its time ends
+    """Counts checks and prints the first that failed, or all. Several threads may check at once. Its time ends
     `seconds` after it was made."""
 
-    MOST_PRINTED = 40
-
-    def __init__(self, seconds=None, seed=None, prints_all=False):
-        self.passed, self.failed, self.names, self.prints_all = 0, 0, [], prints_all
+    def __init__(self, seconds=None, seed=None, prints_all=False, most_printed=40):
+        self.passed, self.failed, self.names = 0, 0, []
+        self.prints_all, self.most_printed = prints_all, most_printed
         self.until = time.monotonic() + (float("inf") if seconds is None else seconds)
         self.random, self.lock = random.Random(seed), threading.Lock()
         if seed is not None:
@@ -57,7 +57,7 @@ class Trial:
                     self.note(f"ok {name}")
                 return True
             self.failed += 1
-            if self.prints_all or self.failed <= self.MOST_PRINTED:
+            if self.prints_all or self.failed <= self.most_printed:
                 self.note(f"FAILED {name}: {str(seen)[:3000]}")
             return False
 
@@ -69,7 +69,8 @@ class Trial:
         return time.monotonic() > self.until
 
     def left(self, most):
-        """The seconds that one step may take: this many, or what is left. If nothing is left, it raises TimeoutError."""
+        """The seconds that one step may take: this many, or what is left. If nothing is left, it raises
+        TimeoutError."""
         left = self.until - time.monotonic()
         if left <= 0:
             raise TimeoutError("the time is over")

@@ -27,7 +27,8 @@ def of_file(token, do, file):
 
 
 def case(token, name, kind):
-    return of_name(token, "open_case", name, kind=kind, contact="mail to all of them", work="a fork", why="nobody answers")
+    return of_name(token, "open_case", name, kind=kind, contact="mail to all of them", work="a fork",
+                   why="nobody answers")
 
 
 def attempt(means):

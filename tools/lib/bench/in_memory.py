@@ -51,7 +51,8 @@ def bench_claims(program):
         without = median(applied, program, f"{folder}/users", USERS)
         took = median(applied, program, f"{folder}/claims", USERS + CLAIMS)
     figure = CLAIMS / max(took - without, 1e-6)
-    line("claims", f"{CLAIMS:,} in memory by {USERS:,} users, in {took - without:.3f} s beside {without:.3f} s for the users",
+    line("claims",
+         f"{CLAIMS:,} in memory by {USERS:,} users, in {took - without:.3f} s beside {without:.3f} s for the users",
          f"{figure:,.0f} claims a second", goal(figure, least=100_000), load())
 
 
@@ -62,7 +63,8 @@ def reset_peak(process):
 
 
 def peaks(program):
-    """The peaks of a server after a page of one file and after one of many, beside the same files, and the length of that."""
+    """The peaks of a server after a page of one file and after one of many, beside the same files, and the length of
+    that."""
     with Index(program) as index:
         for name in ("big", "small"):
             accepted(index.claim(name))
@@ -96,5 +98,7 @@ def bench_file_memory(program):
             if bytes_of(index, "/files/big/big-1.0.tar.gz") != body:
                 raise SystemExit("bench: the file came back as another")
             after, peak = (memory_of(index.process, row) for row in ("VmRSS", "VmHWM"))
-        line("memory" if keep == 0 else "", f"a file of 16 MiB, in and out, with --keep-recent {keep}: {before / 1024:.0f} MiB before,"
-             f" {after / 1024:.0f} MiB after, at most {peak / 1024:.0f} MiB")
+        line(
+            "memory" if keep == 0 else "",
+            f"a file of 16 MiB, in and out, with --keep-recent {keep}: {before / 1024:.0f} MiB before,"
+            f" {after / 1024:.0f} MiB after, at most {peak / 1024:.0f} MiB")

@@ -1,4 +1,5 @@
-"""Clients that ask for one address as often as they can, each time on a new connection: wrk, ab, or processes of Python."""
+"""Clients that ask for one address as often as they can, each time on a new connection: wrk, ab, or processes of
+Python."""
 import multiprocessing
 import re
 import shutil
@@ -81,7 +82,8 @@ class Processes:
 
     def rate(self, url, seconds, length):
         parts = urlsplit(url)
-        message = f"GET {parts.path} HTTP/1.1\r\nHost: {parts.netloc}\r\nAccept: {JSON_PAGE}\r\nConnection: close\r\n\r\n"
+        message = (f"GET {parts.path} HTTP/1.1\r\nHost: {parts.netloc}\r\nAccept: {JSON_PAGE}\r\n"
+                   "Connection: close\r\n\r\n")
         answered, until = multiprocessing.Queue(), time.monotonic() + seconds
         words = (parts.hostname, parts.port), message.encode(), length, until, answered
         askers = [multiprocessing.Process(target=ask_for, args=words, daemon=True) for _ in range(CONNECTIONS)]

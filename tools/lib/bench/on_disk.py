@@ -1,4 +1,5 @@
-"""What bench measures of an index in a database: uploads beside the C library, changes beside many files, and openings."""
+"""What bench measures of an index in a database: uploads beside the C library, changes beside many files, and
+openings."""
 import json
 import os
 import shutil
@@ -19,12 +20,17 @@ TABLES = "users", "names", "owners", "files", "blobs", "yanks", "cases", "bans"
 
 # what an upload writes, in its order
 STATEMENTS = (
-    "INSERT INTO names (name, state, shown, quota, charged, live, last_upload) VALUES (?1, ?2, ?3, ?4, ?5, ?6, ?7) ON CONFLICT (name) DO UPDATE SET state = excluded.state, shown = excluded.shown, quota = excluded.quota, charged = excluded.charged, live = excluded.live, last_upload = excluded.last_upload",
-    "INSERT INTO files (file, name, rel, digest, size, requires, live) VALUES (?1, ?2, ?3, ?4, ?5, ?6, ?7) ON CONFLICT (file) DO UPDATE SET name = excluded.name, rel = excluded.rel, digest = excluded.digest, size = excluded.size, requires = excluded.requires, live = excluded.live",
+    "INSERT INTO names (name, state, shown, quota, charged, live, last_upload) VALUES (?1, ?2, ?3, ?4, ?5, ?6, ?7) "
+    "ON CONFLICT (name) DO UPDATE SET state = excluded.state, shown = excluded.shown, quota = excluded.quota, "
+    "charged = excluded.charged, live = excluded.live, last_upload = excluded.last_upload",
+    "INSERT INTO files (file, name, rel, digest, size, requires, live) VALUES (?1, ?2, ?3, ?4, ?5, ?6, ?7) "
+    "ON CONFLICT (file) DO UPDATE SET name = excluded.name, rel = excluded.rel, digest = excluded.digest, "
+    "size = excluded.size, requires = excluded.requires, live = excluded.live",
     "INSERT INTO blobs (file, body) VALUES (?1, ?2) ON CONFLICT (file) DO UPDATE SET body = excluded.body",
 )
 # the program opens its database so that each commit is synced twice
-SETTINGS = ("PRAGMA journal_mode = WAL", "PRAGMA synchronous = EXTRA", "PRAGMA foreign_keys = ON", "PRAGMA locking_mode = EXCLUSIVE")
+SETTINGS = ("PRAGMA journal_mode = WAL", "PRAGMA synchronous = EXTRA", "PRAGMA foreign_keys = ON",
+            "PRAGMA locking_mode = EXCLUSIVE")
 
 
 def file_name(project, number):
@@ -95,7 +101,10 @@ def filled(program, folder):
     path = make_index(program, f"{folder}/many.db")
     lines = [asked(do="claim", name="ours"), *(upload_line("ours", number) for number in range(OWN))]
     for project in range(OTHERS // 100):
-        lines += [asked(do="claim", name=f"other{project}"), *(upload_line(f"other{project}", number) for number in range(100))]
+        lines += [
+            asked(do="claim", name=f"other{project}"),
+            *(upload_line(f"other{project}", number) for number in range(100))
+        ]
     lines += [asked(do="claim", name=f"{name}{number}") for name in ("none", "one") for number in range(ROUNDS)]
     lines += [upload_line(f"one{number}", 0) for number in range(ROUNDS)]
     apply(program, path, lines)
@@ -132,7 +141,8 @@ def release(number):
 CHANGES = (
     ("prohibit a name without files", lambda number: {"do": "prohibit", "name": f"none{number}"}, 5),
     ("prohibit a name with one file", lambda number: {"do": "prohibit", "name": f"one{number}"}, 5),
-    (f"yank in a project of {OWN:,} files", lambda number: {"do": "yank", "name": "ours", "release": release(number), "reason": ""}, 2),
+    (f"yank in a project of {OWN:,} files",
+     lambda number: {"do": "yank", "name": "ours", "release": release(number), "reason": ""}, 2),
     ("claim", lambda number: {"do": "claim", "name": f"new{number}"}, None),
 )
 

@@ -1,4 +1,5 @@
-"""What bench measures over loopback: a page and a file beside servers of plain files, as requests a second and as ratios."""
+"""What bench measures over loopback: a page and a file beside servers of plain files, as requests a second and as
+ratios."""
 import os
 import shutil
 import statistics

@@ -1,7 +1,9 @@
-"""What try-operate runs where more than one server answers: PyPI beside the index, and several indexes behind one address."""
+"""What try-operate runs where more than one server answers: PyPI beside the index, and several indexes behind one
+address."""
 import http.server
 import json
 import threading
+from contextlib import ExitStack
 
 from operate.checks import check, replies
 from operate.front import Front
@@ -27,15 +29,19 @@ class Stranger(http.server.BaseHTTPRequestHandler):
 def try_pypi(place):
     """A project of ours never comes from elsewhere, and one that nobody holds does."""
     program, folder, certificate = place.program, place.folder, place.certificate
-    with Kept(program, f"{folder}/ours.db") as ours, http.server.ThreadingHTTPServer(("127.0.0.1", 0), Stranger) as pypi:
+    stranger = http.server.ThreadingHTTPServer(("127.0.0.1", 0), Stranger)
+    with Kept(program, f"{folder}/ours.db") as ours, stranger as pypi:
         threading.Thread(target=pypi.serve_forever, kwargs={"poll_interval": 0.05}, daemon=True).start()
         accepted(ours.claim("frob"))
         accepted(ours.upload("frob", "frob-1.0.tar.gz", b"ours"))
         with Front(f"{folder}/pypi", certificate, ours.port, pypi=pypi.server_port) as front:
-            replies("a name that we don't hold is PyPI's", front.ask("GET", "/simple/other/"), 200, "text/html", b"a stranger's")
+            replies("a name that we don't hold is PyPI's", front.ask("GET", "/simple/other/"), 200, "text/html",
+                    b"a stranger's")
             page = front.ask("GET", "/simple/frob/")
-            check("a name that we hold is ours", page[0] == 200 and b"frob-1.0" in page[2] and b"99.0" not in page[2], page)
-            replies("no other path leads to PyPI", front.ask("GET", "/simple/x/../frob/"), 404, "application/json", b"NoRoute")
+            check("a name that we hold is ours", page[0] == 200 and b"frob-1.0" in page[2] and b"99.0" not in page[2],
+                  page)
+            replies("no other path leads to PyPI", front.ask("GET", "/simple/x/../frob/"), 404, "application/json",
+                    b"NoRoute")
             replies("another spelling is moved", front.ask("GET", "/simple/FROB/"), 301)
             replies("a file is not PyPI's", front.ask("GET", "/files/frob/frob-99.0.tar.gz"), 404, None, b"NoFile")
             with ours.away():
@@ -47,8 +53,8 @@ def try_pypi(place):
 def try_shards(place):
     """Three indexes behind one address."""
     program, folder, certificate = place.program, place.folder, place.certificate
-    with Index(program, patience=60) as first, Index(program, patience=60) as second, Index(program, patience=60) as third:
-        indexes = first, second, third
+    with ExitStack() as running:
+        indexes = [running.enter_context(Index(program, patience=60)) for _ in range(3)]
         with Front(f"{folder}/shards", certificate, *(it.port for it in indexes)) as front:
             for name, index in zip(("Frob", "ham", "x-ray"), indexes):
                 body, normal = json.dumps({"do": "claim", "name": name}), name.lower()

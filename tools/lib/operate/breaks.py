@@ -14,7 +14,8 @@ MOST_SECONDS = 240
 
 
 class Break:
-    """One break: what is changed, the parts of try-operate that are tried then, and the checks that have to fail there."""
+    """One break: what is changed, the parts of try-operate that are tried then, and the checks that have to fail
+    there."""
 
     def __init__(self, block):
         self.changes, self.fails, self.program = [], [], None
@@ -56,7 +57,9 @@ class Break:
         with tempfile.TemporaryDirectory() as folder:
             os.chmod(folder, 0o755)
             made = self.make(f"{folder}/copy", program)
-            ended = run_command([sys.executable, f"{folder}/copy/tools/try-operate", "--program", made, "--only", *self.part.split()], MOST_SECONDS)
+            ended = run_command(
+                [sys.executable, f"{folder}/copy/tools/try-operate", "--program", made, "--only", *self.part.split()],
+                MOST_SECONDS)
         return {same(name) for name in re.findall(r"^FAILED (.*?): ", ended.stdout, re.M)}
 
 
@@ -95,4 +98,5 @@ def try_breaks(program, names):
             continue
         failed = it.tried(program)
         unseen = [name for name in it.fails if same(name) not in failed]
-        check(f"{it.name} is seen", it.fails and not unseen, f"these did not fail: {unseen}; these did: {sorted(failed)}")
+        check(f"{it.name} is seen", it.fails and not unseen,
+              f"these did not fail: {unseen}; these did: {sorted(failed)}")

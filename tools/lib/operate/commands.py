@@ -44,7 +44,8 @@ class Uploads:
 def try_uploads(place):
     """The files of two projects go up by index-upload, into an index that has none."""
     by, other = Uploads(place), [path for path, _ in place.packages["spam-nest"].values()]
-    ends("index-upload --dry-run", by.run("--dry-run", by.dist, INDEX_URL=None, INDEX_TOKEN=None), 0, "frob-0.9.tar.gz: frob, ")
+    ends("index-upload --dry-run", by.run("--dry-run", by.dist, INDEX_URL=None, INDEX_TOKEN=None), 0,
+         "frob-0.9.tar.gz: frob, ")
     by.run("--dry-run", "--claim", by.dist)
     ends("it sent nothing", by.run(by.dist), 1, "NoProject", "--claim", "0 of 3 files are there")
     ends("index-upload --claim", by.run("--claim", by.dist, *other), 0, "frob: claimed", "5 of 5 files are there")
@@ -96,7 +97,8 @@ def try_late_uploads(place):
     # past nginx, which would wait in its place
     words, setting = by.words(by.wheel("frob", "1.3"), INDEX_URL=f"http://127.0.0.1:{index.port}")
     with index.away():
-        late = subprocess.Popen(words, stderr=subprocess.PIPE, stdout=subprocess.PIPE, env={**os.environ, **setting}, text=True)
+        late = subprocess.Popen(words, stderr=subprocess.PIPE, stdout=subprocess.PIPE, env={**os.environ, **setting},
+                                text=True)
         said = late.stderr.readline()
     check("an index that is away is asked again", "Again in" in said, said)
     said = late.communicate(timeout=60)[0]
@@ -143,7 +145,8 @@ def try_install(place):
     check("it did nothing", not os.path.exists(f"{root}/usr/local/bin/uncache"))
     if shutil.which("systemctl"):
         # links to what --remove takes away
-        run_command(["systemctl", f"--root={root}", "enable", "index.service", "index-backup.timer", "index-health.timer"])
+        units = "index.service", "index-backup.timer", "index-health.timer"
+        run_command(["systemctl", f"--root={root}", "enable", *units])
     ends("install --remove", run_command([*words, "--remove"]), 1, f"LEFT    {edited}")
     left = sorted(os.path.join(at, it)[len(root):] for at, _, inside in os.walk(root) for it in inside)
     check("another's file is all that is left", left == ["/etc/nginx/conf.d/packages.conf"], left)

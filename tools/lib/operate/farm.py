@@ -1,4 +1,5 @@
-"""Clients that ask as pip does, many at once: a page, and a file of it, over TLS on a connection of each client's own."""
+"""Clients that ask as pip does, many at once: a page, and a file of it, over TLS on a connection of each client's
+own."""
 import asyncio
 import hashlib
 import json

@@ -81,7 +81,8 @@ class Nginx(Running):
         return self
 
     def errors(self):
-        """What nginx says of itself. That the index was away is an error, and that a page changed as it was read, critical."""
+        """What nginx says of itself. That the index was away is an error, and that a page changed as it was read,
+        critical."""
         with open(f"{self.folder}/error.log", errors="replace") as log:
             return [line for line in log if re.search(r"\[(alert|emerg)\]", line)]
 
@@ -103,7 +104,8 @@ class Front(Nginx, Asking):
         ports = {f"127.0.0.1:{8080 + at}": f"127.0.0.1:{port}" for at, port in enumerate(behind)}
         self.put("index/indexes.conf", kept("one-index.conf" if len(behind) == 1 else "shards.conf"), **ports)
         if pypi:
-            self.put("index/server.d/with-pypi.conf", kept("with-pypi.conf"), **{"https://pypi.org": f"http://127.0.0.1:{pypi}"})
+            self.put("index/server.d/with-pypi.conf", kept("with-pypi.conf"),
+                     **{"https://pypi.org": f"http://127.0.0.1:{pypi}"})
 
     def ask(self, method, path, body=None, **headers):
         connection = http.client.HTTPSConnection("127.0.0.1", self.port, timeout=60, context=self.trust)

@@ -77,8 +77,8 @@ class Kept(Asking):
 
 
 class Uploader(threading.Thread):
-    """Uploads files of a project of its own to an index, or to what stands in front of one, until it is stopped or a moment
-    has come. `files` has what was acknowledged. What is to come again later does."""
+    """Uploads files of a project of its own to an index, or to what stands in front of one, until it is stopped or a
+    moment has come. `files` has what was acknowledged. What is to come again later does."""
 
     def __init__(self, index, project, until):
         super().__init__(daemon=True)

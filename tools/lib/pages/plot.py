@@ -44,4 +44,5 @@ def drawn(page):
             y += STEP
     head = (f'<svg xmlns="http://www.w3.org/2000/svg" width="{WIDTH}" height="{y + 10}" viewBox="0 0 {WIDTH} {y + 10}" '
             'font-family="sans-serif" font-size="12" fill="#222222">')
-    return "\n".join([head, "<title>Requests a second</title>", '<rect width="100%" height="100%" fill="#ffffff"/>', *lines, "</svg>\n"])
+    ground = '<rect width="100%" height="100%" fill="#ffffff"/>'
+    return "\n".join([head, "<title>Requests a second</title>", ground, *lines, "</svg>\n"])

@@ -13,7 +13,8 @@ TYPE = re.compile(r"^(?:pub )?(?:struct|trait) (\w+).*?^\}", re.S | re.M)
 
 
 def contracts():
-    """The functions of the crates up to their bodies, their traits and structs, by name, each with the text of its file."""
+    """The functions of the crates up to their bodies, their traits and structs, by name, each with the text of its
+    file."""
     found = {}
     for folder, _, files in os.walk(f"{TOP}/crates"):
         for file in files if "/src" in folder else []:

@@ -1,4 +1,5 @@
-"""What is asked again after a change: each reply is that of the tables as they now are, and none that was kept before."""
+"""What is asked again after a change: each reply is that of the tables as they now are, and none that was kept
+before."""
 import json
 import shutil
 import sqlite3
@@ -82,7 +83,8 @@ def try_files(index, check):
     stands("a PUT", index.upload("frob", FIRST, BODIES[FIRST])[0], listed(only(FIRST)))
     stands("a second PUT", index.upload("frob", SECOND, BODIES[SECOND])[0], listed(only(FIRST, SECOND)))
     stands("a third PUT", index.upload("frob", THIRD, BODIES[THIRD])[0], listed(BODIES))
-    stands("a DELETE", index.ask("DELETE", f"/files/frob/{SECOND}", X_Index_Token="office")[0], listed(only(FIRST, THIRD)))
+    gone = index.ask("DELETE", f"/files/frob/{SECOND}", X_Index_Token="office")[0]
+    stands("a DELETE", gone, listed(only(FIRST, THIRD)))
     yank = index.request(do="yank", name="frob", release="2.0", reason="broken")[0]
     stands("a yank", yank, listed(only(FIRST, THIRD), {THIRD: "broken"}))
     stands("its end", index.request(do="unyank", name="frob", release="2.0")[0], listed(only(FIRST, THIRD)))

@@ -1,4 +1,5 @@
-"""The causes of `index: Store`, which a second line tells with the path: each by its own words, and what is left in the folder."""
+"""The causes of `index: Store`, which a second line tells with the path: each by its own words, and what is left in the
+folder."""
 import os
 import shutil
 import subprocess
@@ -122,10 +123,12 @@ class Causes:
     def first_users(self):
         """A user who can't be the first is told before a file is made."""
         path = self.new("user", b"")
-        for name, user, digest in (("no user id", "Office", sha256(b"office")), ("the digest of no token", "office", sha256(b"")),
+        for name, user, digest in (("no user id", "Office", sha256(b"office")),
+                                   ("the digest of no token", "office", sha256(b"")),
                                    ("malformed digits", "office", "BA78")):
             ended = self.run("init", "--db", path, "--user", user, "--token-sha256", digest)
-            self.check(f"init: {name}", (ended.returncode, ended.stdout, ended.stderr) == (1, b"", b"index: BadFirstUser\n"), ended)
+            self.check(f"init: {name}",
+                       (ended.returncode, ended.stdout, ended.stderr) == (1, b"", b"index: BadFirstUser\n"), ended)
             self.leaves(name, path)
 
     def objects(self):
@@ -216,4 +219,5 @@ def bytes_at(path):
 
 
 def can_read(path, by):
-    return subprocess.run([*by, "cat", path], stdout=subprocess.DEVNULL, stderr=subprocess.DEVNULL, timeout=10).returncode == 0
+    return subprocess.run([*by, "cat", path], stdout=subprocess.DEVNULL, stderr=subprocess.DEVNULL,
+                          timeout=10).returncode == 0

@@ -1,5 +1,5 @@
-"""A program whose allocations are refused by the preloaded library refuse_allocation, and that is asked line by line, or
-message by message."""
+"""A program whose allocations are refused by the preloaded library refuse_allocation, and that is asked line by line,
+or message by message."""
 import mmap
 import os
 import select
@@ -53,7 +53,8 @@ class Lines:
     def __init__(self, program, path, refusals):
         refusals.begin()
         words, pipe = [program, "apply", *(("--db", path) if path else ())], subprocess.PIPE
-        self.process = subprocess.Popen(words, bufsize=0, stdin=pipe, stdout=pipe, stderr=pipe, env={**os.environ, **refusals.setting})
+        self.process = subprocess.Popen(words, bufsize=0, stdin=pipe, stdout=pipe, stderr=pipe,
+                                        env={**os.environ, **refusals.setting})
 
     def ask(self, line):
         """The answer, or nothing where the run ended."""

@@ -41,7 +41,8 @@ def stored_run():
 
 
 def all_lines():
-    """By name lines and their answers: those of the stored run, of a full quota, of a case to its end, and of a wheel."""
+    """By name lines and their answers: those of the stored run, of a full quota, of a case to its end, and of a
+    wheel."""
     before = transcript("transcripts.rt", "USERS", "FROB")
     file = {"file": "frob-1.0+x-py3-none-any.whl", "sha256": sha256(b"abc"), "hex": b"abc".hex(), "requires_python": ""}
     wheel, = lines_of([("abc", {"do": "upload", **file})], 11)
@@ -59,7 +60,8 @@ def look(path, **more):
 
 
 def put(path, body, length):
-    head = f"PUT {path} HTTP/1.1\r\nX-Index-Token: abc\r\nX-Index-SHA256: {sha256(body)}\r\nContent-Length: {length}\r\n\r\n"
+    head = (f"PUT {path} HTTP/1.1\r\nX-Index-Token: abc\r\nX-Index-SHA256: {sha256(body)}\r\n"
+            f"Content-Length: {length}\r\n\r\n")
     return head.encode() + body
 
 
@@ -77,7 +79,8 @@ def is_page(message):
 
 
 # with the status of each reply: what is asked of an index in which ann holds `frob`
-ASKED = [(look("/simple/Frob"), 301), (put("/files/frob/frob-1.0.tar.gz", b"abc", 4), 400), (put(WHEEL, b"abc", 3), 201),
+ASKED = [(look("/simple/Frob"), 301), (put("/files/frob/frob-1.0.tar.gz", b"abc", 4), 400),
+         (put(WHEEL, b"abc", 3), 201),
          (put(WHEEL, b"abc", 3), 200), (FILE, 200), (ROOT, 200), (PAGE, 200), (look("/names/frob"), 200)]
 # and where answers are kept, and let go since there is no room for them, or since a name was claimed
 KEPT = [(put(WHEEL, b"abc", 3), 201), (PAGE, 200), (PAGE, 200), (FILE, 200), (FILE, 200), (PAGE, 200), (ROOT, 200),
@@ -93,7 +96,8 @@ class Refusing:
         self.is_over, self.count, self.replies = trial.is_over, 0, {}
 
     def says(self, name):
-        print(f"{self.count} allocations refused: {name}{', until the time was over' if self.is_over() else ''}", flush=True)
+        print(f"{self.count} allocations refused: {name}{', until the time was over' if self.is_over() else ''}",
+              flush=True)
         self.count = 0
 
     def each(self, rest, ask):
@@ -145,7 +149,8 @@ class Refusing:
         return made
 
     def again(self, name, running, front, line, came, new):
-        """The line that was answered so is asked again, and gets the verdict by the tables, which are those of what was accepted."""
+        """The line that was answered so is asked again, and gets the verdict by the tables, which are those of what was
+        accepted."""
         made = front + (line,) if came not in (FAULT, b"") else front
         wanted = self.judge.answers(made + (line,))[-1]
         again = running.ask(line) if came else b""
@@ -206,7 +211,8 @@ class Refusing:
                     running.close()
 
     def sees(self, name, index, messages, first, keep):
-        """The server answers the last of these messages, and what is looked up behind it, as if no allocation had been refused."""
+        """The server answers the last of these messages, and what is looked up behind it, as if no allocation had been
+        refused."""
         came = index.send(messages[-1])[0], [index.send(it)[0] for it in LOOKS]
         wanted = self.reply(messages, first, keep)
         self.check(f"{name}: asked again", came == wanted and index.process.poll() is None, (came, wanted))
@@ -268,10 +274,11 @@ class Refusing:
         wanted = self.rows_behind(first)
         report = run(self.program, "report", "--db", copy_index(first, f"{self.folder}/behind.db")).stdout
         serve = "serve", "--db", self.path, "--listen", "nowhere", "--requests", "1"
-        for words, output in ((("check", "--db", self.path), b"0\n"), (("report", "--db", self.path), report), (serve, None)):
+        for words, output in ((("check", "--db", self.path), b"0\n"), (("report", "--db", self.path), report),
+                              (serve, None)):
             for name, ended in self.runs(words[0], first, *words):
-                is_well = is_end(ended, output) or output is None and (ended.returncode, ended.stderr) == (1, b"index: Listen\n")
-                self.check(name, is_well, ended)
+                is_no_address = output is None and (ended.returncode, ended.stderr) == (1, b"index: Listen\n")
+                self.check(name, is_end(ended, output) or is_no_address, ended)
                 self.check(f"{name}: the rows", self.rows_behind(self.path) == wanted)
 
     def all(self):
@@ -285,7 +292,8 @@ class Refusing:
         self.says("messages, one by one")
         self.messages("serve that keeps", KEPT, held, KEPT_BYTES)
         self.says("messages, one by one, of a server that keeps answers")
-        for name, tries in (("the stored run", lambda: self.apply(new)), ("init", self.init), ("the migration", self.migration),
+        for name, tries in (("the stored run", lambda: self.apply(new)), ("init", self.init),
+                            ("the migration", self.migration),
                             ("check, report, and serve until it listens", lambda: self.others(new))):
             tries()
             self.says(f"{name}, as whole runs, one of {self.step}")

@@ -40,8 +40,8 @@ def syncs_before(program, path, failing, under):
 
 
 def try_shut(program, folder, check):
-    """A sync fails once: the claim in hand is answered by Store, and the server ends with status 1. The next one has what
-    was acknowledged, and takes the claim again."""
+    """A sync fails once: the claim in hand is answered by Store, and the server ends with status 1. The next one has
+    what was acknowledged, and takes the claim again."""
     under = f"{folder}/shut"
     os.mkdir(under)
     failing = Failing(folder)
