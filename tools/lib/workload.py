@@ -79,6 +79,11 @@ REQUESTS = [
 ]
 
 
+def line_of(token, at=11, **request):
+    """The line of `apply` that asks for this with a token, at this moment."""
+    return json.dumps({"at": at, "token": token, **request}).encode() + b"\n"
+
+
 def lines_of(requests, moment=None):
     """The lines that ask for this, each at this moment, or, where none is told, so that a transfer is late enough."""
     made = []

@@ -1,6 +1,5 @@
 """What bench measures of an index in a database: uploads beside the C library, changes beside many files, and
 openings."""
-import json
 import os
 import shutil
 import sqlite3
@@ -12,6 +11,7 @@ from contextlib import closing
 from bench.figures import ROUNDS, goal, line, load, median, memory_of
 from running import new_folder
 from serving import JSON_PAGE, Index, accepted, make_index, sha256
+from workload import line_of
 
 UPLOADS, MEBIBYTE = 2_000, 1 << 20
 # of other projects, 100 each, and of the one project with a release for each file
@@ -38,7 +38,7 @@ def file_name(project, number):
 
 
 def asked(**request):
-    return json.dumps({"at": 1, "token": "office", **request}) + "\n"
+    return line_of("office", 1, **request)
 
 
 def upload_line(project, number):
@@ -47,7 +47,7 @@ def upload_line(project, number):
 
 def apply(program, path, lines):
     """The seconds of a processor that a run over these lines takes, each of which was accepted."""
-    with tempfile.TemporaryFile("w+") as given, tempfile.TemporaryFile() as taken:
+    with tempfile.TemporaryFile() as given, tempfile.TemporaryFile() as taken:
         given.writelines(lines)
         given.seek(0)
         running = subprocess.Popen([program, "apply", "--db", path], stdin=given, stdout=taken)
@@ -147,7 +147,7 @@ CHANGES = (
 )
 
 
-def rows_of(path):
+def row_count(path):
     with closing(sqlite3.connect(path)) as database:
         return sum(database.execute(f"SELECT count(*) FROM {table}").fetchone()[0] for table in TABLES)
 
@@ -167,7 +167,7 @@ def bench_costs(program):
                 line("", f"{name}: {took:.2f} ms", *([] if most is None else [goal(took, most=most)]))
             line("", f"page of 100 files, asked first: {median(page_time, index):.2f} ms")
             line("", f"upload: {median(upload_time_beside, index):.2f} ms")
-        rows = rows_of(path)
+        rows = row_count(path)
     each = 1e6 * opened / rows
     line("open", f"serve listens after {opened:.2f} s with {rows:,} rows", f"{each:.1f} us a row", goal(each, most=15))
 

@@ -8,10 +8,10 @@ import sys
 import tempfile
 import threading
 import time
-import urllib.request
 from contextlib import ExitStack, contextmanager, nullcontext
 
 from bench.figures import ROUNDS, goal, line, load
+from bench.servers import check_same, fetched
 from serving import JSON_PAGE, Index, Running, accepted, free_port, listens
 
 SECONDS = 1
@@ -54,17 +54,6 @@ def file_servers(folder):
             conf.write(NGINX.format(folder=folder, port=port))
         servers["nginx"] = ["nginx", "-p", folder, "-e", f"{folder}/nginx.log", "-c", f"{folder}/nginx.conf"], port
     return servers
-
-
-def check_same(addresses):
-    """Ends the run where two of these addresses don't give the same bytes."""
-    bodies = set()
-    for url in addresses.values():
-        asked = urllib.request.Request(url, headers={"Accept": JSON_PAGE})
-        with urllib.request.build_opener(urllib.request.ProxyHandler({})).open(asked, timeout=10) as reply:
-            bodies.add(reply.read())
-    if len(bodies) != 1:
-        raise SystemExit(f"bench: the bytes differ at {addresses}")
 
 
 def fill(index, body):
@@ -143,7 +132,7 @@ def measure(client, index, servers, lengths, measured):
     for name, asking, goals in measured:
         addresses = {"index": f"http://127.0.0.1:{index.port}{PATHS[name]}"}
         addresses.update((server, f"http://127.0.0.1:{port}/{name}") for server, (_, port) in servers.items())
-        check_same(addresses)
+        check_same(addresses, fetched(addresses["index"]))
         with claims_between(index) if "between" in asking else nullcontext():
             seen = rates(client, addresses, lengths[name])
         tell_rates(name, f"{WHAT[name]}, {lengths[name]:,} bytes, {asking}", seen, goals)

@@ -7,6 +7,7 @@ import subprocess
 from contextlib import closing
 
 from serving import JSON_PAGE, Index, make_index, sha256
+from workload import line_of
 
 # a moment a year after the upload of `old`, and more than six weeks after the attempts to reach its owner
 NOW = 50_000_000
@@ -17,21 +18,17 @@ OLD, NEW = "old-1.0.tar.gz", "old-2.0.tar.gz"
 FAULT = 500, b'{"answer":"fault","name":"Store"}'
 
 
-def line(at, token, **asked):
-    return json.dumps({"at": at, "token": token, **asked}).encode() + b"\n"
-
-
 def attempt(at, means):
-    return line(at, "office", do="record_attempt", name="old", means=means, sent=True)
+    return line_of("office", at, do="record_attempt", name="old", means=means, sent=True)
 
 
 # bob seeks the project `old` of the office, which is to be ready for a transfer
 LINES = b"".join((
-    line(1, "office", do="add_user", user="bob", office=False, token_sha256=sha256(b"hello")),
-    line(1, "office", do="claim", name="old"),
-    line(1, "office", do="claim", name="frob"),
-    line(1, "office", do="upload", file=OLD, sha256=sha256(b"old"), hex=b"old".hex(), requires_python=""),
-    line(2, "hello", do="open_case", name="old", kind="continue", contact="mail", work="a fork", why="used"),
+    line_of("office", 1, do="add_user", user="bob", office=False, token_sha256=sha256(b"hello")),
+    line_of("office", 1, do="claim", name="old"),
+    line_of("office", 1, do="claim", name="frob"),
+    line_of("office", 1, do="upload", file=OLD, sha256=sha256(b"old"), hex=b"old".hex(), requires_python=""),
+    line_of("hello", 2, do="open_case", name="old", kind="continue", contact="mail", work="a fork", why="used"),
     *(attempt(3, means) for means in ("profile", "author", "pages")),
 ))
 
