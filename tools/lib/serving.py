@@ -137,7 +137,7 @@ class Index(Running, Asking):
     """The built program, serving on loopback the index in a file, or a new one. What it says on standard error is
     kept."""
 
-    def __init__(self, program, requests=1_000_000, path=None, patience=10, setting=None, port=0, at=None, keep=None):
+    def __init__(self, program, requests=1_000_000, path=None, patience=30, setting=None, port=0, at=None, keep=None):
         self.patience = patience
         self.said, self.folder = tempfile.TemporaryFile(), tempfile.TemporaryDirectory()
         self.path = path or f"{self.folder.name}/index.db"
