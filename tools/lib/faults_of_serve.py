@@ -135,7 +135,8 @@ def file_fault(bench, judged, fault, lines):
 
 
 def peer_fault(bench, judged, fault, lines):
-    """Connections that break off are told, and all others are served. A request whose reply was lost is made."""
+    """Connections that break off are named on standard error, and all others are served. A request whose reply was
+    lost is made."""
     lost = [at for at, is_whole in enumerate(judged.whole) if not is_whole]
     count = len(judged.parts)
     if fault.kind == "accept" and not fault.is_harmless():
@@ -150,7 +151,7 @@ def peer_fault(bench, judged, fault, lines):
         is_well = lost and (judged.served.status, judged.served.said) == (0, said)
         made = [at for at in range(len(REQUESTS)) if at not in lost]
     else:
-        # what was gathered of a reply may go out by a second send, after the first was told as failed
+        # what was gathered of a reply may go out by a second send, after the first failed
         said = judged.served.said.splitlines()
         is_named = {*said} == {b"index: connection: WriteFault"}
         is_well = judged.served.status == 0 and len(said) >= max(1, len(lost)) and is_named

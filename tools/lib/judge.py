@@ -1,4 +1,4 @@
-"""What the tables of an index should be, told by the program itself, and what they are, told by SQLite."""
+"""What the tables of an index should be, by the program itself, and what they are, by SQLite."""
 import os
 import shutil
 import sqlite3

@@ -22,7 +22,7 @@ class Killing:
         copy_index(first or "", self.path)
 
     def killed(self, longest, *words, given=b""):
-        """What the program told before it was killed, within so many seconds."""
+        """What the program printed before it was killed, within so many seconds."""
         with open(f"{self.folder}/given", "wb") as written:
             written.write(given)
         with open(f"{self.folder}/given", "rb") as stdin, open(f"{self.folder}/output", "w+b") as output:
@@ -44,7 +44,7 @@ class Killing:
         return 1.3 * min(took)
 
     def each(self, rounds, name, first, *words, given=b""):
-        """By round what was told before a kill. Not each of them may come too late."""
+        """By round what was printed before a kill. Not each of them may come too late."""
         longest, self.ended = self.lasts(first, *words, given=given), 0
         for number in range(1, rounds + 1):
             self.begin(first)
@@ -80,8 +80,8 @@ class Killing:
         words, lines = ("apply", "--db", self.path), self.lines
         for name, output in self.each(rounds, "apply", self.judge.new, *words, given=b"".join(lines)):
             answers = tuple(output.splitlines())
-            told = self.judge.answers(lines)[:len(answers)]
-            self.check(f"killed {name}: {len(answers)} answers", b"\n".join(told).startswith(b"\n".join(answers)),
+            wanted = self.judge.answers(lines)[:len(answers)]
+            self.check(f"killed {name}: {len(answers)} answers", b"\n".join(wanted).startswith(b"\n".join(answers)),
                        output)
             self.is_there(name, [self.judge.rows(lines[:count]) for count in (len(answers), len(answers) + 1)])
 

@@ -1,4 +1,4 @@
-"""How the figures of bench are told: each on a line, with the goal that it has, and the load beside it."""
+"""How the figures of bench are printed: each on a line, with the goal that it has, and the load beside it."""
 import os
 import statistics
 

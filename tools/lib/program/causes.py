@@ -121,7 +121,7 @@ class Causes:
             self.each(name, self.new(name.replace(" ", "-"), data), cause, ALL)
 
     def first_users(self):
-        """A user who can't be the first is told before a file is made."""
+        """A user who can't be the first is refused before a file is made."""
         path = self.new("user", b"")
         for name, user, digest in (("no user id", "Office", sha256(b"office")),
                                    ("the digest of no token", "office", sha256(b"")),

@@ -236,10 +236,10 @@ class Refusing:
         lines = tuple(line for line, _ in stored_run())
         for place, words in (("in memory", ()), ("on a database", ("--db", self.path))):
             for name, ended in self.runs(f"the stored run {place}", new, "apply", *words, given=b"".join(lines)):
-                told = ended.stdout.splitlines()
-                kept = tuple(line for line, answer in zip(lines, told) if answer != FAULT)
-                is_front = self.judge.answers(kept) == tuple(answer for answer in told if answer != FAULT)
-                is_whole = (ended.returncode, ended.stderr) == (0, b"") and len(told) == len(lines)
+                printed = ended.stdout.splitlines()
+                kept = tuple(line for line, answer in zip(lines, printed) if answer != FAULT)
+                is_front = self.judge.answers(kept) == tuple(answer for answer in printed if answer != FAULT)
+                is_whole = (ended.returncode, ended.stderr) == (0, b"") and len(printed) == len(lines)
                 self.check(name, is_front and (is_whole or (ended.returncode, ended.stderr) == (1, NO_MEMORY)), ended)
                 if words:
                     self.is_kept(name, kept)

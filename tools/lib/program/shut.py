@@ -63,7 +63,7 @@ def try_shut(program, folder, check):
 
 
 def before_and_after_a_claim(index):
-    """What three clients are told, or why one of them is told nothing."""
+    """The replies to three clients, or why one of them gets none."""
     try:
         return [is_held(index, "a"), claim(index, "a"), is_held(index, "a")]
     except OSError as error:
