@@ -48,7 +48,7 @@ same_found db other T found current (inr it) same =
     absurd (let told : Some 1 ≡ Some 2 = sym it.version ∙ (ap version_in same ∙ current.version) in cc)
 
 -- an index of today is found with its tables
-tables_of_found : (db : Database) (found : Tables) → IsFound db found → AreCurrent db.trees → found ≡ tables_in db.trees
+pub tables_of_found : (db : Database) (found : Tables) → IsFound db found → AreCurrent db.trees → found ≡ tables_in db.trees
 tables_of_found db found (inl it) current = it.tables
 tables_of_found db found (inr it) current = absurd (let told : Some 1 ≡ Some 2 = sym it.version ∙ current.version in cc)
 

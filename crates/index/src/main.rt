@@ -5,6 +5,7 @@ mod cause;
 mod database;
 mod end;
 mod job;
+mod laws;
 mod objects;
 mod opening;
 mod path;
