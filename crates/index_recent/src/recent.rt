@@ -94,6 +94,8 @@ impl<B: Books> Books for Recent<B> {
 
     ghost failures = { λ recent. B.failures recent.books };
 
+    ghost stores = { λ recent. B.stores recent.books };
+
     fn failure_count(&self) -> u64 {
         self.books.failure_count()
     }
