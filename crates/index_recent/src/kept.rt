@@ -1,12 +1,16 @@
 //! What is kept of the last looks.
-ghost use Rattle.std.specs.Prelude.{◌≡◌, IfOk, IfSome, true};
-ghost use Rattle.std.specs.List.{Contains};
+ghost use Rattle.std.specs.Prelude.{◌≡◌, ◌<◌, IfOk, IfSome, true, filter, vec_len};
+ghost use Rattle.std.specs.List.{All, Contains};
 ghost use Rattle.index_desk.specs.Pages.{project_of_page};
+ghost use Rattle.index_rules.specs.Tables.{Tables};
+ghost use Rattle.index_recent.specs.Kept.{IsKeptBody};
+ghost use Rattle.index_recent.specs.Spared.{spares_file, spares_body};
 
 use index_desk::Page;
 use index_digest::Sealed;
 use index_names::{FileName, NormalName};
 use index_pages::Served;
+use index_rules::Change;
 use std::alloc::AllocError;
 
 /// The bytes of a file.
@@ -27,6 +31,60 @@ pub(crate) fn body_of<'a>(bodies: &'a [KeptBody], file: &FileName) -> Option<&'a
         }
     }
     None
+}
+
+/// Whether a change leaves the bytes of a file. Of a prohibition none are said to be left.
+fn spares_file(change: &Change, file: &FileName) -> bool
+    ensures { result ≡ spares_file change.now file.now }
+{
+    match change {
+        Change::Upload { file: changed, .. }
+        | Change::Delete { file: changed, .. }
+        | Change::BanFile { file: changed, .. } => *file != *changed,
+        Change::Prohibit { .. } => false,
+        _ => true,
+    }
+}
+
+/// Lets the bodies go that a change may touch.
+pub(crate) fn keep_spared(bodies: &mut Vec<KeptBody>, change: &Change)
+    ensures { bodies.new.items ≡ filter (spares_body change.now) bodies.old.items }
+{
+    bodies.retain(|kept| spares_file(change, &kept.file));
+}
+
+/// How many bytes these bodies have.
+pub(crate) fn bytes_kept(bodies: &[KeptBody]) -> usize {
+    let mut sum = 0usize;
+    for kept in bodies {
+        sum = sum.saturating_add(kept.body.bytes().len());
+    }
+    sum
+}
+
+/// Lets the oldest bodies go until they are fewer than so many and have at most so many bytes, and tells how many they have.
+pub(crate) fn keep_newest(bodies: &mut Vec<KeptBody>, most_kept: usize, most: usize) -> usize
+    ensures { (T : Tables) → All (IsKeptBody T) bodies.old.items → All (IsKeptBody T) bodies.new.items }
+{
+    let mut used = bytes_kept(bodies.as_slice());
+    for _oldest in 0..bodies.len() {
+        if bodies.is_empty() || (used <= most && bodies.len() < most_kept) {
+            return used;
+        }
+        used = used.saturating_sub(remove_first(bodies));
+    }
+    used
+}
+
+/// Lets the first body go, and tells how many bytes it had.
+fn remove_first(bodies: &mut Vec<KeptBody>) -> usize
+    requires { 0 < vec_len bodies.old }
+    ensures { (T : Tables) → All (IsKeptBody T) bodies.old.items → All (IsKeptBody T) bodies.new.items }
+{
+    let first = bodies.remove(0);
+    let length = first.body.bytes().len();
+    drop(first);
+    length
 }
 
 /// The text of a page: that of a project, or the root page.

@@ -1,9 +1,10 @@
 //! Books that keep the last bodies and pages at hand.
-ghost use Rattle.std.specs.Prelude.{◌≡◌, []};
+ghost use Rattle.std.specs.Prelude.{◌≡◌, [], filter};
 ghost use Rattle.std.specs.List.{All};
 ghost use Rattle.index_recent.specs.Kept.{IsKeptBody, IsKeptPage};
+ghost use Rattle.index_recent.specs.Spared.{spares_body};
 
-use crate::kept::{KeptBody, KeptPage, body_of, page_of, project_of_page};
+use crate::kept::{KeptBody, KeptPage, body_of, bytes_kept, keep_newest, keep_spared, page_of, project_of_page};
 use index_desk::{Keeper, Page};
 use index_digest::Sealed;
 use index_names::{FileName, NormalName};
@@ -13,8 +14,11 @@ use index_rules::{
 };
 use std::alloc::Global;
 
-/// The most bodies, and the most pages, that are kept.
-const MOST_KEPT: usize = 256;
+/// The most bodies that are kept.
+const MOST_BODIES: usize = 1_024;
+
+/// The most pages that are kept.
+const MOST_PAGES: usize = 1_024;
 
 /// Books, and the bodies and pages that were looked up since the last change. What is kept is what the tables hold.
 #[derive(Drop)]
@@ -67,19 +71,40 @@ impl<B: Books> Recent<B> {
         self.used = 0;
     }
 
-    /// Whether so many bytes more may be kept. All else goes where they don't fit beside it.
+    /// Lets all pages go, and the bodies that a change may touch.
+    fn forget_touched(&mut self, change: &Change)
+        ensures { (self.new.books ≡ self.old.books) × ((self.new.pages.items ≡ [])
+            × (self.new.bodies.items ≡ filter (spares_body change.now) self.old.bodies.items)) }
+    {
+        self.pages.clear();
+        keep_spared(&mut self.bodies, change);
+        self.used = bytes_kept(self.bodies.as_slice());
+    }
+
+    /// Whether so many bytes more may be kept. Pages go where there are as many as may be, and else the oldest bodies.
     fn makes_room(&mut self, more: usize) -> bool
         ensures { self.new.books ≡ self.old.books }
     {
         if more > self.most {
             return false;
         }
-        let is_full = self.bodies.len() >= MOST_KEPT || self.pages.len() >= MOST_KEPT;
-        if is_full || self.used > self.most - more {
-            self.forget();
+        let room = self.most - more;
+        if self.pages.len() >= MOST_PAGES {
+            self.pages.clear();
+        }
+        if self.used > room || self.bodies.len() >= MOST_BODIES {
+            self.forget_oldest(room);
         }
         self.used = self.used.saturating_add(more);
         true
+    }
+
+    /// Lets all pages go, and the oldest bodies until the others have at most so many bytes.
+    fn forget_oldest(&mut self, room: usize)
+        ensures { self.new.books ≡ self.old.books }
+    {
+        self.pages.clear();
+        self.used = keep_newest(&mut self.bodies, MOST_BODIES, room);
     }
 }
 
@@ -105,7 +130,7 @@ impl<B: Books> Books for Recent<B> {
     }
 
     fn write(&mut self, alloc: Global, change: Change) -> Result<(), Fault> {
-        self.forget();
+        self.forget_touched(&change);
         self.books.write(alloc, change)
     }
 
