@@ -5,7 +5,7 @@ use index_io::{Failed, Sink};
 use std::alloc::Global;
 
 /// The most bytes that are gathered.
-const MOST_GATHERED: usize = 262_144;
+const MOST_GATHERED: usize = 4_194_304;
 
 /// Bytes that are gathered up to a bound. A write that would pass it fails.
 #[derive(Drop)]
