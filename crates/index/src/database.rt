@@ -80,6 +80,7 @@ pub fn create<S: Start>(
     start: S,
     user: &str,
     token: &str,
+    page_sums: bool,
 ) -> Result<Files<FileFrom<S>>, Unused<FileFrom<S>>>
     ensures bad_first_user { IsErrOf result (End.Open OpenFault.BadFirstUser, None)
         ↔ IsBadFirstUserByHex user.now token.now }
@@ -102,7 +103,7 @@ pub fn create<S: Start>(
         Ok(token) => token,
         Err(why) => return Err((End::Open(why), None)),
     };
-    match open(rt, path, start) {
+    match open(rt, path, start, page_sums) {
         Ok(conn) => create_and_close(rt, conn, user, token),
         Err((end, left)) => match left {
             Some(left) => Err((end, Some(Left::Shut(left)))),
