@@ -1,8 +1,9 @@
 -- The bytes that a change spares are in the tables after it.
-use Rattle.std.proofs.Common.{◌≡◌, Bool, true, false, true≢false, cond, not, refl, sym, ap, ◌∙◌, List, Some, None, filter}
+use Rattle.std.proofs.Common.{◌≡◌, ◌≤◌, Bool, true, false, true≢false, cond, not, refl, sym, ap, ◌∙◌, List, Some, None, filter, length, arith}
 use Rattle.std.specs.FinMap.{get}
 use Rattle.std.specs.List.{All}
 use Rattle.std.proofs.lemmas.List.Elements.{All-filter, filter_passes}
+use Rattle.std.proofs.lemmas.List.Filters.{sum_by-filter_both, length-filter_both}
 use Rattle.index_rules.specs.Maps.{Bytes}
 use Rattle.index_rules.specs.Tables.{Tables}
 use Rattle.index_rules.specs.Effect.{means}
@@ -10,7 +11,7 @@ use Rattle.index_rules.specs.declared.change.Change.{Change}
 use Rattle.index_rules.specs.declared.change.Change.TheVariants as change
 use Rattle.index_rules.proofs.KeyLemmas.{get-put, get-without}
 use Rattle.index_recent.specs.declared.kept.KeptBody.{KeptBody}
-use Rattle.index_recent.specs.Kept.{IsKeptBody}
+use Rattle.index_recent.specs.Kept.{IsKeptBody, body_bytes}
 use Rattle.index_recent.specs.Spared.{spares_file, spares_body}
 
 other : (b : Bool) → not b ≡ true → b ≡ false
@@ -44,3 +45,10 @@ still_kept c T bodies kept = All-filter (spares_body c) (IsKeptBody T) bodies ke
 
 pub kept_after : (c : Change) (T : Tables) (bodies : List KeptBody) → All (IsKeptBody T) (filter (spares_body c) bodies) → All (IsKeptBody (means c T)) (filter (spares_body c) bodies)
 kept_after c T bodies kept k d lt = spared c _ T (filter_passes (spares_body c) bodies k d lt) ∙ kept k d lt
+
+-- the bodies that a change spares are no more than all, and have no more bytes
+pub spared_length : (c : Change) (bodies : List KeptBody) → length (filter (spares_body c) bodies) ≤ length bodies
+spared_length c bodies = omega (arith, length-filter_both (spares_body c) (λ kept. not (spares_body c kept)) (λ _. refl) bodies)
+
+pub spared_bytes : (c : Change) (bodies : List KeptBody) → body_bytes (filter (spares_body c) bodies) ≤ body_bytes bodies
+spared_bytes c bodies = omega (arith, sum_by-filter_both (spares_body c) (λ kept. not (spares_body c kept)) (λ _. refl) (λ kept. length kept.body) bodies)

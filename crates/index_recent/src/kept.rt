@@ -1,16 +1,16 @@
 //! What is kept of the last looks.
-ghost use Rattle.std.specs.Prelude.{◌≡◌, ◌<◌, IfOk, IfSome, true, filter, vec_len};
+ghost use Rattle.std.specs.Prelude.{◌≡◌, ◌≤◌, ◌<◌, ◌+◌, IfOk, IfSome, true, filter, length, vec_len};
 ghost use Rattle.std.specs.List.{All, Contains};
 ghost use Rattle.index_desk.specs.Pages.{project_of_page};
 ghost use Rattle.index_rules.specs.Tables.{Tables};
-ghost use Rattle.index_recent.specs.Kept.{IsKeptBody};
+ghost use Rattle.index_recent.specs.Kept.{IsKeptBody, body_bytes};
 ghost use Rattle.index_recent.specs.Spared.{spares_file, spares_body};
 
 use index_desk::Page;
 use index_digest::Sealed;
 use index_names::{FileName, NormalName};
 use index_pages::Served;
-use index_rules::Change;
+use index_rules::{Change, Fault, WalkEnd};
 use std::alloc::AllocError;
 
 /// The bytes of a file.
@@ -33,7 +33,7 @@ pub(crate) fn body_of<'a>(bodies: &'a [KeptBody], file: &FileName) -> Option<&'a
     None
 }
 
-/// Whether a change leaves the bytes of a file. Of a prohibition none are said to be left.
+/// Whether a change leaves the bytes of a file as they are. Of a prohibition this is not known.
 fn spares_file(change: &Change, file: &FileName) -> bool
     ensures { result ≡ spares_file change.now file.now }
 {
@@ -46,45 +46,67 @@ fn spares_file(change: &Change, file: &FileName) -> bool
     }
 }
 
-/// Lets the bodies go that a change may touch.
+/// Keeps the bodies that a change spares.
 pub(crate) fn keep_spared(bodies: &mut Vec<KeptBody>, change: &Change)
-    ensures { bodies.new.items ≡ filter (spares_body change.now) bodies.old.items }
+    ensures spared { bodies.new.items ≡ filter (spares_body change.now) bodies.old.items }
+    ensures fewer { (body_bytes bodies.new.items ≤ body_bytes bodies.old.items)
+        × (length bodies.new.items ≤ length bodies.old.items) }
 {
     bodies.retain(|kept| spares_file(change, &kept.file));
 }
 
 /// How many bytes these bodies have.
-pub(crate) fn bytes_kept(bodies: &[KeptBody]) -> usize {
-    let mut sum = 0usize;
-    for kept in bodies {
-        sum = sum.saturating_add(kept.body.bytes().len());
-    }
-    sum
-}
-
-/// Lets the oldest bodies go until they are fewer than so many and have at most so many bytes, and tells how many they have.
-pub(crate) fn keep_newest(bodies: &mut Vec<KeptBody>, most_kept: usize, most: usize) -> usize
-    ensures { (T : Tables) → All (IsKeptBody T) bodies.old.items → All (IsKeptBody T) bodies.new.items }
+pub(crate) fn body_bytes(bodies: &[KeptBody]) -> usize
+    requires { body_bytes bodies.now < 18446744073709551616 }
+    ensures { result ≡ body_bytes bodies.now }
 {
-    let mut used = bytes_kept(bodies.as_slice());
-    for _oldest in 0..bodies.len() {
-        if bodies.is_empty() || (used <= most && bodies.len() < most_kept) {
-            return used;
-        }
-        used = used.saturating_sub(remove_first(bodies));
-    }
-    used
+    bodies.iter().map(|kept| kept.body.bytes().len()).sum()
 }
 
-/// Lets the first body go, and tells how many bytes it had.
+/// Keeps the newest of bodies that have at most `used` bytes: fewer than `most_kept`, with at most `room` bytes. Returns
+/// how many bytes they have.
+pub(crate) fn keep_newest(
+    bodies: &mut Vec<KeptBody>,
+    most_kept: usize,
+    room: usize,
+    used: usize,
+) -> usize
+    requires some { 0 < most_kept }
+    requires counted { body_bytes bodies.old.items ≤ used }
+    ensures kept { (T : Tables) →
+        All (IsKeptBody T) bodies.old.items → All (IsKeptBody T) bodies.new.items }
+    ensures bytes { (result ≡ body_bytes bodies.new.items) × (result ≤ room) }
+    ensures few { length bodies.new.items < most_kept }
+{
+    let mut kept = body_bytes(bodies.as_slice());
+    while kept > room || bodies.len() >= most_kept {
+        kept -= remove_first(bodies);
+    }
+    kept
+}
+
+/// Lets go of the first body, and returns how many bytes it had.
 fn remove_first(bodies: &mut Vec<KeptBody>) -> usize
     requires { 0 < vec_len bodies.old }
-    ensures { (T : Tables) → All (IsKeptBody T) bodies.old.items → All (IsKeptBody T) bodies.new.items }
+    ensures kept { (T : Tables) →
+        All (IsKeptBody T) bodies.old.items → All (IsKeptBody T) bodies.new.items }
+    ensures bytes { body_bytes bodies.old.items ≡ result + body_bytes bodies.new.items }
+    ensures fewer { length bodies.new.items + 1 ≡ length bodies.old.items }
 {
     let first = bodies.remove(0);
     let length = first.body.bytes().len();
     drop(first);
     length
+}
+
+/// Whether memory was wanting.
+pub(crate) fn is_out_of_memory<T>(found: &Result<T, Fault>) -> bool {
+    matches!(found, Err(Fault::OutOfMemory))
+}
+
+/// Whether memory was wanting in a walk.
+pub(crate) fn is_walk_out_of_memory(end: &Result<(), WalkEnd>) -> bool {
+    matches!(end, Err(WalkEnd::OutOfMemory))
 }
 
 /// The text of a page: that of a project, or the root page.
