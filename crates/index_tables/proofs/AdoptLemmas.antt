@@ -113,6 +113,7 @@ module _ {S : Type 0} (g : Ghosts S) where
       was_clean = λ clean. looks.was_clean (it.was_clean clean);
       lasts = λ working clean. it.lasts (works_after working (it.was_clean clean)) clean;
       failures = it.failures;
+      stores = it.stores;
       crash = raised_after books.conn it.was_clean it.crash;
       alone = λ working T left. it.alone (works_after working (it.was_clean left.0)) T left;
     }

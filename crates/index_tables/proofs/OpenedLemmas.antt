@@ -29,12 +29,13 @@ store_by fault.OutOfMemory same = absurd (let s = same in cc)
 module _ {S : Type 0} (g : Ghosts S) (Made : Database → Trees → Type 0) (old new : Held S) where
   -- books that are honest where the connection worked leave their tables alone
   opened_by : IsSettled (state g new) → (HasCleanDisk (state g new) → HasCleanDisk (state g old)) → (HasCleanDisk (state g new) → IsTrue (state g new).is_open → IsTrue (state g old).is_open)
-      → (IsWorking (state g old) → HasCleanDisk (state g new) → IsHonest (state g new)) → LeavesOr Made (state g old) (state g new) → AreOpened g Made old (record { conn = new; failures = 0 })
+      → (IsWorking (state g old) → HasCleanDisk (state g new) → IsHonest (state g new)) → LeavesOr Made (state g old) (state g new) → AreOpened g Made old (record { conn = new; failures = 0; stores = 0 })
   opened_by settled was_clean was_open lasts crash = record {
     was_working = λ working. record { clean = was_clean working.clean; is_open = was_open working.clean working.is_open };
     was_clean = was_clean;
     lasts = lasts;
     failures = refl;
+    stores = refl;
     crash = crash;
     alone = λ working T left. settled_at (lasts working left.0) settled T left;
   }
@@ -45,7 +46,7 @@ module _ {S : Type 0} (g : Ghosts S) (Made : Database → Trees → Type 0) (old
     looked_crash working clean db may = elim (looks.survives.crash clean db may) [ inl before ↦ inl before | inr none ↦ absurd none ]
 
     pub looked_opened : IsTrue did → IsSettled (state g new) → (IsTrue (state g old).is_open → IsIndex (state g old).now) → (HasCleanDisk (state g new) → version_in (state g old).now.trees ≡ Some 2)
-        → AreOpened g Made old (record { conn = new; failures = 0 })
+        → AreOpened g Made old (record { conn = new; failures = 0; stores = 0 })
     looked_opened right settled index told = opened_by settled looks.was_clean looks.was_open
         (λ working clean. keeps g old new did right looks
         (record { clean = working.clean; is_open = working.is_open; index = index working.is_open; committed = rest.settled working.clean working.is_open; version = told clean }) clean)
@@ -73,7 +74,7 @@ module _ {S : Type 0} (g : Ghosts S) (Made : Database → Trees → Type 0) (old
           | inr made ↦ inr (comes db fit (record { index = made.2; version = made.1 ∙ tells working.clean working.is_open }) made.0)
         ]
 
-    pub made_opened : (done : A) → MakesIndex g IsKind change told asks old new (Ok done) → IsSettled (state g new) → AreOpened g Made old (record { conn = new; failures = 0 })
+    pub made_opened : (done : A) → MakesIndex g IsKind change told asks old new (Ok done) → IsSettled (state g new) → AreOpened g Made old (record { conn = new; failures = 0; stores = 0 })
     made_opened done it settled = opened_by settled it.was_clean it.was_open honest (made_crash (Ok done) it)
       where
         honest : IsWorking (state g old) → HasCleanDisk (state g new) → IsHonest (state g new)

@@ -92,6 +92,7 @@ pub record AreOpened {S : Type 0} (g : Ghosts S) (Made : Database → Trees → 
   pub was_clean : HasCleanDisk (state g books.conn) → HasCleanDisk (state g old)
   pub lasts : IsWorking (state g old) → HasCleanDisk (state g books.conn) → IsHonest (state g books.conn)
   pub failures : books.failures ≡ 0
+  pub stores : books.stores ≡ 0
   -- a crash leaves what it could leave before, or what was made, and where the connection worked their tables alone
   pub crash : LeavesOr Made (state g old) (state g books.conn)
   pub alone : IsWorking (state g old) → (T : Tables) → Leaves (state g books.conn) T → T ≡ tables_of g books.conn

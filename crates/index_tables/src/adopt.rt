@@ -103,6 +103,7 @@ fn adopt_kind<S: Alter>(conn: Connection<S>, kind: Kind) -> Result<SqlBooks<S>, 
         (Kind::Index, Ok(Some(2))) => Ok(SqlBooks {
             conn: IndexConnection { conn },
             failures: 0,
+            stores: 0,
         }),
         (Kind::FirstVersion, Ok(Some(1))) => migrate_and_adopt(conn),
         (_, Ok(version)) => Err(Unopened {
@@ -180,6 +181,7 @@ fn migrate_and_adopt<S: Alter>(conn: Connection<S>) -> Result<SqlBooks<S>, Unope
         Ok(()) => Ok(SqlBooks {
             conn: IndexConnection { conn },
             failures: 0,
+            stores: 0,
         }),
         Err(error) => Err(Unopened {
             why: open_fault_of(fault_of(error)),

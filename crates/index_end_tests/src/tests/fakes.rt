@@ -238,6 +238,8 @@ impl<B: Books + Drop> Books for FailingBooks<B> {
 
     ghost failures = { λ _. last_count };
 
+    ghost stores = { λ _. last_count };
+
     fn failure_count(&self) -> u64 {
         u64::MAX
     }

@@ -10,6 +10,7 @@ returns-in_default g c = record {
       shown_ends _ _ _ _ _ _ _ _ c.refusal_reply.ensures (rw none refl) c.send_reply.ensures.sent;
   leaves = search rules;
   sends = search rules;
+  stores = search rules;
 }
 
 pub returns : goal.returns
@@ -19,4 +20,5 @@ returns g c = record {
       ends_shown_map _ _ _ _ _ _ _ (λ reply shows. rw found shows) (c.show_spelling.ensures.shown honest clean);
   leaves = search rules;
   sends = search rules;
+  stores = search rules;
 }

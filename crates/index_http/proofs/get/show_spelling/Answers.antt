@@ -12,6 +12,7 @@ returns-in_ok-chosen g c = record {
       (c.show_project.ensures.shown honest clean);
   leaves = search rules;
   sends = search rules;
+  stores = search rules;
 }
 
 pub returns-else-eq : goal.returns-else-eq
@@ -22,4 +23,5 @@ returns-else-eq g c = record {
       shown_ends _ _ _ _ _ _ _ _ c.redirect_to_project.ensures (rw other refl) c.send_reply.ensures.sent;
   leaves = search rules;
   sends = search rules;
+  stores = search rules;
 }
