@@ -16,7 +16,7 @@ const LONG: &str =
 
 /// Claims so many names that their page is too long to be gathered: it is counted first, and then sent.
 pub(super) fn claim_long_names<B: Books>(rt: &(impl Abort + AllocGlobal), desk: &mut Desk<B>) {
-    for number in 0..1_000u32 {
+    for number in 0..16_000u32 {
         let line = format!(in rt.alloc();
             "{{\"at\":2,\"token\":\"abc\",\"do\":\"claim\",\"name\":\"{LONG}{number}\"}}"
         );
@@ -25,7 +25,7 @@ pub(super) fn claim_long_names<B: Books>(rt: &(impl Abort + AllocGlobal), desk: 
     }
 }
 
-/// A desk over new books with a thousand long names, whose walks fail after so many that don't: before their first row or
+/// A desk over new books with 16,000 long names, whose walks fail after so many that don't: before their first row or
 /// behind it.
 fn desk_of_long_names<B: Books + Drop>(
     rt: &(impl Abort + AllocGlobal),
@@ -69,11 +69,11 @@ fn assert_is_cut(rt: &impl Abort, told: &[u8], ended: Result<(), IoEnd>, front: 
 }
 
 /// A front of the reply with the long page: its head, and up to its rows or further. The page has 164 bytes beside its rows,
-/// of 269 bytes each beside two numbers of one to three digits.
+/// of 269 bytes each beside two numbers of one to five digits.
 macro_rules! front_of_long_page {
     ($($more:literal)*) => {
         concat!(
-            "HTTP/1.1 200 OK\r\nContent-Type: text/html\r\nContent-Length: 274944\r\nConnection: close\r\n\r\n",
+            "HTTP/1.1 200 OK\r\nContent-Type: text/html\r\nContent-Length: 4441944\r\nConnection: close\r\n\r\n",
             $($more,)*
         )
     };

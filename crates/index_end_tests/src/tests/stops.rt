@@ -43,7 +43,7 @@ fn with_a_file<S: Alter + Drop>(
     desk.into_books().into_connection()
 }
 
-/// The database of a new index in which ann holds a thousand long names.
+/// The database of a new index in which ann holds 16,000 long names.
 fn with_long_names<S: Alter + Drop>(
     rt: &(impl Abort + AllocGlobal),
     conn: Connection<S>,
@@ -163,7 +163,7 @@ fn outcome_of(rt: &impl Abort, reply: &Option<Reply>, whole: &[u8]) -> Outcome {
 }
 
 /// More calls than any run makes of one file.
-const ENOUGH: u64 = 10_000;
+const ENOUGH: u64 = 1_000_000;
 
 /// Stops one of the files at its first call, then so many calls later, and so on until the reply is whole. Gives how often
 /// it told of a fault, and how often it was cut.
@@ -311,8 +311,8 @@ fn a_change_of_a_database_that_stops(rt: HostRuntime) {
     }
 }
 
-/// The page has 164 bytes beside its rows, of 269 bytes each beside two numbers of one to three digits.
-const LENGTH_OF_PAGE: usize = 274_944;
+/// The page has 164 bytes beside its rows, of 269 bytes each beside two numbers of one to five digits.
+const LENGTH_OF_PAGE: usize = 4_441_944;
 
 /// The reply with the long page where no file stops.
 fn long_reply(rt: &(impl Abort + AllocGlobal), site: &Site, files: &Files<File>) -> Reply {
@@ -325,7 +325,7 @@ fn long_reply(rt: &(impl Abort + AllocGlobal), site: &Site, files: &Files<File>)
 
 /// Some stops are told as a fault, and others cut the page.
 fn assert_cut(rt: &(impl Abort + AllocGlobal), site: &Site, files: &Files<File>, whole: &[u8]) {
-    let (faults, cuts) = stop_each(rt, site, files, Which::Database, 31, ROOT.message, whole);
+    let (faults, cuts) = stop_each(rt, site, files, Which::Database, 1_009, ROOT.message, whole);
     assert!(rt; faults > 0 && cuts > 0);
 }
 
