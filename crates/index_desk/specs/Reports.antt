@@ -82,10 +82,18 @@ reports_store (Err OutOfMemory) = false
 reports_store (Err Store) = true
 reports_store (Err (WriteFault count)) = false
 
--- a write failed, or took no byte, and the books failed, where the result says so; one call of them fails at most, and none
--- where it succeeds; a fault of their store is told as `Store`
+-- a report ended by a write that failed, or took no byte
+abbrev pub fails_to_write : Result (Unit {0}) ReportFault → Bool
+fails_to_write (Ok done) = false
+fails_to_write (Err OutOfMemory) = false
+fails_to_write (Err Store) = false
+fails_to_write (Err (WriteFault count)) = true
+
+-- a write failed, or took no byte, just where the result says so; the books failed where it does; one call of them fails at
+-- most, and none where it succeeds; a fault of their store is told as `Store`
 pub record ReportFailsOnly {S K : Type 0} (g : Ghosts S) (out : Outs K) (old new : S) (before after : K) (result : Result (Unit {0}) ReportFault) : Type 0 where
   pub write_fault : IfErr result (λ fault. (count : ℕ) → fault ≡ WriteFault count → HasFailed (out.failures before) (out.failures after))
+  pub writes : fails_to_write result ≡ false → out.failures after ≡ out.failures before
   pub store : IfErr result (λ fault. fault ≡ Store → HasFailed (g.failures old) (g.failures new))
   pub stores : CountsStore (g.stores old) (g.stores new) (reports_store result)
   pub kept : OnOk result (g.failures new ≡ g.failures old)
