@@ -1,6 +1,6 @@
 use Rattle.std.proofs.Common.{◌∙◌, ap, inr, refl, rules}
 use Rattle.index_http.specs.Replies.{json_reply}
-use Rattle.index_http.proofs.EndLemmas.{fault_ends, fault_stores, shown_ends}
+use Rattle.index_http.proofs.EndLemmas.{fault_ends, fault_stores, sent_memory, shown_ends}
 use Rattle.index_http.proofs.get.show_standing.Goals as goal
 
 pub returns-in-Ok-text : goal.returns-in-Ok-text
@@ -11,7 +11,7 @@ returns-in-Ok-text g c = record {
       (c.in-Ok.standing, c.in-Ok.ensures.found (c.in-Ok.ensures.look.lasts honest clean), refl) c.send_reply.ensures.sent;
   leaves = search rules;
   sends = search rules;
-  stores = search rules;
+  stores = λ is. absurd (sent_memory _ _ _ _ c.send_reply.ensures.sent is);
 }
 
 pub returns-in-Err : goal.returns-in-Err
