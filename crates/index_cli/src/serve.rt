@@ -132,7 +132,8 @@ fn next_connection(rt: &HostRuntime, listener: &TcpListener) -> io::Result<TcpSt
     Ok(stream)
 }
 
-/// Whether a fault has shut the store: one was answered since there were so many, and a look is answered by one too.
+/// Whether a fault has shut the store: one was answered since there were so many, and looks at two names are answered by
+/// one too. A row that is no record, which another program wrote, shuts nothing.
 fn is_shut<B: Keeper>(alloc: Global, desk: &mut Desk<B>, failures: u64) -> bool
     ensures leaves { LeavesTables B.Books desk.old desk.new }
     ensures store { result ≡ true → 0 < B.failures desk.new }
@@ -141,7 +142,15 @@ fn is_shut<B: Keeper>(alloc: Global, desk: &mut Desk<B>, failures: u64) -> bool
     if now == failures && now != u64::MAX {
         return false;
     }
-    let Ok(name) = normal(alloc, b"x") else {
+    fails_at(alloc, desk, b"x") && fails_at(alloc, desk, b"is-the-store-shut")
+}
+
+/// Whether a look at a name is answered by a fault of the store.
+fn fails_at<B: Keeper>(alloc: Global, desk: &mut Desk<B>, name: &[u8]) -> bool
+    ensures leaves { LeavesTables B.Books desk.old desk.new }
+    ensures store { result ≡ true → 0 < B.failures desk.new }
+{
+    let Ok(name) = normal(alloc, name) else {
         return false;
     };
     matches!(desk.is_held(alloc, &name), Err(Fault::Store))
