@@ -65,6 +65,7 @@ looks_up g old new did is_store looks counted stores = record {
     crash = looks_leave g old.conn new.conn _ looks;
   };
   records = λ honest records. subst AreRecords (sym (looks.now_is honest.clean honest.is_open)) records;
+  limit = λ _. looks.survives.limit;
 }
 
 pub finds : {S A : Type 0} (g : Ghosts S) (old new : BooksState S) (result : Result A Fault) (Has : Tables → A → Type 0) → FindsInTables g old.conn new.conn result Has

@@ -13,7 +13,8 @@ use Rattle.index_rules.specs.Told.{tells_store, ends_by_store}
 use Rattle.index_rules.specs.Walks.{Walks, has_fault}
 use Rattle.index_sql_schema.specs.Reasons.{FailsForReason}
 use Rattle.index_sql_schema.specs.RecordRows.{AreRecords}
-use Rattle.index_tables.specs.BooksState.{IsHonest, BooksState, Leaves}
+use Rattle.index_tables.specs.BooksState.{IsHonest, IsWorking, BooksState, Leaves}
+use Rattle.index_tables.specs.Opened as opened
 
 module _ {S : Type 0} (g : Ghosts S) where
   -- what the trait says of each call
@@ -28,10 +29,15 @@ module _ {S : Type 0} (g : Ghosts S) where
   abbrev pub KeepsRecords : (old new : BooksState S) → Type 0
   KeepsRecords old new = IsHonest (state g new.conn) → AreRecords (state g old.conn).now → AreRecords (state g new.conn).now
 
+  -- while they work, the limit on the steps of their queries is as it was
+  abbrev pub KeepsLimit : (old new : BooksState S) → Type 0
+  KeepsLimit old new = IsWorking (state g new.conn) → opened.KeepsLimit (state g old.conn) (state g new.conn)
+
   -- a look, where they do so too
   pub record LooksUp (old new : BooksState S) (succeeds is_store : Bool) : Type 0 where
     pub looks : LooksOrFails old new succeeds is_store
     pub records : KeepsRecords old new
+    pub limit : KeepsLimit old new
 
   -- a look that finds this of the tables of an honest store, and fails only for a reason
   pub record LooksFor {A : Type 0} (old new : BooksState S) (result : Result A Fault) (Has : Tables → A → Type 0) : Type 0 where
