@@ -9,23 +9,15 @@ use std::alloc::AllocGlobal;
 use std::io::{Read, Write};
 use std::process::Abort;
 
-mod answers;
 mod connections;
 mod ends;
 mod fakes;
 mod faults;
 mod interruptions;
-mod lines;
 mod long_pages;
 mod replies;
 mod rows;
 mod stops;
-
-/// The SHA-256 digest of `abc`, an example of FIPS 180-4.
-const OF_ABC: &str = "ba7816bf8f01cfea414140de5dae2223b00361a396177a9cb410ff61f20015ad";
-
-/// The SHA-256 digest of `a`.
-const OF_A: &str = "ca978112ca1bbdcafac231b39a23dc4da786eff8147c4e72b9807785afee48bb";
 
 /// The office adds ann, whose token is `abc`, and bob, whose token is `hello`.
 const USERS: &str =

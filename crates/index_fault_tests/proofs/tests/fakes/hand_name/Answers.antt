@@ -1,6 +1,6 @@
 use Rattle.std.proofs.Common.{[], ◌∷◌}
-use Rattle.index_end_tests.proofs.WalkLemmas.{faulted_as, stopped}
-use Rattle.index_end_tests.proofs.tests.fakes.hand_name.Goals as goal
+use Rattle.index_fault_tests.proofs.WalkLemmas.{faulted_as, stopped}
+use Rattle.index_fault_tests.proofs.tests.fakes.hand_name.Goals as goal
 
 pub returns-then-take : goal.returns-then-take
 returns-then-take g c =
