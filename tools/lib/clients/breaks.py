@@ -10,7 +10,7 @@ from operate.checks import check
 from serving import TOP
 
 BREAKS = f"{TOP}/tools/caught/clients.edits"
-MOST_SECONDS = 660
+MOST_SECONDS = 960
 
 
 class Break:
