@@ -128,6 +128,8 @@ def try_start(by):
     is_kept = [bytes_of(*sorted(glob.glob(f"{it}/*"))) for it in kept] == [before]
     check("both files are kept once as they were", is_kept, kept)
     check("a refused start changes nothing", bytes_of(db, f"{db}-wal") == before)
+    ended = run_command([f"{OPERATE}/index-verify", db], INDEX=by.program)
+    ends("index-verify of a damaged log", ended, 1, "would be dropped")
     ends("a loss that is accepted", by.log("--accept", db), 0, "cut there")
     ended = by.log(db, *report, db)
     ends("a start after that", ended, 0, "name0 ")
