@@ -30,8 +30,8 @@ const ACCEPT_TRIES: u32 = 100;
 
 const ACCEPT_PAUSE: u64 = 10;
 
-/// The most connections that were accepted and wait.
-const MOST_WAITING: usize = 900;
+/// The most connections that are accepted and wait: each takes a descriptor, and a process mostly has 1,024.
+const MOST_WAITING: usize = 512;
 
 /// Answers one message of each of so many connections, one connection after the other, at a moment in Unix seconds or
 /// at that of the clock. Why one of them ended early is named on standard error, and the next is served.
@@ -74,14 +74,16 @@ pub fn serve_connections<B: Keeper>(
     ensures store { result ≡ Err ServeEnd.Store → 0 < B.failures desk.new }
 {
     let mut was_shut = false;
+    let mut left = requests;
     let mut waiting = VecDeque::new(rt.alloc());
     for _count in 0..requests {
         if was_shut {
             return Err(ServeEnd::Store);
         }
-        let Ok(stream) = next_waiting(rt, listener, &mut waiting) else {
+        let Ok(stream) = next_waiting(rt, listener, &mut waiting, left) else {
             return Err(ServeEnd::ReadFault);
         };
+        left = left.saturating_sub(1);
         let moment = moment_of(rt, at)?;
         let failures = desk.failure_count();
         if let Err(end) = answer_stream(rt, site, &stream, desk, moment) {
@@ -92,16 +94,18 @@ pub fn serve_connections<B: Keeper>(
     Ok(())
 }
 
-/// The next connection of those that wait. All that can be accepted without a wait are, so that the system's queue, which has
-/// room for 128, has room for more.
+/// The next connection of those that wait. As many as can be accepted without a wait are, up to those that are left to
+/// answer: the system's queue has room for 128, and a client that finds it full tries again after a second.
 fn next_waiting(
     rt: &HostRuntime,
     listener: &TcpListener,
     waiting: &mut VecDeque<TcpStream>,
+    left: u32,
 ) -> io::Result<TcpStream> {
+    let most = MOST_WAITING.min(left as usize);
     if listener.set_nonblocking(true).is_ok() {
-        for _try in 0..MOST_WAITING {
-            if waiting.len() >= MOST_WAITING {
+        for _try in 0..most {
+            if waiting.len() >= most {
                 break;
             }
             let Ok((stream, _)) = listener.accept() else {
