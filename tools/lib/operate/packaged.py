@@ -19,7 +19,7 @@ PATH = "/usr/local/bin:/usr/sbin:/usr/bin:/sbin:/bin"
 # In this root systemd does not run. What the pages ask of it is written down; a unit that is started once is run.
 SYSTEMCTL = r"""#!/bin/sh
 echo "systemctl $*" >> /systemctl.log
-[ "$1" = start ] && [ -e "/lib/systemd/system/$2" ] && eval "$(sed -n 's/^ExecStart=//p' "/lib/systemd/system/$2")"
+[ "$1" = start ] && grep -qs Type=oneshot "/lib/systemd/system/$2" && eval "$(sed -n 's/^ExecStart=//p' "/lib/systemd/system/$2")"
 true
 """
 MOUNTS = """set -e
@@ -89,20 +89,31 @@ def make_newer(package, folder):
     return newer
 
 
-def try_package(place):
-    """A package of the program: what is in it, and its life on a machine."""
+def is_possible():
     missing = [it for it in ("dpkg-deb", "help2man", "strip", "apt-get", "sqlite3") if not shutil.which(it)]
     if missing:
-        print(f"{', '.join(missing)} not installed, so no package was tried")
-        return
+        print(f"{', '.join(missing)} not installed, so no package was tried", flush=True)
+    return not missing
+
+
+def packaged(place):
+    """A folder with a package of the program, and the package."""
     folder = f"{place.folder}/packages"
-    os.mkdir(folder)
-    first = make_package(place.program, folder, "1")
-    try_content(place, folder, first)
+    if not os.path.exists(folder):
+        os.mkdir(folder)
+        make_package(place.program, folder, "1")
+    return folder, f"{folder}/package-index_1_amd64.deb"
+
+
+def try_package(place):
+    """A package of the program has its life on a machine."""
+    if not is_possible():
+        return
+    folder, first = packaged(place)
     newer = make_newer(first, folder)
     with Root(f"{folder}/root") as root:
         if not root.is_there:
-            print("this machine lets nobody mount an overlay, so no package was installed")
+            print("this machine lets nobody mount an overlay, so no package was installed", flush=True)
             return
         try_installed(place, root, first)
         try_commands(root, place.program)
@@ -111,8 +122,11 @@ def try_package(place):
         try_removed(root)
 
 
-def try_content(place, folder, package):
+def try_content(place):
     """Made again elsewhere it has the same bytes; all of operate/ is in it, and what Debian asks for."""
+    if not is_possible():
+        return
+    folder, package = packaged(place)
     os.mkdir(f"{folder}/again")
     again = make_package(place.program, f"{folder}/again", "1", TZ="Asia/Tokyo", HOME=folder)
     digests = [sha256(open(it, "rb").read()) for it in (package, again)]
@@ -139,7 +153,9 @@ def try_installed(place, root, package):
     """Installed and set up as the page says, it has its user, its folders, its units, and files that nginx takes."""
     root.put("/usr/local/bin/systemctl", SYSTEMCTL, "755")
     # a person is asked about files that both have changed; here nobody is, and ours stay
-    root.put("/etc/dpkg/dpkg.cfg.d/zz-test", "force-confold\n")
+    root.put("/etc/dpkg/dpkg.cfg.d/zz-test", "force-confold\nforce-unsafe-io\n")
+    # else the index of all man pages of this machine is made each time
+    root.sh("rm -f /var/lib/man-db/auto-update")
     ended = root.sh(block("apt-get install ./package-index_").replace("./package-index_*_amd64.deb", package)
                     .replace("install", "install --yes --no-install-recommends"))
     ends("apt installs the package", ended, 0, "Setting up package-index (1)")
