@@ -19,8 +19,9 @@ PATH = "/usr/local/bin:/usr/sbin:/usr/bin:/sbin:/bin"
 # In this root systemd does not run. What the pages ask of it is written down; a unit that is started once is run.
 SYSTEMCTL = r"""#!/bin/sh
 echo "systemctl $*" >> /systemctl.log
-[ "$1" = start ] && grep -qs Type=oneshot "/lib/systemd/system/$2" && eval "$(sed -n 's/^ExecStart=//p' "/lib/systemd/system/$2")"
-true
+if [ "$1" = start ] && grep -qs Type=oneshot "/lib/systemd/system/$2"; then
+    eval "$(sed -n 's/^ExecStart=//p' "/lib/systemd/system/$2")"
+fi
 """
 MOUNTS = """set -e
 mount -t tmpfs none "$1"
