@@ -23,9 +23,10 @@ FOLDER = "ExecStartPre=/bin/mkdir -p -m 700 /var/backups/index/%i\n"
 
 def template(name, unit):
     """The template of this unit. What is changed is in lines that systemd reads, and not in comments."""
-    lines = []
+    lines, is_run = [], False
     for line in unit.splitlines(keepends=True):
-        is_run = line.startswith(("Exec", "Environment="))
+        # a line goes on after a backslash
+        is_run = line.startswith(("Exec", "Environment=")) or is_run and lines[-1].endswith("\\\n")
         for old, new in () if line.startswith("#") else EVERYWHERE + (RUN if is_run else ()):
             line = line.replace(old, new)
         if name == "index-backup.service" and line.startswith("ExecStart="):
