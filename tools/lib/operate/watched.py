@@ -143,13 +143,14 @@ def try_metrics(place):
     check("its certificate", 1.9 < days <= 2.01, days)
     os.mkdir(f"{folder}/damaged-0")
     out = f"{folder}/out.prom"
-    ended = run_command([sys.executable, f"{OPERATE}/index-metrics", *words, "--out", out], PATH=path)
+    words = [*words, "--url", f"http://127.0.0.1:{index.port}", "--out", out]
+    ended = run_command([sys.executable, f"{OPERATE}/index-metrics", *words], PATH=path)
     ends("an index that is down", ended, 0)
     text = ""
     if os.path.exists(out):
         with open(out) as kept:
             text = kept.read()
-    check("that is written", '\nindex_up{port="8080"} 0\n' in text and os.stat(out).st_mode & 0o777 == 0o644, text)
+    check("that is written", f'\nindex_up{{port="{index.port}"}} 0\n' in text and os.stat(out).st_mode & 0o777 == 0o644, text)
     is_counted = re.search(r"^index_damaged_logs\S* 1$", text, re.M)
     check("a damaged log is counted", is_counted and seen.get("index_damaged_logs") == 0, text)
     with open(f"{OPERATE}/index-alarms.yml") as kept:
