@@ -1,3 +1,4 @@
+pub mod ChainLemmas
 pub mod FaultLemmas
 pub mod RunLemmas
 pub mod StartLemmas

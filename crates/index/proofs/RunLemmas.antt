@@ -1,14 +1,15 @@
 -- From the states of a connection to the files that it was opened on and closed to.
 use Rattle.std.proofs.Common.{◌≡◌, ◌⊎◌, ◌↔◌, ◌∙◌, Bool, List, [], ◌∷◌, false, sym, ap, subst, subst₂, if◌then◌else◌, inl, inr, ℕ, Some, Result, Ok, Err, IfOk, IsTrue, true≢false, arith}
 use Rattle.std.proofs.lemmas.Bool.{cases_Bool}
-use Rattle.std.proofs.Math.Logic.{∥∥₁_elim}
+use Rattle.std.proofs.Math.Logic.{∥∥₁_elim, ∥∥₁_map}
 use Rattle.sqlite.specs.Closing.{HoldsAlone, IsCopied}
 use Rattle.sqlite.specs.declared.FileStore.{FileStore}
 use Rattle.sqlite.specs.declared.file.Leftover.{Leftover}
 use Rattle.sqlite.specs.declared.file.Leftover.TheVariants as leftover
 use Rattle.sqlite.specs.Effect.{Database}
 use Rattle.sqlite.specs.Files.{AreFoundIn, HoldsDatabase, IsClosed, IsNothing, IsOpened, LeavesFiles, file_state, image_of, over_files}
-use Rattle.sqlite.specs.Held.{Held}
+use Rattle.sqlite.specs.Held.{Held, AreDatabases}
+use Rattle.sqlite.proofs.Theorems.{opens_again}
 use Rattle.sqlite.specs.Recovery.{Image}
 use Rattle.sqlite.specs.Schema.{Schema}
 use Rattle.sqlite.specs.Start.{FindsIn}
@@ -33,17 +34,23 @@ use Rattle.index_sql_schema.specs.Index.{version_in}
 use Rattle.index_sql_schema.specs.Records.{tables_in}
 use Rattle.index_sql_schema.specs.Schema.{index_schema}
 use Rattle.index_tables.specs.Adopted.{IsCommitted, IsCurrent, IsFound}
-use Rattle.index_tables.specs.BooksState.{IsWorking}
+use Rattle.index_tables.specs.BooksState.{AreCurrent, IsWorking}
+use Rattle.index_tables.specs.Reopened.{MayLeave as LeavesImage}
 use Rattle.index_tables.specs.Opened.{IsRefusedAs, IsTaken}
 use Rattle.index_tables.specs.declared.opening.Unopened.{Unopened}
 use Rattle.index.specs.Openings.{HoldsOnly, LeavesOfShut, Refused}
-use Rattle.index.specs.Runs.{Began, Created, Holds, Interrupted, HoldsCurrent, HoldsAfterCrash, LeavesAsWas, Ran, Worked}
+use Rattle.index.specs.Runs.{Began, LeavesOnly, Created, Holds, Interrupted, HoldsCurrent, HoldsAfterCrash, LeavesAsWas, Ran, Worked}
 
 -- an index of today is found as it is, and never as one of version 1
 same_found : (db other : Database) (T found : Tables) → IsCurrent db T → IsFound other found → other.trees ≡ db.trees → found ≡ T
 same_found db other T found current (inl it) same = it.tables ∙ (ap tables_in same ∙ sym current.tables)
 same_found db other T found current (inr it) same =
     absurd (let told : Some 1 ≡ Some 2 = sym it.version ∙ (ap version_in same ∙ current.version) in cc)
+
+-- an index of today is found with its tables
+pub tables_of_found : (db : Database) (found : Tables) → IsFound db found → AreCurrent db.trees → found ≡ tables_in db.trees
+tables_of_found db found (inl it) current = it.tables
+tables_of_found db found (inr it) current = absurd (let told : Some 1 ≡ Some 2 = sym it.version ∙ current.version in cc)
 
 keeps_of : (image : Image) (db : Database) (T : Tables) → IsCurrent db T → HoldsAlone image db.trees → HoldsCurrent image T
 keeps_of image db T current held = record {
@@ -111,13 +118,24 @@ module _ {D : Type 0} {g : Ghosts D} where
     left = leaves_of last files worked.after copied worked.committed;
   }
 
+  -- what a next run finds is what a crash may leave
+  found_next : (Are : Tables → Type 0) (last : Held (FileStore D g)) → IsTrue (over_files.view last.store).is_numbered → AreDatabases (over_files.recovers last.store)
+      → LeavesOnly (file_state last).may_leave Are → (image : Image) → LeavesImage last image → (found : Tables) → Holds image found → ∥ Are found ∥₁
+  found_next Are last numbered databases left image may found holds =
+      ∥∥₁_map (opens_again last.store numbered databases image may)
+      (λ it. left holds.db.trees (subst (over_files.recovers last.store) (sym (holds.only.alone it.0 it.2)) it.1) found (tables_of_found holds.db found holds.found))
+
   -- work between an opening and a close that failed
   pub interrupted_by : (Left : Tables → Tables → Type 0) (start : Image) (first last : Held (FileStore D g)) (store : FileStore D g) → IsOpened first → FindsIn start (file_state first)
-      → Began Left (file_state first).now (file_state last).may_leave → IsClosed last store → Interrupted Left start (over_files.recovers store)
-  interrupted_by Left start first last store opened finds began closed = record {
+      → Began Left (file_state first).now (file_state last).may_leave → IsClosed last store
+      → IsTrue (over_files.view last.store).is_numbered → AreDatabases (over_files.recovers last.store) → Interrupted Left start store
+  interrupted_by Left start first last store opened finds began closed numbered databases = record {
     before = began.before;
     held = holds_of start first began.before opened finds began.found;
     left = λ db may. began.left db (closed.quiet.outcomes db may);
+    last = last;
+    closed = closed;
+    next = found_next (Left began.before) last numbered databases began.left;
   }
 
   pub created_by : (T : Tables) (start : Image) (first last : Held (FileStore D g)) (files : Files D) → IsOpened first → FindsIn start (file_state first)

@@ -1,4 +1,5 @@
 pub mod Causes
+pub mod Chains
 pub mod Ends
 pub mod Openings
 pub mod Printed

@@ -24,8 +24,9 @@ use Rattle.index_rules.specs.Maps.{Bytes}
 use Rattle.index_sql_schema.specs.Schema.{index_schema}
 use Rattle.index_sql_opening.specs.Names.{has_any_of}
 use Rattle.index_sql_opening.specs.NewAsks.{asks_of_new}
-use Rattle.index_tables.specs.Adopted.{IsRaised, IsReason}
-use Rattle.index_tables.specs.Opened.{RefusesFound, RefusesNew, StoreForOthers}
+use Rattle.index_tables.specs.Adopted.{IsOurs, IsRaised, IsReason}
+use Rattle.index_tables.specs.Opened.{IsCreated, IsFault, RefusesFound, RefusesNew, StoreForOthers}
+use Rattle.index_rules.specs.Tables.{Tables}
 use Rattle.index.specs.declared.database.Left.{Left}
 use Rattle.index.specs.declared.database.Left.TheVariants as unused
 use Rattle.index.specs.declared.end.End.{End}
@@ -76,17 +77,13 @@ pub record Refused (Made : Database → Trees → Type 0) (start : Image) (now :
   pub only : HoldsOnly start db
   pub left : (found : Trees) → now.may_leave found → (found ≡ db.trees) ⊎ ((now.is_open ≡ false) × Made db found)
 
--- nothing was made of it
-abbrev pub MakesNothing : Database → Trees → Type 0
-MakesNothing was db = ⊥
-
 -- no index was found in their database
 abbrev pub IsUnfound : Image → State → Type 0
 IsUnfound start now = HasCleanDisk now → Refused IsRaised start now
 
--- no index was made in their database, and no fault has shut the connection to it
-abbrev pub IsUnmade : Image → State → Type 0
-IsUnmade start now = IsTrue now.is_open → Refused MakesNothing start now
+-- no index with these tables was made in their database
+abbrev pub IsUnmade : Tables → Image → State → Type 0
+IsUnmade T start now = HasCleanDisk now → Refused (IsCreated T) start now
 
 -- these hex digits are no digest, or that of a token with which this user can't be the first
 abbrev pub IsBadFirstUserByHex : Bytes → Bytes → Type 0
@@ -106,6 +103,8 @@ pub record IsWhyUnfound {S : Type 0} (g : Ghosts S) (first last : Held S) (why :
   pub was_clean : HasCleanDisk (state g last) → HasCleanDisk (state g first)
   pub kind : RefusesFound why
   pub reason : HasCleanDisk (state g last) → IsReason g first last why
+  -- an index is refused only for want of memory or by a fault of the store
+  pub again : HasCleanDisk (state g last) → IsTrue (state g first).is_open → IsOurs (state g first).now → IsFault why
 
 module _ {D : Type 0} {g : disk.Ghosts D} where
   -- a crash leaves this of two files on which nothing was done

@@ -4,7 +4,8 @@ use Rattle.std.specs.Prelude.{◌≡◌, ◌⊎◌, ◌≤◌, ℕ, false, IsTru
 use Rattle.sqlite.specs.Closing.{HoldsAlone}
 use Rattle.sqlite.specs.Effect.{Database}
 use Rattle.sqlite.specs.declared.FileStore.{FileStore}
-use Rattle.sqlite.specs.Files.{image_of, over_files}
+use Rattle.sqlite.specs.Files.{IsClosed, image_of, over_files}
+use Rattle.sqlite.specs.Held.{Held}
 use Rattle.sqlite.specs.WalReads.{AreClean}
 use Rattle.sqlite_trees.specs.View.{IsClean}
 use Rattle.sqlite.specs.Recovery.{Image}
@@ -33,6 +34,7 @@ use Rattle.index_sql_schema.specs.Records.{tables_in}
 use Rattle.index_sql_schema.specs.Schema.{index_schema}
 use Rattle.index_tables.specs.Adopted.{IsCommitted, IsCurrent, IsFound}
 use Rattle.index_tables.specs.BooksState.{AreCurrent, IsWorking}
+use Rattle.index_tables.specs.Reopened.{MayLeave}
 use Rattle.index.specs.declared.database.Left.{Left}
 use Rattle.index.specs.declared.end.End.{End}
 use Rattle.index.specs.Ends.{end_of, end_of_reporting, is_fault}
@@ -73,11 +75,15 @@ pub record Ran {D : Type 0} (g : Ghosts D) (Does : Tables → Tables → Type 0)
 abbrev pub LeavesOnly : (Trees → Type 0) → (Tables → Type 0) → Type 0
 LeavesOnly may_leave Are = (db : Trees) → may_leave db → (T : Tables) → (AreCurrent db → T ≡ tables_in db) → Are T
 
--- they held an index with some tables, and a crash leaves what it may leave of the work on them
-pub record Interrupted (Left : Tables → Tables → Type 0) (start : Image) (may_leave : Trees → Type 0) : Type 0 where
+-- They held an index with some tables, and a crash leaves what it may leave of the work on them. What it leaves of the two
+-- files as the work ends, before they are closed, the next run finds.
+pub record Interrupted {D : Type 0} {g : Ghosts D} (Left : Tables → Tables → Type 0) (start : Image) (store : FileStore D g) : Type 0 where
   pub before : Tables
   pub held : Holds start before
-  pub left : LeavesOnly may_leave (Left before)
+  pub left : LeavesOnly (over_files.recovers store) (Left before)
+  pub last : Held (FileStore D g)
+  pub closed : IsClosed last store
+  pub next : (image : Image) → MayLeave last image → (found : Tables) → Holds image found → ∥ Left before found ∥₁
 
 -- they held nothing of an index, and hold a new one with these tables
 pub record Created {D : Type 0} (g : Ghosts D) (T : Tables) (start : Image) (files : Files D) : Type 0 where
@@ -94,7 +100,7 @@ pub record EndsRunOn {D : Type 0} (g : Ghosts D) (Does Leaves : Tables → Table
   pub ran : IfOk result (λ done. IfOk done.0 (λ files. AreClean g files.log files.db → Ran g (λ T T'. Does T T' done.1) start files))
   -- where the log was not copied, a crash leaves what it may leave of the work
   pub interrupted : IfOk result (λ done. IfErr done.0 (λ e. IsClean (over_files.view e.1)
-      → Interrupted (λ T T'. Leaves T T' done.1) start (over_files.recovers e.1)))
+      → Interrupted (λ T T'. Leaves T T' done.1) start e.1))
   -- what is refused is as it was, or an index of version 1 became one of today
   pub refused : IfErr result (λ e. IfSome e.1 (LeavesUnused IsUnfound start))
   pub why : IfErr result (λ e. IsWhyUnused (IsWhyUnfound over_files) start e.0 e.1)

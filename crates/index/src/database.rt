@@ -2,7 +2,7 @@
 ghost use Rattle.std.specs.Prelude.{◌≡◌, ◌↔◌, false, ℕ, Result, None, Some, IfOk, IfErr, IfSome, IsErrOf, IsTrue};
 ghost use Rattle.sqlite.specs.Closing.{IsCopied};
 ghost use Rattle.sqlite.specs.Files.{IsClosed, over_files};
-ghost use Rattle.sqlite.specs.Held.{state};
+ghost use Rattle.sqlite.specs.Held.{state, AreDatabases};
 ghost use Rattle.sqlite.specs.Recovery.{Image};
 ghost use Rattle.sqlite.specs.State.{HasCleanDisk};
 ghost use Rattle.sqlite.specs.WalFiles.{image_at};
@@ -13,10 +13,11 @@ ghost use Rattle.index_rules.specs.FirstTables.{IsBadFirstUser, first_tables};
 ghost use Rattle.index_rules.specs.Tables.{Tables};
 ghost use Rattle.index_sql_schema.specs.Schema.{no_schema};
 ghost use Rattle.index_tables.specs.Adopted.{IsRaised};
+ghost use Rattle.index_tables.specs.Opened.{IsCreated};
 ghost use Rattle.index.specs.declared.end.End.{End as EndData};
 ghost use Rattle.index.specs.Causes.{IsKnown, IsObject, other_object};
 ghost use Rattle.index.specs.Ends.{is_fault, is_store};
-ghost use Rattle.index.specs.Openings.{IsBadFirstUserByHex, IsOpenedOn, IsUnmade, IsWhyUnfound, IsWhyUnmade, IsWhyUnused, LeavesUnused, MakesNothing};
+ghost use Rattle.index.specs.Openings.{IsBadFirstUserByHex, IsOpenedOn, IsUnmade, IsWhyUnfound, IsWhyUnmade, IsWhyUnused, LeavesUnused};
 ghost use Rattle.index.specs.Runs.{Created, EndsRunOn, EndsWork, IsMadeNew, LeavesAsWas};
 
 use crate::cause::{Cause, cause_of_calls};
@@ -79,6 +80,7 @@ pub fn create<S: Start>(
     start: S,
     user: &str,
     token: &str,
+    page_sums: bool,
 ) -> Result<Files<FileFrom<S>>, Unused<FileFrom<S>>>
     ensures bad_first_user { IsErrOf result (End.Open OpenFault.BadFirstUser, None)
         ↔ IsBadFirstUserByHex user.now token.now }
@@ -93,13 +95,15 @@ pub fn create<S: Start>(
         × Created g (first_tables user.now digest) (image_at S.Start) files) }
 
     // What is refused is as it was.
-    ensures refused { IfErr result (λ e. IfSome e.1 (LeavesUnused IsUnmade (image_at S.Start))) }
+    ensures refused { (digest : _) → read_digest token.now ≡ Some digest
+        → IfErr result (λ e. IfSome e.1
+        (LeavesUnused (IsUnmade (first_tables user.now digest)) (image_at S.Start))) }
 {
     let token = match first_token(rt.alloc(), user, token) {
         Ok(token) => token,
         Err(why) => return Err((End::Open(why), None)),
     };
-    match open(rt, path, start) {
+    match open(rt, path, start, page_sums) {
         Ok(conn) => create_and_close(rt, conn, user, token),
         Err((end, left)) => match left {
             Some(left) => Err((end, Some(Left::Shut(left)))),
@@ -140,7 +144,7 @@ fn create_and_close<D: Disk + Drop>(
     ensures created { IfOk result (λ files. AreClean D.Disk files.log files.db → (start : Image) →
         IsOpenedOn start conn → Created D.Disk (first_tables user.now token) start files) }
     ensures refused { IfErr result (λ e. IfSome e.1 (λ left. (start : Image) →
-        IsOpenedOn start conn → LeavesUnused IsUnmade start left)) }
+        IsOpenedOn start conn → LeavesUnused (IsUnmade (first_tables user.now token)) start left)) }
     ensures why { IfErr result (λ e. (start : Image) → IsOpenedOn start conn →
         IsWhyUnused (IsWhyUnmade user.now token over_files) start e.0 e.1) }
 {
@@ -167,9 +171,21 @@ fn work_and_close<D: Disk + Drop, W: Work>(
         (W.does work.old work.new) (W.leaves work.old work.new) start result }
 {
     match work_in(rt, conn, work) {
-        Ok((conn, end)) => Ok((close(conn), end)),
+        Ok((conn, end)) => Ok((close(worked_on(conn)), end)),
         Err(left) => Err((End::Open(left.why), Some(Left::Refused(left)))),
     }
+}
+
+/// The connection as it is: what a crash leaves of it can be opened again.
+fn worked_on<S: Alter>(conn: Connection<S>) -> Connection<S>
+    ensures same { result ≡ conn }
+    ensures numbered { HasCleanDisk (state S.Store conn)
+        → IsTrue (S.Store.view conn.store).is_numbered }
+    ensures databases { HasCleanDisk (state S.Store conn)
+        → AreDatabases (S.Store.recovers conn.store) }
+{
+    let _outside = conn.is_autocommit();
+    conn
 }
 
 /// Makes a new index in an empty database. Where none is made, the database is left as it is.
@@ -182,8 +198,9 @@ fn create_in<S: Alter + Drop>(
     requires outside { conn.in_transaction ≡ false }
     ensures made { IfOk result (λ made.
         IsMadeNew (first_tables user.now token) (state S.Store conn) (state S.Store made)) }
-    ensures refused { IfErr result (λ left. IsTrue (state S.Store left.conn).is_open
-        → LeavesAsWas MakesNothing (state S.Store conn) (state S.Store left.conn)) }
+    ensures refused { IfErr result (λ left. HasCleanDisk (state S.Store left.conn)
+        → LeavesAsWas (IsCreated (first_tables user.now token)) (state S.Store conn)
+        (state S.Store left.conn)) }
     ensures why { IfErr result (λ left.
         IsWhyUnmade user.now token S.Store conn left.conn left.why) }
 {

@@ -25,15 +25,16 @@ use std::process::ExitCode;
 /// How many bytes of files and pages are kept at hand, where the command line does not tell.
 const KEPT_BYTES: u64 = 67_108_864;
 
-/// Makes a new index, and says so.
+/// Makes a new index, with page sums or without, and says so.
 pub fn init<S: Start>(
     rt: &HostRuntime,
     db: &str,
     start: S,
     user: &str,
     token: &str,
+    page_sums: bool,
 ) -> Result<ExitCode, End> {
-    match database::create(rt, db, start, user, token) {
+    match database::create(rt, db, start, user, token, page_sums) {
         Ok(files) => drop(files),
         Err(unused) => return Err(database::why(rt.alloc(), unused)),
     }

@@ -5,6 +5,7 @@ mod cause;
 mod database;
 mod end;
 mod job;
+mod laws;
 mod objects;
 mod opening;
 mod path;
@@ -51,7 +52,12 @@ fn run<S: Start>(rt: &HostRuntime, words: &[String], start: S) -> ExitCode {
 /// Does a job, and answers the status that it ends with.
 fn perform<S: Start>(rt: &HostRuntime, asked: Job<'_>, start: S) -> Result<ExitCode, End> {
     match asked {
-        Job::Init { db, user, token } => job::init(rt, db, start, user, token),
+        Job::Init {
+            db,
+            user,
+            token,
+            page_sums,
+        } => job::init(rt, db, start, user, token, page_sums),
         Job::Apply { db } => job::apply(rt, db, start),
         Job::Serve {
             db,

@@ -1,5 +1,8 @@
 //! The opening of a database file, and the token of the first user of a new index.
 ghost use Rattle.std.specs.Prelude.{◌≡◌, ◌≢◌, ◌↔◌, Some, IfOk, IsErrOf, IsTrue};
+ghost use Rattle.sqlite_store.specs.FileStore.{view};
+ghost use Rattle.sqlite.specs.Files.{IsBlankAs, file_state};
+ghost use Rattle.sqlite.specs.State.{HasCleanDisk};
 ghost use Rattle.sqlite.specs.WalFiles.{image_at};
 ghost use Rattle.index_digest.specs.Digest.{read_digest};
 ghost use Rattle.index_names.specs.Faults.{FailsByEither};
@@ -14,17 +17,22 @@ use index_rules::{OpenFault, first_user};
 use sqlite::{Connection, Error, ErrorCode, FileFrom, FileStore, Leftover, Start};
 use std::alloc::Global;
 
-/// Opens a database file, which is locked from here on, or makes an empty one. `S` says what it and its log held.
+/// Opens a database file, which is locked from here on, or makes an empty one, whose pages end in sums where these are asked
+/// for. `S` says what it and its log held.
 ///
 /// `OutOfMemory`, or `Store` where that can't be done: where the file is no database, or is in use.
 pub fn open<S: Start>(
     rt: &HostRuntime,
     path: &str,
     start: S,
+    new_has_sums: bool,
 ) -> Result<Connection<FileStore<FileFrom<S>>>, (End, Option<Leftover<FileFrom<S>>>)>
     ensures ends { EndsOpening (image_at S.Start) result }
+    ensures sums { IfOk result (λ conn. HasCleanDisk (file_state conn)
+        → IsBlankAs new_has_sums (image_at S.Start)
+        → (view conn.store).has_sums ≡ new_has_sums) }
 {
-    match Connection::open_from(rt, path, false, start) {
+    match Connection::open_from(rt, path, new_has_sums, start) {
         Ok(conn) => Ok(conn),
         Err((error, left)) => Err((unopened(rt, path, error), left)),
     }
@@ -54,7 +62,7 @@ pub fn open_there<S: Start>(
     if is_missing(rt, path) {
         return Err((End::Store(Some(Cause::NoFile)), None));
     }
-    open(rt, path, start)
+    open(rt, path, start, false)
 }
 
 /// The digest of the first user's token by its hex digits, where this user may be the first.

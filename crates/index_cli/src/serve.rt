@@ -15,6 +15,7 @@ use index_message::Site;
 use index_names::normal;
 use index_rules::Fault;
 use std::alloc::Global;
+use std::collections::VecDeque;
 use std::fmt::Display;
 use std::io::{BufWriter, Write};
 use std::net::{TcpListener, TcpStream};
@@ -28,6 +29,9 @@ const GATHERED_BYTES: usize = 65_536;
 const ACCEPT_TRIES: u32 = 100;
 
 const ACCEPT_PAUSE: u64 = 10;
+
+/// The most connections that were accepted and wait.
+const MOST_WAITING: usize = 900;
 
 /// Answers one message of each of so many connections, one connection after the other, at a moment in Unix seconds or
 /// at that of the clock. Why one of them ended early is named on standard error, and the next is served.
@@ -70,11 +74,12 @@ pub fn serve_connections<B: Keeper>(
     ensures store { result ≡ Err ServeEnd.Store → 0 < B.failures desk.new }
 {
     let mut was_shut = false;
+    let mut waiting = VecDeque::new(rt.alloc());
     for _count in 0..requests {
         if was_shut {
             return Err(ServeEnd::Store);
         }
-        let Ok(stream) = next_connection(rt, listener) else {
+        let Ok(stream) = next_waiting(rt, listener, &mut waiting) else {
             return Err(ServeEnd::ReadFault);
         };
         let moment = moment_of(rt, at)?;
@@ -85,6 +90,33 @@ pub fn serve_connections<B: Keeper>(
         was_shut = is_shut(rt.alloc(), desk, failures);
     }
     Ok(())
+}
+
+/// The next connection of those that wait. All that can be accepted without a wait are, so that the system's queue, which has
+/// room for 128, has room for more.
+fn next_waiting(
+    rt: &HostRuntime,
+    listener: &TcpListener,
+    waiting: &mut VecDeque<TcpStream>,
+) -> io::Result<TcpStream> {
+    if listener.set_nonblocking(true).is_ok() {
+        for _try in 0..MOST_WAITING {
+            if waiting.len() >= MOST_WAITING {
+                break;
+            }
+            let Ok((stream, _)) = listener.accept() else {
+                break;
+            };
+            if waiting.push_back(stream).is_err() {
+                break;
+            }
+        }
+        listener.set_nonblocking(false)?;
+    }
+    match waiting.pop_front() {
+        Some(stream) => Ok(stream),
+        None => next_connection(rt, listener),
+    }
 }
 
 /// The next connection. Where none can be accepted it is tried again for a while, since the reason may pass: a client who
@@ -100,7 +132,8 @@ fn next_connection(rt: &HostRuntime, listener: &TcpListener) -> io::Result<TcpSt
     Ok(stream)
 }
 
-/// Whether a fault has shut the store: one was answered since there were so many, and a look is answered by one too.
+/// Whether a fault has shut the store: one was answered since there were so many, and looks at two names are answered by
+/// one too. A row that is no record, which another program wrote, shuts nothing.
 fn is_shut<B: Keeper>(alloc: Global, desk: &mut Desk<B>, failures: u64) -> bool
     ensures leaves { LeavesTables B.Books desk.old desk.new }
     ensures store { result ≡ true → 0 < B.failures desk.new }
@@ -109,7 +142,15 @@ fn is_shut<B: Keeper>(alloc: Global, desk: &mut Desk<B>, failures: u64) -> bool
     if now == failures && now != u64::MAX {
         return false;
     }
-    let Ok(name) = normal(alloc, b"x") else {
+    fails_at(alloc, desk, b"x") && fails_at(alloc, desk, b"is-the-store-shut")
+}
+
+/// Whether a look at a name is answered by a fault of the store.
+fn fails_at<B: Keeper>(alloc: Global, desk: &mut Desk<B>, name: &[u8]) -> bool
+    ensures leaves { LeavesTables B.Books desk.old desk.new }
+    ensures store { result ≡ true → 0 < B.failures desk.new }
+{
+    let Ok(name) = normal(alloc, name) else {
         return false;
     };
     matches!(desk.is_held(alloc, &name), Err(Fault::Store))

@@ -1,9 +1,10 @@
 -- What is known of a call that was decided and settled, and of calls in a row.
-use Rattle.std.proofs.Common.{◌≡◌, ◌∙◌, inl, inr, ap, subst, sym, List, Contains, Result, Ok}
+use Rattle.std.proofs.Common.{◌≡◌, ◌∙◌, ◌⊎◌, ℕ, inl, inr, ap, subst, sym, List, [], ◌∷◌, ◌++◌, Contains, Result, Ok}
+use Rattle.std.proofs.lemmas.List.Elements.{Contains-append_left, Contains-push}
 use Rattle.index_io.specs.Counts.{FailsAtMostOnce, HasFailed}
 use Rattle.index_rules.specs.declared.answer.Answer.{Answer}
-use Rattle.index_rules.specs.declared.answer.Answer.TheVariants.{Accepted, Fault}
-use Rattle.index_rules.specs.declared.answer.Fault.TheVariants.{Store}
+use Rattle.index_rules.specs.declared.answer.Answer.TheVariants.{Accepted, Already, Refused, Fault}
+use Rattle.index_rules.specs.declared.answer.Fault.TheVariants.{OutOfMemory, Store}
 use Rattle.index_rules.specs.declared.books.Books.{Ghosts}
 use Rattle.index_rules.specs.declared.call.Call.{Call}
 use Rattle.index_rules.specs.declared.change.Change.{Change}
@@ -15,6 +16,7 @@ use Rattle.index_rules.specs.Facts.{HasOneBearer, facts_in}
 use Rattle.index_rules.specs.Runs.{Answers, Runs, tables_after, tables_after_change}
 use Rattle.index_rules.specs.Sound.{IsSound}
 use Rattle.index_rules.specs.Tables.{Tables}
+use Rattle.index_rules.specs.Told.{CountsStore, answers_store}
 use Rattle.index_rules.specs.Verdict.{Verdict, verdict_now}
 use Rattle.index_rules.proofs.StandsOn.{CarriesOn-answer, CarriesOnBy-Runs, sound_when_legal}
 use Rattle.index_rules.proofs.OneBearer.{HasOneBearer-Runs, HasOneBearer-tables_after}
@@ -79,6 +81,7 @@ module _ {S : Type 0} (g : Ghosts S) (old now new : S) (call : Call) (answer : A
         nothing_new = λ T left. elim (settles.nothing_new T left) [ inl was ↦ inl (look.crash T was) | inr honest ↦ inr (look.honest honest) ];
         store = λ is. subst (λ n. HasFailed n (g.failures new)) look.kept (settles.store is);
         failures = subst (λ n. FailsAtMostOnce n (g.failures new)) look.kept settles.failures;
+        stores = subst (λ n. CountsStore n (g.stores new) (answers_store answer)) look.stores settles.stores;
         honest = λ honest. look.honest (settles.honest honest);
         clean = λ clean. look.clean (settles.clean clean);
       })
@@ -97,14 +100,25 @@ takes_keep g old new call answer took = record {
 
 -- ---- calls in a row
 
+-- one more answer: no fault of the store was told to the books, or one is among the answers
+pub stores_push : (answers : List Answer) (answer : Answer) (first before after : ℕ) → (before ≡ first) ⊎ Contains answers (Fault Store)
+    → CountsStore before after (answers_store answer) → (after ≡ first) ⊎ Contains (answers ++ answer ∷ []) (Fault Store)
+stores_push answers answer first before after (inr there) next = inr (Contains-append_left answers _ _ there)
+stores_push answers (Fault Store) first before after (inl none) next = inr (Contains-push answers (Fault Store))
+stores_push answers (Fault OutOfMemory) first before after (inl none) next = inl (next ∙ none)
+stores_push answers Accepted first before after (inl none) next = inl (next ∙ none)
+stores_push answers Already first before after (inl none) next = inl (next ∙ none)
+stores_push answers (Refused refusal) first before after (inl none) next = inl (next ∙ none)
+
 module _ {S : Type 0} (g : Ghosts S) (old new : S) (calls : List Call) (answers : List Answer)
     (runs : ByTables g old new (λ T. Runs T calls answers)) where
   pub takes_in_turn : CrashByTables g old new (λ T. LeavesAll T calls answers)
       → (g.IsClean new → LastsAll answers (g.IsHonest old) (g.IsHonest new))
       → (g.IsHonest new → (T : Tables) → g.may_leave new T → T ≡ g.tables new)
       → (Contains answers (Fault Store) → HasFailed (g.failures old) (g.failures new))
+      → (g.stores new ≡ g.stores old) ⊎ Contains answers (Fault Store)
       → TakesInTurn g old new calls answers
-  takes_in_turn crash lasts settled store = record {
+  takes_in_turn crash lasts settled store stores = record {
     runs = runs;
     history = λ honest h legal stands.
         CarriesOnBy-Runs h legal _ stands calls answers _ (runs honest (sound_when_legal h legal _ stands).one_bearer);
@@ -115,6 +129,7 @@ module _ {S : Type 0} (g : Ghosts S) (old new : S) (calls : List Call) (answers 
     lasts = lasts;
     alone = λ clean. LastsAll-weaker answers _ _ _ settled (lasts clean);
     store = store;
+    stores = stores;
   }
 
   pub runs_keep : (g.IsHonest new → g.IsHonest old) → (g.IsClean new → g.IsClean old) → KeepsInvariants g old new

@@ -9,6 +9,7 @@ use Rattle.index_rules.specs.declared.rows.WalkEnd.TheVariants as end
 use Rattle.index_rules.specs.History.{History}
 use Rattle.index_rules.specs.StandsFor.{StandsFor}
 use Rattle.index_rules.specs.Tables.{Tables}
+use Rattle.index_rules.specs.Told.{CountsStore, tells_store, ends_by_store}
 use Rattle.index_rules.specs.Walks.{has_fault}
 
 -- no table changed, the store is as honest and as clean as it was, and a crash leaves what it could have left before
@@ -18,11 +19,13 @@ pub record LeavesTables {S : Type 0} (g : Ghosts S) (old new : S) : Type 0 where
   pub clean : g.IsClean new → g.IsClean old
   pub crash : (T : Tables) → g.may_leave new T → g.may_leave old T
 
--- no table changes, only a failure of the books is told as one, and a crash leaves what it could have left before
+-- no table changes, only a failure of the books is told as one, a fault of their store as `Store`, and a crash leaves what
+-- it could have left before
 pub record ReadsTables {S X : Type 0} (g : Ghosts S) (old new : S) (result : Result X Fault) : Type 0 where
   pub unchanged : g.IsHonest new → g.tables new ≡ g.tables old
   pub kept : OnOk result (g.failures new ≡ g.failures old)
   pub store : IfErr result (λ fault. fault ≡ Store → HasFailed (g.failures old) (g.failures new))
+  pub stores : CountsStore (g.stores old) (g.stores new) (tells_store result)
   pub once : FailsAtMostOnce (g.failures old) (g.failures new)
   pub honest : g.IsHonest new → g.IsHonest old
   pub clean : g.IsClean new → g.IsClean old
@@ -38,6 +41,7 @@ pub record WalksTables {S X : Type 0} (g : Ghosts S) (old new : S) (result : Res
   pub unchanged : g.IsHonest new → g.tables new ≡ g.tables old
   pub kept : has_fault result ≡ false → g.failures new ≡ g.failures old
   pub store : IfErr result (λ fault. fault ≡ end.Store → HasFailed (g.failures old) (g.failures new))
+  pub stores : CountsStore (g.stores old) (g.stores new) (ends_by_store result)
   pub once : FailsAtMostOnce (g.failures old) (g.failures new)
   pub honest : g.IsHonest new → g.IsHonest old
   pub clean : g.IsClean new → g.IsClean old

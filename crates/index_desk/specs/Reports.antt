@@ -1,5 +1,5 @@
 -- The report: a line for each held or prohibited name.
-use Rattle.std.specs.Prelude.{◌≡◌, ℕ, ◌-◌, ◌<◌, List, [], ◌∷◌, ◌++◌, length, take, replicate, Option, Result, Ok, Err, IfErr, OnOk, codes}
+use Rattle.std.specs.Prelude.{◌≡◌, ℕ, ◌-◌, ◌<◌, Bool, true, false, List, [], ◌∷◌, ◌++◌, length, take, replicate, Option, Result, Ok, Err, IfErr, OnOk, codes}
 use Rattle.std.specs.Fmt.{decimal}
 use Rattle.std.specs.Io.KnownBytes.{Appends, Keeps}
 use Rattle.index_io.specs.Counts.{FailsAtMostOnce, HasFailed}
@@ -11,6 +11,7 @@ use Rattle.index_rules.specs.declared.rows.NameRow.{NameRow}
 use Rattle.index_rules.specs.Maps.{Bytes}
 use Rattle.index_rules.specs.Tables.{Tables}
 use Rattle.index_rules.specs.TableRows.{name_rows_in}
+use Rattle.index_rules.specs.Told.{CountsStore}
 use Rattle.index_desk.specs.Checks.{charge_of}
 use Rattle.index_rules.specs.declared.answer.Fault.{Fault}
 use Rattle.index_rules.specs.declared.answer.Fault.TheVariants as fault
@@ -74,10 +75,26 @@ Reports text before after (Err OutOfMemory) = Keeps before after
 Reports text before after (Err Store) = Keeps before after
 Reports text before after (Err (WriteFault count)) = (count < length text) × Appends before after (take count text)
 
--- a write failed, or took no byte, and the books failed, where the result says so; one call of them fails at most, and none
--- where it succeeds
+-- a report ended by a fault of the store
+abbrev pub reports_store : Result (Unit {0}) ReportFault → Bool
+reports_store (Ok done) = false
+reports_store (Err OutOfMemory) = false
+reports_store (Err Store) = true
+reports_store (Err (WriteFault count)) = false
+
+-- a report ended by a write that failed, or took no byte
+abbrev pub fails_to_write : Result (Unit {0}) ReportFault → Bool
+fails_to_write (Ok done) = false
+fails_to_write (Err OutOfMemory) = false
+fails_to_write (Err Store) = false
+fails_to_write (Err (WriteFault count)) = true
+
+-- a write failed, or took no byte, just where the result says so; the books failed where it does; one call of them fails at
+-- most, and none where it succeeds; a fault of their store is told as `Store`
 pub record ReportFailsOnly {S K : Type 0} (g : Ghosts S) (out : Outs K) (old new : S) (before after : K) (result : Result (Unit {0}) ReportFault) : Type 0 where
   pub write_fault : IfErr result (λ fault. (count : ℕ) → fault ≡ WriteFault count → HasFailed (out.failures before) (out.failures after))
+  pub writes : fails_to_write result ≡ false → out.failures after ≡ out.failures before
   pub store : IfErr result (λ fault. fault ≡ Store → HasFailed (g.failures old) (g.failures new))
+  pub stores : CountsStore (g.stores old) (g.stores new) (reports_store result)
   pub kept : OnOk result (g.failures new ≡ g.failures old)
   pub failures : FailsAtMostOnce (g.failures old) (g.failures new)

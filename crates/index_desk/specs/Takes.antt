@@ -14,6 +14,7 @@ use Rattle.index_rules.specs.Legal.{CarriesOn, CarriesOnAll, IsLegal}
 use Rattle.index_rules.specs.Runs.{Answers, Runs, tables_after, tables_after_change}
 use Rattle.index_rules.specs.StandsFor.{StandsFor}
 use Rattle.index_rules.specs.Tables.{Tables}
+use Rattle.index_rules.specs.Told.{CountsStore, answers_store}
 use Rattle.index_rules.specs.Verdict.{Accept, Verdict, verdict_now}
 use Rattle.index_desk.specs.Crashes.{IsWithCall, Lasts, LastsAll, LeavesByAnswer, LeavesAll, LeavesAllOf}
 
@@ -43,12 +44,13 @@ CrashByHistory g old new Holds = g.IsHonest old → g.IsClean new
 
 -- what an answer alone says: no table changed unless it is an acceptance; after that the store is honest, where it is still
 -- clean, and after another answer but a fault if it was; of a store that was not honest a crash leaves nothing new; a fault
--- `Store` is a failure of the books, of which there is one at most
+-- `Store` is a failure of the books, of which there is one at most, and a fault of their store is told as `Store`
 pub record Settles {S : Type 0} (g : Ghosts S) (old new : S) (answer : Answer) : Type 0 where
   pub unchanged : g.IsHonest new → answer ≢ Accepted → g.tables new ≡ g.tables old
   pub lasts : g.IsClean new → Lasts answer (g.IsHonest old) (g.IsHonest new)
   pub nothing_new : (T : Tables) → g.may_leave new T → g.may_leave old T ⊎ g.IsHonest old
   pub store : answer ≡ Fault Store → HasFailed (g.failures old) (g.failures new)
+  pub stores : CountsStore (g.stores old) (g.stores new) (answers_store answer)
   pub failures : FailsAtMostOnce (g.failures old) (g.failures new)
   pub honest : g.IsHonest new → g.IsHonest old
   pub clean : g.IsClean new → g.IsClean old
@@ -83,3 +85,4 @@ pub record TakesInTurn {S : Type 0} (g : Ghosts S) (old new : S) (calls : List C
   pub lasts : g.IsClean new → LastsAll answers (g.IsHonest old) (g.IsHonest new)
   pub alone : g.IsClean new → LastsAll answers (g.IsHonest old) ((T : Tables) → g.may_leave new T → T ≡ g.tables new)
   pub store : Contains answers (Fault Store) → HasFailed (g.failures old) (g.failures new)
+  pub stores : (g.stores new ≡ g.stores old) ⊎ Contains answers (Fault Store)

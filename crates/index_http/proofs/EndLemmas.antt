@@ -1,7 +1,8 @@
 -- A reply that was sent ends a connection.
-use Rattle.std.proofs.Common.{◌≡◌, ◌⊎◌, Bool, true, false, inl, inr, refl, sym, subst, Option, Result, Ok, Err}
+use Rattle.std.proofs.Common.{◌≡◌, ◌⊎◌, ℕ, Bool, true, false, inl, inr, refl, sym, subst, Option, Result, Ok, Err}
 use Rattle.index_rules.specs.Maps.{Bytes}
 use Rattle.index_rules.specs.Tables.{Tables}
+use Rattle.index_rules.specs.Told.{CountsStore, is_store}
 use Rattle.index_rules.specs.declared.answer.Fault.{Fault}
 use Rattle.index_rules.specs.declared.answer.Fault.TheVariants.{Store, OutOfMemory as NoMemory}
 use Rattle.index_http.specs.Ends.{Ends}
@@ -43,6 +44,18 @@ fault_ends to_head IsReply Cause NoMemory before after result caused (is, kept) 
 -- a reply that was sent is no end for want of memory
 pub sent_memory : (text : Bytes) (before after : Option Bytes) (result : Result (Unit {0}) IoEnd) → SendsText text before after result → result ≡ Err OutOfMemory → ⊥
 sent_memory text before after result sends is = subst (λ r. SendsText text before after r) is sends
+
+-- a fault of the store is replied, so an end for want of memory is of that alone
+pub fault_memory : (to_head : Bool) (fault : Fault) (before after : Option Bytes) (result : Result (Unit {0}) IoEnd) → EndsFault to_head fault before after result
+    → result ≡ Err OutOfMemory → fault ≡ NoMemory
+fault_memory to_head Store before after result sends is = absurd (sent_memory _ before after result sends is)
+fault_memory to_head NoMemory before after result none is = refl
+
+-- and then no fault of the store was counted
+pub fault_stores : (to_head : Bool) (fault : Fault) (before after : Option Bytes) (result : Result (Unit {0}) IoEnd) (old new : ℕ) → EndsFault to_head fault before after result
+    → CountsStore old new (is_store fault) → result ≡ Err OutOfMemory → new ≡ old
+fault_stores to_head Store before after result old new sends counts is = absurd (sent_memory _ before after result sends is)
+fault_stores to_head NoMemory before after result old new none counts is = counts
 
 -- ---- a reply of one kind is one of another
 

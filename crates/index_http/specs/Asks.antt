@@ -51,13 +51,14 @@ AsksDesk g out old new before after result at given =
     Asks at given (LeavesTables g old new) (Takes g old new) (out.contents before) (out.contents after) result
 
 -- a message was answered at a desk that makes this call, or none: the reply is of this kind by the tables, and the text of
--- the answer, where a call was taken; where memory ran out nothing was asked of the desk, or it was a look; and only a page
--- is cut short, when no table changed
+-- the answer, where a call was taken; where memory ran out nothing was asked of the desk, or it was a look, and no fault of
+-- the store is told as that; and only a page is cut short, when no table changed
 pub record AnswersBy {S K : Type 0} (g : Ghosts S) (out : Outs K) (old new : S) (before after : K) (result : Result (Unit {0}) IoEnd)
     (has_page is_look : Bool) (IsReply : Type 0 → Tables → Bytes → Tables → Type 0) (call : Option Call) (text_of : Answer → Bytes) : Type 0 where
   pub tables : RepliesBy g out old new before after result IsReply
   pub asks : AsksFor call text_of (LeavesTables g old new) (Takes g old new) (out.contents before) (out.contents after) result
   pub memory : result ≡ Err OutOfMemory → (new ≡ old) ⊎ (is_look ≡ true)
+  pub stores : result ≡ Err OutOfMemory → g.stores new ≡ g.stores old
   pub cut : is_cut result ≡ true → LeavesTables g old new
   pub sends : SendsOnly out before after has_page result
   pub keeps : KeepsInvariants g old new

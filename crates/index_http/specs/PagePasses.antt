@@ -15,7 +15,7 @@ use Rattle.index_desk.specs.Looks.{ReadsTables}
 use Rattle.index_pages.specs.Ends.{most_bytes}
 use Rattle.index_pages.specs.declared.end.PageEnd.{PageEnd}
 use Rattle.index_pages.specs.declared.end.PageEnd.TheVariants as page_end
-use Rattle.index_http.specs.Sends.{SendsOnly, SendsText, is_cut}
+use Rattle.index_http.specs.Sends.{SendsOnly, SendsText, is_cut, is_silent}
 use Rattle.index_http.specs.declared.end.IoEnd.{IoEnd}
 use Rattle.index_http.specs.declared.end.IoEnd.TheVariants.{WriteFault, Cut}
 
@@ -68,11 +68,12 @@ pub record KeepsTables {S : Type 0} (g : Ghosts S) (old new : S) (has_fault : Bo
 
 -- ---- what a pass does, of a store that was honest, and is clean after it
 
--- the length is told so of the tables, none of which changes
+-- the length is told so of the tables, none of which changes; and no fault of their store is told as want of memory
 pub record MeasuresPass {S X : Type 0} (g : Ghosts S) (old new : S) (result : Result X Fault)
     (IsTold : Tables → ℕ → ℕ → Result X Fault → Type 0) : Type 0 where
   pub measured : g.IsHonest old → g.IsClean new → IsTold (g.tables old) (g.failures old) (g.failures new) result
   pub keeps : KeepsTables g old new (is_err result)
+  pub stores : result ≡ Err fault.OutOfMemory → g.stores new ≡ g.stores old
 
 -- the length of the page of the tables, where there is one
 abbrev pub MeasuresText : {S : Type 0} → Ghosts S → S → S → Result (Option ℕ) Fault → (Tables → Option Bytes) → Type 0
@@ -85,7 +86,8 @@ pub record IsMeasured (page : Option Bytes) (count : ℕ) : Type 0 where
   pub size : count ≡ length bytes
   pub within : count ≤ most_bytes
 
--- the page of the tables is sent, where there is one, and else nothing; no table changes
+-- the page of the tables is sent, where there is one, and else nothing; the end tells how much of it went out; no table
+-- changes
 pub record SendsPage {S K : Type 0} (g : Ghosts S) (out : Outs K) (old new : S) (before after : K)
     (result : Result (Unit {0}) IoEnd) (page_of : Tables → Option Bytes) : Type 0 where
   pub sent : g.IsHonest old → g.IsClean new → (page : Bytes) → page_of (g.tables old) ≡ Some page
@@ -93,6 +95,7 @@ pub record SendsPage {S K : Type 0} (g : Ghosts S) (out : Outs K) (old new : S) 
   pub none : g.IsHonest old → g.IsClean new → page_of (g.tables old) ≡ None
       → Keeps (out.contents before) (out.contents after) × (result ≡ Err (Cut 0))
   pub sends : SendsOnly out before after true result
+  pub told : is_silent result ≡ false
   pub keeps : KeepsTables g old new (is_cut result)
 
 -- a text that was gathered is that of the page of the tables, none of which changes

@@ -34,13 +34,15 @@ abbrev pub EndsShown : Bool → (Reply → Type 0) → Type 0 → Option Bytes �
 EndsShown to_head IsReply Cause before after result = Ends (IsShown to_head IsReply Cause) (Unit {0}) before after result
 
 -- a look at the desk, and the reply that it sent: of a store that was honest, and is clean after it, the reply is of this
--- kind by the tables; no table changed; and only a page can be cut short, which no reply to `HEAD` has
+-- kind by the tables; no table changed; only a page can be cut short, which no reply to `HEAD`
+-- has; and a fault of the store of the books is not told as want of memory
 pub record ShowsBy {S K : Type 0} (g : Ghosts S) (out : Outs K) (old new : S) (before after : K) (is_page to_head : Bool)
     (result : Result (Unit {0}) IoEnd) (IsReply : Tables → Reply → Type 0) : Type 0 where
   pub shown : g.IsHonest old → g.IsClean new
       → EndsShown to_head (IsReply (g.tables old)) (HasFailed (g.failures old) (g.failures new)) (out.contents before) (out.contents after) result
   pub leaves : LeavesTables g old new
   pub sends : SendsOnly out before after (is_page && not to_head) result
+  pub stores : result ≡ Err OutOfMemory → g.stores new ≡ g.stores old
 
 -- a look that failed: a fault of the store is replied, and where memory ran out nothing went out
 abbrev pub EndsFault : Bool → Fault → Option Bytes → Option Bytes → Result (Unit {0}) IoEnd → Type 0

@@ -1,17 +1,19 @@
 //! Texts of pages that are gathered before they are sent.
-ghost use Rattle.std.specs.Prelude.{◌≡◌, [], Some};
+ghost use Rattle.std.specs.Prelude.{◌≡◌, ◌≤◌, ◌+◌, [], length, true};
+ghost use Rattle.index_http.specs.declared.buffer.TheConstants.{MOST_GATHERED};
 
 use index_io::{Failed, Sink};
 use std::alloc::Global;
 
 /// The most bytes that are gathered.
-const MOST_GATHERED: usize = 262_144;
+const MOST_GATHERED: usize = 4_194_304;
 
 /// Bytes that are gathered up to a bound. A write that would pass it fails.
 #[derive(Drop)]
 pub(crate) struct Buffer {
     pub(crate) bytes: Vec<u8>,
     failures: u64,
+    ghost within: { length bytes.items ≤ MOST_GATHERED },
 }
 
 impl Buffer {
@@ -26,7 +28,9 @@ impl Buffer {
     }
 
     /// Whether it has room for so many bytes more.
-    fn has_room(&self, more: usize) -> bool {
+    fn has_room(&self, more: usize) -> bool
+        ensures room { result ≡ true → length self.now.bytes.items + more ≤ MOST_GATHERED }
+    {
         self.bytes.len().saturating_add(more) <= MOST_GATHERED
     }
 }

@@ -57,6 +57,9 @@ pub fn answer_one<S: Source, K: Sink, B: Keeper>(
     ensures memory { result ≡ Err IoEnd.OutOfMemory → (desk.new ≡ desk.old)
         ⊎ GivesMessage is_look (S.remaining source.old) }
 
+    // A fault of the store is no want of memory.
+    ensures stores { result ≡ Err IoEnd.OutOfMemory → B.stores desk.new ≡ B.stores desk.old }
+
     // Each fault has its cause, and else nothing failed.
     ensures fails { FailsOnly S.Source K.Sink source.old source.new sink.old sink.new result }
 

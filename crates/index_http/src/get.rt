@@ -1,5 +1,5 @@
 //! Looks at pages, files and standings. None changes a table.
-ghost use Rattle.std.specs.Prelude.{◌≡◌, IfErr, IfOk, IfSome, IsSome, Some, true, false, bytes_eq, is_some};
+ghost use Rattle.std.specs.Prelude.{◌≡◌, Err, IfErr, IfOk, IfSome, IsSome, Some, true, false, bytes_eq, is_some};
 ghost use Rattle.index_names.specs.FileName.{read_file_name};
 ghost use Rattle.index_names.specs.Project.{read_name};
 ghost use Rattle.index_desk.specs.Rules.{by_tables};
@@ -98,8 +98,10 @@ fn show_at<K: Sink, B: Keeper>(
     request: &Request,
     given: &Bytes,
 ) -> Result<(), IoEnd>
-    ensures { ShowsBy B.Books K.Sink desk.old desk.new sink.old sink.new true to_head result
+    ensures shown { ShowsBy B.Books K.Sink desk.old desk.new sink.old sink.new true to_head result
         (λ T. ShowsAt by_tables T request.now.fields given.now (read_name given.now)) }
+    // What is no name is replied as such, and is never a want of memory.
+    ensures readable { result ≡ Err IoEnd.OutOfMemory → IsSome (read_name given.now) }
 {
     let Some(name) = name_of(alloc, given)? else {
         return send_reply(sink, to_head, refusal_reply(Refusal::NoProject));

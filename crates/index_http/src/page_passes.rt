@@ -1,9 +1,10 @@
 //! The two passes over the rows of a page: the first counts its bytes, the second sends them. No head is written here.
-ghost use Rattle.std.specs.Prelude.{◌≡◌, ◌≢◌, Some, None, Err};
+ghost use Rattle.std.specs.Prelude.{◌≡◌, ◌≢◌, Some, None, Err, false};
 ghost use Rattle.index_rules.specs.TableRows.{held_rows_in};
 ghost use Rattle.index_desk.specs.Pages.{text_in};
 ghost use Rattle.index_pages.specs.Pages.{root_page_of};
 ghost use Rattle.index_http.specs.PagePasses.{MeasuresPass, MeasuresPage, MeasuresText, SendsPage, sent_by, without_stop as without_stop_lem};
+ghost use Rattle.index_http.specs.Sends.{is_silent};
 
 use crate::end::IoEnd;
 use index_desk::Desk;
@@ -103,6 +104,7 @@ pub fn without_stop<A: Copy>(walked: Result<A, WalkEnd>, at_stop: A) -> Result<A
 fn io_end_of_page(page_end: Result<u64, PageEnd>) -> Result<(), IoEnd>
     ensures end { result ≡ sent_by page_end }
     ensures no_read_fault { result ≢ Err IoEnd.ReadFault }
+    ensures told { is_silent result ≡ false }
 {
     match page_end {
         Ok(_) => Ok(()),

@@ -7,7 +7,7 @@ ghost use Rattle.index_http.specs.Exchanges.{ShowsProject, ShowsRoot};
 ghost use Rattle.index_http.specs.PagePasses.{Gathers, IsMeasured, MeasuresText, SendsPage};
 ghost use Rattle.index_http.specs.PageShows.{ShowsWhole, after_head};
 ghost use Rattle.index_http.specs.Replies.{page_reply, reply_text};
-ghost use Rattle.index_http.specs.Sends.{SendsBytes, SendsOnly, is_cut, is_write_fault};
+ghost use Rattle.index_http.specs.Sends.{SendsBytes, SendsOnly, is_cut, is_silent, is_write_fault};
 ghost use Rattle.index_http.specs.Shows.{ShowsBy};
 
 use crate::end::IoEnd;
@@ -169,6 +169,7 @@ fn send_page<K: Sink, B: Books>(
         (reply_text to_head (page_reply served there.bytes)) result }
     ensures leaves { LeavesTables B.Books desk.old desk.new }
     ensures sends { SendsOnly K.Sink sink.old sink.new (not to_head) result }
+    ensures told { is_silent result ≡ false }
 {
     let head = match send_head(sink, StatusCode::OK, Fields::Page(served), size) {
         Ok(head) => head,
@@ -202,6 +203,7 @@ fn after_head(head: u64, end: Result<(), IoEnd>) -> Result<(), IoEnd>
     ensures end { result ≡ after_head head end }
     ensures kind { is_write_fault result ≡ is_write_fault end }
     ensures cut { is_cut result ≡ is_cut end }
+    ensures silent { is_silent result ≡ is_silent end }
 {
     match end {
         Ok(()) => Ok(()),

@@ -1,6 +1,6 @@
 //! The head of a request, read in whatever pieces it comes.
-ghost use Rattle.std.specs.Prelude.{◌≡◌, ◌≤◌, ◌<◌, ◌+◌, [], true, false, length, vec_len, None, Ok, Err, IfOk, IfSome, OnOk};
-ghost use Rattle.index_message.specs.Heads.{FailsInHead, HasNoHead, IsHeadAt, Tries, longest_head, most_fields};
+ghost use Rattle.std.specs.Prelude.{◌≡◌, ◌≤◌, ◌<◌, ◌+◌, [], true, false, length, vec_len, None, Ok, Err, IfErr, IfOk, IfSome, OnOk};
+ghost use Rattle.index_message.specs.Heads.{AwaitsHead, FailsInHead, HasNoHead, IsHeadAt, Tries, longest_head, most_fields};
 ghost use Rattle.index_message.specs.Reads.{FailsAtOnce, FailsBelow, Fills, GivesBytes, GivesUpTo, HasEnded, ReadsWithin, ReadsOnly, and_left};
 
 use httparse::Status;
@@ -48,6 +48,7 @@ pub fn read_head<S: Source>(
     ensures head { IfOk result (λ found. IfSome found (IsHeadAt held.new.items fields.new)) }
     ensures none { result ≡ Ok None → HasNoHead (and_left held.new.items (S.remaining source.new)) }
     ensures prompt { FailsInHead S.Source source.old source.new held.new.items result }
+    ensures memory { result ≡ Err ReadEnd.OutOfMemory → AwaitsHead held.new.items }
     ensures reads { ReadsWithin S.Source source.old source.new longest_head result }
 {
     while held.len() < LONGEST_HEAD {
@@ -102,6 +103,7 @@ fn read_more<S: Source>(source: &mut S, held: &mut Vec<u8>, most: usize) -> Resu
     ensures most { vec_len held.new ≤ most }
     ensures consumed { OnOk result (Fills S.Source source.old source.new held.old held.new) }
     ensures end { result ≡ Ok 0 → HasEnded S.Source source.new }
+    ensures same { IfErr result (λ _. held.new.items ≡ held.old.items) }
     ensures kept { FailsAtOnce S.Source source.old source.new held.old.items held.new.items result }
     ensures reads { ReadsOnly (S.failures source.old) (S.failures source.new) result }
     ensures limit { GivesUpTo S.Source source.old source.new (vec_len held.old) most }

@@ -1,5 +1,6 @@
 //! What the request line of a head asks for.
-ghost use Rattle.std.specs.Prelude.{◌≡◌, ◌<◌, ◌==◌, Some, IfOk};
+ghost use Rattle.std.specs.Prelude.{◌≡◌, ◌<◌, ◌==◌, Some, IfErr, IfOk, IsSome};
+ghost use Rattle.index_names.specs.FileName.{read_file_name};
 ghost use Rattle.std.specs.List.{after_first, before_first};
 ghost use Rattle.percent_encoding.specs.Percent.{percent_decode};
 ghost use Rattle.index_message.specs.Messages.{target_by, to_resource};
@@ -96,7 +97,8 @@ fn file_of_project(alloc: Global, project: &str, file: &str) -> Result<Option<Re
 
 /// Whether these bytes are a file name that spells another project than this.
 fn is_file_of_other(alloc: Global, project: &[u8], file: &[u8]) -> Result<bool, AllocError>
-    ensures { IfOk result (λ other. other ≡ is_file_of_other_lem project.now file.now) }
+    ensures other { IfOk result (λ other. other ≡ is_file_of_other_lem project.now file.now) }
+    ensures readable { IfErr result (λ _. IsSome (read_file_name file.now)) }
 {
     match FileName::read(alloc, file) {
         Ok(file) => Ok(file.project().text().as_bytes() != project),

@@ -67,9 +67,10 @@ pub record MakesOrCounts (change : Change) (old new : PlainBooks) (result : Resu
   pub failures : failures_of new ≡ next_count (failures_of old) (is_ok result)
   pub memory : IfErr result (λ error. error ≡ fault.OutOfMemory)
 
--- what the trait says of a look, of these books: they are always honest, and a crash leaves nothing of them
+-- what the trait says of a look, of these books: they are always honest, a crash leaves nothing of them, and
+-- none answers `Store`
 abbrev pub LooksUp : (old new : PlainBooks) (succeeds : Bool) → Type 0
-LooksUp = calls.LooksUp plain_tables (λ books. ⊤) (λ books. ⊤) (λ books T. ⊥) failures_of
+LooksUp old new succeeds = calls.LooksUp plain_tables (λ books. ⊤) (λ books. ⊤) (λ books T. ⊥) failures_of (λ books. 0) old new succeeds false
 
 -- a look that fails for want of memory alone
 pub record LooksInMemory {A : Type 0} (old new : PlainBooks) (result : Result A Fault) : Type 0 where

@@ -140,6 +140,8 @@ impl Books for PlainBooks {
 
     ghost failures = { failures_of };
 
+    ghost stores = { λ books. 0 };
+
     fn failure_count(&self) -> u64 {
         self.failures
     }

@@ -1,12 +1,16 @@
 //! What is kept of the last looks.
-ghost use Rattle.std.specs.Prelude.{◌≡◌, IfOk, IfSome, true};
-ghost use Rattle.std.specs.List.{Contains};
+ghost use Rattle.std.specs.Prelude.{◌≡◌, ◌≤◌, ◌<◌, ◌+◌, IfOk, IfSome, true, filter, length, vec_len};
+ghost use Rattle.std.specs.List.{All, Contains};
 ghost use Rattle.index_desk.specs.Pages.{project_of_page};
+ghost use Rattle.index_rules.specs.Tables.{Tables};
+ghost use Rattle.index_recent.specs.Kept.{IsKeptBody, body_bytes};
+ghost use Rattle.index_recent.specs.Spared.{spares_file, spares_body};
 
 use index_desk::Page;
 use index_digest::Sealed;
 use index_names::{FileName, NormalName};
 use index_pages::Served;
+use index_rules::{Change, Fault, WalkEnd};
 use std::alloc::AllocError;
 
 /// The bytes of a file.
@@ -27,6 +31,82 @@ pub(crate) fn body_of<'a>(bodies: &'a [KeptBody], file: &FileName) -> Option<&'a
         }
     }
     None
+}
+
+/// Whether a change leaves the bytes of a file as they are. Of a prohibition this is not known.
+fn spares_file(change: &Change, file: &FileName) -> bool
+    ensures { result ≡ spares_file change.now file.now }
+{
+    match change {
+        Change::Upload { file: changed, .. }
+        | Change::Delete { file: changed, .. }
+        | Change::BanFile { file: changed, .. } => *file != *changed,
+        Change::Prohibit { .. } => false,
+        _ => true,
+    }
+}
+
+/// Keeps the bodies that a change spares.
+pub(crate) fn keep_spared(bodies: &mut Vec<KeptBody>, change: &Change)
+    ensures spared { bodies.new.items ≡ filter (spares_body change.now) bodies.old.items }
+    ensures fewer { (body_bytes bodies.new.items ≤ body_bytes bodies.old.items)
+        × (length bodies.new.items ≤ length bodies.old.items) }
+{
+    bodies.retain(|kept| spares_file(change, &kept.file));
+}
+
+/// How many bytes these bodies have.
+pub(crate) fn body_bytes(bodies: &[KeptBody]) -> usize
+    requires { body_bytes bodies.now < 18446744073709551616 }
+    ensures { result ≡ body_bytes bodies.now }
+{
+    bodies.iter().map(|kept| kept.body.bytes().len()).sum()
+}
+
+/// Keeps the newest of bodies that have at most `used` bytes: fewer than `most_kept`, with at most `room` bytes. Returns
+/// how many bytes they have.
+pub(crate) fn keep_newest(
+    bodies: &mut Vec<KeptBody>,
+    most_kept: usize,
+    room: usize,
+    used: usize,
+) -> usize
+    requires some { 0 < most_kept }
+    requires counted { body_bytes bodies.old.items ≤ used }
+    ensures kept { (T : Tables) →
+        All (IsKeptBody T) bodies.old.items → All (IsKeptBody T) bodies.new.items }
+    ensures bytes { (result ≡ body_bytes bodies.new.items) × (result ≤ room) }
+    ensures few { length bodies.new.items < most_kept }
+{
+    let mut kept = body_bytes(bodies.as_slice());
+    while kept > room || bodies.len() >= most_kept {
+        kept -= remove_first(bodies);
+    }
+    kept
+}
+
+/// Lets go of the first body, and returns how many bytes it had.
+fn remove_first(bodies: &mut Vec<KeptBody>) -> usize
+    requires { 0 < vec_len bodies.old }
+    ensures kept { (T : Tables) →
+        All (IsKeptBody T) bodies.old.items → All (IsKeptBody T) bodies.new.items }
+    ensures bytes { body_bytes bodies.old.items ≡ result + body_bytes bodies.new.items }
+    ensures fewer { length bodies.new.items + 1 ≡ length bodies.old.items }
+{
+    let first = bodies.remove(0);
+    let length = first.body.bytes().len();
+    drop(first);
+    length
+}
+
+/// Whether memory was wanting.
+pub(crate) fn is_out_of_memory<T>(found: &Result<T, Fault>) -> bool {
+    matches!(found, Err(Fault::OutOfMemory))
+}
+
+/// Whether memory was wanting in a walk.
+pub(crate) fn is_walk_out_of_memory(end: &Result<(), WalkEnd>) -> bool {
+    matches!(end, Err(WalkEnd::OutOfMemory))
 }
 
 /// The text of a page: that of a project, or the root page.

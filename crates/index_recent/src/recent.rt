@@ -1,9 +1,14 @@
-//! Books that keep the last bodies and pages at hand.
-ghost use Rattle.std.specs.Prelude.{◌≡◌, []};
+//! Books that keep the last bodies and pages.
+ghost use Rattle.std.specs.Prelude.{◌≡◌, ◌≤◌, ◌<◌, ◌+◌, [], filter, length, true};
 ghost use Rattle.std.specs.List.{All};
-ghost use Rattle.index_recent.specs.Kept.{IsKeptBody, IsKeptPage};
+ghost use Rattle.index_recent.specs.Kept.{IsKeptBody, IsKeptPage, body_bytes, page_bytes};
+ghost use Rattle.index_recent.specs.Spared.{spares_body};
+ghost use Rattle.index_recent.specs.declared.recent.TheConstants.{MOST_BODIES, MOST_PAGES};
 
-use crate::kept::{KeptBody, KeptPage, body_of, page_of, project_of_page};
+use crate::kept::{
+    KeptBody, KeptPage, body_bytes, body_of, is_out_of_memory, is_walk_out_of_memory, keep_newest,
+    keep_spared, page_of, project_of_page,
+};
 use index_desk::{Keeper, Page};
 use index_digest::Sealed;
 use index_names::{FileName, NormalName};
@@ -13,20 +18,26 @@ use index_rules::{
 };
 use std::alloc::Global;
 
-/// The most bodies, and the most pages, that are kept.
-const MOST_KEPT: usize = 256;
+/// The most bodies that are kept.
+const MOST_BODIES: usize = 1_024;
 
-/// Books, and the bodies and pages that were looked up since the last change. What is kept is what the tables hold.
+/// The most pages that are kept.
+const MOST_PAGES: usize = 1_024;
+
+/// Books, and the last bodies and pages that were looked up. What is kept is what the tables hold.
 #[derive(Drop)]
 pub struct Recent<B: Books> {
     books: B,
     bodies: Vec<KeptBody>,
     pages: Vec<KeptPage>,
-    /// The most bytes that are kept, and how many are.
+    /// The most bytes that may be kept, and how many are at most.
     most: usize,
     used: usize,
     ghost kept_bodies: { B.IsHonest books → All (IsKeptBody (B.tables books)) bodies.items },
     ghost kept_pages: { B.IsHonest books → All (IsKeptPage (B.tables books)) pages.items },
+    ghost counted: { body_bytes bodies.items + page_bytes pages.items ≤ used },
+    ghost within: { used ≤ most },
+    ghost few: { (length bodies.items ≤ MOST_BODIES) × (length pages.items ≤ MOST_PAGES) },
 }
 
 impl<B: Books> Recent<B> {
@@ -57,7 +68,7 @@ impl<B: Books> Recent<B> {
         books
     }
 
-    /// Lets all go that is kept.
+    /// Lets go of all that is kept.
     fn forget(&mut self)
         ensures { (self.new.books ≡ self.old.books)
             × ((self.new.bodies.items ≡ []) × (self.new.pages.items ≡ [])) }
@@ -67,19 +78,44 @@ impl<B: Books> Recent<B> {
         self.used = 0;
     }
 
-    /// Whether so many bytes more may be kept. All else goes where they don't fit beside it.
-    fn makes_room(&mut self, more: usize) -> bool
-        ensures { self.new.books ≡ self.old.books }
+    /// Lets go of all pages, and of the bodies that a change may write.
+    fn forget_touched(&mut self, change: &Change)
+        ensures { (self.new.books ≡ self.old.books) × ((self.new.pages.items ≡ [])
+            × (self.new.bodies.items ≡ filter (spares_body change.now) self.old.bodies.items)) }
     {
-        if more > self.most {
+        self.pages.clear();
+        keep_spared(&mut self.bodies, change);
+        self.used = self.used.min(body_bytes(self.bodies.as_slice()));
+    }
+
+    /// Makes room for so many bytes more, and for a body and a page. False: so many may never be kept.
+    fn makes_room(&mut self, more: usize) -> bool
+        ensures books { self.new.books ≡ self.old.books }
+        ensures few { result ≡ true → (length self.new.bodies.items < MOST_BODIES)
+            × (length self.new.pages.items < MOST_PAGES) }
+        ensures counted { result ≡ true → (body_bytes self.new.bodies.items
+            + page_bytes self.new.pages.items) + more ≤ self.new.used }
+    {
+        if self.most == 0 || more > self.most {
             return false;
         }
-        let is_full = self.bodies.len() >= MOST_KEPT || self.pages.len() >= MOST_KEPT;
-        if is_full || self.used > self.most - more {
-            self.forget();
+        let room = self.most - more;
+        if self.used > room || self.bodies.len() >= MOST_BODIES || self.pages.len() >= MOST_PAGES {
+            self.forget_oldest(room);
         }
-        self.used = self.used.saturating_add(more);
+        self.used += more;
         true
+    }
+
+    /// Lets go of all pages, and of the oldest bodies until the others are few enough and have at most so many bytes.
+    fn forget_oldest(&mut self, room: usize)
+        requires { room ≤ self.old.most }
+        ensures books { (self.new.books ≡ self.old.books) × (self.new.most ≡ self.old.most) }
+        ensures few { (length self.new.bodies.items < MOST_BODIES) × (self.new.pages.items ≡ []) }
+        ensures room { self.new.used ≤ room }
+    {
+        self.pages.clear();
+        self.used = keep_newest(&mut self.bodies, MOST_BODIES, room, self.used);
     }
 }
 
@@ -94,37 +130,63 @@ impl<B: Books> Books for Recent<B> {
 
     ghost failures = { λ recent. B.failures recent.books };
 
+    ghost stores = { λ recent. B.stores recent.books };
+
     fn failure_count(&self) -> u64 {
         self.books.failure_count()
     }
 
     fn view(&mut self, alloc: Global, keys: &Keys) -> Result<View, Fault> {
-        self.books.view(alloc, keys)
+        let found = self.books.view(alloc, keys);
+        if is_out_of_memory(&found) {
+            self.forget();
+        }
+        found
     }
 
     fn write(&mut self, alloc: Global, change: Change) -> Result<(), Fault> {
-        self.forget();
+        self.forget_touched(&change);
         self.books.write(alloc, change)
     }
 
     fn owners_of(&mut self, alloc: Global, name: &NormalName) -> Result<Owners, Fault> {
-        self.books.owners_of(alloc, name)
+        let found = self.books.owners_of(alloc, name);
+        if is_out_of_memory(&found) {
+            self.forget();
+        }
+        found
     }
 
     fn bytes_of(&mut self, alloc: Global, file: &FileName) -> Result<Option<Sealed>, Fault> {
-        self.books.bytes_of(alloc, file)
+        let found = self.books.bytes_of(alloc, file);
+        if is_out_of_memory(&found) {
+            self.forget();
+        }
+        found
     }
 
     fn names(&mut self, alloc: Global) -> Result<Vec<NameRow>, Fault> {
-        self.books.names(alloc)
+        let found = self.books.names(alloc);
+        if is_out_of_memory(&found) {
+            self.forget();
+        }
+        found
     }
 
     fn files_of(&mut self, alloc: Global, name: &NormalName) -> Result<Vec<FileRow>, Fault> {
-        self.books.files_of(alloc, name)
+        let found = self.books.files_of(alloc, name);
+        if is_out_of_memory(&found) {
+            self.forget();
+        }
+        found
     }
 
     fn walk_held<K: NameTaker>(&mut self, alloc: Global, taker: &mut K) -> Result<(), WalkEnd> {
-        self.books.walk_held(alloc, taker)
+        let end = self.books.walk_held(alloc, taker);
+        if is_walk_out_of_memory(&end) {
+            self.forget();
+        }
+        end
     }
 
     fn walk_files<K: FileTaker>(
@@ -133,7 +195,11 @@ impl<B: Books> Books for Recent<B> {
         name: &NormalName,
         taker: &mut K,
     ) -> Result<(), WalkEnd> {
-        self.books.walk_files(alloc, name, taker)
+        let end = self.books.walk_files(alloc, name, taker);
+        if is_walk_out_of_memory(&end) {
+            self.forget();
+        }
+        end
     }
 
     ghost honest_is_clean = { λ recent honest. B.honest_is_clean recent.books honest };

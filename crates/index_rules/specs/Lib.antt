@@ -13,6 +13,7 @@ pub mod Effect
 pub mod Decided
 pub mod Rows
 pub mod Walks
+pub mod Told
 pub mod Calls
 pub mod Runs
 pub mod Sound

@@ -1,5 +1,7 @@
 //! Laws of every legal history. Each function does nothing, and its contract is the law.
-ghost use Rattle.index_rules.specs.History.{History};
+ghost use Rattle.index_rules.specs.FirstTables.{first_tables};
+ghost use Rattle.index_rules.specs.History.{History, begins};
+ghost use Rattle.index_rules.specs.Maps.{Bytes};
 ghost use Rattle.index_rules.specs.Legal.{IsLegal};
 ghost use Rattle.index_rules.specs.Tables.{Tables};
 ghost use Rattle.index_rules.specs.Sound.{IsSound};
@@ -49,4 +51,10 @@ pub fn names_stand_alone()
 #[tactic(auto, using(crate::proofs::StandsOn::sound_when_legal))]
 pub fn tables_of_a_legal_history_are_sound()
     ensures { (h : History) → IsLegal h → (T : Tables) → StandsFor T h → IsSound T }
+{}
+
+/// The tables of a new index stand for the opening alone.
+
+pub fn first_tables_stand_for_the_opening()
+    ensures { (user token : Bytes) → StandsFor (first_tables user token) (begins user token) }
 {}

@@ -1,6 +1,6 @@
 -- What is done after a look at the version.
 use Rattle.std.proofs.lemmas.Bool.{cases_Bool}
-use Rattle.std.proofs.Common.{◌≡◌, inl, inr, ◌∙◌, ap, refl, subst, sym, true, true≢false, IsSome, IsTrue, ℕ, Option, Some, Result, Ok, Err, IfErr}
+use Rattle.std.proofs.Common.{◌≡◌, ◌≢◌, inl, inr, ◌∙◌, ap, refl, subst, sym, true, true≢false, IsSome, IsTrue, ℕ, Option, Some, Result, Ok, Err, IfErr}
 use Rattle.sqlite_trees.specs.declared.store.Store.{Ghosts}
 use Rattle.sqlite.specs.Effect.{Database}
 use Rattle.sqlite.specs.Held.{Held, state}
@@ -8,6 +8,7 @@ use Rattle.sqlite.specs.State.{HasCleanDisk}
 use Rattle.index_sql_writes.specs.StepAsks.{AreRefused}
 use Rattle.index_sql_schema.specs.Looks.{QueriesOnly}
 use Rattle.index_sql_schema.specs.Reasons.{HasReason}
+use Rattle.index_sql_schema.specs.RecordRows.{AreRecords}
 use Rattle.index_rules.specs.declared.open.OpenFault.{OpenFault}
 use Rattle.index_rules.specs.declared.open.OpenFault.TheVariants.{BadFirstUser, NotEmpty, NotAnIndex, OtherVersion, OutOfMemory, Store}
 use Rattle.sqlite_schema.specs.Names.{same_name}
@@ -22,7 +23,9 @@ use Rattle.index_sql_schema.specs.Index.{version_in}
 use Rattle.index_sql_writes.proofs.GoingLemmas.{fault_since}
 use Rattle.index_tables.specs.declared.opening.Unopened.{Unopened}
 use Rattle.index_tables.specs.BooksState.{IsWorking, BooksState}
-use Rattle.index_tables.specs.Adopted.{FailsToOpen, IsOurs, IsRaised, IsReason, TellsVersion, refusal_in}
+use Rattle.index_tables.specs.declared.adopt.Kind.{Kind}
+use Rattle.index_tables.specs.declared.adopt.Kind.TheVariants.{FirstVersion}
+use Rattle.index_tables.specs.Adopted.{FailsToOpen, IsOurs, IsRaised, IsReason, IsReasonOfKind, TellsVersion, refusal_in, version_of}
 use Rattle.index_tables.specs.Opened.{AreOpened, IsFault, IsUnopened, LeavesOr, StoreForRefusal, open_fault_by}
 
 -- the version that such a database tells leaves the store to blame
@@ -74,6 +77,33 @@ module _ {S : Type 0} (g : Ghosts S) where
     reason_failed fault.OutOfMemory why is fails = subst (IsReason g held new) (sym is) meta
     reason_failed fault.Store why is fails = subst (IsReason g held new) (sym is) (meta, inr (fails refl))
 
+    -- what is a reason for one of a kind is one
+    pub reason_of_kind : (kind : Kind) (why : OpenFault) → IsReasonOfKind g kind held new why → IsReason g held new why
+    reason_of_kind kind NotAnIndex (version, tells, other, is) = inr (version, tells, is)
+    reason_of_kind kind OutOfMemory memory = meta
+    reason_of_kind kind Store (inl (version, tells, other, is)) = (meta, inl (version, tells, is))
+    reason_of_kind kind Store (inr fails) = (meta, inr fails)
+    reason_of_kind kind BadFirstUser (version, tells, other, is) = (version, tells, is)
+    reason_of_kind kind NotEmpty (version, tells, other, is) = (version, tells, is)
+    reason_of_kind kind OtherVersion (version, tells, other, is) = (version, tells, is)
+
+  -- what is known of one of a kind
+  module _ (kind : Kind) (held new : Held S) where
+    -- another version than its own is a reason
+    pub other_told : (version : Option ℕ) (why : OpenFault) → TellsVersion g held version → version ≢ Some (version_of kind) → why ≡ refusal_in (state g held).now.schema version → IsReasonOfKind g kind held new why
+    other_told version NotAnIndex tells other is = (version, tells, other, is)
+    other_told version OutOfMemory tells other is = tt
+    other_told version Store tells other is = inl (version, tells, other, is)
+    other_told version BadFirstUser tells other is = (version, tells, other, is)
+    other_told version NotEmpty tells other is = (version, tells, other, is)
+    other_told version OtherVersion tells other is = (version, tells, other, is)
+
+    -- and so is a fault
+    pub kind_failed : (f : Fault) (why : OpenFault) → why ≡ open_fault_by f → (f ≡ fault.Store → FailsToOpen g held new) → IsReasonOfKind g kind held new why
+    kind_failed fault.OutOfMemory why is fails = subst (IsReasonOfKind g kind held new) (sym is) tt
+    kind_failed fault.Store why is fails = subst (IsReasonOfKind g kind held new) (sym is) (inr (fails refl))
+
+  module _ (held new : Held S) where
     -- of version 1 it may be that it is not raised, after a look at its version
     module _ (mid : Held S) (looks : QueriesOnly g held mid true) (clean : HasCleanDisk (state g mid)) where
       since : HasReason (state g mid) (state g new) → HasReason (state g held) (state g new)
@@ -90,9 +120,9 @@ module _ {S : Type 0} (g : Ghosts S) where
         | inr shut ↦ inl (inr (inl shut))
       ]
 
-      pub reason_raised : (why : OpenFault) → (IsTrue (state g held).is_open → IsFirstVersion (state g held).now) → version_in (state g held).now.trees ≡ Some 1 → IsFault why → StoreForRefusal g asks_of_migration mid new why → IsReason g held new why
-      reason_raised why first told (inl memory) reason = subst (IsReason g held new) (sym memory) meta
-      reason_raised why first told (inr store) reason = subst (IsReason g held new) (sym store) (meta, inr (elim (reason store) [ inl it ↦ inl (since it) | inr refuses ↦ refused first told refuses ]))
+      pub reason_raised : (why : OpenFault) → (IsTrue (state g held).is_open → IsFirstVersion (state g held).now) → version_in (state g held).now.trees ≡ Some 1 → IsFault why → StoreForRefusal g asks_of_migration mid new why → IsReasonOfKind g FirstVersion held new why
+      reason_raised why first told (inl memory) reason = subst (IsReasonOfKind g FirstVersion held new) (sym memory) tt
+      reason_raised why first told (inr store) reason = subst (IsReasonOfKind g FirstVersion held new) (sym store) (inr (elim (reason store) [ inl it ↦ inl (since it) | inr refuses ↦ refused first told refuses ]))
 
   -- what is opened, or not, after a look
   module _ (a b : Held S) (looks : QueriesOnly g a b true) where
@@ -113,13 +143,16 @@ module _ {S : Type 0} (g : Ghosts S) where
       was_clean = λ clean. looks.was_clean (it.was_clean clean);
       lasts = λ working clean. it.lasts (works_after working (it.was_clean clean)) clean;
       failures = it.failures;
+      stores = it.stores;
+      limit = λ working. it.limit working ∙ looks.survives.limit;
+      records = λ records working. let at_b = it.was_working working in it.records (subst AreRecords (sym (looks.now_is at_b.clean at_b.is_open)) records) working;
       crash = raised_after books.conn it.was_clean it.crash;
       alone = λ working T left. it.alone (works_after working (it.was_clean left.0)) T left;
     }
 
-    pub refused_after : (refused : Unopened S) → IsTrue (has_meta (state g a).now.schema) → (IsTrue (state g a).is_open → IsFirstVersion (state g a).now) → (HasCleanDisk (state g b) → version_in (state g a).now.trees ≡ Some 1)
-        → IsFault refused.why → IsUnopened g IsRaised (StoreForRefusal g asks_of_migration) b refused → IsUnopened g IsRaised (IsReason g) a refused
-    refused_after refused meta first told fault it = record {
+    pub refused_after : (refused : Unopened S) → (IsTrue (state g a).is_open → IsFirstVersion (state g a).now) → (HasCleanDisk (state g b) → version_in (state g a).now.trees ≡ Some 1)
+        → IsFault refused.why → IsUnopened g IsRaised (StoreForRefusal g asks_of_migration) b refused → IsUnopened g IsRaised (IsReasonOfKind g FirstVersion) a refused
+    refused_after refused first told fault it = record {
       outside = it.outside;
       was_clean = λ clean. looks.was_clean (it.was_clean clean);
       stays = λ clean.
@@ -130,7 +163,8 @@ module _ {S : Type 0} (g : Ghosts S) where
             now_is = λ o. stays.now_is o ∙ looks.now_is at_b (stays.was_open o);
             committed_is = λ o. stays.committed_is o ∙ looks.committed_is at_b (stays.was_open o);
           };
-      reason = λ clean. let at_b = it.was_clean clean in reason_raised a refused.conn meta b looks at_b refused.why first (told at_b) fault (it.reason clean);
+      limit = λ working. it.limit working ∙ looks.survives.limit;
+      reason = λ clean. let at_b = it.was_clean clean in reason_raised a refused.conn b looks at_b refused.why first (told at_b) fault (it.reason clean);
       crash = raised_after refused.conn it.was_clean it.crash;
     }
 

@@ -9,6 +9,7 @@ use Rattle.index_sql_schema.specs.Looks.{QueriesOnly}
 use Rattle.index_rules.specs.declared.answer.Fault.{Fault}
 use Rattle.index_rules.specs.declared.rows.WalkEnd.{WalkEnd}
 use Rattle.index_rules.specs.Tables.{Tables}
+use Rattle.index_rules.specs.Told.{CountsStore, tells_store, ends_by_store}
 use Rattle.index_rules.specs.Walks.{has_fault}
 use Rattle.index_sql_reads.specs.Finds.{FindsInTables}
 use Rattle.index_sql_reads.specs.WalkReasons.{HandsRows}
@@ -49,34 +50,37 @@ looks_leave g old new did looks T (clean, (db, may, is)) = (looks.was_clean clea
     before (inr none) = absurd none
 
 -- so a look at the connection, counted, is a look at the books
-pub looks_up : {S : Type 0} (g : Ghosts S) (old new : BooksState S) (did : Bool) → QueriesOnly g old.conn new.conn did → new.failures ≡ next_count old.failures did → LooksUp g old new did
-looks_up g old new did looks counted = record {
+pub looks_up : {S : Type 0} (g : Ghosts S) (old new : BooksState S) (did is_store : Bool) → QueriesOnly g old.conn new.conn did → new.failures ≡ next_count old.failures did
+    → CountsStore old.stores new.stores is_store → LooksUp g old new did is_store
+looks_up g old new did is_store looks counted stores = record {
   looks = record {
     call = record {
       honest = looks_back g old.conn new.conn _ looks;
       clean = looks.was_clean;
       failures = counted;
+      stores = stores;
     };
     unchanged = λ honest. ap (λ (d : Database). tables_in d.trees) (looks.now_is honest.clean honest.is_open);
     lasts = λ right. keeps g old.conn new.conn _ right looks;
     crash = looks_leave g old.conn new.conn _ looks;
   };
   records = λ honest records. subst AreRecords (sym (looks.now_is honest.clean honest.is_open)) records;
+  limit = λ _. looks.survives.limit;
 }
 
 pub finds : {S A : Type 0} (g : Ghosts S) (old new : BooksState S) (result : Result A Fault) (Has : Tables → A → Type 0) → FindsInTables g old.conn new.conn result Has
-    → new.failures ≡ next_count old.failures (is_ok result) → LooksFor g old new result Has
-finds g old new result Has it counted = record {
+    → new.failures ≡ next_count old.failures (is_ok result) → CountsStore old.stores new.stores (tells_store result) → LooksFor g old new result Has
+finds g old new result Has it counted stores = record {
   found = λ honest. it.found honest.clean;
-  looks = looks_up g old new (is_ok result) it.looks counted;
+  looks = looks_up g old new (is_ok result) (tells_store result) it.looks counted stores;
   reason = it.reason;
 }
 
 pub walks : {S K R A : Type 0} (g : Ghosts S) (takes stops : K → R → K → Type 0) (rows_in : Tables → List R) (old new : BooksState S) (before after : K) (result : Result A WalkEnd)
-    → HandsRows g takes stops rows_in old.conn new.conn before after result → new.failures ≡ next_count old.failures (not (has_fault result)) → WalksBooks g takes stops rows_in old new before after result
-walks g takes stops rows_in old new before after result it counted = record {
+    → HandsRows g takes stops rows_in old.conn new.conn before after result → new.failures ≡ next_count old.failures (not (has_fault result)) → CountsStore old.stores new.stores (ends_by_store result) → WalksBooks g takes stops rows_in old new before after result
+walks g takes stops rows_in old new before after result it counted stores = record {
   walked = λ honest. it.walked;
   given = it.given;
-  looks = looks_up g old new (not (has_fault result)) it.looks counted;
+  looks = looks_up g old new (not (has_fault result)) (ends_by_store result) it.looks counted stores;
   reason = it.reason;
 }

@@ -1,5 +1,5 @@
 -- Books that are opened on a connection, or not.
-use Rattle.std.proofs.Common.{◌≡◌, ◌∙◌, Bool, inl, inr, false, ℕ, IsTrue, List, Option, Some, Result, Ok, Err, refl, sym}
+use Rattle.std.proofs.Common.{◌≡◌, ◌∙◌, Bool, inl, inr, false, ℕ, IsTrue, List, Option, Some, Result, Ok, Err, refl, subst, sym}
 use Rattle.sqlite_trees.specs.Tree.{Trees}
 use Rattle.sqlite_trees.specs.declared.store.Store.{Ghosts}
 use Rattle.sqlite.specs.declared.error.Error.{Error}
@@ -10,6 +10,7 @@ use Rattle.index_sql_opening.specs.Making.{IsAtRest, MakesIndex}
 use Rattle.index_sql_schema.specs.Faults.{fault_by}
 use Rattle.index_sql_schema.specs.Index.{IsIndex, version_in}
 use Rattle.index_sql_schema.specs.Looks.{QueriesOnly}
+use Rattle.index_sql_schema.specs.RecordRows.{AreRecords}
 use Rattle.index_sql_schema.specs.Records.{tables_in}
 use Rattle.index_sql_writes.specs.Asks.{Ask}
 use Rattle.index_rules.specs.declared.answer.Fault.{Fault}
@@ -17,9 +18,10 @@ use Rattle.index_rules.specs.declared.answer.Fault.TheVariants as fault
 use Rattle.index_rules.specs.declared.open.OpenFault.{OpenFault}
 use Rattle.index_rules.specs.declared.open.OpenFault.TheVariants as open_fault
 use Rattle.index_rules.specs.Tables.{Tables}
+use Rattle.index_tables.specs.declared.opening.Unopened.{Unopened}
 use Rattle.index_tables.specs.BooksState.{AreCurrent, IsHonest, IsWorking}
 use Rattle.index_tables.specs.Laws.{IsSettled, settled_at}
-use Rattle.index_tables.specs.Opened.{AreOpened, IsUnopened, LeavesOr, StoreForRefusal, open_fault_by}
+use Rattle.index_tables.specs.Opened.{AreOpened, IsUnopened, KeepsLimit, LeavesOr, StoreForRefusal, open_fault_by}
 use Rattle.index_tables.proofs.KeptLemmas.{keeps}
 
 store_by : (f : Fault) → open_fault_by f ≡ open_fault.Store → f ≡ fault.Store
@@ -29,12 +31,17 @@ store_by fault.OutOfMemory same = absurd (let s = same in cc)
 module _ {S : Type 0} (g : Ghosts S) (Made : Database → Trees → Type 0) (old new : Held S) where
   -- books that are honest where the connection worked leave their tables alone
   opened_by : IsSettled (state g new) → (HasCleanDisk (state g new) → HasCleanDisk (state g old)) → (HasCleanDisk (state g new) → IsTrue (state g new).is_open → IsTrue (state g old).is_open)
-      → (IsWorking (state g old) → HasCleanDisk (state g new) → IsHonest (state g new)) → LeavesOr Made (state g old) (state g new) → AreOpened g Made old (record { conn = new; failures = 0 })
-  opened_by settled was_clean was_open lasts crash = record {
+      → (IsWorking (state g old) → HasCleanDisk (state g new) → IsHonest (state g new)) → LeavesOr Made (state g old) (state g new)
+      → (IsWorking (state g new) → KeepsLimit (state g old) (state g new)) → (AreRecords (state g old).now → IsWorking (state g new) → AreRecords (state g new).now)
+      → AreOpened g Made old (record { conn = new; failures = 0; stores = 0 })
+  opened_by settled was_clean was_open lasts crash limit records = record {
     was_working = λ working. record { clean = was_clean working.clean; is_open = was_open working.clean working.is_open };
     was_clean = was_clean;
     lasts = lasts;
     failures = refl;
+    stores = refl;
+    limit = limit;
+    records = records;
     crash = crash;
     alone = λ working T left. settled_at (lasts working left.0) settled T left;
   }
@@ -45,17 +52,18 @@ module _ {S : Type 0} (g : Ghosts S) (Made : Database → Trees → Type 0) (old
     looked_crash working clean db may = elim (looks.survives.crash clean db may) [ inl before ↦ inl before | inr none ↦ absurd none ]
 
     pub looked_opened : IsTrue did → IsSettled (state g new) → (IsTrue (state g old).is_open → IsIndex (state g old).now) → (HasCleanDisk (state g new) → version_in (state g old).now.trees ≡ Some 2)
-        → AreOpened g Made old (record { conn = new; failures = 0 })
+        → AreOpened g Made old (record { conn = new; failures = 0; stores = 0 })
     looked_opened right settled index told = opened_by settled looks.was_clean looks.was_open
         (λ working clean. keeps g old new did right looks
         (record { clean = working.clean; is_open = working.is_open; index = index working.is_open; committed = rest.settled working.clean working.is_open; version = told clean }) clean)
-        looked_crash
+        looked_crash (λ _. looks.survives.limit) (λ records working. subst AreRecords (sym (looks.now_is working.clean working.is_open)) records)
 
     pub looked_refused : {Reason : Held S → Held S → OpenFault → Type 0} (why : OpenFault) → (HasCleanDisk (state g new) → Reason old new why) → IsUnopened g Made Reason old (record { why = why; conn = new })
     looked_refused why reason = record {
       outside = looks.outside rest.outside;
       was_clean = looks.was_clean;
       stays = λ clean. record { was_open = looks.was_open clean; now_is = looks.now_is clean; committed_is = looks.committed_is clean };
+      limit = λ _. looks.survives.limit;
       reason = reason;
       crash = looked_crash;
     }
@@ -73,9 +81,19 @@ module _ {S : Type 0} (g : Ghosts S) (Made : Database → Trees → Type 0) (old
           | inr made ↦ inr (comes db fit (record { index = made.2; version = made.1 ∙ tells working.clean working.is_open }) made.0)
         ]
 
-    pub made_opened : (done : A) → MakesIndex g IsKind change told asks old new (Ok done) → IsSettled (state g new) → AreOpened g Made old (record { conn = new; failures = 0 })
-    made_opened done it settled = opened_by settled it.was_clean it.was_open honest (made_crash (Ok done) it)
+    made_limit : (result : Result A Error) → MakesIndex g IsKind change told asks old new result → IsWorking (state g new) → KeepsLimit (state g old) (state g new)
+    made_limit result it working =
+        let was = it.was_open working.clean working.is_open in
+        (it.crash was (kind (it.was_clean working.clean) was)).limit
+
+    pub made_opened : (done : A) → MakesIndex g IsKind change told asks old new (Ok done) → IsSettled (state g new) → AreOpened g Made old (record { conn = new; failures = 0; stores = 0 })
+    made_opened done it settled = opened_by settled it.was_clean it.was_open honest (made_crash (Ok done) it) (made_limit (Ok done) it) records
       where
+        records : AreRecords (state g old).now → IsWorking (state g new) → AreRecords (state g new).now
+        records were working =
+            let was = it.was_open working.clean working.is_open in
+            (it.made working.clean was (kind (it.was_clean working.clean) was)).records were
+
         honest : IsWorking (state g old) → HasCleanDisk (state g new) → IsHonest (state g new)
         honest working clean =
             let made = it.made clean working.is_open (kind working.clean working.is_open) in
@@ -93,6 +111,7 @@ module _ {S : Type 0} (g : Ghosts S) (Made : Database → Trees → Type 0) (old
             now_is = λ o. let was = it.was_open clean o in (it.unchanged clean o (fit clean was)).0 ∙ sym (rest.settled (it.was_clean clean) was);
             committed_is = λ o. (it.unchanged clean o (fit clean (it.was_open clean o))).1;
           };
+          limit = made_limit (Err e) it;
           reason = λ clean. weaker (λ store. it.reason clean (fit clean) (store_by (fault_by e) (sym is ∙ store)));
           crash = made_crash (Err e) it;
         }
@@ -104,6 +123,19 @@ refused_at_once g held why outside reason = record {
   outside = outside;
   was_clean = λ clean. clean;
   stays = λ _. record { was_open = λ o. o; now_is = λ _. refl; committed_is = λ _. refl };
+  limit = λ _. refl;
   reason = reason;
   crash = λ _ _ db may. inl may;
+}
+
+-- a reason of one kind is one of another
+pub unopened_by : {S : Type 0} (g : Ghosts S) {Made : Database → Trees → Type 0} {Reason Other : Held S → Held S → OpenFault → Type 0} (held : Held S) (refused : Unopened S)
+    → (Reason held refused.conn refused.why → Other held refused.conn refused.why) → IsUnopened g Made Reason held refused → IsUnopened g Made Other held refused
+unopened_by g held refused weaker it = record {
+  outside = it.outside;
+  was_clean = it.was_clean;
+  stays = it.stays;
+  limit = it.limit;
+  reason = λ clean. weaker (it.reason clean);
+  crash = it.crash;
 }

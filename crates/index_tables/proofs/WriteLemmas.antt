@@ -10,6 +10,11 @@ use Rattle.index_rules.specs.declared.answer.Fault.{Fault}
 use Rattle.index_rules.specs.declared.answer.Fault.TheVariants as fault
 use Rattle.index_rules.specs.declared.change.Change.{Change}
 use Rattle.index_sql_writes.specs.ChangeAsks.{asks_of}
+use Rattle.index_sql_writes.specs.Changed.{MakesChange}
+use Rattle.index_sql_schema.specs.Looks.{IsIndexConnection}
+use Rattle.index_rules.specs.Tables.{Tables}
+use Rattle.index_tables.specs.BooksState.{IsWorking}
+use Rattle.index_tables.specs.Opened.{KeepsLimit}
 
 -- an error that is told as a fault has the reason of the error
 pub told_reason : {A S : Type 0} (g : Ghosts S) (change : Change) (old new : Held S) (made : Result A Error) (told : Result A Fault) → is_ok told ≡ is_ok made → IfErr made (λ error. told ≡ Err (fault_by error))
@@ -17,3 +22,11 @@ pub told_reason : {A S : Type 0} (g : Ghosts S) (change : Change) (old new : Hel
 told_reason g change old new made (Ok done) ok says reason = tt
 told_reason g change old new (Ok done) (Err it) ok says reason = absurd (true≢false (sym ok))
 told_reason g change old new (Err e) (Err it) ok says reason = λ store. let same : it ≡ fault_by e = cc in reason (sym same ∙ store)
+
+-- a change leaves the limit on the steps of queries as it was
+pub limit_kept : {S A : Type 0} (g : Ghosts S) (change : Tables → Tables) (old new : Held S) (made : Result A Error) → IsIndexConnection g old → MakesChange g change old new made
+    → IsWorking (state g new) → KeepsLimit (state g old) (state g new)
+limit_kept g change old new made index makes working =
+    let clean = makes.was_clean working.clean in
+    let was = makes.was_open working.clean working.is_open in
+    (makes.crash was (index.index clean was)).limit

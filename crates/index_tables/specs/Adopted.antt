@@ -1,5 +1,5 @@
 -- What a database that is there is taken for.
-use Rattle.std.specs.Prelude.{◌≡◌, ◌⊎◌, ℕ, ◌==◌, Bool, ◌&&◌, false, if◌then◌else◌, Option, Some, None, codes, IsTrue}
+use Rattle.std.specs.Prelude.{◌≡◌, ◌≢◌, ◌⊎◌, ℕ, ◌==◌, Bool, ◌&&◌, false, if◌then◌else◌, Option, Some, None, codes, IsTrue, ⊤}
 use Rattle.sqlite_trees.specs.Tree.{Trees}
 use Rattle.sqlite_trees.specs.declared.store.Store.{Ghosts}
 use Rattle.sqlite_schema.specs.declared.schema.Schema.{Schema}
@@ -96,6 +96,24 @@ IsNotRaised db = TellsFirst db × AreRefused asks_of_migration db
 -- the store fails, the query of the version is refused, or the database is of version 1 and is not raised
 abbrev pub FailsToOpen : {S : Type 0} → Ghosts S → Held S → Held S → Type 0
 FailsToOpen g old new = HasReason (state g old) (state g new) ⊎ (FailsToTell g (begun old) ⊎ IsNotRaised (state g old).now)
+
+-- the version that an index of this kind tells
+abbrev pub version_of : Kind → ℕ
+version_of kind.Index = 2
+version_of kind.FirstVersion = 1
+
+-- an index of this kind is refused for this by another version that it tells
+abbrev pub IsRefusedByOther : {S : Type 0} → Ghosts S → Kind → Held S → OpenFault → Type 0
+IsRefusedByOther g kind held why =
+    (version : Option ℕ) × TellsVersion g held version × (version ≢ Some (version_of kind))
+    × (why ≡ refusal_in (state g held).now.schema version)
+
+-- Why no index is opened of a database whose schema is that of this kind: one that tells the version of its kind is opened,
+-- unless it fails to be.
+abbrev pub IsReasonOfKind : {S : Type 0} → Ghosts S → Kind → Held S → Held S → OpenFault → Type 0
+IsReasonOfKind g kind old new OutOfMemory = ⊤
+IsReasonOfKind g kind old new Store = IsRefusedByOther g kind old Store ⊎ FailsToOpen g old new
+IsReasonOfKind g kind old new why = IsRefusedByOther g kind old why
 
 -- Why no index is opened on a connection, which is left as `new`. Without a table of the version it is no index, whatever
 -- the store does.

@@ -9,14 +9,15 @@ use Rattle.index_rules.specs.Tables.{Tables}
 use Rattle.index_sql_schema.specs.Index.{IsIndex, version_in}
 use Rattle.index_sql_schema.specs.Records.{tables_in}
 
--- a connection, and how many calls answered a fault
+-- a connection, how many calls answered a fault, and how many of them `Store`
 pub record BooksState (S : Type 0) : Type 0 where
   pub conn : Held S
   pub failures : ℕ
+  pub stores : ℕ
 
 abbrev pub books_state_code : {S : Type 0} → Coded S → Coded (BooksState S)
 books_state_code {S} store =
-    code_by (Held S × ℕ) (coded× (held_code store) coded_ℕ) (λ kept. (kept.conn, kept.failures)) (λ p. record { conn = p.0; failures = p.1 }) (λ _. refl)
+    code_by (Held S × (ℕ × ℕ)) (coded× (held_code store) (coded× coded_ℕ coded_ℕ)) (λ kept. (kept.conn, (kept.failures, kept.stores))) (λ p. record { conn = p.0; failures = p.1.0; stores = p.1.1 }) (λ _. refl)
 
 -- so far the disk has returned what was written, and no fault has shut the connection
 pub record IsWorking (s : State) : Type 0 where

@@ -9,33 +9,40 @@ use Rattle.index_rules.specs.Calls as calls
 use Rattle.index_rules.specs.declared.answer.Fault.{Fault}
 use Rattle.index_rules.specs.declared.rows.WalkEnd.{WalkEnd}
 use Rattle.index_rules.specs.Tables.{Tables}
+use Rattle.index_rules.specs.Told.{tells_store, ends_by_store}
 use Rattle.index_rules.specs.Walks.{Walks, has_fault}
 use Rattle.index_sql_schema.specs.Reasons.{FailsForReason}
 use Rattle.index_sql_schema.specs.RecordRows.{AreRecords}
-use Rattle.index_tables.specs.BooksState.{IsHonest, BooksState, Leaves}
+use Rattle.index_tables.specs.BooksState.{IsHonest, IsWorking, BooksState, Leaves}
+use Rattle.index_tables.specs.Opened as opened
 
 module _ {S : Type 0} (g : Ghosts S) where
   -- what the trait says of each call
-  abbrev pub Calls : (old new : BooksState S) (succeeds : Bool) → Type 0
-  Calls = calls.Calls (λ kept. IsHonest (state g kept.conn)) (λ kept. HasCleanDisk (state g kept.conn)) (λ kept. kept.failures)
+  abbrev pub Calls : (old new : BooksState S) (succeeds is_store : Bool) → Type 0
+  Calls = calls.Calls (λ kept. IsHonest (state g kept.conn)) (λ kept. HasCleanDisk (state g kept.conn)) (λ kept. kept.failures) (λ kept. kept.stores)
 
   -- and of each look
-  abbrev pub LooksOrFails : (old new : BooksState S) (succeeds : Bool) → Type 0
-  LooksOrFails = calls.LooksUp (λ kept. tables_of g kept.conn) (λ kept. IsHonest (state g kept.conn)) (λ kept. HasCleanDisk (state g kept.conn)) (λ kept. Leaves (state g kept.conn)) (λ kept. kept.failures)
+  abbrev pub LooksOrFails : (old new : BooksState S) (succeeds is_store : Bool) → Type 0
+  LooksOrFails = calls.LooksUp (λ kept. tables_of g kept.conn) (λ kept. IsHonest (state g kept.conn)) (λ kept. HasCleanDisk (state g kept.conn)) (λ kept. Leaves (state g kept.conn)) (λ kept. kept.failures) (λ kept. kept.stores)
 
   -- the rows of its tables stay records
   abbrev pub KeepsRecords : (old new : BooksState S) → Type 0
   KeepsRecords old new = IsHonest (state g new.conn) → AreRecords (state g old.conn).now → AreRecords (state g new.conn).now
 
+  -- while they work, the limit on the steps of their queries is as it was
+  abbrev pub KeepsLimit : (old new : BooksState S) → Type 0
+  KeepsLimit old new = IsWorking (state g new.conn) → opened.KeepsLimit (state g old.conn) (state g new.conn)
+
   -- a look, where they do so too
-  pub record LooksUp (old new : BooksState S) (succeeds : Bool) : Type 0 where
-    pub looks : LooksOrFails old new succeeds
+  pub record LooksUp (old new : BooksState S) (succeeds is_store : Bool) : Type 0 where
+    pub looks : LooksOrFails old new succeeds is_store
     pub records : KeepsRecords old new
+    pub limit : KeepsLimit old new
 
   -- a look that finds this of the tables of an honest store, and fails only for a reason
   pub record LooksFor {A : Type 0} (old new : BooksState S) (result : Result A Fault) (Has : Tables → A → Type 0) : Type 0 where
     pub found : IsHonest (state g new.conn) → IfOk result (Has (tables_of g old.conn))
-    pub looks : LooksUp old new (is_ok result)
+    pub looks : LooksUp old new (is_ok result) (tells_store result)
     pub reason : FailsForReason g old.conn new.conn result
 
   -- a walk hands over some rows, and of an honest store that stays clean those of the tables
@@ -43,5 +50,5 @@ module _ {S : Type 0} (g : Ghosts S) where
     pub walked : IsHonest (state g old.conn) → HasCleanDisk (state g new.conn)
         → Walks takes stops (rows_in (tables_of g old.conn)) before after result
     pub given : (rows : List R) × Walks takes stops rows before after result
-    pub looks : LooksUp old new (not (has_fault result))
+    pub looks : LooksUp old new (not (has_fault result)) (ends_by_store result)
     pub reason : EndsForReason g old.conn new.conn (rows_in (tables_of g old.conn)) result

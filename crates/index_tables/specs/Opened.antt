@@ -85,6 +85,10 @@ HaveTables g Are books = IsWorking (state g books.conn) → Are (tables_of g boo
 abbrev pub HaveRecords : {S : Type 0} → Ghosts S → BooksState S → Type 0
 HaveRecords g books = IsWorking (state g books.conn) → AreRecords (state g books.conn).now
 
+-- the limit on the steps of its queries, which is none unless somebody sets one, is as it was
+abbrev pub KeepsLimit : State → State → Type 0
+KeepsLimit old new = new.step_limit ≡ old.step_limit
+
 -- Books were opened on a connection. `Made` says what may have been made of its database.
 pub record AreOpened {S : Type 0} (g : Ghosts S) (Made : Database → Trees → Type 0) (old : Held S) (books : BooksState S) : Type 0 where
   -- they work only where the connection did, and there they are honest as far as the disk is clean
@@ -92,6 +96,10 @@ pub record AreOpened {S : Type 0} (g : Ghosts S) (Made : Database → Trees → 
   pub was_clean : HasCleanDisk (state g books.conn) → HasCleanDisk (state g old)
   pub lasts : IsWorking (state g old) → HasCleanDisk (state g books.conn) → IsHonest (state g books.conn)
   pub failures : books.failures ≡ 0
+  pub stores : books.stores ≡ 0
+  pub limit : IsWorking (state g books.conn) → KeepsLimit (state g old) (state g books.conn)
+  -- their rows are records, if those of the database were
+  pub records : AreRecords (state g old).now → HaveRecords g books
   -- a crash leaves what it could leave before, or what was made, and where the connection worked their tables alone
   pub crash : LeavesOr Made (state g old) (state g books.conn)
   pub alone : IsWorking (state g old) → (T : Tables) → Leaves (state g books.conn) T → T ≡ tables_of g books.conn
@@ -109,6 +117,7 @@ pub record IsUnopened {S : Type 0} (g : Ghosts S) (Made : Database → Trees →
   -- on a clean disk, where it is open, its database is as it was
   pub stays : HasCleanDisk (state g refused.conn)
       → IsUnchangedIfOpen (state g old) (state g refused.conn)
+  pub limit : IsWorking (state g refused.conn) → KeepsLimit (state g old) (state g refused.conn)
   pub reason : HasCleanDisk (state g refused.conn) → Reason old refused.conn refused.why
   -- a crash leaves what it could leave before, or, where a fault came late, what was made
   pub crash : LeavesOr Made (state g old) (state g refused.conn)

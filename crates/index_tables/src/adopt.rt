@@ -9,7 +9,7 @@ ghost use Rattle.index_sql_opening.specs.Migrated.{asks_of_migration};
 ghost use Rattle.index_sql_opening.specs.Names.{has_meta};
 ghost use Rattle.index_sql_reads.specs.ConnectionTables.{tables_of};
 ghost use Rattle.index_tables.specs.Opened.{AreOpened, HaveTables, IsFault, IsRefusedAs, IsUnopened, RefusesFound, StoreForRefusal};
-ghost use Rattle.index_tables.specs.Adopted.{HasSchema, IsFound, IsOfKind, IsOurs, IsRaised, IsReason, TellsFirst, refusal_by, foreign_tables_fault};
+ghost use Rattle.index_tables.specs.Adopted.{HasSchema, IsFound, IsOfKind, IsOurs, IsRaised, IsReason, IsReasonOfKind, TellsFirst, refusal_by, foreign_tables_fault};
 
 use crate::opening::{Unopened, open_fault_of};
 use crate::tables::SqlBooks;
@@ -89,12 +89,13 @@ fn kind_of<S: Alter>(alloc: Global, conn: &Connection<S>) -> Result<Option<Kind>
 /// The index on a connection to one, or the one that comes of a database of version 1.
 fn adopt_kind<S: Alter>(conn: Connection<S>, kind: Kind) -> Result<SqlBooks<S>, Unopened<S>>
     requires rest { IsAtRest S.Store conn }
-    requires meta { IsTrue (has_meta (state S.Store conn).now.schema) }
     requires kind { IsTrue (state S.Store conn).is_open → IsOfKind (state S.Store conn).now kind }
     ensures found { IfOk result (HaveTables S.Store (IsFound (state S.Store conn).now)) }
     ensures opened { IfOk result (AreOpened S.Store IsRaised conn) }
     ensures why { IfErr result (λ refused. RefusesFound refused.why) }
-    ensures refused { IfErr result (IsUnopened S.Store IsRaised (IsReason S.Store) conn) }
+    // One that tells the version of its kind is opened, unless the store or SQL fails.
+    ensures refused { let Reason = IsReasonOfKind S.Store kind in
+        IfErr result (IsUnopened S.Store IsRaised Reason conn) }
 {
     let has_first = has_version_1_tables(conn.schema());
     let has_bans = has_table(conn.schema(), b"bans");
@@ -103,6 +104,7 @@ fn adopt_kind<S: Alter>(conn: Connection<S>, kind: Kind) -> Result<SqlBooks<S>, 
         (Kind::Index, Ok(Some(2))) => Ok(SqlBooks {
             conn: IndexConnection { conn },
             failures: 0,
+            stores: 0,
         }),
         (Kind::FirstVersion, Ok(Some(1))) => migrate_and_adopt(conn),
         (_, Ok(version)) => Err(Unopened {
@@ -180,6 +182,7 @@ fn migrate_and_adopt<S: Alter>(conn: Connection<S>) -> Result<SqlBooks<S>, Unope
         Ok(()) => Ok(SqlBooks {
             conn: IndexConnection { conn },
             failures: 0,
+            stores: 0,
         }),
         Err(error) => Err(Unopened {
             why: open_fault_of(fault_of(error)),

@@ -8,8 +8,9 @@ ghost use Rattle.index_rules.specs.Effect.{means};
 ghost use Rattle.index_rules.specs.Facts.{Sees};
 ghost use Rattle.index_rules.specs.TableRows.{file_rows_in, held_rows_in, name_rows_in};
 ghost use Rattle.index_rules.specs.Tables.{Tables, owners_in};
+ghost use Rattle.index_rules.specs.Told.{ends_by_store, tells_store};
 ghost use Rattle.index_rules.specs.Walks.{has_fault};
-ghost use Rattle.index_tables.specs.LooksUp.{Calls, KeepsRecords, LooksFor, LooksUp, WalksBooks};
+ghost use Rattle.index_tables.specs.LooksUp.{Calls, KeepsLimit, KeepsRecords, LooksFor, LooksUp, WalksBooks};
 ghost use Rattle.index_tables.specs.Written.{FailsToWrite};
 
 use crate::tables::{SqlBooks, next_count};
@@ -40,6 +41,8 @@ impl<S: Alter> Books for SqlBooks<S> {
 
     ghost failures = { λ books. books.failures };
 
+    ghost stores = { λ books. books.stores };
+
     fn failure_count(&self) -> u64 {
         self.failures
     }
@@ -49,10 +52,11 @@ impl<S: Alter> Books for SqlBooks<S> {
     {
         let seen = index_sql_reads::view(alloc, &mut self.conn, keys);
         self.failures = next_count(self.failures, seen.is_ok());
+        self.stores = next_count(self.stores, !tells_store(&seen));
         seen
     }
 
-    #[tactic(auto, using(crate::proofs::WriteLemmas::told_reason))]
+    #[tactic(auto, using(crate::proofs::WriteLemmas::told_reason, crate::proofs::WriteLemmas::limit_kept))]
     fn write(&mut self, _alloc: Global, change: Change) -> Result<(), Fault>
         ensures written { IsHonest (state S.Store self.new.conn) → OnOk result
             (tables_of S.Store self.new.conn ≡ means change (tables_of S.Store self.old.conn)) }
@@ -66,15 +70,18 @@ impl<S: Alter> Books for SqlBooks<S> {
         ensures alone { IsHonest (state S.Store self.old.conn) → OnOk result ((T : Tables)
             → Leaves (state S.Store self.new.conn) T
             → T ≡ means change (tables_of S.Store self.old.conn)) }
-        ensures call { Calls S.Store self.old self.new (is_ok result) }
+        ensures call { Calls S.Store self.old self.new (is_ok result) (tells_store result) }
         // What is written can be read: its rows are records, where they were.
         ensures records { KeepsRecords S.Store self.old self.new }
+        ensures limit { KeepsLimit S.Store self.old self.new }
         ensures reason { FailsToWrite S.Store change self.old.conn self.new.conn result }
     {
         let made = make_change(&mut self.conn.conn, &change);
         drop(change);
         self.failures = next_count(self.failures, made.is_ok());
-        into_fault(made)
+        let told = into_fault(made);
+        self.stores = next_count(self.stores, !tells_store(&told));
+        told
     }
 
     fn owners_of(&mut self, alloc: Global, name: &NormalName) -> Result<Owners, Fault>
@@ -82,13 +89,14 @@ impl<S: Alter> Books for SqlBooks<S> {
     {
         let owners = index_sql_reads::owners_of(alloc, &mut self.conn, name);
         self.failures = next_count(self.failures, owners.is_ok());
+        self.stores = next_count(self.stores, !tells_store(&owners));
         owners
     }
 
     fn bytes_of(&mut self, alloc: Global, file: &FileName) -> Result<Option<Sealed>, Fault>
         ensures found { IsHonest (state S.Store self.new.conn)
             → IfOk result (λ body. body ≡ get (tables_of S.Store self.old.conn).bodies file.now) }
-        ensures looks { LooksUp S.Store self.old self.new (is_ok result) }
+        ensures looks { LooksUp S.Store self.old self.new (is_ok result) (tells_store result) }
         // They have the digest that the file is bound to, whatever else wrote the database.
         ensures bound { IsHonest (state S.Store self.new.conn)
             → IfOk result (IsBoundTo (digest_in (tables_of S.Store self.old.conn) file.now)) }
@@ -98,6 +106,7 @@ impl<S: Alter> Books for SqlBooks<S> {
     {
         let body = index_sql_reads::find_body(alloc, &mut self.conn, file);
         self.failures = next_count(self.failures, body.is_ok());
+        self.stores = next_count(self.stores, !tells_store(&body));
         body
     }
 
@@ -106,6 +115,7 @@ impl<S: Alter> Books for SqlBooks<S> {
     {
         let rows = index_sql_reads::names(alloc, &mut self.conn);
         self.failures = next_count(self.failures, rows.is_ok());
+        self.stores = next_count(self.stores, !tells_store(&rows));
         rows
     }
 
@@ -115,6 +125,7 @@ impl<S: Alter> Books for SqlBooks<S> {
     {
         let rows = index_sql_reads::files_of(alloc, &mut self.conn, name);
         self.failures = next_count(self.failures, rows.is_ok());
+        self.stores = next_count(self.stores, !tells_store(&rows));
         rows
     }
 
@@ -124,6 +135,7 @@ impl<S: Alter> Books for SqlBooks<S> {
     {
         let ended = index_sql_reads::walk_held(alloc, &mut self.conn, taker);
         self.failures = next_count(self.failures, !has_fault(&ended));
+        self.stores = next_count(self.stores, !ends_by_store(&ended));
         ended
     }
 
@@ -138,6 +150,7 @@ impl<S: Alter> Books for SqlBooks<S> {
     {
         let ended = index_sql_reads::walk_files(alloc, &mut self.conn, name, taker);
         self.failures = next_count(self.failures, !has_fault(&ended));
+        self.stores = next_count(self.stores, !ends_by_store(&ended));
         ended
     }
 
@@ -163,4 +176,18 @@ fn has_fault(ended: &Result<(), WalkEnd>) -> bool
     ensures { result ≡ has_fault ended.now }
 {
     matches!(ended, Err(WalkEnd::OutOfMemory | WalkEnd::Store))
+}
+
+/// Whether a fault of the store ended it.
+fn ends_by_store(ended: &Result<(), WalkEnd>) -> bool
+    ensures { result ≡ ends_by_store ended.now }
+{
+    matches!(ended, Err(WalkEnd::Store))
+}
+
+/// Whether a call told a fault of the store.
+fn tells_store<T>(told: &Result<T, Fault>) -> bool
+    ensures { result ≡ tells_store told.now }
+{
+    matches!(told, Err(Fault::Store))
 }

@@ -100,6 +100,7 @@ fn fill_blank<S: Alter>(
         Ok(()) => Ok(SqlBooks {
             conn: IndexConnection { conn },
             failures: 0,
+            stores: 0,
         }),
         Err(error) => Err(Unopened {
             why: open_fault_of(fault_of(error)),

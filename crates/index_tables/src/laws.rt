@@ -37,6 +37,7 @@ pub fn left_is_found_again<D: Disk, S: Alter>(
     let SqlBooks {
         conn: before,
         failures,
+        stores,
     } = books;
     let IndexConnection { conn: before } = before;
     let before = left_by(before);
@@ -45,6 +46,7 @@ pub fn left_is_found_again<D: Disk, S: Alter>(
         SqlBooks {
             conn: IndexConnection { conn: before },
             failures,
+            stores,
         },
         opened,
     )
@@ -56,12 +58,17 @@ pub fn honest_index_leaves_itself<S: Alter>(books: SqlBooks<S>) -> SqlBooks<S>
     ensures itself { IsHonest (state S.Store books.conn) → (T : Tables) →
         Leaves (state S.Store books.conn) T → T ≡ tables_of S.Store books.conn }
 {
-    let SqlBooks { conn, failures } = books;
+    let SqlBooks {
+        conn,
+        failures,
+        stores,
+    } = books;
     let IndexConnection { conn } = conn;
     let conn = left_by(conn);
     SqlBooks {
         conn: IndexConnection { conn },
         failures,
+        stores,
     }
 }
 

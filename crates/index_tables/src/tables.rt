@@ -17,6 +17,7 @@ use std::marker::Model;
 pub struct SqlBooks<S: Alter> {
     pub(crate) conn: IndexConnection<S>,
     pub(crate) failures: u64,
+    pub(crate) stores: u64,
 }
 
 impl<S: Alter> Model for SqlBooks<S> {
@@ -26,7 +27,7 @@ impl<S: Alter> Model for SqlBooks<S> {
 
     ghost coded = { books_state_code S.code };
 
-    ghost view = { λ books. record { conn = books.conn; failures = books.failures } };
+    ghost view = { λ books. record { conn = books.conn; failures = books.failures; stores = books.stores } };
 }
 
 impl<S: Alter> SqlBooks<S> {
@@ -38,7 +39,11 @@ impl<S: Alter> SqlBooks<S> {
         ensures committed { IsHonest (state S.Store result)
             → IsCommitted (state S.Store result) (tables_of S.Store self.conn) }
     {
-        let SqlBooks { conn, failures: _ } = self;
+        let SqlBooks {
+            conn,
+            failures: _,
+            stores: _,
+        } = self;
         let IndexConnection { conn } = conn;
         conn
     }

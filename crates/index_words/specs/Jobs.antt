@@ -1,6 +1,6 @@
 -- What the words of a command line ask for.
-use Rattle.std.specs.Prelude.{◌≡◌, ◌≤◌, ◌<◌, ◌^◌, ℕ, List, Option, Some, None}
-use Rattle.std.specs.Prelude.{IfSome, IsSome, IsSomeAnd, codes, option_map}
+use Rattle.std.specs.Prelude.{◌≡◌, ◌↔◌, ◌≤◌, ◌<◌, ◌^◌, ℕ, List, Option, Some, None}
+use Rattle.std.specs.Prelude.{IfSome, IsSome, IsSomeAnd, IsTrue, codes, option_map}
 use Rattle.std.specs.Borrow.{Bor}
 use Rattle.std.specs.Str.Parse.{IsNumeral, digits_value, without_leading_plus}
 use Rattle.clap.specs.Words.{Row, Text, first_of, found_of, rows_of, subcommand_of}
@@ -31,6 +31,10 @@ IsDecimalText n text =
 abbrev pub HasText : Text → List Row → Text → Type 0
 HasText id rows text = first_of id rows ≡ Some text
 
+-- the option is given, and has no value: clap reads the text `true`, and `false` where it is not given
+abbrev pub IsGiven : Text → List Row → Type 0
+IsGiven id rows = HasText id rows (codes "true")
+
 -- the option has this number
 abbrev pub HasNumber : Text → List Row → ℕ → Type 0
 HasNumber id rows n = IsSomeAnd (first_of id rows) (IsDecimalText n)
@@ -43,9 +47,10 @@ HasNumberOrNone id rows (Some n) = HasNumber id rows n × (n < 2 ^ 64)
 -- the job is the subcommand that was entered, with the values of its options
 abbrev pub IsJob : Option (Text × List Row) → Job → Type 0
 IsJob None job = ⊥
-IsJob (Some (name, rows)) (job.Init db user token) = (name ≡ codes "init")
+IsJob (Some (name, rows)) (job.Init db user token page_sums) = (name ≡ codes "init")
     × HasText (codes "db") rows db.now × HasText (codes "user") rows user.now
     × HasText (codes "token-sha256") rows token.now
+    × (IsTrue page_sums ↔ IsGiven (codes "page-sums") rows)
 IsJob (Some (name, rows)) (job.Apply db) = (name ≡ codes "apply")
     × (first_of (codes "db") rows ≡ option_map (λ db. db.now) db)
 IsJob (Some (name, rows)) (job.Serve db listen requests at keep_recent) = (name ≡ codes "serve")

@@ -1,6 +1,7 @@
 -- The command line of the program: its subcommands and their options, as clap reads them.
 use Rattle.std.specs.Prelude.{◌≡◌, ℕ, Some, true, false, codes, [], IfOk, Result}
 use Rattle.clap.specs.Words.{App, Rule, Text, app_of, new_app, new_rule, rule_of, with_rule, with_subcommand}
+use Rattle.clap.specs.declared.builder.action.ArgAction.TheVariants.{SetTrue}
 use Rattle.clap.specs.declared.builder.arg.Arg.{Arg}
 use Rattle.clap.specs.declared.builder.command.Command.{Command}
 use Rattle.clap.specs.declared.builder.command.Command.TheViews.{out-Command}
@@ -13,6 +14,10 @@ option name = record (new_rule name) { long = Some name }
 -- an option that has to be given
 abbrev pub required : Text → Rule
 required name = record (option name) { required = true }
+
+-- an option without a value, by its long name
+abbrev pub flag : Text → Rule
+flag name = record (option name) { action = Some SetTrue }
 
 -- the same option, for a whole number in a range
 abbrev pub number_between : ℕ → ℕ → Rule → Rule
@@ -29,8 +34,9 @@ database_app name = with_rule (new_app name) (required (codes "db"))
 -- the subcommand `init` with its options
 abbrev pub init_app : App
 init_app =
-    with_rule (with_rule (database_app (codes "init")) (required (codes "user")))
-    (required (codes "token-sha256"))
+    with_rule (with_rule (with_rule (database_app (codes "init")) (required (codes "user")))
+    (required (codes "token-sha256")))
+    (flag (codes "page-sums"))
 
 -- the subcommand `apply`, which may be given a database
 abbrev pub apply_app : App

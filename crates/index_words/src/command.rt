@@ -1,11 +1,11 @@
 //! The program's subcommands and their options.
 ghost use Rattle.std.specs.Prelude.{◌≡◌, codes};
 ghost use Rattle.clap.specs.Words.{App, rule_of, with_subcommand};
-ghost use Rattle.index_words.specs.Program.{IsApp, IsArg, MakesApp, any_number, number_between, option, required};
+ghost use Rattle.index_words.specs.Program.{IsApp, IsArg, MakesApp, any_number, flag, number_between, option, required};
 ghost use Rattle.index_words.specs.Program.{apply_app, database_app, index_app, init_app, serve_app};
 
 use clap::builder::ValueParser;
-use clap::{Arg, Command};
+use clap::{Arg, ArgAction, Command};
 use std::alloc::{AllocError, Global};
 
 /// What `--version` tells behind the program's name: the version, and the kit that proves and builds it, without the
@@ -29,6 +29,13 @@ fn required_arg<'a>(alloc: Global, name: &'a str, help: &'a str) -> Arg<'a>
     optional_arg(alloc, name, help).required(true)
 }
 
+/// An option without a value.
+fn flag<'a>(alloc: Global, name: &'a str, help: &'a str) -> Arg<'a>
+    ensures { IsArg result (flag name.entry.now) }
+{
+    optional_arg(alloc, name, help).action(ArgAction::SetTrue)
+}
+
 /// The same option, for a whole number in a range.
 fn whole_number<'a>(arg: Arg<'a>, least: u64, most: u64) -> Arg<'a>
     ensures rule { rule_of result ≡ number_between least most (rule_of arg.entry) }
@@ -50,13 +57,15 @@ fn init<'a>(alloc: Global) -> Result<Command<'a>, AllocError>
     ensures { MakesApp result init_app }
 {
     let digest = "The SHA-256 digest of that user's token, as 64 hex digits";
+    let sums = "Ends each page of the file in a sum, so that damage is found";
     on_database(
         alloc,
         "init",
         "Makes a new index with one user, of the office",
     )?
     .arg(required_arg(alloc, "user", "The id of the first user"))?
-    .arg(required_arg(alloc, "token-sha256", digest))
+    .arg(required_arg(alloc, "token-sha256", digest))?
+    .arg(flag(alloc, "page-sums", sums))
 }
 
 fn apply<'a>(alloc: Global) -> Result<Command<'a>, AllocError>

@@ -1,9 +1,9 @@
 //! What the words of a command line ask for.
 ghost use Rattle.std.specs.Prelude.{◌≡◌, ◌≤◌, ◌<◌, ◌^◌, [], Some, true};
-ghost use Rattle.std.specs.Prelude.{codes, map, option_map, string_bytes, IfErr, IfOk, IsOk};
+ghost use Rattle.std.specs.Prelude.{◌↔◌, codes, map, option_map, string_bytes, IfErr, IfOk, IsOk, IsTrue};
 ghost use Rattle.clap.specs.Words.{first_of, subcommand_rows_of};
 ghost use Rattle.index_words.specs.Program.{index_app, IsApp};
-ghost use Rattle.index_words.specs.Jobs.{FindsExactly, HasNumberOrNone, IsJob, IsDecimalText, rows_entered, rows_in};
+ghost use Rattle.index_words.specs.Jobs.{FindsExactly, HasNumberOrNone, IsGiven, IsJob, IsDecimalText, rows_entered, rows_in};
 ghost use Rattle.index_words.specs.Reading.{ReadsJob};
 
 use crate::command;
@@ -22,6 +22,8 @@ pub enum Job<'a> {
         user: &'a str,
         /// The hex digits of the digest of that user's token, as they were given.
         token: &'a str,
+        /// Whether each page of the database ends in a sum.
+        page_sums: bool,
     },
     /// To answer the lines of standard input.
     Apply {
@@ -138,7 +140,13 @@ fn init_of<'a>(given: &ArgMatches<'a>) -> Option<Job<'a>>
     let db = text(given, "db")?;
     let user = text(given, "user")?;
     let token = text(given, "token-sha256")?;
-    Some(Job::Init { db, user, token })
+    let page_sums = is_given(given, "page-sums");
+    Some(Job::Init {
+        db,
+        user,
+        token,
+        page_sums,
+    })
 }
 
 /// The job of the subcommand `apply` with these options.
@@ -188,6 +196,13 @@ fn text<'a>(given: &ArgMatches<'a>, id: &str) -> Option<&'a str>
     ensures { option_map (λ text. text.now) result ≡ first_of id.now (rows_in given.now) }
 {
     given.get_str(id)
+}
+
+/// Whether an option without a value is given.
+fn is_given(given: &ArgMatches<'_>, id: &str) -> bool
+    ensures { IsTrue result ↔ IsGiven id.now (rows_in given.now) }
+{
+    matches!(text(given, id), Some("true"))
 }
 
 /// The number of an option, or that it is not given.

@@ -10,7 +10,7 @@ from running import run_command
 from serving import TOP
 
 BREAKS = f"{TOP}/tools/caught/operate.edits"
-MOST_SECONDS = 240
+MOST_SECONDS = 400
 
 
 class Break:

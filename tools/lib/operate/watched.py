@@ -150,7 +150,8 @@ def try_metrics(place):
     if os.path.exists(out):
         with open(out) as kept:
             text = kept.read()
-    check("that is written", f'\nindex_up{{port="{index.port}"}} 0\n' in text and os.stat(out).st_mode & 0o777 == 0o644, text)
+    is_written = f'\nindex_up{{port="{index.port}"}} 0\n' in text and os.stat(out).st_mode & 0o777 == 0o644
+    check("that is written", is_written, text)
     is_counted = re.search(r"^index_damaged_logs\S* 1$", text, re.M)
     check("a damaged log is counted", is_counted and seen.get("index_damaged_logs") == 0, text)
     with open(f"{OPERATE}/index-alarms.yml") as kept:

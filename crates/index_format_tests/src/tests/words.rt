@@ -37,6 +37,7 @@ fn reads_the_words(rt: HostRuntime) {
         db: "a",
         user: "office",
         token,
+        page_sums: false,
     };
     assert_asks(
         &rt,
@@ -47,6 +48,17 @@ fn reads_the_words(rt: HostRuntime) {
         &rt,
         "index init --token-sha256=ba78 --user=office --db=a",
         made,
+    );
+    let summed = Job::Init {
+        db: "a",
+        user: "office",
+        token,
+        page_sums: true,
+    };
+    assert_asks(
+        &rt,
+        "index init --page-sums --db a --user office --token-sha256 ba78",
+        summed,
     );
     assert_asks(&rt, "index apply", Job::Apply { db: None });
     assert_asks(&rt, "index apply --db a", Job::Apply { db: Some("a") });

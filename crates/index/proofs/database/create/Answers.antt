@@ -1,10 +1,11 @@
-use Rattle.std.proofs.Common.{◌≡◌, IfErr, ap, rules, subst, sym, true≢false}
+use Rattle.std.proofs.Common.{◌≡◌, IfErr, IfSome, ap, rules, subst, sym, true≢false}
 use Rattle.std.specs.Prelude.{is_ok}
 use Rattle.std.proofs.lemmas.Option.{IfSome_then}
 use Rattle.std.proofs.lemmas.Result.{IfErr-weaker, IfOk-weaker}
 use Rattle.sqlite.specs.Files.{over_files}
 use Rattle.sqlite.specs.WalFiles.{image_at}
-use Rattle.index.specs.Openings.{IsWhyUnmade, IsWhyUnused}
+use Rattle.index_rules.specs.FirstTables.{first_tables}
+use Rattle.index.specs.Openings.{IsUnmade, IsWhyUnmade, IsWhyUnused, LeavesUnused}
 use Rattle.index.proofs.database.create.Goals as goal
 
 pub returns-in-Ok-open-clause-bad_first_user : goal.returns-in-Ok-open-clause-bad_first_user
@@ -29,7 +30,9 @@ returns-in-Ok-open-clause-created g c =
     c.create_and_close.ensures.created
 
 pub returns-in-Ok-open-clause-refused : goal.returns-in-Ok-open-clause-refused
-returns-in-Ok-open-clause-refused g c =
-    IfErr-weaker c.create_and_close.result _ _ (λ e refused.
+returns-in-Ok-open-clause-refused g c = λ digest read.
+    let same : c.in-Ok.token ≡ digest = search rules in
+    subst (λ token. IfErr c.create_and_close.result (λ e. IfSome e.1 (LeavesUnused (IsUnmade (first_tables c.args.user.now token)) (image_at g.S.Start)))) same
+    (IfErr-weaker c.create_and_close.result _ _ (λ e refused.
     IfSome_then e.1 refused (λ left refused. refused _ c.in-Ok-open.ensures.ends.opened))
-    c.create_and_close.ensures.refused
+    c.create_and_close.ensures.refused)

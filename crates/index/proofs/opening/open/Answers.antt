@@ -25,7 +25,7 @@ returns-in-Err g c =
     (settled_leaves start.is_mixing start.log start.db files.log.is_log true files.log.key files.log.calls.log.events now.log log.0 log.1 may.0)
     (settled_leaves start.is_mixing start.log start.db files.db.is_log false files.db.key files.db.calls.log.events now.db db.0 db.1 may.1))
     (cause.3 clean).1) in
-    record { ends = record { outside = tt; opened = tt; shut = shut; fault = search rules } }
+    record { ends = record { outside = tt; opened = tt; shut = shut; fault = search rules }; sums = tt }
 
 pub returns-in-Ok : goal.returns-in-Ok
-returns-in-Ok g c = record { ends = record { outside = search rules; opened = λ clean. (search rules, search rules); shut = tt; fault = tt } }
+returns-in-Ok g c = record { ends = record { outside = search rules; opened = λ clean. (search rules, search rules); shut = tt; fault = tt }; sums = c.in-Ok.ensures.sums }

@@ -32,6 +32,7 @@ returns-in_default g c =
           c.send_reply.ensures.sent;
       asks = rw none (record { unchanged = λ _. refl; honest = λ h. h; clean = λ h. h; crash = λ _ left. left });
       memory = λ none. absurd (sent_memory _ _ _ _ c.send_reply.ensures.sent none);
+      stores = λ none. refl;
       cut = search rules;
       sends = search rules;
       keeps = search rules;
@@ -56,6 +57,7 @@ returns g c =
           c.send_reply-2.ensures.sent;
       asks = rw call (sent_ends _ _ _ _ _ _ (c.apply-answer.result, text ∙ ap (reply_text (is_head c.args.request.now.method)) reply, took) c.send_reply-2.ensures.sent);
       memory = λ none. absurd (sent_memory _ _ _ _ c.send_reply-2.ensures.sent none);
+      stores = λ none. absurd (sent_memory _ _ _ _ c.send_reply-2.ensures.sent none);
       cut = search rules;
       sends = search rules;
       keeps = search rules;

@@ -13,6 +13,7 @@ returns-in-Faulty g c = record {
       (sent_ends _ _ _ _ _ _ (g.B.Books.tables c.args.desk.now, (ap (reply_text c.in-Faulty.is_head) c.message_reply.ensures, refl), λ _. refl) c.send_reply.ensures.sent);
   asks = rw c.in-Faulty.is (record { unchanged = λ _. refl; honest = λ h. h; clean = λ h. h; crash = λ _ left. left });
   memory = search rules;
+  stores = λ none. refl;
   cut = search rules;
   sends = search rules;
   keeps = search rules;
@@ -27,6 +28,7 @@ returns-then-is_reading g c =
           (look_ends _ _ _ (Stands g.B.Books.IsHonest g.B.Books.tables c.show.new.desk) _ _ _ _ _ reads (λ then. c.show.ensures.leaves.unchanged then) (c.show.ensures.shown honest clean));
       asks = rw (c.in-Whole.is, reads) c.show.ensures.leaves;
       memory = search rules;
+      stores = c.show.ensures.stores;
       cut = search rules;
       sends = search rules;
       keeps = search rules;
@@ -42,6 +44,7 @@ returns g c =
           (call_ends _ _ _ (Stands g.B.Books.IsHonest g.B.Books.tables c.act.new.desk) _ _ _ _ _ changes (acted.tables honest clean one));
       asks = rw (c.in-Whole.is, changes) acted.asks;
       memory = search rules;
+      stores = acted.stores;
       cut = search rules;
       sends = search rules;
       keeps = search rules;

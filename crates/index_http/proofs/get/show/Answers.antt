@@ -1,7 +1,7 @@
 use Rattle.std.proofs.Common.{◌≡◌, ◌∙◌, ap, sym, refl, rules}
 use Rattle.index_message.specs.Resources.{is_head}
 use Rattle.index_message.specs.declared.resource.Resource.TheVariants as resource
-use Rattle.index_http.proofs.EndLemmas.{ends_shown_map, shown_ends}
+use Rattle.index_http.proofs.EndLemmas.{ends_shown_map, sent_memory, shown_ends}
 use Rattle.index_http.proofs.get.show.Goals as goal
 
 pub returns-in-Simple : goal.returns-in-Simple
@@ -12,6 +12,7 @@ returns-in-Simple g c = record {
       rw (sym to_head, is) (shown_ends _ _ _ _ _ _ _ _ c.redirect_to_root.ensures refl c.send_reply.ensures.sent);
   leaves = search rules;
   sends = search rules;
+  stores = λ is. absurd (sent_memory _ _ _ _ c.send_reply.ensures.sent is);
 }
 
 pub returns-in_ok-chosen-in-Root : goal.returns-in_ok-chosen-in-Root
@@ -23,6 +24,7 @@ returns-in_ok-chosen-in-Root g c = record {
       (ends_shown_map _ _ _ _ _ _ _ (λ reply shows. (c.in_ok-chosen-in-Root.chosen, c.in_ok-chosen-in-Root.ensures, shows)) (c.show_root.ensures.shown honest clean));
   leaves = search rules;
   sends = search rules;
+  stores = c.show_root.ensures.stores;
 }
 
 pub returns-in_ok-name-in-Project : goal.returns-in_ok-name-in-Project
@@ -33,6 +35,7 @@ returns-in_ok-name-in-Project g c = record {
       rw (sym to_head, is) (shown_ends _ _ _ _ _ _ _ _ refl (rw (← c.in_ok-name-in-Project.ensures.name) c.redirect.ensures) c.send_reply-in-Project.ensures.sent);
   leaves = search rules;
   sends = search rules;
+  stores = λ is. absurd (sent_memory _ _ _ _ c.send_reply-in-Project.ensures.sent is);
 }
 
 pub returns-in-Requests : goal.returns-in-Requests
@@ -43,4 +46,5 @@ returns-in-Requests g c = record {
       rw (sym to_head, is) (shown_ends _ _ _ _ _ _ _ _ c.message_reply.ensures refl c.send_reply-in-Requests.ensures.sent);
   leaves = search rules;
   sends = search rules;
+  stores = λ is. absurd (sent_memory _ _ _ _ c.send_reply-in-Requests.ensures.sent is);
 }

@@ -2,7 +2,7 @@ use Rattle.std.proofs.Common.{◌≡◌, ◌∙◌, ap, inr, sym, refl, true, fa
 use Rattle.std.specs.Prelude.{is_some}
 use Rattle.index_names.specs.FileName.{read_file_name}
 use Rattle.index_http.specs.Replies.{file_reply}
-use Rattle.index_http.proofs.EndLemmas.{fault_ends, shown_ends}
+use Rattle.index_http.proofs.EndLemmas.{fault_ends, fault_stores, sent_memory, shown_ends}
 use Rattle.index_http.proofs.get.show_file.Goals as goal
 
 pub returns-in_default : goal.returns-in_default
@@ -12,6 +12,7 @@ returns-in_default g c = record {
       shown_ends _ _ _ _ _ _ _ _ c.refusal_reply.ensures (rw none refl) c.send_reply.ensures.sent;
   leaves = search rules;
   sends = search rules;
+  stores = λ is. absurd (sent_memory _ _ _ _ c.send_reply.ensures.sent is);
 }
 
 pub returns-in-Some-kept_body : goal.returns-in-Some-kept_body
@@ -23,6 +24,7 @@ returns-in-Some-kept_body g c = record {
       shown_ends _ _ _ _ _ _ _ _ (c.file_reply.ensures ∙ ap file_reply c.bytes.ensures) (rw found (Some c.in-Some-kept_body.body.now, sym body, refl)) c.send_reply-in-Some-kept_body.ensures.sent;
   leaves = search rules;
   sends = search rules;
+  stores = λ is. absurd (sent_memory _ _ _ _ c.send_reply-in-Some-kept_body.ensures.sent is);
 }
 
 pub returns-in-Ok-Some : goal.returns-in-Ok-Some
@@ -34,6 +36,7 @@ returns-in-Ok-Some g c = record {
       shown_ends _ _ _ _ _ _ _ _ (c.file_reply-in-Ok-Some.ensures ∙ ap file_reply c.bytes-in-Ok-Some.ensures) (rw found (Some c.in-Ok-Some.body, body, refl)) c.send_reply-sent.ensures.sent;
   leaves = search rules;
   sends = search rules;
+  stores = λ is. absurd (sent_memory _ _ _ _ c.send_reply-sent.ensures.sent is);
 }
 
 pub returns-in-Ok-None : goal.returns-in-Ok-None
@@ -45,6 +48,7 @@ returns-in-Ok-None g c = record {
       shown_ends _ _ _ _ _ _ _ _ c.refusal_reply-in-Ok-None.ensures (rw found (None, none, refl)) c.send_reply-in-Ok-None.ensures.sent;
   leaves = search rules;
   sends = search rules;
+  stores = λ is. absurd (sent_memory _ _ _ _ c.send_reply-in-Ok-None.ensures.sent is);
 }
 
 pub returns-in-Err : goal.returns-in-Err
@@ -53,4 +57,5 @@ returns-in-Err g c = record {
       fault_ends _ _ _ _ _ _ _ (λ store. inr (c.in-Err.ensures.look.store store)) c.send_fault.ensures.told;
   leaves = search rules;
   sends = search rules;
+  stores = fault_stores _ _ _ _ _ _ _ c.send_fault.ensures.told c.in-Err.ensures.look.stores;
 }

@@ -1,6 +1,6 @@
 use Rattle.std.proofs.Common.{◌≡◌, ◌∙◌, sym, refl, Some, None, rules}
 use Rattle.index_names.specs.Project.{read_name}
-use Rattle.index_http.proofs.EndLemmas.{ends_shown_map, shown_ends}
+use Rattle.index_http.proofs.EndLemmas.{ends_shown_map, sent_memory, shown_ends}
 use Rattle.index_http.proofs.get.show_name.Goals as goal
 
 pub returns-in_default : goal.returns-in_default
@@ -10,6 +10,7 @@ returns-in_default g c = record {
       shown_ends _ _ _ _ _ _ _ _ c.refusal_reply.ensures (rw none refl) c.send_reply.ensures.sent;
   leaves = search rules;
   sends = search rules;
+  stores = λ is. absurd (sent_memory _ _ _ _ c.send_reply.ensures.sent is);
 }
 
 pub returns : goal.returns
@@ -19,4 +20,5 @@ returns g c = record {
       ends_shown_map _ _ _ _ _ _ _ (λ reply shows. rw found shows) (c.show_standing.ensures.shown honest clean);
   leaves = search rules;
   sends = search rules;
+  stores = c.show_standing.ensures.stores;
 }

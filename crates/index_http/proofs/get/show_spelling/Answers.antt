@@ -1,6 +1,6 @@
 use Rattle.std.proofs.Common.{◌≡◌, ◌∙◌, sym, refl, true, false, rules}
 use Rattle.std.specs.Prelude.{bytes_eq}
-use Rattle.index_http.proofs.EndLemmas.{ends_shown_map, shown_ends}
+use Rattle.index_http.proofs.EndLemmas.{ends_shown_map, sent_memory, shown_ends}
 use Rattle.index_http.proofs.get.show_spelling.Goals as goal
 
 pub returns-in_ok-chosen : goal.returns-in_ok-chosen
@@ -12,6 +12,7 @@ returns-in_ok-chosen g c = record {
       (c.show_project.ensures.shown honest clean);
   leaves = search rules;
   sends = search rules;
+  stores = c.show_project.ensures.stores;
 }
 
 pub returns-else-eq : goal.returns-else-eq
@@ -22,4 +23,5 @@ returns-else-eq g c = record {
       shown_ends _ _ _ _ _ _ _ _ c.redirect_to_project.ensures (rw other refl) c.send_reply.ensures.sent;
   leaves = search rules;
   sends = search rules;
+  stores = λ is. absurd (sent_memory _ _ _ _ c.send_reply.ensures.sent is);
 }

@@ -1,6 +1,6 @@
 use Rattle.std.proofs.Common.{◌∙◌, ap, inr, refl, rules}
 use Rattle.index_http.specs.Replies.{json_reply}
-use Rattle.index_http.proofs.EndLemmas.{fault_ends, shown_ends}
+use Rattle.index_http.proofs.EndLemmas.{fault_ends, fault_stores, sent_memory, shown_ends}
 use Rattle.index_http.proofs.get.show_standing.Goals as goal
 
 pub returns-in-Ok-text : goal.returns-in-Ok-text
@@ -11,6 +11,7 @@ returns-in-Ok-text g c = record {
       (c.in-Ok.standing, c.in-Ok.ensures.found (c.in-Ok.ensures.look.lasts honest clean), refl) c.send_reply.ensures.sent;
   leaves = search rules;
   sends = search rules;
+  stores = λ is. absurd (sent_memory _ _ _ _ c.send_reply.ensures.sent is);
 }
 
 pub returns-in-Err : goal.returns-in-Err
@@ -19,4 +20,5 @@ returns-in-Err g c = record {
       fault_ends _ _ _ _ _ _ _ (λ store. inr (c.in-Err.ensures.look.store store)) c.send_fault.ensures.told;
   leaves = search rules;
   sends = search rules;
+  stores = fault_stores _ _ _ _ _ _ _ c.send_fault.ensures.told c.in-Err.ensures.look.stores;
 }

@@ -7,7 +7,7 @@ use Rattle.index_pages.specs.Parts.{project_rest}
 use Rattle.index_pages.specs.States.{StopsText, TakesText, length_state}
 use Rattle.index_pages.proofs.TakerLemmas.{walks_by}
 use Rattle.index_http.specs.PagePasses.{without_stop}
-use Rattle.index_http.proofs.PassLemmas.{counted, measured_there, rows_given}
+use Rattle.index_http.proofs.PassLemmas.{counted, measured_there, no_fault, rows_given, stores_kept}
 use Rattle.index_http.proofs.page_passes.project_length.Goals as goal
 
 pub returns : goal.returns
@@ -28,4 +28,5 @@ returns g c = record {
       measured_there _ (project_page_of c.args.served name there.0) _ _ c.finish.result c.map.result (ap (option_map (project_page_of c.args.served name)) there.1) (grind (arith, common_steps))
       (rw (← c.project-page.ensures.whole_page there.0) (counted _ _ there.0 _ _ walk.result c.finish.result fresh by.1 there.3 c.finish.ensures.page c.finish.ensures.stopped));
   keeps = search rules;
+  stores = λ is. stores_kept c.walk_project-walked.result _ _ (no_fault _ _ c.walk_project-walked.result (sym c.without_stop.ensures ∙ c.in_ok-without_stop.was)) c.walk_project-walked.ensures.look.stores;
 }

@@ -39,6 +39,7 @@ returns-then-unwrap_or g c =
         no_read_fault = c.io_end_of_page.ensures.no_read_fault;
         whole = λ no. cc no;
       };
+      told = search rules;
       keeps = search rules;
     }
 
@@ -69,5 +70,6 @@ returns-else-unwrap_or g c =
         no_read_fault = search rules;
         whole = λ no. cc no;
       };
+      told = search rules;
       keeps = search rules;
     }

@@ -3,7 +3,7 @@ use Rattle.index_rules.specs.TableRows.{held_rows_in}
 use Rattle.index_pages.specs.Parts.{root_rest}
 use Rattle.index_pages.specs.States.{StopsText, TakesText, length_state}
 use Rattle.index_pages.proofs.TakerLemmas.{walks_by}
-use Rattle.index_http.proofs.PassLemmas.{counted, no_fault}
+use Rattle.index_http.proofs.PassLemmas.{counted, no_fault, stores_kept}
 use Rattle.index_http.proofs.page_passes.root_length.Goals as goal
 
 pub returns : goal.returns
@@ -21,4 +21,5 @@ returns g c = record {
       rw (← c.root-page.ensures.whole_page rows)
       (counted _ _ rows _ _ c.walk_root-walked.result c.finish.result fresh by.1 right c.finish.ensures.page c.finish.ensures.stopped);
   keeps = search rules;
+  stores = λ is. stores_kept c.walk_root-walked.result _ _ (no_fault _ _ c.walk_root-walked.result (sym c.without_stop.ensures ∙ c.in_ok-without_stop.was)) c.walk_root-walked.ensures.look.stores;
 }

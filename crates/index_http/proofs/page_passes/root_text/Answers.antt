@@ -32,6 +32,7 @@ returns-in-Ok g c =
         no_read_fault = c.io_end_of_page.ensures.no_read_fault;
         whole = λ no. cc no;
       };
+      told = search rules;
       keeps = search rules;
     }
 
@@ -61,5 +62,6 @@ returns-in-Err g c =
         no_read_fault = search rules;
         whole = λ no. cc no;
       };
+      told = search rules;
       keeps = search rules;
     }

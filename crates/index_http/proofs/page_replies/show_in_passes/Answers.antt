@@ -1,9 +1,9 @@
-use Rattle.std.proofs.Common.{◌≡◌, false, refl, rules, subst, Ok}
+use Rattle.std.proofs.Common.{◌≡◌, ap, false, refl, rules, subst, Ok, Err}
 use Rattle.std.specs.Prelude.{is_err}
 use Rattle.index_desk.specs.Pages.{page_in}
 use Rattle.index_http.specs.Replies.{page_reply}
 use Rattle.index_http.specs.PagePasses.{MeasuresProject}
-use Rattle.index_http.proofs.EndLemmas.{fault_ends, shown_ends}
+use Rattle.index_http.proofs.EndLemmas.{fault_ends, fault_memory, sent_memory, shown_ends}
 use Rattle.index_http.proofs.PageLemmas.{measured, shows_measured, unmeasurable, unmeasured}
 use Rattle.index_http.proofs.page_replies.show_in_passes.Goals as goal
 
@@ -21,6 +21,7 @@ returns-in-Ok-Some g c = record {
       (c.send_page.ensures.sent after clean (record { bytes = there.bytes; is = rw same there.is; size = there.size; within = there.within }));
   leaves = search rules;
   sends = search rules;
+  stores = λ is. let told = rw is at c.send_page.ensures.told in cc told;
 }
 
 pub returns-in-Ok-None : goal.returns-in-Ok-None
@@ -30,6 +31,7 @@ returns-in-Ok-None g c = record {
       shown_ends _ _ _ _ _ _ _ _ c.refusal_reply.ensures (rw none refl) c.send_reply.ensures.sent;
   leaves = search rules;
   sends = search rules;
+  stores = λ is. absurd (sent_memory _ _ _ _ c.send_reply.ensures.sent is);
 }
 
 pub returns-in-Err : goal.returns-in-Err
@@ -39,4 +41,5 @@ returns-in-Err g c = record {
       (λ store. unmeasurable c.args.served _ _ _ (rw store at (c.in-Err.ensures.measured honest clean))) c.send_fault.ensures.told;
   leaves = search rules;
   sends = search rules;
+  stores = λ is. c.in-Err.ensures.stores (ap Err (fault_memory _ _ _ _ _ c.send_fault.ensures.told is));
 }

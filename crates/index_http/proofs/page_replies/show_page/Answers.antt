@@ -1,6 +1,6 @@
 use Rattle.std.proofs.Common.{◌∙◌, ap, inr, rules}
 use Rattle.index_http.specs.Replies.{page_reply}
-use Rattle.index_http.proofs.EndLemmas.{fault_ends, shown_ends}
+use Rattle.index_http.proofs.EndLemmas.{fault_ends, fault_stores, sent_memory, shown_ends}
 use Rattle.index_http.proofs.PageLemmas.{shows_gathered}
 use Rattle.index_http.proofs.page_replies.show_page.Goals as goal
 
@@ -10,6 +10,7 @@ returns-in-Some g c = record {
       shown_ends _ _ _ _ _ _ _ _ c.page_reply.ensures (shows_gathered c.args.served _ _ (c.in-Some.ensures honest)) c.send_reply.ensures.sent;
   leaves = search rules;
   sends = search rules;
+  stores = λ is. absurd (sent_memory _ _ _ _ c.send_reply.ensures.sent is);
 }
 
 pub returns-in-Ok-Some : goal.returns-in-Ok-Some
@@ -19,6 +20,7 @@ returns-in-Ok-Some g c = record {
       shown_ends _ _ _ _ _ _ _ _ (c.page_reply-in-Ok-Some.ensures ∙ ap (page_reply c.args.served) c.as_slice.ensures.value) (shows_gathered c.args.served _ _ is) c.send_reply-sent.ensures.sent;
   leaves = search rules;
   sends = search rules;
+  stores = λ is. absurd (sent_memory _ _ _ _ c.send_reply-sent.ensures.sent is);
 }
 
 pub returns-in-Ok-None : goal.returns-in-Ok-None
@@ -28,6 +30,7 @@ returns-in-Ok-None g c = record {
       rw (c.in-Ok-None.ensures.look.unchanged after, c.in-Ok-None.ensures.look.kept) at (c.show_in_passes.ensures.shown after clean);
   leaves = search rules;
   sends = search rules;
+  stores = λ is. c.show_in_passes.ensures.stores is ∙ c.in-Ok-None.ensures.look.stores;
 }
 
 pub returns-in-Err : goal.returns-in-Err
@@ -36,4 +39,5 @@ returns-in-Err g c = record {
       fault_ends _ _ _ _ _ _ _ (λ store. inr (c.in-Err.ensures.look.store store)) c.send_fault.ensures.told;
   leaves = search rules;
   sends = search rules;
+  stores = fault_stores _ _ _ _ _ _ _ c.send_fault.ensures.told c.in-Err.ensures.look.stores;
 }

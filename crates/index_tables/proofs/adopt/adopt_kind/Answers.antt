@@ -5,6 +5,7 @@ use Rattle.sqlite.specs.State.{HasCleanDisk}
 use Rattle.index_sql_schema.specs.FirstVersion.{IsFirstVersion}
 use Rattle.index_sql_schema.specs.Index.{IsIndex, version_in}
 use Rattle.index_tables.specs.Adopted.{IsRaised}
+use Rattle.index_tables.specs.declared.adopt.Kind.TheVariants.{FirstVersion}
 use Rattle.index_tables.proofs.AdoptLemmas.{both_refused, opened_after, refused_after}
 use Rattle.index_tables.proofs.OpenedLemmas.{looked_opened}
 use Rattle.index_tables.proofs.adopt.adopt_kind.Goals as goal
@@ -27,4 +28,5 @@ returns-in-FirstVersion-Ok-Some-eq1-clause-refused g c =
     let mid = c.read_version.new.conn in
     let first : IsTrue (state g.S.Store old).is_open → IsFirstVersion (state g.S.Store old).now = search rules in
     let told : HasCleanDisk (state g.S.Store mid) → version_in (state g.S.Store old).now.trees ≡ Some 1 = search rules in
-    both_refused c.migrate_and_adopt.result (λ refused fault it. refused_after g.S.Store old mid c.in-FirstVersion-Ok-Some-eq1.ensures.looks refused c.requires.meta first told fault it) c.migrate_and_adopt.ensures.why c.migrate_and_adopt.ensures.refused
+    let is : c.args.kind ≡ FirstVersion = search rules in
+    rw is (both_refused c.migrate_and_adopt.result (λ refused fault it. refused_after g.S.Store old mid c.in-FirstVersion-Ok-Some-eq1.ensures.looks refused first told fault it) c.migrate_and_adopt.ensures.why c.migrate_and_adopt.ensures.refused)

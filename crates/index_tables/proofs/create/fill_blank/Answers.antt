@@ -13,7 +13,7 @@ returns-in-Ok-clause-made g c =
     let new = c.fill_new.new.conn in
     let T = one_user c.args.user.now c.args.account.now in
     let blank : IsTrue (state g.S.Store old).is_open → IsBlank (state g.S.Store old).now = search rules in
-    let opened : AreOpened g.S.Store (IsCreated T) old (record { conn = new; failures = 0 }) =
+    let opened : AreOpened g.S.Store (IsCreated T) old (record { conn = new; failures = 0; stores = 0 }) =
     made_opened g.S.Store (IsCreated T) old new (λ _. blank) (λ _ _. refl) (λ db _ current is. (current, is)) _ c.in-Ok.ensures.made (g.met.S.Store.settled new.store) in
     let made = λ (working : IsWorking (state g.S.Store new)).
     let o = (opened.was_working working).is_open in

@@ -9,7 +9,7 @@ use Rattle.index_rules.proofs.Counts.{NotFewer-more}
 use Rattle.index_rules.proofs.RunLemmas.{Runs-push, HasFailed-push}
 use Rattle.index_rules.proofs.OneBearer.{HasOneBearer-tables_after}
 use Rattle.index_desk.proofs.CrashLemmas.{LastsAll-push, LeavesAll-push}
-use Rattle.index_desk.proofs.TakeLemmas.{runs_keep, takes_in_turn}
+use Rattle.index_desk.proofs.TakeLemmas.{runs_keep, stores_push, takes_in_turn}
 use Rattle.index_desk.proofs.desk.Desk.apply_all.Goals as goal
 
 pub loop-call-preserved : goal.loop-call-preserved
@@ -27,6 +27,7 @@ loop-call-preserved g c =
       told = rw c.push_reserved.ensures.items (simp length-append (omega (arith, before.told)));
       room = omega (arith, before.room, c.push_reserved.ensures.capacity);
       store = λ found. HasFailed-push c.loop-call.answers.items c.apply-answer.result (answer.Fault Store) _ _ _ before.counts applied.takes.settles.failures before.store applied.takes.settles.store (rw c.push_reserved.ensures.items at found);
+      stores = rw c.push_reserved.ensures.items (stores_push c.loop-call.answers.items c.apply-answer.result _ _ _ before.stores applied.takes.settles.stores);
       counts = NotFewer-more _ _ _ before.counts applied.takes.settles.failures;
       lasts = λ clean. rw c.push_reserved.ensures.items (LastsAll-push c.loop-call.answers.items c.apply-answer.result _ _ _ (before.lasts (applied.keeps.clean clean)) (applied.takes.settles.lasts clean));
       crash = λ honest clean one T left.
@@ -45,7 +46,7 @@ returns-clause-takes g c =
     let seen = YieldsList-end (YieldsList-from_vec {s = c.into_iter-call-iterator.result} c.args.calls.items given.0 (given.1 ∙ c.args.calls.ok.0)) c.loop-call.yielded c.loop-call.call-iterator c.loop-call.yielded_by c.next.result c.next.new.self c.in-None.is c.next.ensures.steps in
     let all : c.loop-call.yielded ≡ c.args.calls.items = sym (map-id _) ∙ seen.0 in
     let done = c.loop-call.invariant in
-    takes_in_turn _ _ _ _ _ (rw all at done.runs) (rw all at done.crash) done.lasts (g.met.B.Books.settled _) done.store
+    takes_in_turn _ _ _ _ _ (rw all at done.runs) (rw all at done.crash) done.lasts (g.met.B.Books.settled _) done.store done.stores
 
 pub returns-clause-keeps : goal.returns-clause-keeps
 returns-clause-keeps g c =

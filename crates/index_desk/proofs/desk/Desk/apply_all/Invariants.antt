@@ -1,4 +1,4 @@
-use Rattle.std.proofs.Common.{◌≡◌, ◌≤◌, length, vec_capacity, Contains}
+use Rattle.std.proofs.Common.{◌≡◌, ◌≤◌, ◌⊎◌, length, vec_capacity, Contains}
 use Rattle.index_io.specs.Counts.{HasFailed}
 use Rattle.index_rules.specs.declared.answer.Answer.TheVariants as answer
 use Rattle.index_rules.specs.declared.answer.Fault.TheVariants.{Store}
@@ -16,6 +16,7 @@ invariant-loop-call g l = record {
   told : length l.answers.items ≡ length l.yielded;
   room : length l.fn.calls.items ≤ vec_capacity l.answers;
   store : Contains l.answers.items (answer.Fault Store) → HasFailed (g.B.Books.failures l.fn.self) (g.B.Books.failures l.self);
+  stores : (g.B.Books.stores l.self ≡ g.B.Books.stores l.fn.self) ⊎ Contains l.answers.items (answer.Fault Store);
   counts : NotFewer (g.B.Books.failures l.fn.self) (g.B.Books.failures l.self);
   lasts : g.B.Books.IsClean l.self → LastsAll l.answers.items (g.B.Books.IsHonest l.fn.self) (g.B.Books.IsHonest l.self);
   crash : g.B.Books.IsHonest l.fn.self → g.B.Books.IsClean l.self → HasOneBearer (g.B.Books.tables l.fn.self) → (T : Tables) → g.B.Books.may_leave l.self T → LeavesAll (g.B.Books.tables l.fn.self) l.yielded l.answers.items T;

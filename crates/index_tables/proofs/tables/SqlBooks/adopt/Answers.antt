@@ -3,8 +3,8 @@ use Rattle.std.proofs.lemmas.Result.{IfErr-weaker, IfOk-weaker}
 use Rattle.sqlite.specs.Held.{state}
 use Rattle.index_sql_schema.proofs.BearerLemmas.{one_bearer}
 use Rattle.index_rules.specs.declared.open.OpenFault.TheVariants.{NotAnIndex, OutOfMemory}
-use Rattle.index_tables.proofs.AdoptLemmas.{fault_alone}
-use Rattle.index_tables.proofs.OpenedLemmas.{refused_at_once}
+use Rattle.index_tables.proofs.AdoptLemmas.{fault_alone, reason_of_kind}
+use Rattle.index_tables.proofs.OpenedLemmas.{refused_at_once, unopened_by}
 use Rattle.index_tables.specs.Adopted.{IsRaised, IsReason}
 use Rattle.index_tables.specs.Opened.{AreOpened, IsUnopened}
 use Rattle.index_tables.proofs.tables.SqlBooks.adopt.Goals as goal
@@ -27,12 +27,14 @@ returns-in-Ok-Some-clause-opened g c =
 
 pub returns-in-Ok-Some-clause-refused : goal.returns-in-Ok-Some-clause-refused
 returns-in-Ok-Some-clause-refused g c =
-    subst (λ held. IfErr c.adopt_kind.result (IsUnopened g.S.Store IsRaised (IsReason g.S.Store) held)) c.expose_invariants-conn.ensures.same c.adopt_kind.ensures.refused
+    let conn = c.expose_invariants-conn.result in
+    subst (λ held. IfErr c.adopt_kind.result (IsUnopened g.S.Store IsRaised (IsReason g.S.Store) held)) c.expose_invariants-conn.ensures.same
+    (IfErr-weaker c.adopt_kind.result _ _ (λ refused it. unopened_by g.S.Store conn refused (reason_of_kind g.S.Store conn refused.conn (search rules) c.in-Ok-Some.kind refused.why) it) c.adopt_kind.ensures.refused)
 
 pub returns-in-Ok-Some-clause-again : goal.returns-in-Ok-Some-clause-again
 returns-in-Ok-Some-clause-again g c =
     IfErr-weaker c.adopt_kind.result _ _ (λ refused it clean o ours. fault_alone g.S.Store c.args.conn refused.conn refused.why (it.reason clean) o ours)
-    (subst (λ held. IfErr c.adopt_kind.result (IsUnopened g.S.Store IsRaised (IsReason g.S.Store) held)) c.expose_invariants-conn.ensures.same c.adopt_kind.ensures.refused)
+    (returns-in-Ok-Some-clause-refused g c)
 
 pub returns-in-Ok-None-clause-refused : goal.returns-in-Ok-None-clause-refused
 returns-in-Ok-None-clause-refused g c =

@@ -1,0 +1,346 @@
+//! Readers, writers and books that fail.
+ghost use Rattle.std.specs.Prelude.{List};
+ghost use Rattle.index_rules.specs.declared.rows.FileRow.{FileRow as FileRowData};
+ghost use Rattle.index_rules.specs.declared.rows.NameRow.{NameRow as NameRowData};
+ghost use Rattle.index_rules.specs.Walks.{Walks};
+
+use index_digest::Sealed;
+use index_names::{FileName, NormalName};
+use index_rules::{
+    Books, Change, Fault, FileRow, FileTaker, Keys, NameRow, NameTaker, Owners, View, WalkEnd,
+};
+use std::alloc::Global;
+use std::io;
+use std::io::{Error, ErrorKind, Read, Write};
+
+/// Gives its bytes, and then fails.
+#[derive(Drop)]
+pub(super) struct FailingReader<'a> {
+    pub(super) rest: &'a [u8],
+}
+
+impl Read for FailingReader<'_> {
+    fn read(&mut self, buf: &mut [u8]) -> io::Result<usize> {
+        if self.rest.is_empty() {
+            return Err(Error::from(ErrorKind::ConnectionReset));
+        }
+        Read::read(&mut self.rest, buf)
+    }
+}
+
+/// Takes so many bytes; from then on none, or it fails.
+pub(super) struct FullWriter {
+    pub(super) taken: Vec<u8>,
+    pub(super) room: usize,
+    pub(super) fails: bool,
+}
+
+impl Drop for FullWriter {
+    fn drop(self) {
+        let FullWriter {
+            taken: _taken,
+            room: _room,
+            fails: _fails,
+        } = self;
+    }
+}
+
+impl Write for FullWriter {
+    fn write(&mut self, buf: &[u8]) -> io::Result<usize> {
+        if self.room == 0 && self.fails {
+            return Err(Error::from(ErrorKind::BrokenPipe));
+        }
+        let count = buf.len().min(self.room);
+        self.taken.extend_from_slice(&buf[..count])?;
+        self.room -= count;
+        Ok(count)
+    }
+
+    fn flush(&mut self) -> io::Result<()> {
+        Ok(())
+    }
+}
+
+/// Gives its bytes. Each read is interrupted once, and then tried again.
+#[derive(Drop)]
+pub(super) struct InterruptedReader<'a> {
+    pub(super) rest: &'a [u8],
+    pub(super) was_interrupted: bool,
+}
+
+impl Read for InterruptedReader<'_> {
+    fn read(&mut self, buf: &mut [u8]) -> io::Result<usize> {
+        self.was_interrupted = !self.was_interrupted;
+        if self.was_interrupted {
+            return Err(Error::from(ErrorKind::Interrupted));
+        }
+        Read::read(&mut self.rest, buf)
+    }
+}
+
+/// Takes at most three bytes at a time. Each write is interrupted once, and then tried again.
+#[derive(Drop)]
+pub(super) struct InterruptedWriter<'a> {
+    pub(super) taken: &'a mut Vec<u8>,
+    pub(super) was_interrupted: bool,
+}
+
+impl Write for InterruptedWriter<'_> {
+    fn write(&mut self, buf: &[u8]) -> io::Result<usize> {
+        self.was_interrupted = !self.was_interrupted;
+        if self.was_interrupted {
+            return Err(Error::from(ErrorKind::Interrupted));
+        }
+        let count = buf.len().min(3);
+        self.taken.extend_from_slice(&buf[..count])?;
+        Ok(count)
+    }
+
+    fn flush(&mut self) -> io::Result<()> {
+        Ok(())
+    }
+}
+
+/// A call of the books.
+#[derive(Clone, Copy, Debug, PartialEq, Eq, Hash)]
+pub(super) enum BooksCall {
+    View,
+    Write,
+    OwnersOf,
+    BytesOf,
+    Names,
+    FilesOf,
+    WalkHeld,
+    WalkFiles,
+    /// A walk over the held names, behind its first row.
+    HeldRow,
+    /// A walk over the files of a name, behind its first row.
+    FilesRow,
+}
+
+/// Hands a name to a taker, as a walk does that this fault ends then.
+fn hand_name<K: NameTaker>(taker: &mut K, row: &NameRow, fault: Fault) -> Result<(), WalkEnd>
+    ensures given { (rows : List NameRowData) ×
+        Walks K.takes K.stops rows taker.old taker.new result }
+{
+    if taker.take(row) {
+        Err(WalkEnd::from(fault))
+    } else {
+        Err(WalkEnd::Stopped)
+    }
+}
+
+/// Hands a file to a taker, as a walk does that this fault ends then.
+fn hand_file<K: FileTaker>(taker: &mut K, row: &FileRow, fault: Fault) -> Result<(), WalkEnd>
+    ensures given { (rows : List FileRowData) ×
+        Walks K.takes K.stops rows taker.old taker.new result }
+{
+    if taker.take(row) {
+        Err(WalkEnd::from(fault))
+    } else {
+        Err(WalkEnd::Stopped)
+    }
+}
+
+/// Books of which one call fails, after so many that didn't. No contract knows what they hold.
+pub(super) struct FailingBooks<B: Books + Drop> {
+    pub(super) books: B,
+    pub(super) failing: BooksCall,
+    pub(super) fault: Fault,
+    pub(super) after: u32,
+}
+
+impl<B: Books + Drop> Drop for FailingBooks<B> {
+    fn drop(self) {
+        let FailingBooks {
+            books: _books,
+            failing: _failing,
+            fault: _fault,
+            after: _after,
+        } = self;
+    }
+}
+
+impl<B: Books + Drop> FailingBooks<B> {
+    /// Whether this call fails now.
+    fn fails(&mut self, call: BooksCall) -> bool {
+        if self.failing != call {
+            return false;
+        }
+        if self.after == 0 {
+            return true;
+        }
+        self.after -= 1;
+        false
+    }
+
+    /// A walk over the held names that fails behind its first row.
+    fn hand_first_name<K: NameTaker>(&mut self, alloc: Global, taker: &mut K) -> Result<(), WalkEnd>
+        ensures given { (rows : List NameRowData) ×
+            Walks K.takes K.stops rows taker.old taker.new result }
+    {
+        let rows = self.books.names(alloc)?;
+        match rows.first() {
+            Some(row) => hand_name(taker, row, self.fault),
+            None => Err(WalkEnd::from(self.fault)),
+        }
+    }
+
+    /// A walk over the files of a name that fails behind its first row.
+    fn hand_first_file<K: FileTaker>(
+        &mut self,
+        alloc: Global,
+        name: &NormalName,
+        taker: &mut K,
+    ) -> Result<(), WalkEnd>
+        ensures given { (rows : List FileRowData) ×
+            Walks K.takes K.stops rows taker.old taker.new result }
+    {
+        let rows = self.books.files_of(alloc, name)?;
+        match rows.first() {
+            Some(row) => hand_file(taker, row, self.fault),
+            None => Err(WalkEnd::from(self.fault)),
+        }
+    }
+
+    /// The books, of which no call fails.
+    pub(super) fn into_books(self) -> B {
+        let FailingBooks {
+            books,
+            failing: _failing,
+            fault: _fault,
+            after: _after,
+        } = self;
+        books
+    }
+}
+
+impl<B: Books + Drop> Books for FailingBooks<B> {
+    ghost use Rattle.std.specs.FinMap.{empty};
+    ghost use Rattle.index_io.specs.Counts.{last_count};
+
+    ghost tables = { λ _. record {
+      users = empty;
+      names = empty;
+      owners = empty;
+      files = empty;
+      bodies = empty;
+      yanks = empty;
+      cases = empty;
+      bans = empty;
+    } };
+
+    ghost IsHonest = { λ _. ⊥ };
+
+    ghost IsClean = { λ _. ⊥ };
+
+    ghost may_leave = { λ _ _. ⊥ };
+
+    ghost failures = { λ _. last_count };
+
+    ghost stores = { λ _. last_count };
+
+    fn failure_count(&self) -> u64 {
+        u64::MAX
+    }
+
+    fn view(&mut self, alloc: Global, keys: &Keys) -> Result<View, Fault> {
+        if self.fails(BooksCall::View) {
+            return Err(self.fault);
+        }
+        self.books.view(alloc, keys)
+    }
+
+    fn write(&mut self, alloc: Global, change: Change) -> Result<(), Fault> {
+        if self.fails(BooksCall::Write) {
+            drop(change);
+            return Err(self.fault);
+        }
+        self.books.write(alloc, change)
+    }
+
+    fn owners_of(&mut self, alloc: Global, name: &NormalName) -> Result<Owners, Fault> {
+        if self.fails(BooksCall::OwnersOf) {
+            return Err(self.fault);
+        }
+        self.books.owners_of(alloc, name)
+    }
+
+    fn bytes_of(&mut self, alloc: Global, file: &FileName) -> Result<Option<Sealed>, Fault> {
+        if self.fails(BooksCall::BytesOf) {
+            return Err(self.fault);
+        }
+        self.books.bytes_of(alloc, file)
+    }
+
+    fn names(&mut self, alloc: Global) -> Result<Vec<NameRow>, Fault> {
+        if self.fails(BooksCall::Names) {
+            return Err(self.fault);
+        }
+        self.books.names(alloc)
+    }
+
+    fn files_of(&mut self, alloc: Global, name: &NormalName) -> Result<Vec<FileRow>, Fault> {
+        if self.fails(BooksCall::FilesOf) {
+            return Err(self.fault);
+        }
+        self.books.files_of(alloc, name)
+    }
+
+    fn walk_held<K: NameTaker>(&mut self, alloc: Global, taker: &mut K) -> Result<(), WalkEnd> {
+        if self.fails(BooksCall::WalkHeld) {
+            return Err(WalkEnd::from(self.fault));
+        }
+        if self.fails(BooksCall::HeldRow) {
+            return self.hand_first_name(alloc, taker);
+        }
+        self.books.walk_held(alloc, taker)
+    }
+
+    fn walk_files<K: FileTaker>(
+        &mut self,
+        alloc: Global,
+        name: &NormalName,
+        taker: &mut K,
+    ) -> Result<(), WalkEnd> {
+        if self.fails(BooksCall::WalkFiles) {
+            return Err(WalkEnd::from(self.fault));
+        }
+        if self.fails(BooksCall::FilesRow) {
+            return self.hand_first_file(alloc, name, taker);
+        }
+        self.books.walk_files(alloc, name, taker)
+    }
+
+    ghost honest_is_clean = { λ _ honest. honest };
+
+    ghost settled = { λ _ honest _ _. absurd honest };
+}
+
+/// Takes each row.
+#[derive(Drop)]
+pub(super) struct TakesAll;
+
+impl NameTaker for TakesAll {
+    ghost use Rattle.std.specs.Prelude.{⊤};
+
+    ghost takes = { λ _ _ _. ⊤ };
+
+    ghost stops = { λ _ _ _. ⊤ };
+
+    fn take(&mut self, _row: &NameRow) -> bool {
+        true
+    }
+}
+
+impl FileTaker for TakesAll {
+    ghost use Rattle.std.specs.Prelude.{⊤};
+
+    ghost takes = { λ _ _ _. ⊤ };
+
+    ghost stops = { λ _ _ _. ⊤ };
+
+    fn take(&mut self, _row: &FileRow) -> bool {
+        true
+    }
+}

@@ -1,0 +1,1 @@
+"""What tools/try-with-clients consists of."""
