@@ -36,8 +36,9 @@ class Break:
 
     def make(self, copy, program):
         """Makes the break in a new copy, and returns the program that is tried in it."""
-        for top in ("operate", "tools"):
+        for top in ("operate", "tools", "docs"):
             shutil.copytree(f"{TOP}/{top}", f"{copy}/{top}")
+        shutil.copy(f"{TOP}/LICENSE", copy)
         for path, old, new in self.changes:
             with open(f"{copy}/{path}") as kept:
                 text = kept.read()

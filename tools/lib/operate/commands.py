@@ -1,14 +1,11 @@
-"""What try-operate runs of the commands: index-upload with each of its ends, index-health, install and the units."""
-import http.server
+"""What try-operate runs of the commands: index-upload with each of its ends."""
 import os
 import shutil
 import subprocess
 import sys
-import threading
 
 from operate.checks import check, ends
 from operate.front import OPERATE
-from operate.kept import Kept
 from packages import make_wheel, wheel_files, wheel_name
 from running import run_command
 from serving import free_port, sha256
@@ -103,64 +100,3 @@ def try_late_uploads(place):
     check("an index that is away is asked again", "Again in" in said, said)
     said = late.communicate(timeout=60)[0]
     check("an index that comes back", late.returncode == 0 and "1 of 1 files are there" in said, said)
-
-
-class Failing(http.server.BaseHTTPRequestHandler):
-    """Answers as an index whose database was shut by a fault."""
-
-    def do_GET(self):
-        body = b'{"answer":"fault","name":"Store"}'
-        self.send_response_only(500)
-        self.send_header("Content-Length", str(len(body)))
-        self.end_headers()
-        self.wfile.write(body)
-
-
-def try_health(place):
-    """index-health asks for a new start where the index fails, and only there."""
-    words = [sys.executable, f"{OPERATE}/index-health"]
-    with Kept(place.program, f"{place.folder}/health.db") as index:
-        ends("an index that answers", run_command([*words, f"http://127.0.0.1:{index.port}"]), 0)
-    ends("an index that starts", run_command([*words, f"http://127.0.0.1:{index.port}"]), 0)
-    with http.server.HTTPServer(("127.0.0.1", 0), Failing) as failing:
-        threading.Thread(target=failing.serve_forever, kwargs={"poll_interval": 0.05}, daemon=True).start()
-        ends("an index that fails", run_command([*words, f"http://127.0.0.1:{failing.server_port}"]), 1, "500", "Store")
-        failing.shutdown()
-
-
-def try_install(place):
-    """install into a folder, again, over another's file, and away again; and what systemd says of the units."""
-    root = f"{place.folder}/root"
-    words = [sys.executable, f"{OPERATE}/install", "--root", root, "--program", place.program]
-    ends("install", run_command(words), 0, "put     " + root + "/usr/local/bin/index\n", "What is left to do")
-    ends("install again", run_command(words), 0, "there   " + root + "/usr/local/bin/index\n")
-    modes = [os.stat(f"{root}/var/{it}").st_mode & 0o777 for it in ("lib/index", "backups/index", "cache/nginx")]
-    check("the database is kept from others", modes == [0o700, 0o700, 0o755], modes)
-    try_units(root, f"{place.folder}/units")
-    edited = f"{root}/etc/nginx/conf.d/packages.conf"
-    with open(edited, "a") as conf:
-        conf.write("# mine\n")
-    os.remove(f"{root}/usr/local/bin/uncache")
-    ends("install over another's file", run_command(words), 1, f"OTHER   {edited}", "nothing was done")
-    check("it did nothing", not os.path.exists(f"{root}/usr/local/bin/uncache"))
-    if shutil.which("systemctl"):
-        # links to what --remove takes away
-        units = "index.service", "index-backup.timer", "index-health.timer"
-        run_command(["systemctl", f"--root={root}", "enable", *units])
-    ends("install --remove", run_command([*words, "--remove"]), 1, f"LEFT    {edited}")
-    left = sorted(os.path.join(at, it)[len(root):] for at, _, inside in os.walk(root) for it in inside)
-    check("another's file is all that is left", left == ["/etc/nginx/conf.d/packages.conf"], left)
-
-
-def try_units(root, folder):
-    """The units as they were installed, with the commands where they lie now."""
-    if not shutil.which("systemd-analyze"):
-        print("systemd-analyze is not installed, so the units were not looked at")
-        return
-    os.mkdir(folder)
-    places = f"{root}/etc/systemd/system"
-    for name in os.listdir(places):
-        with open(f"{places}/{name}") as kept, open(f"{folder}/{name}", "w") as made:
-            made.write(kept.read().replace("/usr/local/bin/", f"{root}/usr/local/bin/"))
-    ended = run_command(["systemd-analyze", "verify", *(f"{folder}/{name}" for name in sorted(os.listdir(folder)))])
-    check("systemd-analyze verify", (ended.returncode, ended.stdout) == (0, ""), ended.stdout)

@@ -1,8 +1,10 @@
 """nginx as operate/nginx has it, in front of indexes on loopback, with a certificate that is made on the spot."""
 import http.client
+import json
 import os
 import re
 import shutil
+import socket
 import ssl
 import subprocess
 
@@ -45,8 +47,17 @@ def kept(name):
         return conf.read()
 
 
+def has_ipv6():
+    """Whether this machine has a loopback of IPv6."""
+    try:
+        socket.create_server(("::1", 0), family=socket.AF_INET6).close()
+    except OSError:
+        return False
+    return True
+
+
 def make_certificate(folder):
-    host = ["-subj", "/CN=127.0.0.1", "-addext", "subjectAltName=IP:127.0.0.1"]
+    host = ["-subj", "/CN=127.0.0.1", "-addext", "subjectAltName=IP:127.0.0.1,IP:::1"]
     kind = ["-x509", "-newkey", "ec", "-pkeyopt", "ec_paramgen_curve:prime256v1", "-nodes", "-days", "2"]
     ended = run_command(["openssl", "req", *kind, *host, "-keyout", f"{folder}/key", "-out", f"{folder}/pem"])
     if ended.returncode:
@@ -97,8 +108,11 @@ class Front(Nginx, Asking):
         for inner in ("index/server.d", "cache"):
             os.makedirs(f"{folder}/{inner}")
         self.put("conf.d/packages.conf", kept("packages.conf"), **{
-            "listen 443 ssl": f"listen 127.0.0.1:{self.port}{'' if is_plain else ' ssl'}",
+            "listen 443 ssl;": f"listen 127.0.0.1:{self.port}{'' if is_plain else ' ssl'};",
+            "listen [::]:443 ssl;": f"listen [::1]:{self.port} ssl;" if has_ipv6() and not is_plain else "",
             "/etc/ssl/packages.example.pem": certificate, "/var/cache/nginx/": f"{folder}/cache/",
+            # a machine that tries this may have less room
+            "/var/log/nginx/": f"{folder}/", "min_free=2g": "min_free=16m",
             "/etc/ssl/packages.example.key": f"{os.path.dirname(certificate)}/key"})
         self.put("index/pages.conf", kept("pages.conf"))
         ports = {f"127.0.0.1:{8080 + at}": f"127.0.0.1:{port}" for at, port in enumerate(behind)}
@@ -107,9 +121,14 @@ class Front(Nginx, Asking):
             self.put("index/server.d/with-pypi.conf", kept("with-pypi.conf"),
                      **{"https://pypi.org": f"http://127.0.0.1:{pypi}"})
 
-    def ask(self, method, path, body=None, **headers):
-        connection = http.client.HTTPSConnection("127.0.0.1", self.port, timeout=60, context=self.trust)
+    def ask(self, method, path, body=None, host="127.0.0.1", **headers):
+        connection = http.client.HTTPSConnection(host, self.port, timeout=60, context=self.trust)
         return exchange(connection, method, path, body, headers)
+
+    def changes(self):
+        """The lines of the log of changes."""
+        with open(f"{self.folder}/index-changes.log", errors="replace") as log:
+            return [json.loads(line) for line in log]
 
 
 def is_here():

@@ -1,0 +1,35 @@
+"""Units for several indexes on one machine, made from those for one: an instance is the port that its index listens
+on."""
+
+TEMPLATED = ("index.service", "index-backup.service", "index-backup.timer", "index-health.service",
+             "index-health.timer", "index-metrics.service", "index-metrics.timer")
+# What is changed in a unit for one index: everywhere, and in the lines that say what is run. Index 8081 has the
+# database /var/lib/index/8081/index.db, and so on.
+EVERYWHERE = (
+    ("Python package index", "Python package index at %i"),
+    ("StateDirectory=index\n", "StateDirectory=index/%i\n"),
+    ("WorkingDirectory=/var/lib/index\n", "WorkingDirectory=/var/lib/index/%i\n"),
+    ("127.0.0.1:8080", "127.0.0.1:%i"),
+)
+RUN = (
+    ("/var/lib/index/", "/var/lib/index/%i/"),
+    ("/var/backups/index", "/var/backups/index/%i"),
+    ("index.service", "index@%i.service"),
+    ("/index.prom", "/index-%i.prom"),
+)
+# a folder for the copies of each
+FOLDER = "ExecStartPre=/bin/mkdir -p -m 700 /var/backups/index/%i\n"
+
+
+def template(name, unit):
+    """The template of this unit. What is changed is in lines that systemd reads, and not in comments."""
+    lines, is_run = [], False
+    for line in unit.splitlines(keepends=True):
+        # a line goes on after a backslash
+        is_run = line.startswith(("Exec", "Environment=")) or is_run and lines[-1].endswith("\\\n")
+        for old, new in () if line.startswith("#") else EVERYWHERE + (RUN if is_run else ()):
+            line = line.replace(old, new)
+        if name == "index-backup.service" and line.startswith("ExecStart="):
+            line = FOLDER + line
+        lines.append(line)
+    return "".join(lines)
