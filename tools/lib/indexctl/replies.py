@@ -45,7 +45,7 @@ class Scripted(http.server.BaseHTTPRequestHandler):
         self.end_headers()
         self.wfile.write(content)
 
-    do_GET = do_POST = do_PUT = do_DELETE = reply
+    do_GET = do_POST = do_PUT = do_DELETE = do_CONNECT = reply
 
     def finish(self):
         try:
@@ -104,6 +104,11 @@ def try_replies(place):
             ended = Control(place.folder, server.url).run(*words, "--again", "1")
             ends(name, ended, status, *said)
             check(f"no traceback at {name}", "Traceback" not in ended.stdout, ended.stdout[-800:])
+    with scripted(always(403, *HTML)) as proxy:
+        ended = Control(place.folder, "https://packages.test", HTTPS_PROXY=proxy.url).run("who", "x", "--again", "0")
+        came = [(method, path, headers["X-Index-Token"]) for method, path, _, headers in proxy.asked]
+        check("the proxy of the network", (ended.returncode, came) == (3, [("CONNECT", "packages.test:443", None)]),
+              (ended.stdout, came))
     nobody = Control(place.folder, f"http://127.0.0.1:{free_port()}")
     ends("an index that is away", nobody.run("who", "x", "--again", "1"), 3, "Again in 0.5 s", "again later")
 
