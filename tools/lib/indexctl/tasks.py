@@ -76,7 +76,7 @@ class Month:
     def names(self):
         run = self.by.run
         self.done("names are claimed", run("name", "claim", "Frob", "spam-nest", caller="ann"), "claim Frob: accepted")
-        self.done("an owner is added", run("owner", "add", "bob", "frob", caller="ann"))
+        self.done("an owner is added", run("owner", "add", "bob", "frob", caller="ann"), "bob: accepted")
         self.done("an owner that is no user", run("owner", "add", "bbo", "frob", caller="ann"), "NoUser",
                   "There is no user bbo", status=1)
         self.done("who may is told", run("owner", "add", "carol", "frob", caller="carol"), "NotOwner", "ann, bob",
