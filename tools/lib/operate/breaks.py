@@ -1,4 +1,5 @@
-"""Breaks of operate/, each made in a copy, and whether try-operate sees them there (tools/caught/operate.edits)."""
+"""Breaks of operate/, each made in a copy, and whether a tool sees them there: try-operate those of
+tools/caught/operate.edits, try-indexctl those of tools/caught/indexctl.edits."""
 import os
 import re
 import shutil
@@ -14,8 +15,7 @@ MOST_SECONDS = 400
 
 
 class Break:
-    """One break: what is changed, the parts of try-operate that are tried then, and the checks that have to fail
-    there."""
+    """One break: what is changed, the parts of the tool that are tried then, and the checks that have to fail there."""
 
     def __init__(self, block):
         self.changes, self.fails, self.program = [], [], None
@@ -32,7 +32,7 @@ class Break:
             elif key in ("name", "part", "program"):
                 setattr(self, key, value)
             else:
-                raise SystemExit(f"{BREAKS}: what is {key}?")
+                raise SystemExit(f"a break has {key}, and nobody knows what that is")
 
     def make(self, copy, program):
         """Makes the break in a new copy, and returns the program that is tried in it."""
@@ -53,13 +53,13 @@ class Break:
         os.chmod(f"{copy}/index", 0o755)
         return script.name
 
-    def tried(self, program):
-        """The names of the checks that failed in a copy with this break."""
+    def tried(self, program, tool):
+        """The names of the checks of a tool that failed in a copy with this break."""
         with tempfile.TemporaryDirectory() as folder:
             os.chmod(folder, 0o755)
             made = self.make(f"{folder}/copy", program)
             ended = run_command(
-                [sys.executable, f"{folder}/copy/tools/try-operate", "--program", made, "--only", *self.part.split()],
+                [sys.executable, f"{folder}/copy/tools/{tool}", "--program", made, "--only", *self.part.split()],
                 MOST_SECONDS)
         return {same(name) for name in re.findall(r"^FAILED (.*?): ", ended.stdout, re.M)}
 
@@ -69,35 +69,35 @@ def same(name):
     return re.sub(r"\d+", "N", name)
 
 
-def all_breaks():
-    with open(BREAKS) as kept:
+def all_breaks(path):
+    with open(path) as kept:
         text = re.sub(r"^#.*\n", "", kept.read(), flags=re.M)
     return [Break(block) for block in re.split(r"\n{2,}", text.strip())]
 
 
-def try_listed(names):
+def try_listed(names, path=BREAKS):
     """Each break can be made, and each of these checks stands at one."""
-    breaks, stale = all_breaks(), []
+    breaks, stale = all_breaks(path), []
     for it in breaks:
-        for path, old, _ in it.changes:
-            with open(f"{TOP}/{path}") as kept:
+        for changed, old, _ in it.changes:
+            with open(f"{TOP}/{changed}") as kept:
                 if kept.read().count(old) != 1:
-                    stale.append((it.name, path))
+                    stale.append((it.name, changed))
     check("each break can be made", not stale, stale)
     never = sorted({same(name) for name in names} - {same(name) for it in breaks for name in it.fails})
     check("each check stands at a break", not never, never)
 
 
-def try_breaks(program, names):
+def try_breaks(program, names, path=BREAKS, tool="try-operate"):
     """Tries the breaks of these names, or all."""
-    breaks = all_breaks()
+    breaks = all_breaks(path)
     unknown = set(names) - {it.name for it in breaks}
     if unknown:
-        raise SystemExit(f"try-operate: {BREAKS} has no break {', '.join(sorted(unknown))}")
+        raise SystemExit(f"{tool}: {path} has no break {', '.join(sorted(unknown))}")
     for it in breaks:
         if names and it.name not in names:
             continue
-        failed = it.tried(program)
+        failed = it.tried(program, tool)
         unseen = [name for name in it.fails if same(name) not in failed]
         check(f"{it.name} is seen", it.fails and not unseen,
               f"these did not fail: {unseen}; these did: {sorted(failed)}")

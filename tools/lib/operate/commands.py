@@ -1,4 +1,4 @@
-"""What try-operate runs of the commands: index-upload with each of its ends."""
+"""What try-operate runs of the commands: indexctl upload with each of its ends."""
 import os
 import shutil
 import subprocess
@@ -12,7 +12,7 @@ from serving import free_port, sha256
 
 
 class Uploads:
-    """index-upload for one front, as a build server runs it."""
+    """indexctl upload for one front, as a build server runs it."""
 
     def __init__(self, place):
         self.folder, self.dist = place.folder, f"{place.folder}/dist"
@@ -25,7 +25,7 @@ class Uploads:
     def words(self, *words, **setting):
         """The command, and what it finds in its environment."""
         setting = {name: value for name, value in {**self.setting, **setting}.items() if value is not None}
-        return [sys.executable, f"{OPERATE}/index-upload", *words], setting
+        return [sys.executable, f"{OPERATE}/indexctl", "upload", *words], setting
 
     def run(self, *words, **setting):
         words, setting = self.words(*words, **setting)
@@ -39,14 +39,15 @@ class Uploads:
 
 
 def try_uploads(place):
-    """The files of two projects go up by index-upload, into an index that has none."""
+    """The files of two projects go up by indexctl upload, into an index that has none."""
     by, other = Uploads(place), [path for path, _ in place.packages["spam-nest"].values()]
-    ends("index-upload --dry-run", by.run("--dry-run", by.dist, INDEX_URL=None, INDEX_TOKEN=None), 0,
+    ends("indexctl upload --dry-run", by.run("--dry-run", by.dist, INDEX_URL=None, INDEX_TOKEN=None), 0,
          "frob-0.9.tar.gz: frob, ")
     by.run("--dry-run", "--claim", by.dist)
     ends("it sent nothing", by.run(by.dist), 1, "NoProject", "--claim", "0 of 3 files are there")
-    ends("index-upload --claim", by.run("--claim", by.dist, *other), 0, "frob: claimed", "5 of 5 files are there")
-    ends("index-upload again", by.run(by.dist), 0, "is there already", "3 of 3 files are there")
+    ends("indexctl upload --claim", by.run("--claim", by.dist, *other), 0, "claim frob: accepted",
+         "5 of 5 files are there")
+    ends("indexctl upload again", by.run(by.dist), 0, "is there already", "3 of 3 files are there")
     ends("Requires-Python", by.run(by.wheel("frob", "1.2", requires=">=99")), 0, "frob-1.2")
     page = place.front.ask("GET", "/simple/frob/", Accept="text/html")
     check("it stands on the page", b'data-requires-python="&gt;=99"' in page[2], page[2])
@@ -79,7 +80,7 @@ def try_wrong_uploads(place):
     with open(f"{by.folder}/frob-7.0.tar.gz", "wb") as no_archive:
         no_archive.write(b"no archive")
     ends("a file that is no archive", by.run(f"{by.folder}/frob-7.0.tar.gz"), 2, "can't be read")
-    ends("a name of another kind", by.run(f"{by.folder}/frob-7.0.zip"), 2, "no name of a wheel")
+    ends("a name of another kind", by.run(f"{by.folder}/frob-7.0.zip"), 2, "not the name of a wheel")
     ends("no address", by.run(fine, INDEX_URL=None), 2, "INDEX_URL")
     ends("an address in the clear", by.run(fine, INDEX_URL="http://packages.example"), 2, "https")
     ends("a certificate that nobody vouches for", by.run(fine, INDEX_CA=None), 2, "INDEX_CA")

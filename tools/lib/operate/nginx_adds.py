@@ -120,7 +120,7 @@ def try_twine(place):
     """Programs that upload by POST, as twine, read what to use in its place; a browser is sent to the pages."""
     front = place.front
     for path in ("/legacy/", "/pypi", "/"):
-        replies(f"a POST to {path}", front.ask("POST", path, b"x" * 3000), 404, "application/json", b"index-upload")
+        replies(f"a POST to {path}", front.ask("POST", path, b"x" * 3000), 404, "application/json", b"indexctl upload")
     for method in ("GET", "HEAD"):
         reply = front.ask(method, "/")
         check(f"{method} of the top", reply[0] == 302 and reply[1]["Location"].endswith("/simple/"), reply[1].items())

@@ -1,0 +1,56 @@
+"""Help, the manual page, and completion in bash."""
+import re
+import shutil
+import subprocess
+
+from indexctl.control import Control, environment
+from operate.checks import check, ends
+
+COMPLETES = ((("",), {"token", "user", "case", "upload", "who"}), (("use",), {"user"}),
+             (("user", ""), {"add", "rotate", "lock", "leave"}),
+             (("case", "attempt", "x", "pa"), {"pages"}), (("case", "transfer", "x", "--q"), {"--quiet"}),
+             (("case", "list", "--profile", "x", "--j"), {"--json"}))
+
+
+def commands_of(ended):
+    """The commands that a help lists."""
+    return re.findall(r"^    (\S+)(?: |$)", re.split("^(?:options|environment):", ended.stdout, flags=re.M)[0], re.M)
+
+
+def completed(script, words):
+    """What bash offers for the last of these words."""
+    listed = " ".join(f"'{it}'" for it in ("indexctl", *words))
+    text = f"{script}\nCOMP_WORDS=({listed}); COMP_CWORD={len(words)}; _indexctl; printf '%s\\n' \"${{COMPREPLY[@]}}\""
+    ended = subprocess.run(["bash", "-c", text], stdout=subprocess.PIPE, stderr=subprocess.PIPE, timeout=30, text=True,
+                           env=environment())
+    return set(ended.stdout.split()), ended.stderr
+
+
+def try_shell(place):
+    """Each command has its help, and stands on the manual page."""
+    by = Control(place.folder, None)
+    top = by.run("--help")
+    groups = commands_of(top)
+    ends("help", top, 0, "INDEX_TOKEN_FILE", "~/.netrc", "130")
+    manual, paths = by.run("man"), []
+    for group in groups:
+        ended = by.run(group, "--help")
+        check(f"help for {group}", ended.returncode == 0 and f"usage: indexctl {group}" in ended.stdout, ended.stdout)
+        paths += [f"{group} {verb}" for verb in commands_of(ended)] or [group]
+    check("help names all commands", len(paths) == 36, paths)
+    ends("help for a verb", by.run("case", "transfer", "--help"), 0, "usage: indexctl case transfer", "--quiet",
+         "--yes")
+    missing = [path for path in paths if f"indexctl {path}".replace("-", "\\-") not in manual.stdout]
+    check("the manual page has each command", manual.returncode == 0 and not missing, missing)
+    if shutil.which("groff"):
+        page = subprocess.run(["groff", "-man", "-Tutf8", "-ww"], input=manual.stdout, stdout=subprocess.PIPE,
+                              stderr=subprocess.PIPE, text=True, timeout=30)
+        check("groff reads it",
+              page.returncode == 0 and page.stderr == "" and "EXIT STATUS" in re.sub(r"\x1b\[\d*m|.\x08", "",
+                                                                                     page.stdout), page.stderr)
+    script = by.run("completion", "bash").stdout
+    for words, wanted in COMPLETES:
+        offered, errors = completed(script, words)
+        check(f"completion of `{' '.join(words)}`", wanted <= offered and not errors,
+              (offered, errors))
+    ends("a command that is none", by.run("nmaes"), 2, "invalid choice")
