@@ -72,13 +72,13 @@ module _ {S : Type 0} (g : Ghosts S) (Made : Database → Trees → Type 0) (old
   module _ {A : Type 0} {IsKind : Database → Type 0} {change : Tables → Tables} {told : Option ℕ → Option ℕ} {asks : List Ask}
       (kind : HasCleanDisk (state g old) → IsTrue (state g old).is_open → IsKind (state g old).now)
       (tells : HasCleanDisk (state g old) → IsTrue (state g old).is_open → told (version_in (state g old).now.trees) ≡ Some 2)
-      (comes : (db : Trees) → IsKind (state g old).now → AreCurrent db → tables_in db ≡ change (tables_in (state g old).now.trees) → Made (state g old).now db) where
+      (comes : IsWorking (state g old) → (db : Trees) → IsKind (state g old).now → AreCurrent db → tables_in db ≡ change (tables_in (state g old).now.trees) → Made (state g old).now db) where
     made_crash : (result : Result A Error) → MakesIndex g IsKind change told asks old new result → LeavesOr Made (state g old) (state g new)
     made_crash result it working clean db may =
         let fit = kind working.clean working.is_open in
         elim ((it.crash working.is_open fit).crash clean db may) [
           | inl before ↦ inl before
-          | inr made ↦ inr (comes db fit (record { index = made.2; version = made.1 ∙ tells working.clean working.is_open }) made.0)
+          | inr made ↦ inr (comes working db fit (record { index = made.2; version = made.1 ∙ tells working.clean working.is_open }) made.0)
         ]
 
     made_limit : (result : Result A Error) → MakesIndex g IsKind change told asks old new result → IsWorking (state g new) → KeepsLimit (state g old) (state g new)

@@ -51,9 +51,9 @@ IsOurs db = (IsIndex db × (version_in db.trees ≡ Some 2)) ⊎ TellsFirst db
 abbrev pub IsFound : Database → Tables → Type 0
 IsFound db T = IsCurrent db T ⊎ IsFirst db T
 
--- of a database of version 1 the index is made that comes of it, which tells version 2
+-- of a database of version 1 that tells so the index is made that comes of it, which tells version 2
 abbrev pub IsRaised : Database → Trees → Type 0
-IsRaised was db = IsFirstVersion was × AreCurrent db × (tables_in db ≡ without_bans (tables_in was.trees))
+IsRaised was db = TellsFirst was × AreCurrent db × (tables_in db ≡ without_bans (tables_in was.trees))
 
 -- the schema is this one of ours
 abbrev pub HasSchema : Schema → Kind → Type 0

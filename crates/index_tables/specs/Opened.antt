@@ -73,9 +73,9 @@ StoreForOthers g asks old new why =
 abbrev pub LeavesOr : (Database → Trees → Type 0) → State → State → Type 0
 LeavesOr Made old new = IsWorking old → HasCleanDisk new → (db : Trees) → new.may_leave db → old.may_leave db ⊎ Made old.now db
 
--- an index that tells version 2, with these tables, is made of it
+-- of a database with nothing in it an index is made that tells version 2, with these tables
 abbrev pub IsCreated : Tables → Database → Trees → Type 0
-IsCreated T was db = AreCurrent db × (tables_in db ≡ T)
+IsCreated T was db = (was.schema ≡ no_schema) × AreCurrent db × (tables_in db ≡ T)
 
 -- while they work, the books have tables of this kind
 abbrev pub HaveTables : {S : Type 0} → Ghosts S → (Tables → Type 0) → BooksState S → Type 0

@@ -13,7 +13,7 @@ use std::marker::Model;
 /// The tables in a database of SQLite. Contracts see the connection and how many calls answered a fault.
 ///
 /// A call looks at the database, or makes one transaction. After a fault of the store the connection may be shut, and
-/// each later call answers `Store`. It has no drop: `into_connection` gives the connection back, to be closed.
+/// no later write succeeds. It has no drop: `into_connection` gives the connection back, to be closed.
 pub struct SqlBooks<S: Alter> {
     pub(crate) conn: IndexConnection<S>,
     pub(crate) failures: u64,
