@@ -5,3 +5,4 @@ pub mod RunEnds
 pub mod CauseLemmas
 pub mod Histories
 pub mod Crashes
+pub mod Choices
