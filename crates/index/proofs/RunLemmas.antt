@@ -8,7 +8,7 @@ use Rattle.sqlite.specs.declared.file.Leftover.{Leftover}
 use Rattle.sqlite.specs.declared.file.Leftover.TheVariants as leftover
 use Rattle.sqlite.specs.Effect.{Database}
 use Rattle.sqlite.specs.Files.{AreFoundIn, HoldsDatabase, IsClosed, IsNothing, IsOpened, LeavesFiles, file_state, image_of, over_files}
-use Rattle.sqlite.specs.Held.{Held, AreDatabases}
+use Rattle.sqlite.specs.Held.{Held}
 use Rattle.sqlite.proofs.Theorems.{opens_again}
 use Rattle.sqlite.specs.Recovery.{Image}
 use Rattle.sqlite.specs.Schema.{Schema}
@@ -19,8 +19,9 @@ use Rattle.sqlite.specs.Tree.{Trees}
 use Rattle.sqlite_disk.specs.declared.Disk.{Ghosts}
 use Rattle.sqlite_disk.specs.declared.Files.{Files}
 use Rattle.sqlite_disk.specs.Events.{Event, replay, settled}
-use Rattle.sqlite_disk.specs.History.{MayLeave}
+use Rattle.sqlite_disk.specs.History.{MayLeave as MayLeaveFile}
 use Rattle.sqlite_pool.specs.Stored.{StandsAs}
+use Rattle.sqlite_store.specs.FileStore as store
 use Rattle.sqlite_store.specs.Unopened.{state_of}
 use Rattle.sqlite_trees.specs.Props.{Trees-set}
 use Rattle.sqlite_trees.proofs.Doubt.{no_doubt}
@@ -35,11 +36,11 @@ use Rattle.index_sql_schema.specs.Records.{tables_in}
 use Rattle.index_sql_schema.specs.Schema.{index_schema}
 use Rattle.index_tables.specs.Adopted.{IsCommitted, IsCurrent, IsFound}
 use Rattle.index_tables.specs.BooksState.{AreCurrent, IsWorking}
-use Rattle.index_tables.specs.Reopened.{MayLeave as LeavesImage}
+use Rattle.index_tables.specs.Reopened.{MayLeave}
 use Rattle.index_tables.specs.Opened.{IsRefusedAs, IsTaken}
 use Rattle.index_tables.specs.declared.opening.Unopened.{Unopened}
-use Rattle.index.specs.Openings.{HoldsOnly, LeavesOfShut, Refused}
-use Rattle.index.specs.Runs.{Began, LeavesOnly, Created, Holds, Interrupted, HoldsCurrent, HoldsAfterCrash, LeavesAsWas, Ran, Worked}
+use Rattle.index.specs.Openings.{HoldsOnly, LeavesOfShut, OpensAgain, Refused}
+use Rattle.index.specs.Runs.{Began, Created, CreatedInLog, FindsOnly, Holds, HoldsAfterCrash, HoldsCurrent, HoldsNone, Interrupted, IsMadeNew, LeavesAsWas, LeavesOnly, Ran, Worked}
 
 -- an index of today is found as it is, and never as one of version 1
 same_found : (db other : Database) (T found : Tables) → IsCurrent db T → IsFound other found → other.trees ≡ db.trees → found ≡ T
@@ -77,7 +78,7 @@ clean_if_open clean is_open shut is =
 -- what a crash leaves of the log or the database file after these calls, where these are what the two held
 abbrev LeavesFile : Bool → List ℕ → List ℕ → Bool → List Event → List ℕ → Type 0
 LeavesFile mixes log db is_log history bytes =
-    let m = replay (if is_log then log else db) history in MayLeave mixes m.seen m.synced m.steps bytes
+    let m = replay (if is_log then log else db) history in MayLeaveFile mixes m.seen m.synced m.steps bytes
 
 -- where it was settled, and nothing has happened since, that is what it held
 pub settled_leaves : (mixes : Bool) (log db : List ℕ) (is_log which : Bool) (key : ℕ) (history : List Event) (bytes : List ℕ) → is_log ≡ which → history ≡ settled key ∷ []
@@ -118,34 +119,53 @@ module _ {D : Type 0} {g : Ghosts D} where
     left = leaves_of last files worked.after copied worked.committed;
   }
 
-  -- what a next run finds is what a crash may leave
-  found_next : (Are : Tables → Type 0) (last : Held (FileStore D g)) → IsTrue (over_files.view last.store).is_numbered → AreDatabases (over_files.recovers last.store)
-      → LeavesOnly (file_state last).may_leave Are → (image : Image) → LeavesImage last image → (found : Tables) → Holds image found → ∥ Are found ∥₁
-  found_next Are last numbered databases left image may found holds =
-      ∥∥₁_map (opens_again last.store numbered databases image may)
-      (λ it. left holds.db.trees (subst (over_files.recovers last.store) (sym (holds.only.alone it.0 it.2)) it.1) found (tables_of_found holds.db found holds.found))
+  -- an index that is found in what a crash leaves is in a database that the store allows
+  pub found_among : (last : FileStore D g) → OpensAgain last → (next : Image) → (store.state last).may_leave next → (T : Tables) → (holds : Holds next T)
+      → ∥ over_files.recovers last holds.db.trees ∥₁
+  found_among last again next may T holds =
+      ∥∥₁_map (opens_again last again.0 again.1 next may) (λ it. subst (over_files.recovers last) (sym (holds.only.alone it.0 it.2)) it.1)
+
+  found_next : (Are : Tables → Type 0) (last : Held (FileStore D g)) → OpensAgain last.store → LeavesOnly (file_state last).may_leave Are
+      → (image : Image) → MayLeave last image → FindsOnly image Are
+  found_next Are last again left image may found holds =
+      ∥∥₁_map (found_among last.store again image may found holds) (λ allowed. left holds.db.trees allowed found (tables_of_found holds.db found holds.found))
 
   -- work between an opening and a close that failed
   pub interrupted_by : (Left : Tables → Tables → Type 0) (start : Image) (first last : Held (FileStore D g)) (store : FileStore D g) → IsOpened first → FindsIn start (file_state first)
-      → Began Left (file_state first).now (file_state last).may_leave → IsClosed last store
-      → IsTrue (over_files.view last.store).is_numbered → AreDatabases (over_files.recovers last.store) → Interrupted Left start store
-  interrupted_by Left start first last store opened finds began closed numbered databases = record {
+      → Began Left (file_state first).now (file_state last).may_leave → IsClosed last store → OpensAgain last.store → Interrupted Left start store
+  interrupted_by Left start first last store opened finds began closed again = record {
     before = began.before;
     held = holds_of start first began.before opened finds began.found;
     left = λ db may. began.left db (closed.quiet.outcomes db may);
     last = last;
     closed = closed;
-    next = found_next (Left began.before) last numbered databases began.left;
+    next = found_next (Left began.before) last again began.left;
   }
 
+  none_of : (start : Image) (first : Held (FileStore D g)) → IsOpened first → FindsIn start (file_state first)
+      → has_any_of (file_state first).now.schema index_schema.tables ≡ false → HoldsNone start
+  none_of start first opened finds free = record { db = (file_state first).now; only = only_of start first opened finds; free = free }
+
+  -- a new index between an opening and a close
   pub created_by : (T : Tables) (start : Image) (first last : Held (FileStore D g)) (files : Files D) → IsOpened first → FindsIn start (file_state first)
-      → has_any_of (file_state first).now.schema index_schema.tables ≡ false → IsCommitted (file_state last) T → IsCopied last files → Created g T start files
-  created_by T start first last files opened finds free committed copied = record {
-    db = (file_state first).now;
-    only = only_of start first opened finds;
-    free = free;
-    left = leaves_of last files T copied committed;
+      → IsMadeNew T (file_state first) (file_state last) → IsCopied last files → Created g T start files
+  created_by T start first last files opened finds made copied = record {
+    held = none_of start first opened finds made.free;
+    left = leaves_of last files T copied (made.committed (working_of last files copied));
   }
+
+  -- and between one and a close that failed
+  pub created_in_log_by : (T : Tables) (start : Image) (first last : Held (FileStore D g)) (store : FileStore D g) → IsOpened first → FindsIn start (file_state first)
+      → IsMadeNew T (file_state first) (file_state last) → HasCleanDisk (file_state last) → IsClosed last store → OpensAgain last.store → CreatedInLog T start store
+  created_in_log_by T start first last store opened finds made clean closed again =
+      let left = made.left clean opened.0.is_open in
+      record {
+        held = none_of start first opened finds made.free;
+        left = λ db may. left db (closed.quiet.outcomes db may);
+        last = last;
+        closed = closed;
+        next = found_next (λ found. found ≡ T) last again left;
+      }
 
   pub refused_by : (Made : Database → Trees → Type 0) (start : Image) (first last : Held (FileStore D g)) → IsOpened first → FindsIn start (file_state first)
       → LeavesAsWas Made (file_state first) (file_state last) → Refused Made start (file_state last)

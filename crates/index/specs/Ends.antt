@@ -1,9 +1,10 @@
 -- The ends of the program with the status 1: which of them tell a fault, and the ends that faults of other layers are.
-use Rattle.std.specs.Prelude.{ℕ, Bool, true, false, Option, None, Result, Ok, Err}
+use Rattle.std.specs.Prelude.{ℕ, ◌&&◌, Bool, true, false, Option, None, Result, Ok, Err, if◌then◌else◌}
 use Rattle.sqlite.specs.declared.error.Error.{Error}
 use Rattle.sqlite.specs.declared.error.Error.TheVariants.{SqliteFailure}
 use Rattle.sqlite.specs.declared.error.ErrorCode.TheVariants as code
 use Rattle.index_cli.specs.declared.end.LineEnd.{LineEnd}
+use Rattle.index_cli.specs.declared.end.ServeEnd.{ServeEnd}
 use Rattle.index_cli.specs.declared.end.ServeEnd.TheVariants as serve_end
 use Rattle.index_desk.specs.declared.desk.report.ReportFault.{ReportFault}
 use Rattle.index_desk.specs.declared.desk.report.ReportFault.TheVariants as report_fault
@@ -48,11 +49,26 @@ end_of_report report_fault.OutOfMemory = end.OutOfMemory
 end_of_report report_fault.Store = end.Store None
 end_of_report (report_fault.WriteFault count) = end.WriteFault
 
--- what comes of a run over lines, and of a report, which finds no number
+-- what comes of a run over lines, of one over connections, and of a report: these two find no number
 abbrev pub end_of : Result ℕ LineEnd → Result ℕ End
 end_of (Ok count) = Ok count
 end_of (Err early) = Err (end.Lines early)
 
+abbrev pub end_of_serving : Result (Unit {0}) ServeEnd → Result ℕ End
+end_of_serving (Ok done) = Ok 0
+end_of_serving (Err early) = Err (end.Connections early)
+
 abbrev pub end_of_reporting : Result (Unit {0}) ReportFault → Result ℕ End
 end_of_reporting (Ok done) = Ok 0
 end_of_reporting (Err fault) = Err (end_of_report fault)
+
+-- what comes of work, where it is as well closed; where the database failed in both, the end of closing has the cause
+abbrev pub end_by : Result ℕ End → Result (Unit {0}) End → Result ℕ End
+end_by end (Ok done) = end
+end_by (Ok count) (Err fault) = Err fault
+end_by (Err early) (Err fault) = if is_store early && is_store fault then Err fault else Err early
+
+-- what comes of closing
+abbrev pub closing_of : {F S : Type 0} → Result F (End × S) → Result (Unit {0}) End
+closing_of (Ok files) = Ok tt
+closing_of (Err unclosed) = Err unclosed.0

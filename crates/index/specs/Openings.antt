@@ -3,7 +3,7 @@ use Rattle.std.specs.Prelude.{◌≡◌, ◌⊎◌, false, IsTrue, Option, Some,
 use Rattle.sqlite.specs.Effect.{Database}
 use Rattle.sqlite.specs.FileStore.{recovers}
 use Rattle.sqlite.specs.declared.FileStore.{FileStore}
-use Rattle.sqlite.specs.Files.{AreFoundIn, HoldsDatabase, IsCleanLeft, IsEmpty, IsNothing, IsOpened, file_state}
+use Rattle.sqlite.specs.Files.{AreFoundIn, HoldsDatabase, IsCleanLeft, IsEmpty, IsNothing, IsOpened, file_state, over_files}
 use Rattle.sqlite.specs.Start.{FindsIn}
 use Rattle.sqlite.specs.declared.file.Leftover.{Leftover}
 use Rattle.sqlite.specs.declared.file.Leftover.TheVariants as leftover
@@ -11,7 +11,7 @@ use Rattle.sqlite.specs.Recovery.{Image}
 use Rattle.sqlite.specs.State.{HasCleanDisk, State}
 use Rattle.sqlite.specs.Tree.{Trees}
 use Rattle.sqlite.specs.WalFiles.{outcomes}
-use Rattle.sqlite.specs.Held.{Held, state}
+use Rattle.sqlite.specs.Held.{AreDatabases, Held, state}
 use Rattle.sqlite_trees.specs.declared.store.Store.{Ghosts}
 use Rattle.sqlite_disk.specs.declared.Disk as disk
 use Rattle.sqlite_pool.specs.Stored.{StandsAs}
@@ -107,10 +107,15 @@ pub record IsWhyUnfound {S : Type 0} (g : Ghosts S) (first last : Held S) (why :
   pub again : HasCleanDisk (state g last) → IsTrue (state g first).is_open → IsOurs (state g first).now → IsFault why
 
 module _ {D : Type 0} {g : disk.Ghosts D} where
+  -- a store of which a crash leaves nothing but databases, which can be opened again
+  abbrev pub OpensAgain : FileStore D g → Type 0
+  OpensAgain store = IsTrue (over_files.view store).is_numbered × AreDatabases (over_files.recovers store)
+
   -- a crash leaves this of two files on which nothing was done
   abbrev pub LeavesUnused : (Image → State → Type 0) → Image → Left D g → Type 0
   LeavesUnused IsRefused start (unused.Shut left) = LeavesShut start left
-  LeavesUnused IsRefused start (unused.Refused left) = IsRefused start (file_state left.conn)
+  LeavesUnused IsRefused start (unused.Refused left) =
+      IsRefused start (file_state left.conn) × (HasCleanDisk (file_state left.conn) → OpensAgain left.conn.store)
 
   -- Why nothing was done on two files that held this. Those that can't be opened, or closed, have failed, or memory was
   -- wanting. A database was refused for a reason of this kind.

@@ -1,6 +1,6 @@
--- A run of the program: what it finds in a database file and its log, what each kind of work makes of the tables, and what
--- is left in the files, at the end of the run and by a crash.
-use Rattle.std.specs.Prelude.{◌≡◌, ◌⊎◌, ◌≤◌, ℕ, false, IsTrue, List, Option, Result, Ok, Err, IfOk, IfErr, IfSome}
+-- A run of the program: what it finds in a database file and its log, and what is left in the files, at the end of the run
+-- and by a crash.
+use Rattle.std.specs.Prelude.{◌≡◌, ◌⊎◌, ℕ, false, IsTrue, Result, IfOk, IfErr, IfSome, Option}
 use Rattle.sqlite.specs.Closing.{HoldsAlone}
 use Rattle.sqlite.specs.Effect.{Database}
 use Rattle.sqlite.specs.declared.FileStore.{FileStore}
@@ -15,20 +15,6 @@ use Rattle.sqlite.specs.WalFiles.{outcomes}
 use Rattle.sqlite_disk.specs.declared.Disk.{Ghosts}
 use Rattle.sqlite_disk.specs.declared.Files.{Files}
 use Rattle.index_sql_opening.specs.Names.{has_any_of}
-use Rattle.index_cli.specs.declared.end.LineEnd.{LineEnd}
-use Rattle.index_cli.specs.Ends.{EndsRun}
-use Rattle.index_cli.specs.Serving.{Serves, ServesCalls, ServesHistory}
-use Rattle.index_cli.specs.Telling.{TellsLines}
-use Rattle.index_cli.specs.TellsCalls.{TellsCalls}
-use Rattle.index_cli.specs.TellsHistory.{TellsHistory}
-use Rattle.index_desk.specs.Checks.{wrong_charges_in}
-use Rattle.index_desk.specs.Crashes.{LeavesAll, LeavesAllOf}
-use Rattle.index_desk.specs.declared.desk.report.ReportFault.{ReportFault}
-use Rattle.index_desk.specs.Reports.{Reports, report_in}
-use Rattle.index_desk.specs.Rules.{by_tables}
-use Rattle.index_rules.specs.History.{History}
-use Rattle.index_rules.specs.Legal.{IsLegal}
-use Rattle.index_rules.specs.StandsFor.{StandsFor}
 use Rattle.index_rules.specs.Tables.{Tables}
 use Rattle.index_sql_schema.specs.Records.{tables_in}
 use Rattle.index_sql_schema.specs.Schema.{index_schema}
@@ -37,8 +23,8 @@ use Rattle.index_tables.specs.BooksState.{AreCurrent, IsWorking}
 use Rattle.index_tables.specs.Reopened.{MayLeave}
 use Rattle.index.specs.declared.database.Left.{Left}
 use Rattle.index.specs.declared.end.End.{End}
-use Rattle.index.specs.Ends.{end_of, end_of_reporting, is_fault}
 use Rattle.index.specs.Openings.{HoldsOnly, IsUnfound, IsWhyUnfound, IsWhyUnused, LeavesUnused}
+use Rattle.index.specs.Tasks.{Does, MayLeaveBy, Task}
 
 -- ---- two files
 
@@ -47,6 +33,10 @@ pub record Holds (image : Image) (T : Tables) : Type 0 where
   pub db : Database
   pub found : IsFound db T
   pub only : HoldsOnly image db
+
+-- whatever index a run finds in them has tables of this kind
+abbrev pub FindsOnly : Image → (Tables → Type 0) → Type 0
+FindsOnly image Are = (found : Tables) → Holds image found → ∥ Are found ∥₁
 
 -- they hold an index of today with these tables, which a next run finds, and so does the database file with no log
 pub record HoldsCurrent (image : Image) (T : Tables) : Type 0 where
@@ -83,24 +73,39 @@ pub record Interrupted {D : Type 0} {g : Ghosts D} (Left : Tables → Tables →
   pub left : LeavesOnly (over_files.recovers store) (Left before)
   pub last : Held (FileStore D g)
   pub closed : IsClosed last store
-  pub next : (image : Image) → MayLeave last image → (found : Tables) → Holds image found → ∥ Left before found ∥₁
+  pub next : (image : Image) → MayLeave last image → FindsOnly image (Left before)
+
+-- they held a database in which no table has the name of one of an index
+pub record HoldsNone (image : Image) : Type 0 where
+  pub db : Database
+  pub only : HoldsOnly image db
+  pub free : has_any_of db.schema index_schema.tables ≡ false
 
 -- they held nothing of an index, and hold a new one with these tables
 pub record Created {D : Type 0} (g : Ghosts D) (T : Tables) (start : Image) (files : Files D) : Type 0 where
-  pub db : Database
-  pub only : HoldsOnly start db
-  pub free : has_any_of db.schema index_schema.tables ≡ false
+  pub held : HoldsNone start
   pub left : HoldsAfterCrash g files T
+
+-- They held nothing of an index, and a crash leaves a new one with these tables. What it leaves of the two files as the
+-- index is made, before they are closed, the next run finds.
+pub record CreatedInLog {D : Type 0} {g : Ghosts D} (T : Tables) (start : Image) (store : FileStore D g) : Type 0 where
+  pub held : HoldsNone start
+  pub left : LeavesOnly (over_files.recovers store) (λ found. found ≡ T)
+  pub last : Held (FileStore D g)
+  pub closed : IsClosed last store
+  pub next : (image : Image) → MayLeave last image → FindsOnly image (λ found. found ≡ T)
 
 -- ---- a run of work on the index in two files
 
--- how it ends, by what the work does and what a crash may leave of it
-pub record EndsRunOn {D : Type 0} (g : Ghosts D) (Does Leaves : Tables → Tables → Result ℕ End → Type 0) (start : Image) (result : Result (Result (Files D) (End × FileStore D g) × Result ℕ End) (End × Option (Left D g))) : Type 0 where
+-- how it ends, by its task
+pub record EndsRunOn {D : Type 0} (g : Ghosts D) (task : Task) (start : Image)
+    (result : Result (Result (Files D) (End × FileStore D g) × Result ℕ End) (End × Option (Left D g))) : Type 0 where
   -- the files held an index, and hold what the work made of it
-  pub ran : IfOk result (λ done. IfOk done.0 (λ files. AreClean g files.log files.db → Ran g (λ T T'. Does T T' done.1) start files))
+  pub ran : IfOk result (λ done. IfOk done.0 (λ files. AreClean g files.log files.db
+      → Ran g (Does task done.1) start files))
   -- where the log was not copied, a crash leaves what it may leave of the work
   pub interrupted : IfOk result (λ done. IfErr done.0 (λ e. IsClean (over_files.view e.1)
-      → Interrupted (λ T T'. Leaves T T' done.1) start e.1))
+      → Interrupted (MayLeaveBy task done.1) start e.1))
   -- what is refused is as it was, or an index of version 1 became one of today
   pub refused : IfErr result (λ e. IfSome e.1 (LeavesUnused IsUnfound start))
   pub why : IfErr result (λ e. IsWhyUnused (IsWhyUnfound over_files) start e.0 e.1)
@@ -128,65 +133,17 @@ pub record EndsWork (Does Leaves : Tables → Tables → Type 0) (was now : Stat
   pub worked : IsWorking now → Worked Does was.now now
   pub began : HasCleanDisk now → IsTrue was.is_open → Began Leaves was.now now.may_leave
 
--- a new index with these tables was made where nothing of one was, on a connection that works only where it did before
+-- a new index with these tables was made where nothing of one was, on a connection that works, or is clean, only where it
+-- was so before; a crash leaves that index alone
 pub record IsMadeNew (T : Tables) (was now : State) : Type 0 where
   pub free : has_any_of was.now.schema index_schema.tables ≡ false
   pub was_working : IsWorking now → IsWorking was
+  pub was_clean : HasCleanDisk now → HasCleanDisk was
   pub committed : IsWorking now → IsCommitted now T
+  pub left : HasCleanDisk now → IsTrue was.is_open → LeavesOnly now.may_leave (λ found. found ≡ T)
 
 -- The disk was clean before. Of an open database, all of which was committed, a crash leaves what was there, or, where a
 -- fault has shut it, what was made of it.
 pub record LeavesAsWas (Made : Database → Trees → Type 0) (was now : State) : Type 0 where
   pub was_clean : HasCleanDisk was
   pub left : IsTrue was.is_open → was.now ≡ was.committed → (db : Trees) → now.may_leave db → (db ≡ was.now.trees) ⊎ ((now.is_open ≡ false) × Made was.now db)
-
--- ---- what each kind of work makes of the tables
-
--- the lines of what a reader had were answered up to this end: by the tables, and by each legal history for which they
--- stood, so that the tables after it stand for the history with the calls that were accepted
-pub record AnswersLines (given left had has : Option (List ℕ)) (T T' : Tables) (result : Result ℕ End) : Type 0 where
-  pub ended : Result ℕ LineEnd
-  pub is : result ≡ end_of ended
-  pub tables : EndsRun (TellsLines by_tables T) T' given left had has ended
-  pub history : (h : History) → IsLegal h → StandsFor T h
-      → EndsRun (TellsHistory h) T' given left had has ended
-
--- these tables may be left by the lines that were answered up to this end: what comes of the accepted calls, or of these
--- and one to which a fault was answered since the last of them
-pub record LeavesLines (given left had has : Option (List ℕ)) (T T' : Tables) (result : Result ℕ End) : Type 0 where
-  pub ended : Result ℕ LineEnd
-  pub is : result ≡ end_of ended
-  pub tables : EndsRun (TellsCalls (LeavesAll T)) T' given left had has ended
-  pub history : (h : History) → IsLegal h → StandsFor T h
-      → EndsRun (TellsCalls (LeavesAllOf h)) T' given left had has ended
-
--- the report was written, or a front of it, up to this end, and no table changed
-pub record WritesReport (had has : Option (List ℕ)) (T T' : Tables) (result : Result ℕ End) : Type 0 where
-  pub ended : Result (Unit {0}) ReportFault
-  pub is : result ≡ end_of_reporting ended
-  pub reports : Reports (report_in T) had has ended
-  pub unchanged : T' ≡ T
-
--- the wrong charges were counted, but for a fault, and no table changed
-pub record CountsWrong (T T' : Tables) (result : Result ℕ End) : Type 0 where
-  pub count : IfOk result (λ count. count ≡ wrong_charges_in T)
-  pub fault : IfErr result (λ e. IsTrue (is_fault e))
-  pub unchanged : T' ≡ T
-
--- all of so many connections, or some of them where the work ended early
-abbrev pub IsUpTo : ℕ → Result ℕ End → ℕ → Type 0
-IsUpTo requests (Ok done) count = count ≡ requests
-IsUpTo requests (Err early) count = count ≤ requests
-
--- connections were answered, one after the other: by the tables, and by each legal history for which they stood, so that
--- the tables after it stand for the history with the calls that were accepted
-pub record AnswersConnections (at : Option ℕ) (requests : ℕ) (T T' : Tables) (result : Result ℕ End) : Type 0 where
-  pub tables : (count : ℕ) × IsUpTo requests result count × Serves by_tables at count T T'
-  pub history : (h : History) → IsLegal h → StandsFor T h
-      → (count : ℕ) × IsUpTo requests result count × ServesHistory h at count T'
-
--- these tables may be left by the connections that were answered: the same of their calls
-pub record LeavesConnections (at : Option ℕ) (requests : ℕ) (T T' : Tables) (result : Result ℕ End) : Type 0 where
-  pub tables : (count : ℕ) × IsUpTo requests result count × ServesCalls (LeavesAll T) at count T'
-  pub history : (h : History) → IsLegal h → StandsFor T h
-      → (count : ℕ) × IsUpTo requests result count × ServesCalls (LeavesAllOf h) at count T'

@@ -2,11 +2,12 @@
 ghost use Rattle.std.specs.Prelude.{◌≡◌, ◌↔◌, false, ℕ, Result, None, Some, IfOk, IfErr, IfSome, IsErrOf, IsTrue};
 ghost use Rattle.sqlite.specs.Closing.{IsCopied};
 ghost use Rattle.sqlite.specs.Files.{IsClosed, over_files};
-ghost use Rattle.sqlite.specs.Held.{state, AreDatabases};
+ghost use Rattle.sqlite.specs.Held.{AreDatabases, state};
 ghost use Rattle.sqlite.specs.Recovery.{Image};
 ghost use Rattle.sqlite.specs.State.{HasCleanDisk};
 ghost use Rattle.sqlite.specs.WalFiles.{image_at};
 ghost use Rattle.sqlite.specs.WalReads.{AreClean};
+ghost use Rattle.sqlite_trees.specs.View.{IsClean};
 ghost use Rattle.index_digest.specs.Digest.{read_digest};
 ghost use Rattle.index_rules.specs.Facts.{HasOneBearer};
 ghost use Rattle.index_rules.specs.FirstTables.{IsBadFirstUser, first_tables};
@@ -16,9 +17,11 @@ ghost use Rattle.index_tables.specs.Adopted.{IsRaised};
 ghost use Rattle.index_tables.specs.Opened.{IsCreated};
 ghost use Rattle.index.specs.declared.end.End.{End as EndData};
 ghost use Rattle.index.specs.Causes.{IsKnown, IsObject, other_object};
-ghost use Rattle.index.specs.Ends.{is_fault, is_store};
+ghost use Rattle.index.specs.Chains.{InitLeadsOn, WorkLeadsOn};
+ghost use Rattle.index.specs.Ends.{closing_of, is_fault, is_store};
 ghost use Rattle.index.specs.Openings.{IsBadFirstUserByHex, IsOpenedOn, IsUnmade, IsWhyUnfound, IsWhyUnmade, IsWhyUnused, LeavesUnused};
-ghost use Rattle.index.specs.Runs.{Created, EndsRunOn, EndsWork, IsMadeNew, LeavesAsWas};
+ghost use Rattle.index.specs.Runs.{Created, CreatedInLog, EndsRunOn, EndsWork, IsMadeNew, LeavesAsWas};
+ghost use Rattle.index.specs.Tasks.{Does, MayLeaveBy, Task};
 
 use crate::cause::{Cause, cause_of_calls};
 use crate::end::End;
@@ -50,11 +53,8 @@ pub enum Left<D: Disk> {
 
 /// Work at a desk over the tables of a database, whatever its store is.
 pub trait Work {
-    /// What it does: itself before and after, the tables before and after, and its end.
-    ghost does: { Self → Self → Tables → Tables → Result ℕ EndData → Type 0 };
-
-    /// What a crash may leave as it ends: itself before and after, the tables before and those that are left, and its end.
-    ghost leaves: { Self → Self → Tables → Tables → Result ℕ EndData → Type 0 };
+    /// What it is to do, and on what: itself before and after.
+    ghost task: { Self → Self → Task };
 
     /// How many bytes of files and pages the books may keep at hand for it.
     fn keep_recent(&self) -> usize;
@@ -62,10 +62,10 @@ pub trait Work {
     /// Does the work, and gives the number that it found.
     fn run<B: Keeper>(&mut self, rt: &HostRuntime, desk: &mut Desk<B>) -> Result<u64, End>
         ensures done { B.IsHonest desk.new → HasOneBearer (B.tables desk.old) →
-            does self.old self.new (B.tables desk.old) (B.tables desk.new) result }
+            Does (task self.old self.new) result (B.tables desk.old) (B.tables desk.new) }
         ensures crash { B.IsHonest desk.old → B.IsClean desk.new →
             HasOneBearer (B.tables desk.old) → (T : Tables) → B.may_leave desk.new T →
-            leaves self.old self.new (B.tables desk.old) T result }
+            MayLeaveBy (task self.old self.new) result (B.tables desk.old) T }
         ensures honest { B.IsHonest desk.new → B.IsHonest desk.old }
         ensures clean { B.IsClean desk.new → B.IsClean desk.old };
 }
@@ -81,7 +81,7 @@ pub fn create<S: Start>(
     user: &str,
     token: &str,
     page_sums: bool,
-) -> Result<Files<FileFrom<S>>, Unused<FileFrom<S>>>
+) -> Result<Closed<FileFrom<S>>, Unused<FileFrom<S>>>
     ensures bad_first_user { IsErrOf result (End.Open OpenFault.BadFirstUser, None)
         ↔ IsBadFirstUserByHex user.now token.now }
     ensures why { (digest : _) → read_digest token.now ≡ Some digest
@@ -90,14 +90,25 @@ pub fn create<S: Start>(
         (image_at S.Start) e.0 e.1) }
 
     // The files held nothing of an index, and hold the new one.
-    ensures created { IfOk result (λ files. let g = ⟦<FileFrom<S> as Disk>⟧ in
+    ensures created { IfOk result (λ closed. IfOk closed (λ files.
+        let g = ⟦<FileFrom<S> as Disk>⟧ in
         AreClean g files.log files.db → (digest : _) × (read_digest token.now ≡ Some digest)
-        × Created g (first_tables user.now digest) (image_at S.Start) files) }
+        × Created g (first_tables user.now digest) (image_at S.Start) files)) }
+
+    // Where the log was not copied, a crash leaves the new index.
+    ensures unclosed { IfOk result (λ closed. IfErr closed (λ e. IsClean (over_files.view e.1)
+        → (digest : _) × (read_digest token.now ≡ Some digest)
+        × CreatedInLog (first_tables user.now digest) (image_at S.Start) e.1)) }
+    ensures fault { IfOk result (λ closed. IfErr closed (λ e. IsTrue (is_fault e.0))) }
 
     // What is refused is as it was.
     ensures refused { (digest : _) → read_digest token.now ≡ Some digest
         → IfErr result (λ e. IfSome e.1
         (LeavesUnused (IsUnmade (first_tables user.now digest)) (image_at S.Start))) }
+
+    // The next run finds what was there, or the new index.
+    ensures leads { (digest : _) → read_digest token.now ≡ Some digest
+        → InitLeadsOn ⟦<FileFrom<S> as Disk>⟧ user.now digest (image_at S.Start) result }
 {
     let token = match first_token(rt.alloc(), user, token) {
         Ok(token) => token,
@@ -121,8 +132,12 @@ pub fn work_on<S: Start, W: Work>(
     start: S,
     work: &mut W,
 ) -> Result<(Closed<FileFrom<S>>, Result<u64, End>), Unused<FileFrom<S>>>
-    ensures ends { EndsRunOn ⟦<FileFrom<S> as Disk>⟧ (W.does work.old work.new)
-        (W.leaves work.old work.new) (image_at S.Start) result }
+    ensures ends { EndsRunOn ⟦<FileFrom<S> as Disk>⟧ (W.task work.old work.new)
+        (image_at S.Start) result }
+
+    // The next run finds what this one leaves.
+    ensures leads { WorkLeadsOn ⟦<FileFrom<S> as Disk>⟧ (W.task work.old work.new)
+        (image_at S.Start) result }
 {
     match open_there(rt, path, start) {
         Ok(conn) => work_and_close(rt, conn, work),
@@ -139,24 +154,27 @@ fn create_and_close<D: Disk + Drop>(
     conn: Connection<FileStore<D>>,
     user: &str,
     token: Digest256,
-) -> Result<Files<D>, Unused<D>>
+) -> Result<Closed<D>, Unused<D>>
     requires outside { conn.in_transaction ≡ false }
-    ensures created { IfOk result (λ files. AreClean D.Disk files.log files.db → (start : Image) →
-        IsOpenedOn start conn → Created D.Disk (first_tables user.now token) start files) }
+    ensures created { IfOk result (λ closed. IfOk closed (λ files.
+        AreClean D.Disk files.log files.db → (start : Image) → IsOpenedOn start conn
+        → Created D.Disk (first_tables user.now token) start files)) }
+    ensures unclosed { IfOk result (λ closed. IfErr closed (λ e. IsClean (over_files.view e.1)
+        → (start : Image) → IsOpenedOn start conn
+        → CreatedInLog (first_tables user.now token) start e.1)) }
+    ensures fault { IfOk result (λ closed. IfErr closed (λ e. IsTrue (is_fault e.0))) }
     ensures refused { IfErr result (λ e. IfSome e.1 (λ left. (start : Image) →
         IsOpenedOn start conn → LeavesUnused (IsUnmade (first_tables user.now token)) start left)) }
     ensures why { IfErr result (λ e. (start : Image) → IsOpenedOn start conn →
         IsWhyUnused (IsWhyUnmade user.now token over_files) start e.0 e.1) }
 {
     match create_in(rt, conn, user, token) {
-        Ok(conn) => match close(conn) {
-            Ok(files) => Ok(files),
-            Err((fault, store)) => {
-                drop(store.close());
-                Err((fault, None))
-            }
-        },
-        Err(left) => Err((End::Open(left.why), Some(Left::Refused(left)))),
+        Ok(conn) => Ok(close(worked_on(conn))),
+        Err(left) => {
+            let Unopened { why, conn } = left;
+            let conn = worked_on(conn);
+            Err((End::Open(why), Some(Left::Refused(Unopened { why, conn }))))
+        }
     }
 }
 
@@ -168,21 +186,25 @@ fn work_and_close<D: Disk + Drop, W: Work>(
 ) -> Result<(Closed<D>, Result<u64, End>), Unused<D>>
     requires outside { conn.in_transaction ≡ false }
     ensures ends { (start : Image) → IsOpenedOn start conn → EndsRunOn D.Disk
-        (W.does work.old work.new) (W.leaves work.old work.new) start result }
+        (W.task work.old work.new) start result }
 {
     match work_in(rt, conn, work) {
         Ok((conn, end)) => Ok((close(worked_on(conn)), end)),
-        Err(left) => Err((End::Open(left.why), Some(Left::Refused(left)))),
+        Err(left) => {
+            let Unopened { why, conn } = left;
+            let conn = worked_on(conn);
+            Err((End::Open(why), Some(Left::Refused(Unopened { why, conn }))))
+        }
     }
 }
 
 /// The connection as it is: what a crash leaves of it can be opened again.
 fn worked_on<S: Alter>(conn: Connection<S>) -> Connection<S>
     ensures same { result ≡ conn }
-    ensures numbered { HasCleanDisk (state S.Store conn)
-        → IsTrue (S.Store.view conn.store).is_numbered }
-    ensures databases { HasCleanDisk (state S.Store conn)
-        → AreDatabases (S.Store.recovers conn.store) }
+    ensures numbered { HasCleanDisk (state S.Store result)
+        → IsTrue (S.Store.view result.store).is_numbered }
+    ensures databases { HasCleanDisk (state S.Store result)
+        → AreDatabases (S.Store.recovers result.store) }
 {
     let _outside = conn.is_autocommit();
     conn
@@ -217,9 +239,8 @@ fn work_in<S: Alter + Drop, W: Work>(
     work: &mut W,
 ) -> Result<(Connection<S>, Result<u64, End>), Unopened<S>>
     requires outside { conn.in_transaction ≡ false }
-    ensures worked { IfOk result (λ done. EndsWork
-        (λ T T'. W.does work.old work.new T T' done.1)
-        (λ T T'. W.leaves work.old work.new T T' done.1)
+    ensures worked { let task = W.task work.old work.new in IfOk result (λ done.
+        EndsWork (Does task done.1) (MayLeaveBy task done.1)
         (state S.Store conn) (state S.Store done.0)) }
     ensures refused { IfErr result (λ left. HasCleanDisk (state S.Store left.conn)
         → LeavesAsWas IsRaised (state S.Store conn) (state S.Store left.conn)) }
@@ -251,7 +272,9 @@ fn close<D: Disk + Drop>(conn: Connection<FileStore<D>>) -> Closed<D>
 }
 
 /// Lets the files go. The fault is the one for which the log was not copied.
-pub fn let_go<D: Disk + Drop>(closed: Closed<D>) -> Result<(), End> {
+pub fn let_go<D: Disk + Drop>(closed: Closed<D>) -> Result<(), End>
+    ensures { result ≡ closing_of closed }
+{
     match closed {
         Ok(files) => {
             drop(files);

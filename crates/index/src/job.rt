@@ -1,11 +1,15 @@
 //! The program's subcommands.
-ghost use Rattle.std.specs.Prelude.{◌≡◌, ◌↔◌, Err, IfErr, IfOk, IsOk, IsTrue, codes, false};
+ghost use Rattle.std.specs.Prelude.{◌≡◌, ◌↔◌, ◌∷◌, ◌++◌, [], IfOk, OnOk, codes, decimal, unwrap_or};
+ghost use Rattle.std.specs.Io.KnownBytes.{Appends};
 ghost use Rattle.std.specs.Process.{exit_status};
+ghost use Rattle.sqlite.specs.WalFiles.{image_at};
 ghost use Rattle.index_digest.specs.Digest.{sha256};
 ghost use Rattle.index_names.specs.Faults.{FailsByEither};
 ghost use Rattle.index_rules.specs.FirstTables.{RefusesBadFirstUser, first_tables};
 ghost use Rattle.index_rules.specs.Tables.{Tables};
-ghost use Rattle.index.specs.Ends.{is_store};
+ghost use Rattle.index.specs.Ends.{end_by};
+ghost use Rattle.index.specs.Jobs.{ComesOfRun, EndsAs, IsStatusOf, IsStatusOfCheck};
+ghost use Rattle.index.specs.Tasks.{CountWrong, Does, WriteReport};
 
 use crate::database::{self, Work};
 use crate::end::End;
@@ -17,8 +21,9 @@ use index_message::Site;
 use index_plain::PlainBooks;
 use index_recent::Recent;
 use index_rules::OpenFault;
-use sqlite::Start;
-use std::io::{self, BufReader, ErrorKind};
+use sqlite::{FileFrom, Start};
+use sqlite_disk::Disk;
+use std::io::{self, BufReader, ErrorKind, Write};
 use std::net::{SocketAddr, TcpListener};
 use std::process::ExitCode;
 
@@ -35,7 +40,7 @@ pub fn init<S: Start>(
     page_sums: bool,
 ) -> Result<ExitCode, End> {
     match database::create(rt, db, start, user, token, page_sums) {
-        Ok(files) => drop(files),
+        Ok(closed) => database::let_go(closed)?,
         Err(unused) => return Err(database::why(rt.alloc(), unused)),
     }
     match println!(rt; "created") {
@@ -66,7 +71,10 @@ fn work_on<S: Start, W: Work>(
     db: &str,
     start: S,
     work: &mut W,
-) -> Result<u64, End> {
+) -> Result<u64, End>
+    ensures { ComesOfRun ⟦<FileFrom<S> as Disk>⟧ (W.task work.old work.new)
+        (image_at S.Start) result }
+{
     match database::work_on(rt, db, start, work) {
         Ok((closed, end)) => ended_by(end, database::let_go(closed)),
         Err(unused) => Err(database::why(rt.alloc(), unused)),
@@ -75,13 +83,7 @@ fn work_on<S: Start, W: Work>(
 
 /// What came of work, where it is as well closed. A database that failed in the work tells the cause as it is closed.
 fn ended_by(end: Result<u64, End>, closed: Result<(), End>) -> Result<u64, End>
-    ensures closed { IsOk closed → result ≡ end }
-    ensures ended { IfErr end (λ e. is_store e ≡ false → result ≡ Err e) }
-    ensures unclosed { IfErr closed (λ fault. IfOk end (λ _. result ≡ Err fault)) }
-    ensures failed { IfErr end (λ e. IsTrue (is_store e)
-        → IfErr closed (λ fault. IsTrue (is_store fault) → result ≡ Err fault)) }
-    ensures kept { IfErr end (λ e.
-        IfErr closed (λ fault. is_store fault ≡ false → result ≡ Err e)) }
+    ensures { result ≡ end_by end closed }
 {
     let Err(fault) = closed else {
         return end;
@@ -95,7 +97,7 @@ fn ended_by(end: Result<u64, End>, closed: Result<(), End>) -> Result<u64, End>
 /// Does work on tables in memory whose one user is `office`, of the office, with the token `office`.
 fn work_in_memory<W: Work>(rt: &HostRuntime, work: &mut W) -> Result<Result<u64, End>, OpenFault>
     ensures worked { let first = first_tables (codes "office") (sha256 (codes "office")) in
-        IfOk result (λ end. (T : Tables) × W.does work.old work.new first T end) }
+        IfOk result (λ end. (T : Tables) × Does (W.task work.old work.new) end first T) }
     ensures bad_first_user { RefusesBadFirstUser (codes "office") (sha256 (codes "office")) result }
     ensures fault { FailsByEither result OpenFault.BadFirstUser OpenFault.OutOfMemory }
 {
@@ -112,13 +114,9 @@ struct Lines<R, K> {
 }
 
 impl<R: Source, K: Sink> Work for Lines<R, K> {
-    ghost use Rattle.index.specs.Runs.{AnswersLines, LeavesLines};
+    ghost use Rattle.index.specs.Tasks.{AnswerLines};
 
-    ghost does = { λ old new. AnswersLines
-        (R.remaining old.source) (R.remaining new.source)
-        (K.contents old.sink) (K.contents new.sink) };
-
-    ghost leaves = { λ old new. LeavesLines
+    ghost task = { λ old new. AnswerLines
         (R.remaining old.source) (R.remaining new.source)
         (K.contents old.sink) (K.contents new.sink) };
 
@@ -134,27 +132,52 @@ impl<R: Source, K: Sink> Work for Lines<R, K> {
     }
 }
 
-/// Answers so many connections on the tables of a database, which is opened before the first of them can come. Up to so
-/// many bytes of files and pages are kept at hand.
+/// What the words of `serve` say beside the path.
+#[derive(Clone, Copy)]
+pub struct ServeWords<'a> {
+    /// The address and port to listen on.
+    pub listen: &'a str,
+    /// How many connections are answered.
+    pub requests: u32,
+    /// The moment of every request in Unix seconds, or the clock's.
+    pub at: Option<u64>,
+    /// How many bytes of files and pages are kept at hand, or as many as the program likes.
+    pub keep_recent: Option<u64>,
+}
+
+/// Answers so many connections on the tables of a database, which is opened before the first of them can come.
 pub fn serve<S: Start>(
     rt: &HostRuntime,
     db: &str,
     start: S,
-    listen: &str,
-    requests: u32,
-    at: Option<u64>,
-    keep_recent: Option<u64>,
+    words: ServeWords<'_>,
 ) -> Result<ExitCode, End> {
     let site = Site::new(rt.alloc())?;
-    let mut serving = Serving {
-        site: &site,
-        listen,
-        requests,
-        at,
-        keep_recent: keep_recent.unwrap_or(KEPT_BYTES) as usize,
-    };
+    let mut serving = serving_by(&site, words);
     work_on(rt, db, start, &mut serving)?;
     Ok(ExitCode::SUCCESS)
+}
+
+/// The work that the words of `serve` ask for.
+fn serving_by<'a>(site: &'a Site, words: ServeWords<'a>) -> Serving<'a>
+    ensures at { result.at ≡ words.entry.at }
+    ensures requests { result.requests ≡ words.entry.requests }
+    ensures kept { result.keep_recent ≡ unwrap_or words.entry.keep_recent KEPT_BYTES }
+{
+    Serving {
+        site,
+        listen: words.listen,
+        requests: words.requests,
+        at: words.at,
+        keep_recent: bytes_kept(words.keep_recent),
+    }
+}
+
+/// How many bytes of files and pages are kept at hand, where so many were asked for, or none were.
+fn bytes_kept(asked: Option<u64>) -> usize
+    ensures { result ≡ unwrap_or asked KEPT_BYTES }
+{
+    asked.unwrap_or(KEPT_BYTES) as usize
 }
 
 /// So many connections are answered at an address, which is told.
@@ -168,11 +191,9 @@ struct Serving<'a> {
 }
 
 impl Work for Serving<'_> {
-    ghost use Rattle.index.specs.Runs.{AnswersConnections, LeavesConnections};
+    ghost use Rattle.index.specs.Tasks.{AnswerConnections};
 
-    ghost does = { λ old _. AnswersConnections old.at old.requests };
-
-    ghost leaves = { λ old _. LeavesConnections old.at old.requests };
+    ghost task = { λ old _. AnswerConnections old.at old.requests };
 
     fn keep_recent(&self) -> usize {
         self.keep_recent
@@ -207,7 +228,10 @@ fn tell_address(rt: &HostRuntime, listener: &TcpListener) -> io::Result<()> {
 }
 
 /// Writes the report on the tables of a database.
-pub fn report<S: Start>(rt: &HostRuntime, db: &str, start: S) -> Result<ExitCode, End> {
+pub fn report<S: Start>(rt: &HostRuntime, db: &str, start: S) -> Result<ExitCode, End>
+    ensures { (had has : _) × EndsAs ⟦<FileFrom<S> as Disk>⟧
+        (WriteReport had has) (image_at S.Start) IsStatusOf result }
+{
     let mut reporting = Reporting {
         sink: Output::new(io::writer(rt)),
     };
@@ -222,12 +246,9 @@ struct Reporting<K> {
 }
 
 impl<K: Sink> Work for Reporting<K> {
-    ghost use Rattle.std.specs.Prelude.{◌≡◌};
-    ghost use Rattle.index.specs.Runs.{WritesReport};
+    ghost use Rattle.index.specs.Tasks.{WriteReport};
 
-    ghost does = { λ old new. WritesReport (K.contents old.sink) (K.contents new.sink) };
-
-    ghost leaves = { λ _ _ T T' _. T' ≡ T };
+    ghost task = { λ old new. WriteReport (K.contents old.sink) (K.contents new.sink) };
 
     fn keep_recent(&self) -> usize {
         0
@@ -240,12 +261,23 @@ impl<K: Sink> Work for Reporting<K> {
 }
 
 /// Prints how many names have a wrong charge in the tables of a database, and fails where there is one.
-pub fn check<S: Start>(rt: &HostRuntime, db: &str, start: S) -> Result<ExitCode, End> {
+pub fn check<S: Start>(rt: &HostRuntime, db: &str, start: S) -> Result<ExitCode, End>
+    ensures { EndsAs ⟦<FileFrom<S> as Disk>⟧ CountWrong (image_at S.Start)
+        IsStatusOfCheck result }
+{
     let count = work_on(rt, db, start, &mut Checking)?;
-    match println!(rt; "{count}") {
+    match write_count(&mut io::writer(rt), count) {
         Ok(()) => Ok(status_of(count)),
         Err(_) => Err(End::WriteFault),
     }
+}
+
+/// Writes a number in decimal digits, and a line feed.
+fn write_count<W: Write>(writer: &mut W, count: u64) -> io::Result<()>
+    ensures { OnOk result (Appends (W.contents writer.old) (W.contents writer.new)
+        (decimal count ++ 10 ∷ [])) }
+{
+    writeln!(writer, "{count}")
 }
 
 /// The wrong charges are counted.
@@ -253,12 +285,9 @@ pub fn check<S: Start>(rt: &HostRuntime, db: &str, start: S) -> Result<ExitCode,
 struct Checking;
 
 impl Work for Checking {
-    ghost use Rattle.std.specs.Prelude.{◌≡◌};
-    ghost use Rattle.index.specs.Runs.{CountsWrong};
+    ghost use Rattle.index.specs.Tasks.{CountWrong};
 
-    ghost does = { λ _ _. CountsWrong };
-
-    ghost leaves = { λ _ _ T T' _. T' ≡ T };
+    ghost task = { λ _ _. CountWrong };
 
     fn keep_recent(&self) -> usize {
         0

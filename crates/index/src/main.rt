@@ -14,6 +14,7 @@ ghost use Rattle.std.specs.Prelude.{◌≡◌, IfOk, IsErr};
 ghost use Rattle.std.specs.Process.{exit_status};
 
 use crate::end::End;
+use crate::job::ServeWords;
 use index_words::{Job, WordsEnd, read_words};
 use sqlite::{Start, Wary};
 use std::io::ErrorKind;
@@ -65,7 +66,15 @@ fn perform<S: Start>(rt: &HostRuntime, asked: Job<'_>, start: S) -> Result<ExitC
             requests,
             at,
             keep_recent,
-        } => job::serve(rt, db, start, listen, requests, at, keep_recent),
+        } => {
+            let words = ServeWords {
+                listen,
+                requests,
+                at,
+                keep_recent,
+            };
+            job::serve(rt, db, start, words)
+        }
         Job::Report { db } => job::report(rt, db, start),
         Job::Check { db } => job::check(rt, db, start),
     }

@@ -1,23 +1,51 @@
-use Rattle.std.proofs.Common.{refl}
+use Rattle.std.proofs.Common.{IfErr, IfOk, refl, subst, sym}
+use Rattle.std.proofs.lemmas.Result.{IfErr-weaker, IfOk-weaker}
+use Rattle.sqlite.specs.Closing.{IsCopied}
+use Rattle.sqlite.specs.Files.{IsClosed, file_state, over_files}
+use Rattle.sqlite.specs.State.{HasCleanDisk}
+use Rattle.sqlite.specs.WalReads.{AreClean}
 use Rattle.index_rules.specs.FirstTables.{first_tables}
 use Rattle.index_tables.specs.Opened.{IsCreated}
-use Rattle.index.proofs.RunLemmas.{created_by, refused_by, working_of}
+use Rattle.index.specs.Openings.{IsUnmade, IsWhyUnmade}
+use Rattle.index.specs.Runs.{IsMadeNew}
+use Rattle.index.proofs.RunLemmas.{clean_before, created_by, created_in_log_by, refused_by, working_of}
 use Rattle.index.proofs.database.create_and_close.Goals as goal
 
-pub returns-in-Ok-close-clause-created : goal.returns-in-Ok-close-clause-created
-returns-in-Ok-close-clause-created g c = λ clean start first.
+pub returns-in-Ok-clause-created : goal.returns-in-Ok-clause-created
+returns-in-Ok-clause-created g c =
     let conn = c.in-Ok.conn in
     let made = c.in-Ok.ensures.made in
-    let copied = c.in-Ok-close.ensures.copied clean in
-    let working = working_of conn c.in-Ok-close.files copied in
-    let opening = first (made.was_working working).clean in
-    created_by _ start c.args.conn conn c.in-Ok-close.files opening.0 opening.1 made.free (made.committed working) copied
+    let same = c.worked_on.ensures.same in
+    IfOk-weaker c.close.result _ _ (λ files copied clean start first.
+    let is = copied clean in
+    let opening = first (made.was_working (working_of conn files is)).clean in
+    created_by _ start c.args.conn conn files opening.0 opening.1 made is)
+    (subst (λ held. IfOk c.close.result (λ it. AreClean g.D.Disk it.log it.db → IsCopied held it)) same c.close.ensures.copied)
+
+pub returns-in-Ok-clause-unclosed : goal.returns-in-Ok-clause-unclosed
+returns-in-Ok-clause-unclosed g c =
+    let conn = c.worked_on.result in
+    let first_state = file_state c.args.conn in
+    let made = subst (λ held. IsMadeNew (first_tables c.args.user.now c.args.token) first_state (file_state held)) (sym c.worked_on.ensures.same) c.in-Ok.ensures.made in
+    IfErr-weaker c.close.result _ _ (λ e closed clean start first.
+    let then = clean_before conn e.1 closed clean in
+    let opening = first (made.was_clean then) in
+    created_in_log_by _ start c.args.conn conn e.1 opening.0 opening.1 made then closed (c.worked_on.ensures.numbered then, c.worked_on.ensures.databases then))
+    c.close.ensures.kept
 
 pub returns-in-Err-clause-refused : goal.returns-in-Err-clause-refused
-returns-in-Err-clause-refused g c = λ start first clean.
-    let leaves = c.in-Err.ensures.refused clean in
-    let opening = first leaves.was_clean in
-    refused_by (IsCreated (first_tables c.args.user.now c.args.token)) start c.args.conn c.in-Err.left.conn opening.0 opening.1 leaves
+returns-in-Err-clause-refused g c = λ start first.
+    let T = first_tables c.args.user.now c.args.token in
+    let again = c.worked_on-conn.ensures in (
+      subst (λ held. IsUnmade T start (file_state held)) (sym again.same) (λ clean.
+          let leaves = c.in-Err.ensures.refused clean in
+          let opening = first leaves.was_clean in
+          refused_by (IsCreated T) start c.args.conn c.in-Err.left.conn opening.0 opening.1 leaves),
+      (λ clean. (again.numbered clean, again.databases clean)),
+    )
 
 pub returns-in-Err-clause-why : goal.returns-in-Err-clause-why
-returns-in-Err-clause-why g c = λ start first. (refl, (c.args.conn, first, c.in-Err.ensures.why))
+returns-in-Err-clause-why g c = λ start first. (
+  refl,
+  (c.args.conn, first, subst (λ held. IsWhyUnmade c.args.user.now c.args.token over_files c.args.conn held c.in-Err.left.why) (sym c.worked_on-conn.ensures.same) c.in-Err.ensures.why),
+)
