@@ -71,10 +71,10 @@ pub TellsCalls-choice : (A : Type 0) (T : Tables) (Left : List Call → List Ans
 TellsCalls-choice A T Left LeftBy choose [] text it = let chosen = choose [] [] it.1 in (chosen.0, (it.0, chosen.1))
 TellsCalls-choice A T Left LeftBy choose (asked ∷ lines) text it =
     let chosen = AsksLine-choice A _ (λ a. TellsCalls (LeftBy a) lines it.1 T) _ (λ a call answer. TellsCalls (λ calls answers. LeftBy a (call ∷ calls) (answer ∷ answers)) lines it.1 T)
-        (TellsCalls-choice A T Left LeftBy choose lines it.1)
-        (λ call answer. TellsCalls-choice A T (λ calls answers. Left (call ∷ calls) (answer ∷ answers)) (λ a calls answers. LeftBy a (call ∷ calls) (answer ∷ answers))
-        (λ calls answers. choose (call ∷ calls) (answer ∷ answers)) lines it.1)
-        asked it.0 it.3 in
+    (TellsCalls-choice A T Left LeftBy choose lines it.1)
+    (λ call answer. TellsCalls-choice A T (λ calls answers. Left (call ∷ calls) (answer ∷ answers)) (λ a calls answers. LeftBy a (call ∷ calls) (answer ∷ answers))
+    (λ calls answers. choose (call ∷ calls) (answer ∷ answers)) lines it.1)
+    asked it.0 it.3 in
     (chosen.0, (it.0, it.1, it.2, chosen.1))
 
 AsksEach-choice : (A : Type 0) (Left : List Call → List Answer → Type 0) (LeftBy : A → List Call → List Answer → Type 0)
