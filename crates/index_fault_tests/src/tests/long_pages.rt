@@ -10,13 +10,16 @@ use index_rules::{Books, Fault};
 use std::alloc::AllocGlobal;
 use std::process::Abort;
 
+/// How many long names make a page that is too long to be gathered.
+pub(super) const LONG_NAMES: u32 = 16_000;
+
 /// What the names of a long page begin with.
-const LONG: &str =
+pub(super) const LONG: &str =
     "aaaaaaaaaabbbbbbbbbbccccccccccddddddddddeeeeeeeeeeffffffffffgggggggggghhhhhhhhhhiiiiiiiiiijjjjjjjjjjkkkkkkkkkkllllllllll";
 
 /// Claims so many names that their page is too long to be gathered: it is counted first, and then sent.
-pub(super) fn claim_long_names<B: Books>(rt: &(impl Abort + AllocGlobal), desk: &mut Desk<B>) {
-    for number in 0..16_000u32 {
+fn claim_long_names<B: Books>(rt: &(impl Abort + AllocGlobal), desk: &mut Desk<B>) {
+    for number in 0..LONG_NAMES {
         let line = format!(in rt.alloc();
             "{{\"at\":2,\"token\":\"abc\",\"do\":\"claim\",\"name\":\"{LONG}{number}\"}}"
         );

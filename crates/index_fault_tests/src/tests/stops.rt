@@ -1,6 +1,6 @@
 //! Each route over a database of which a file stops at one call or another: the reply is that of where none stops, or tells
 //! of a fault of the store; and a page that is too long to be gathered is cut.
-use super::long_pages::{HEAD_OF_LONG_PAGE, claim_long_names};
+use super::long_pages::{HEAD_OF_LONG_PAGE, LONG, LONG_NAMES};
 use super::replies::{ROOT, STORE, UPLOAD, tell};
 use super::{ACCEPTED, CLAIM, assert_answers, desk_with_users};
 use files::{Database, File, Which, closed, new_files, opened, stopping};
@@ -43,14 +43,28 @@ fn with_a_file<S: Alter + Drop>(
     desk.into_books().into_connection()
 }
 
-/// The database of a new index in which ann holds 16,000 long names.
+/// The database of a new index with as many long names as make a page that is not gathered. They come by SQL in one
+/// transaction: a file in memory is copied at each sync.
 fn with_long_names<S: Alter + Drop>(
     rt: &(impl Abort + AllocGlobal),
     conn: Connection<S>,
 ) -> Connection<S> {
-    let mut desk = new_desk(rt, conn);
-    claim_long_names(rt, &mut desk);
-    desk.into_books().into_connection()
+    let mut conn = new_desk(rt, conn).into_books().into_connection();
+    run_sql(rt, &mut conn, "BEGIN");
+    for number in 0..LONG_NAMES {
+        let row = format!(in rt.alloc();
+            "INSERT INTO names VALUES ('{LONG}{number}', 1, '{LONG}{number}', 1, 0, 0, NULL)"
+        );
+        let row = row.expect(rt, "a statement");
+        run_sql(rt, &mut conn, row.as_str());
+    }
+    run_sql(rt, &mut conn, "COMMIT");
+    conn
+}
+
+/// Runs a statement of SQL.
+fn run_sql<S: Alter>(rt: &impl Abort, conn: &mut Connection<S>, sql: &str) {
+    conn.execute_batch(sql).expect(rt, sql);
 }
 
 /// A connection to an empty database.
@@ -325,7 +339,7 @@ fn long_reply(rt: &(impl Abort + AllocGlobal), site: &Site, files: &Files<File>)
 
 /// Some stops are told as a fault, and others cut the page.
 fn assert_cut(rt: &(impl Abort + AllocGlobal), site: &Site, files: &Files<File>, whole: &[u8]) {
-    let (faults, cuts) = stop_each(rt, site, files, Which::Database, 1_009, ROOT.message, whole);
+    let (faults, cuts) = stop_each(rt, site, files, Which::Database, 2_003, ROOT.message, whole);
     assert!(rt; faults > 0 && cuts > 0);
 }
 
