@@ -2,6 +2,7 @@
 import os
 import re
 import shutil
+import time
 import zipfile
 
 from clients.world import ANN
@@ -42,9 +43,18 @@ def make_dist(person, version, more=""):
     make_source(f"{dist}/eggs-{version}.tar.gz", "eggs", version, files)
 
 
+def page_with(person, files):
+    """The page once it lists these files: nginx keeps the one before for a second."""
+    until, page = time.monotonic() + 5, ""
+    while not all(f">{file}<" in page for file in files) and time.monotonic() < until:
+        page = person.gate.ask("GET", "/simple/eggs/", Accept="text/html")[2].decode()
+        time.sleep(0.2)
+    return page
+
+
 def is_published(person, *files):
     """The check that these files are in the index with the bytes of dist/, and what their metadata says of Python."""
-    page = person.gate.ask("GET", "/simple/eggs/", Accept="text/html")[2].decode()
+    page = page_with(person, files)
     for file in files:
         path = f"{person.project}/dist/{file}"
         with open(path, "rb") as kept:
