@@ -1,6 +1,7 @@
 -- One connection over HTTP.
 pub mod Printed
 pub mod Sends
+pub mod Steps
 pub mod Statuses
 pub mod Replies
 pub mod PagePasses

@@ -3,9 +3,9 @@ ghost use Rattle.std.specs.Prelude.{◌≡◌, Err, IfErr, IfOk, IfSome, IsSome,
 ghost use Rattle.index_names.specs.FileName.{read_file_name};
 ghost use Rattle.index_names.specs.Project.{read_name};
 ghost use Rattle.index_desk.specs.Rules.{by_tables};
-ghost use Rattle.index_message.specs.Resources.{is_head};
 ghost use Rattle.index_http.specs.Exchanges.{IsAccepted, Shows, ShowsAt, ShowsFile, ShowsName, ShowsSpelling};
-ghost use Rattle.index_http.specs.Shows.{ShowsBy, is_page};
+ghost use Rattle.index_http.specs.Shows.{ShowsBy, a_page, look_of, no_page};
+ghost use Rattle.index_http.specs.Steps.{at_desk, to_sink};
 
 use crate::end::IoEnd;
 use crate::page_replies::{show_project, show_root};
@@ -30,9 +30,9 @@ pub fn show<K: Sink, B: Keeper>(
     desk: &mut Desk<B>,
     request: &Request,
 ) -> Result<(), IoEnd>
-    ensures { ShowsBy B.Books K.Sink desk.old desk.new sink.old sink.new
-        (is_page request.now.resource) (is_head request.now.method) result
-        (λ T. Shows by_tables T request.now.fields request.now.resource) }
+    ensures { ShowsBy (look_of request.now)
+        (λ T. Shows by_tables T request.now.fields request.now.resource)
+        (at_desk B.Books desk.old desk.new) (to_sink K.Sink sink.old sink.new) result }
 {
     let to_head = request.method().is_head();
     match request.resource() {
@@ -98,8 +98,9 @@ fn show_at<K: Sink, B: Keeper>(
     request: &Request,
     given: &Bytes,
 ) -> Result<(), IoEnd>
-    ensures shown { ShowsBy B.Books K.Sink desk.old desk.new sink.old sink.new true to_head result
-        (λ T. ShowsAt by_tables T request.now.fields given.now (read_name given.now)) }
+    ensures shown { ShowsBy (a_page to_head)
+        (λ T. ShowsAt by_tables T request.now.fields given.now (read_name given.now))
+        (at_desk B.Books desk.old desk.new) (to_sink K.Sink sink.old sink.new) result }
     // What is no name is replied as such, and is never a want of memory.
     ensures readable { result ≡ Err IoEnd.OutOfMemory → IsSome (read_name given.now) }
 {
@@ -119,8 +120,9 @@ fn show_spelling<K: Sink, B: Keeper>(
     given: &Bytes,
     name: &NormalName,
 ) -> Result<(), IoEnd>
-    ensures { ShowsBy B.Books K.Sink desk.old desk.new sink.old sink.new true to_head result
-        (λ T. ShowsSpelling by_tables T request.now.fields name.now (bytes_eq name.now given.now)) }
+    ensures { ShowsBy (a_page to_head)
+        (λ T. ShowsSpelling by_tables T request.now.fields name.now (bytes_eq name.now given.now))
+        (at_desk B.Books desk.old desk.new) (to_sink K.Sink sink.old sink.new) result }
 {
     if name.text().as_bytes() == given.as_slice() {
         let chosen = accepted_type(alloc, request)?;
@@ -138,8 +140,9 @@ fn show_file<K: Sink, B: Keeper>(
     to_head: bool,
     given: &Bytes,
 ) -> Result<(), IoEnd>
-    ensures { ShowsBy B.Books K.Sink desk.old desk.new sink.old sink.new false to_head result
-        (λ T. ShowsFile by_tables T given.now (is_some (read_file_name given.now))) }
+    ensures { ShowsBy (no_page to_head)
+        (λ T. ShowsFile by_tables T given.now (is_some (read_file_name given.now)))
+        (at_desk B.Books desk.old desk.new) (to_sink K.Sink sink.old sink.new) result }
 {
     let Some(file) = file_of(alloc, given)? else {
         return send_reply(sink, to_head, refusal_reply(Refusal::NoFile));
@@ -166,8 +169,8 @@ fn show_name<K: Sink, B: Books>(
     to_head: bool,
     given: &Bytes,
 ) -> Result<(), IoEnd>
-    ensures { ShowsBy B.Books K.Sink desk.old desk.new sink.old sink.new false to_head result
-        (λ T. ShowsName by_tables T (read_name given.now)) }
+    ensures { ShowsBy (no_page to_head) (λ T. ShowsName by_tables T (read_name given.now))
+        (at_desk B.Books desk.old desk.new) (to_sink K.Sink sink.old sink.new) result }
 {
     let Some(name) = name_of(alloc, given)? else {
         return send_reply(sink, to_head, refusal_reply(Refusal::BadName));
@@ -183,8 +186,8 @@ fn show_standing<K: Sink, B: Books>(
     to_head: bool,
     name: &NormalName,
 ) -> Result<(), IoEnd>
-    ensures { ShowsBy B.Books K.Sink desk.old desk.new sink.old sink.new false to_head result
-        (λ T. ShowsName by_tables T (Some name.now)) }
+    ensures { ShowsBy (no_page to_head) (λ T. ShowsName by_tables T (Some name.now))
+        (at_desk B.Books desk.old desk.new) (to_sink K.Sink sink.old sink.new) result }
 {
     match desk.standing(alloc, name) {
         Ok(standing) => {

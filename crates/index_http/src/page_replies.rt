@@ -8,7 +8,8 @@ ghost use Rattle.index_http.specs.PagePasses.{Gathers, IsMeasured, MeasuresText,
 ghost use Rattle.index_http.specs.PageShows.{ShowsWhole, after_head};
 ghost use Rattle.index_http.specs.Replies.{page_reply, reply_text};
 ghost use Rattle.index_http.specs.Sends.{SendsBytes, SendsOnly, is_cut, is_silent, is_write_fault};
-ghost use Rattle.index_http.specs.Shows.{ShowsBy};
+ghost use Rattle.index_http.specs.Shows.{ShowsBy, a_page, no_page};
+ghost use Rattle.index_http.specs.Steps.{at_desk, to_sink};
 
 use crate::end::IoEnd;
 use crate::gather::{gathered_project, gathered_root};
@@ -32,8 +33,8 @@ pub fn show_root<K: Sink, B: Keeper>(
     to_head: bool,
     chosen: Option<Served>,
 ) -> Result<(), IoEnd>
-    ensures { ShowsBy B.Books K.Sink desk.old desk.new sink.old sink.new true to_head result
-        (λ T. ShowsRoot by_tables T chosen) }
+    ensures { ShowsBy (a_page to_head) (λ T. ShowsRoot by_tables T chosen)
+        (at_desk B.Books desk.old desk.new) (to_sink K.Sink sink.old sink.new) result }
 {
     match chosen {
         Some(served) => show_page(alloc, sink, desk, to_head, Page::Root, served),
@@ -50,8 +51,8 @@ pub fn show_project<K: Sink, B: Keeper>(
     chosen: Option<Served>,
     name: &NormalName,
 ) -> Result<(), IoEnd>
-    ensures { ShowsBy B.Books K.Sink desk.old desk.new sink.old sink.new true to_head result
-        (λ T. ShowsProject by_tables T name.now chosen) }
+    ensures { ShowsBy (a_page to_head) (λ T. ShowsProject by_tables T name.now chosen)
+        (at_desk B.Books desk.old desk.new) (to_sink K.Sink sink.old sink.new) result }
 {
     match chosen {
         Some(served) => show_page(alloc, sink, desk, to_head, Page::Project(name), served),
@@ -67,8 +68,8 @@ fn show_no_page<K: Sink, B: Books>(
     to_head: bool,
     name: &NormalName,
 ) -> Result<(), IoEnd>
-    ensures { ShowsBy B.Books K.Sink desk.old desk.new sink.old sink.new false to_head result
-        (λ T. ShowsProject by_tables T name.now None) }
+    ensures { ShowsBy (no_page to_head) (λ T. ShowsProject by_tables T name.now None)
+        (at_desk B.Books desk.old desk.new) (to_sink K.Sink sink.old sink.new) result }
 {
     match desk.is_held(alloc, name) {
         Ok(true) => send_reply(sink, to_head, message_reply(MessageFault::NotAcceptable)),
@@ -86,8 +87,8 @@ fn show_page<K: Sink, B: Keeper>(
     page: Page<'_>,
     served: Served,
 ) -> Result<(), IoEnd>
-    ensures { ShowsBy B.Books K.Sink desk.old desk.new sink.old sink.new true to_head result
-        (λ T. ShowsWhole served (page_in T served page.entry)) }
+    ensures { ShowsBy (a_page to_head) (λ T. ShowsWhole served (page_in T served page.entry))
+        (at_desk B.Books desk.old desk.new) (to_sink K.Sink sink.old sink.new) result }
 {
     if let Some(text) = desk.kept_page(page, served) {
         return send_reply(sink, to_head, page_reply(served, text));
@@ -128,8 +129,8 @@ fn show_in_passes<K: Sink, B: Books>(
     page: Page<'_>,
     served: Served,
 ) -> Result<(), IoEnd>
-    ensures { ShowsBy B.Books K.Sink desk.old desk.new sink.old sink.new true to_head result
-        (λ T. ShowsWhole served (page_in T served page.entry)) }
+    ensures { ShowsBy (a_page to_head) (λ T. ShowsWhole served (page_in T served page.entry))
+        (at_desk B.Books desk.old desk.new) (to_sink K.Sink sink.old sink.new) result }
 {
     match length_of(alloc, desk, page, served) {
         Ok(Some(size)) => send_page(alloc, sink, desk, to_head, page, served, size),
@@ -189,8 +190,8 @@ fn send_text<K: Sink, B: Books>(
     page: Page<'_>,
     served: Served,
 ) -> Result<(), IoEnd>
-    ensures { SendsPage B.Books K.Sink desk.old desk.new sink.old sink.new result
-        (λ T. page_in T served page.entry) }
+    ensures { SendsPage (λ T. page_in T served page.entry)
+        (at_desk B.Books desk.old desk.new) (to_sink K.Sink sink.old sink.new) result }
 {
     match page {
         Page::Root => root_text(alloc, desk, sink, served),
