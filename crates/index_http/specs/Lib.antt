@@ -8,5 +8,6 @@ pub mod PagePasses
 pub mod Exchanges
 pub mod Ends
 pub mod Shows
+pub mod Shown
 pub mod PageShows
 pub mod Asks
