@@ -1,4 +1,4 @@
-use Rattle.std.proofs.Common.{arith, inl, refl, ap, sym, ◌∙◌, Ok, ◌++◌, [], length, ◌≤◌, length-append}
+use Rattle.std.proofs.Common.{arith, inl, ap, sym, ◌∙◌, Ok, ◌++◌, [], length, ◌≤◌, length-append}
 use Rattle.std.specs.Prelude.{unwrap_or}
 use Rattle.std.proofs.KnownBytes.{Consumes-trans}
 use Rattle.std.proofs.lemmas.Result.{IfOk-weaker}
