@@ -26,7 +26,7 @@ pub record IsDigest (digest : List ℕ) : Type 0 where
 abbrev pub text_digits : List ℕ
 text_digits = codes "0123456789abcdef"
 
--- a digit of `0-9`, or a letter of `a-f` or `A-F`
+-- a digit of `0-9`, or a letter of `a-f`
 unfoldable pub is_text_digit : ℕ → Bool
 is_text_digit c = list_any (λ digit. digit == c) text_digits
 
