@@ -2,7 +2,7 @@
 use Rattle.std.specs.Prelude.{◌≡◌, ◌⊎◌, ℕ, ◌+◌, Bool, true, false, ◌&&◌, if◌then◌else◌, length, Some, option_map}
 use Rattle.index_names.specs.Project.{read_name}
 use Rattle.index_names.specs.FileName.{project_of}
-use Rattle.index_digest.specs.Digest.{read_digest}
+use Rattle.index_digest.specs.Digest.{read_digest, sha256}
 use Rattle.index_rules.specs.declared.call.Request.{Request}
 use Rattle.index_rules.specs.declared.call.Request.TheVariants.{AddUser, SetToken, Claim, AddOwner, RemoveOwner, Upload, Delete, BanFile, Relinquish, Prohibit, Allow, Transfer}
 use Rattle.index_rules.specs.declared.records.UserRecord.{UserRecord}
@@ -27,9 +27,9 @@ HasOneBearerOfEach h = (u v : Bytes) (x y : UserRecord) → user_after h u ≡ S
 
 -- ---- a file name is bound for good
 
--- the request is an upload of the file with this digest and this size
+-- the request is an upload of the file, of a body with this digest and this size
 abbrev pub IsUploadOf : Request → Bytes → Bytes × ℕ → Type 0
-IsUploadOf (Upload file sha256 body requires) f first = (read_file file ≡ Some f) × (first ≡ (or_empty (read_digest sha256), length body))
+IsUploadOf (Upload file declared body requires) f first = (read_file file ≡ Some f) × (first ≡ (sha256 body, length body))
 IsUploadOf request f first = ⊥
 
 -- some entry of the history is one
@@ -41,6 +41,16 @@ HasUpload (more h e) f first = IsUploadOf e.call.request f first ⊎ HasUpload h
 -- them
 abbrev pub BindsFiles : History → Type 0
 BindsFiles h = (f : Bytes) (first second : Bytes × ℕ) → HasUpload h f first → HasUpload h f second → first ≡ second
+
+-- an upload declares the digest of its body
+abbrev pub DeclaresBody : Request → Type 0
+DeclaresBody (Upload file declared body requires) = read_digest declared ≡ Some (sha256 body)
+DeclaresBody request = Unit {0}
+
+-- so does each upload of the history
+abbrev pub DeclaresBodies : History → Type 0
+DeclaresBodies (begins user token) = Unit {0}
+DeclaresBodies (more h e) = DeclaresBodies h × DeclaresBody e.call.request
 
 -- the request is a ban of the file
 abbrev pub IsBanOf : Request → Bytes → Type 0
