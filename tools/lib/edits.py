@@ -1,7 +1,6 @@
 """Wrong bodies as they stand in files, and the sources of a crate with some of them made."""
 import os
 import re
-import zlib
 
 # the head of an impl that is of no trait, and of a function, in a file that `rt fmt` laid out
 IMPL = re.compile(r"impl\b(?:<.*?>)? (\w+)(?:<.*>)? \{$")
@@ -184,8 +183,10 @@ def made_together(folder, edits):
 
 
 def share_of(edits, share):
-    """Returns those edits whose names fall into this share, such as the second of eight: a tuple of two numbers."""
-    return [it for it in edits if zlib.crc32(it.name.encode()) % share[1] == share[0] - 1]
+    """Returns the edits of every n-th crate, from the k-th on, of a share (k, n). So many crates are in each: their
+    checks cost less than those of single edits from all crates. A k that is too great goes round."""
+    of = min(share[1], len(edits)) or 1
+    return {crate: its for at, (crate, its) in enumerate(edits.items()) if at % of == (share[0] - 1) % of}
 
 
 def edits_of(rt, crate, parts, are_twins=False):

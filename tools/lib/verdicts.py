@@ -55,7 +55,7 @@ def is_proved(crate, function, said):
     with holes stands on these, and is told so."""
     found = line_of(crate, function, said)
     if not found:
-        return bool(re.search(r"^only=\d+ proved=\d+$", said, re.M))
+        return bool(re.search(r"^only=(\d+) proved=\1$", said, re.M))
     return bool(re.match("proved|no holes|depends on a hole", found[1])) and not unjudged(function, said)
 
 
