@@ -74,14 +74,10 @@ def answers_of(folder, function):
         return re.findall(r"^pub (\S+) :", it.read(), re.M)
 
 
-def is_weak(goals, answers, has_twin):
-    """Returns whether a refusal by these open goals says little of the contract. Each of them then has an answer by
-    hand that names what the edit took away, or that the edit's form may not fit, or is what such an answer is for at
-    an exit of another name. Where the edit has a twin, that it fits the answers is tried there."""
+def is_weak(goals, answers):
+    """Returns whether a refusal by these open goals may say little of the contract: each of them has an answer by
+    hand, which may name what the edit took away or not fit its form, or is what such an answer is for at another
+    exit."""
     answered = {exit_of(it)[1] for it in answers if exit_of(it)[0]}
-
-    def is_of_form(goal):
-        if goal in answers:
-            return not has_twin
-        return goal.endswith(TAKEN_AWAY) or exit_of(goal)[0] is not None and exit_of(goal)[1] in answered
-    return all(is_of_form(it) for it in goals)
+    return all(it.endswith(TAKEN_AWAY) or it in answers or exit_of(it)[0] is not None and exit_of(it)[1] in answered
+               for it in goals)
