@@ -19,6 +19,8 @@ from operate.front import Front
 from serving import Index, free_port
 
 STANDING = {"case": None, "charge": 0, "owners": ["ann"], "quota": 1, "shown": "x", "state": "held"}
+CASE = {"attempts": 0, "author": False, "candidate": "bob", "contact": "a", "first": None, "kind": "reuse",
+        "opened": 10 ** 18, "pages": False, "profile": False, "sent": 0, "why": "b", "work": "c"}
 HTML = "text/html", b"<html><h1>the proxy's own page</h1>"
 
 
@@ -93,6 +95,8 @@ def try_replies(place):
          "no answer of an index"),
         ("a standing with a wrong kind", always(*as_json({**STANDING, "name": "x", "quota": "1"})), ("who", "x"), 3,
          "no answer"),
+        ("a standing of no size", always(*as_json({**STANDING, "name": "x", "quota": 10 ** 400})), ("who", "x"), 3,
+         "no answer"),
         ("a list that is none", always(200, *HTML), ("names",), 3, "Is the address right?"),
         ("a proxy's error page", always(502, *HTML), ("who", "x"), 3, "502 <html>", "again later"),
         ("a proxy that forbids", always(403, *HTML), ("who", "x"), 1, "forbids this"),
@@ -104,6 +108,9 @@ def try_replies(place):
             ended = Control(place.folder, server.url).run(*words, "--again", "1")
             ends(name, ended, status, *said)
             check(f"no traceback at {name}", "Traceback" not in ended.stdout, ended.stdout[-800:])
+    with scripted(always(*as_json({**STANDING, "name": "x", "case": CASE}))) as server:
+        ended = Control(place.folder, server.url).run("case", "show", "x", INDEX_TOKEN=None)
+        ends("a case of no year", ended, 3, "no answer of an index")
     with scripted(always(403, *HTML)) as proxy:
         ended = Control(place.folder, "https://packages.test", HTTPS_PROXY=proxy.url).run("who", "x", "--again", "0")
         came = [(method, path, headers["X-Index-Token"]) for method, path, _, headers in proxy.asked]
