@@ -100,6 +100,7 @@ def try_replies(place):
         ("a list that is none", always(200, *HTML), ("names",), 3, "Is the address right?"),
         ("a proxy's error page", always(502, *HTML), ("who", "x"), 3, "502 <html>", "again later"),
         ("a proxy that forbids", always(403, *HTML), ("who", "x"), 1, "forbids this"),
+        ("a proxy that takes no such file", always(413, *HTML), ("name", "claim", "x"), 1, "no file of this size"),
         ("a proxy that asks for a password", always(401, *HTML), ("name", "claim", "x"), 1, "~/.netrc"),
         ("a redirect", always(301, *HTML, {"Location": "https://elsewhere"}), ("who", "x"), 2, "https://elsewhere"),
     )
