@@ -4,11 +4,11 @@ import http.server
 import json
 import os
 import resource
+import shutil
 import signal
 import socket
 import struct
 import subprocess
-
 import threading
 import time
 from contextlib import contextmanager
@@ -155,6 +155,9 @@ def try_certificate(place):
         ends("a certificate that is not trusted", ended, 2, "is not trusted", "INDEX_CA")
         ended = Control(place.folder, front.url, place.certificate).run("who", "x")
         ends("the same certificate, named", ended, 0, "free")
+        by = Control(place.folder, front.url)
+        shutil.copy(place.certificate, f"{by.home}/ca.pem")
+        ends("the same certificate, in the home", by.run("who", "x", INDEX_CA="~/ca.pem"), 0, "free")
 
 
 def limit_files():
@@ -224,5 +227,3 @@ def try_interrupt(place):
             errors = walk.stderr.read()
             status = walk.wait(timeout=30)
     check("a reader that has had enough", status == 141 and errors == "", (status, errors[-800:]))
-
-
