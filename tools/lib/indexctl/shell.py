@@ -31,7 +31,7 @@ def try_shell(place):
     by = Control(place.folder, None)
     top = by.run("--help")
     groups = commands_of(top)
-    ends("help", top, 0, "INDEX_TOKEN_FILE", "~/.netrc", "130")
+    ends("help", top, 0, "INDEX_TOKEN_FILE", "https_proxy", "~/.netrc", "130", "141", "(office)")
     manual, paths = by.run("man"), []
     for group in groups:
         ended = by.run(group, "--help")
@@ -42,6 +42,7 @@ def try_shell(place):
          "--yes")
     missing = [path for path in paths if f"indexctl {path}".replace("-", "\\-") not in manual.stdout]
     check("the manual page has each command", manual.returncode == 0 and not missing, missing)
+    check("the manual page says what a word may be", "profile, author or pages." in manual.stdout, manual.stdout[-800:])
     if shutil.which("groff"):
         page = subprocess.run(["groff", "-man", "-Tutf8", "-ww"], input=manual.stdout, stdout=subprocess.PIPE,
                               stderr=subprocess.PIPE, text=True, timeout=30)
