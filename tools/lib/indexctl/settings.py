@@ -45,6 +45,7 @@ def try_settings(place):
         made = by.run("token", "new").stdout.split()
         check("a new token and its digest", len(made) == 4 and digest(made[1]) == made[3] and len(made[1]) == 64, made)
         ends("a digest", by.run("token", "digest", given="abc\n"), 0, digest("abc"))
+        ends("a digest of what is no token", by.run("token", "digest", given="abc\tdef\n"), 2, "plain characters")
         added = by.run("user", "add", "eve", "--digest", digest("eve"))
         check("a token is printed where it was made", added.returncode == 0 and "token" not in added.stdout,
               added.stdout)
