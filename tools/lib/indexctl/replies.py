@@ -146,6 +146,23 @@ def try_once(place):
         ended = Control(place.folder, server.url).run("name", "claim", "x", "--again", "2")
         check("a claim is sent again at a reset", (ended.returncode, len(server.asked)) == (3, 3),
               (len(server.asked), ended.stdout))
+    with scripted(resets_first()) as server:
+        rows = Control(place.folder, server.url).rows("names")
+    check("a walk whose connections are reset", isinstance(rows, list) and len(rows) == 12, rows)
+
+
+def resets_first():
+    """A list of names, and each standing once the connection that asked for it first was reset."""
+    asked = set()
+
+    def answer(method, path, *_):
+        if path == "/simple/":
+            return as_json({"meta": {"api-version": "1.1"}, "projects": [{"name": f"name-{at}"} for at in range(12)]})
+        if path not in asked:
+            asked.add(path)
+            return None
+        return as_json({**STANDING, "name": path.rsplit("/", 1)[-1]})
+    return answer
 
 
 def try_certificate(place):
