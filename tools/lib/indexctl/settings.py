@@ -43,6 +43,8 @@ def try_settings(place):
         try_printed(by)
         ends("no address", by.run("names", INDEX_URL=None, **plain), 2, "No index is named")
         ends("a token for no index", by.run("names", INDEX_URL=None), 2, "INDEX_URL is not")
+        ended = by.run("names", INDEX_URL=None, INDEX_RECORD=f"{folder}/record", **plain)
+        ends("a record for no index", ended, 2, "INDEX_RECORD is set")
         ends("an address in the clear", by.run("names", INDEX_URL="http://packages.example"), 2, "https")
         ends("an address with a path", by.run("names", INDEX_URL=f"{url}/simple/"), 2, "without a path")
         made = by.run("token", "new").stdout.split()
