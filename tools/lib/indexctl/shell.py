@@ -1,10 +1,14 @@
-"""Help, the manual page, and completion in bash."""
+"""Help, the manual page, completion in bash, and what pages say to type."""
+import glob
 import re
+import shlex
 import shutil
 import subprocess
+from concurrent.futures import ThreadPoolExecutor
 
 from indexctl.control import Control, environment
 from operate.checks import check, ends
+from serving import TOP
 
 COMPLETES = ((("",), {"token", "user", "case", "upload", "who"}), (("use",), {"user"}),
              (("user", ""), {"add", "rotate", "lock", "leave"}),
@@ -24,6 +28,27 @@ def completed(script, words):
     ended = subprocess.run(["bash", "-c", text], stdout=subprocess.PIPE, stderr=subprocess.PIPE, timeout=30, text=True,
                            env=environment())
     return set(ended.stdout.split()), ended.stderr
+
+
+def typed():
+    """What the pages say to type, without its first word."""
+    found = set()
+    for path in glob.glob(f"{TOP}/docs/*.md"):
+        with open(path, encoding="utf-8") as page:
+            found.update(it for pair in re.findall(r"`indexctl ([^`\n]+)`|^ *indexctl (.*)$", page.read(), re.M)
+                         for it in pair if it)
+    return sorted(found)
+
+
+def try_pages(by):
+    """What a page says to type is a command, or begins one, and its options are there."""
+    def is_known(text):
+        ended = by.run(*shlex.split(text), "--help")
+        return ended.returncode == 0 and all(it in ended.stdout for it in re.findall(r" (--[a-z-]+)", text))
+    texts = typed()
+    with ThreadPoolExecutor(4) as pool:
+        wrong = [text for text, known in zip(texts, pool.map(is_known, texts)) if not known]
+    check("pages have commands that are there", texts and not wrong, wrong)
 
 
 def try_shell(place):
@@ -55,3 +80,4 @@ def try_shell(place):
         check(f"completion of `{' '.join(words)}`", wanted <= offered and not errors,
               (offered, errors))
     ends("a command that is none", by.run("nmaes"), 2, "invalid choice")
+    try_pages(by)
