@@ -3,6 +3,7 @@ place."""
 import http.server
 import json
 import os
+import re
 import resource
 import shutil
 import signal
@@ -11,12 +12,13 @@ import struct
 import subprocess
 import threading
 import time
+from concurrent.futures import ThreadPoolExecutor
 from contextlib import contextmanager
 
 from indexctl.control import INDEXCTL, Control, environment
 from operate.checks import check, ends
 from operate.front import Front
-from serving import Index, free_port
+from serving import TOP, Index, free_port
 
 STANDING = {"case": None, "charge": 0, "owners": ["ann"], "quota": 1, "shown": "x", "state": "held"}
 CASE = {"attempts": 0, "author": False, "candidate": "bob", "contact": "a", "first": None, "kind": "reuse",
@@ -119,6 +121,35 @@ def try_replies(place):
               (ended.stdout, came))
     nobody = Control(place.folder, f"http://127.0.0.1:{free_port()}")
     ends("an index that is away", nobody.run("who", "x", "--again", "1"), 3, "Again in 0.5 s", "again later")
+    try_refusals(place)
+
+
+def refusals():
+    """The refusals that docs/REQUESTS.md has, by number."""
+    with open(f"{TOP}/docs/REQUESTS.md", encoding="utf-8") as page:
+        return dict(re.findall(r"\b(\d{1,2}) ([A-Z][a-z]+(?:[A-Z][a-z]+)+)\b", page.read()))
+
+
+def try_refusals(place):
+    """Each refusal is told with what to do. What its sentence names, such as the owners, is looked up."""
+    standing = {**STANDING, "name": "x", "case": {**CASE, "opened": 1}}
+    files = {"files": [{"filename": "x-1.0.tar.gz"}], "versions": ["1.0"]}
+
+    def says_what_to_do(number, name):
+        refusal = 409, "application/json", json.dumps({"answer": "refused", "code": number, "name": name}).encode()
+
+        def answer(method, path, *_):
+            return refusal if method == "POST" else as_json(files if path.startswith("/simple/") else standing)
+        with scripted(answer) as server:
+            said = Control(place.folder, server.url).run("owner", "add", "bob", "x").stdout
+        sentence = said.partition(f" {name}. ")[2]
+        return len(sentence) > 20 and ".." not in sentence
+    found = refusals()
+    with ThreadPoolExecutor(4) as pool:
+        told = dict(zip(found.values(), pool.map(says_what_to_do, *zip(*found.items()))))
+    silent = [name for name, is_told in told.items() if not is_told]
+    is_whole = sorted(map(int, found)) == list(range(1, 36))
+    check("each refusal says what to do", is_whole and not silent, (silent, sorted(found)))
 
 
 ONCE = {"case attempt": ("case", "attempt", "x", "profile"), "case close": ("case", "close", "x"),
