@@ -231,7 +231,7 @@ def try_record(place):
         ended = Control(place.folder, server.url, INDEX_RECORD="/dev/full").run("name", "claim", "another")
         ends("a record that can't be written at all", ended, 2, "No space left", "not asked for")
         ended = Control(place.folder, server.url, INDEX_RECORD=f"{place.folder}/none/record").run("name", "claim", "x")
-        ends("a record in no folder", ended, 2, "can't be written")
+        ends("a record in no folder", ended, 2, "can't be written: No such file", "Nothing was asked for")
     refusal = 409, "application/json", b'{"answer":"refused","code":19,"name":"NameHeld"}'
     with scripted(always(*refusal)) as server:
         Control(place.folder, server.url, INDEX_RECORD=record).run("name", "claim", "another")
