@@ -1,4 +1,5 @@
-"""Help, the manual page, completion in bash, and what pages say to type."""
+"""Help, the manual page, completion in bash, what pages say to type, and the Python that it needs."""
+import ast
 import glob
 import re
 import shlex
@@ -8,6 +9,7 @@ from concurrent.futures import ThreadPoolExecutor
 
 from indexctl.control import Control, environment
 from operate.checks import check, ends
+from operate.front import OPERATE
 from serving import TOP
 
 COMPLETES = ((("",), {"token", "user", "case", "upload", "who"}), (("use",), {"user"}),
@@ -51,6 +53,17 @@ def try_pages(by):
     check("pages have commands that are there", texts and not wrong, wrong)
 
 
+def try_syntax():
+    """The syntax is that of Python 3.8. Whether its library suffices shows in a run of this tool by that Python."""
+    wrong = None
+    with open(f"{OPERATE}/indexctl", encoding="utf-8") as kept:
+        try:
+            ast.parse(kept.read(), feature_version=(3, 8))
+        except SyntaxError as end:
+            wrong = str(end)
+    check("the syntax of Python 3.8", not wrong, wrong)
+
+
 def try_shell(place):
     """Each command has its help, and stands on the manual page."""
     by = Control(place.folder, None)
@@ -81,3 +94,4 @@ def try_shell(place):
               (offered, errors))
     ends("a command that is none", by.run("nmaes"), 2, "invalid choice")
     try_pages(by)
+    try_syntax()
