@@ -236,6 +236,23 @@ def try_record(place):
     with scripted(always(*refusal)) as server:
         Control(place.folder, server.url, INDEX_RECORD=record).run("name", "claim", "another")
     check("a refusal is not recorded", os.path.getsize(record) == before, os.path.getsize(record))
+    try_repeated(place)
+
+
+def try_repeated(place):
+    """A change whose reply is lost is done, and the index answers the repeat by Already."""
+    for name, replies, count in (("a change whose reply was lost", [None, "already"], 1),
+                                 ("a change that was done before", ["already"], 0)):
+        record, left = f"{place.folder}/repeated-{count}.jsonl", list(replies)
+
+        def answer(*_):
+            found = left.pop(0)
+            return found and as_json({"answer": found})
+        with scripted(answer) as server:
+            ended = Control(place.folder, server.url, INDEX_RECORD=record).run("name", "claim", "x")
+        with open(record) as kept:
+            lines = kept.read().split("\n")[:-1]
+        check(f"the record of {name}", (ended.returncode, len(lines)) == (0, count), (ended.stdout, lines))
 
 
 def slow_names(method, path, *_):
