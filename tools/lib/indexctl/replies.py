@@ -177,6 +177,9 @@ def try_once(place):
         ended = Control(place.folder, server.url).run("name", "claim", "x", "--again", "2")
         check("a claim is sent again at a reset", (ended.returncode, len(server.asked)) == (3, 3),
               (len(server.asked), ended.stdout))
+    check("a change whose reply never came", "It may have been done" in ended.stdout, ended.stdout)
+    ended = Control(place.folder, f"http://127.0.0.1:{free_port()}").run("name", "claim", "x", "--again", "0")
+    check("a change that never went out", ended.returncode == 3 and "been done" not in ended.stdout, ended.stdout)
     with scripted(resets_first()) as server:
         rows = Control(place.folder, server.url).rows("names")
     check("a walk whose connections are reset", isinstance(rows, list) and len(rows) == 12, rows)
