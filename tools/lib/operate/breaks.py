@@ -1,5 +1,6 @@
 """Breaks of operate/, each made in a copy, and whether a tool sees them there: try-operate those of
-tools/caught/operate.edits, try-indexctl those of tools/caught/indexctl.edits."""
+tools/caught/operate.edits, try-indexctl those of tools/caught/indexctl/."""
+import glob
 import os
 import re
 import shutil
@@ -70,9 +71,13 @@ def same(name):
 
 
 def all_breaks(path):
-    with open(path) as kept:
-        text = re.sub(r"^#.*\n", "", kept.read(), flags=re.M)
-    return [Break(block) for block in re.split(r"\n{2,}", text.strip())]
+    """The breaks of a file, or of each file in a folder."""
+    found = []
+    for file in sorted(glob.glob(f"{path}/*.edits")) if os.path.isdir(path) else [path]:
+        with open(file) as kept:
+            text = re.sub(r"^#.*\n", "", kept.read(), flags=re.M)
+        found += [Break(block) for block in re.split(r"\n{2,}", text.strip())]
+    return found
 
 
 def try_listed(names, path=BREAKS):
