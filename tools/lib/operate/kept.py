@@ -14,10 +14,12 @@ MOST_REQUESTS = 1_000_000
 
 
 class Kept(Asking):
-    """The index on one port. It ends by itself after so many connections, and is then started anew."""
+    """The index on one port. It ends by itself after so many connections, and is then started anew. `where` says of
+    one that is not on loopback where it is."""
 
-    def __init__(self, program, path, requests=MOST_REQUESTS):
-        self.program, self.path, self.requests, self.port = program, path, requests, free_port()
+    def __init__(self, program, path, requests=MOST_REQUESTS, port=None, **where):
+        self.program, self.path, self.requests, self.port = program, path, requests, port or free_port()
+        self.where = where
         self.is_wanted, self.is_over = threading.Event(), threading.Event()
         self.listens = threading.Event()
         self.starts, self.index, self.faults = 0, None, []
@@ -28,7 +30,7 @@ class Kept(Asking):
             if not self.is_wanted.wait(timeout=0.05):
                 continue
             try:
-                with Index(self.program, self.requests, self.path, 60, port=self.port) as self.index:
+                with Index(self.program, self.requests, self.path, 60, port=self.port, **self.where) as self.index:
                     self.starts += 1
                     self.listens.set()
                     while self.is_wanted.is_set() and self.index.process.poll() is None:
