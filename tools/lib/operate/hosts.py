@@ -3,7 +3,6 @@ are served, and it comes back without a hand."""
 import re
 import socket
 import struct
-import sys
 import threading
 import time
 from contextlib import ExitStack
@@ -12,8 +11,7 @@ from operate.checks import check, ends, replies
 from operate.front import OPERATE, Front
 from operate.kept import Kept, Uploader
 from operate.network import forget_hosts, three_hosts
-from operate.watched import stand_ins
-from running import run_command
+from operate.watched import looked, stand_ins
 from serving import Asking, accepted, free_port
 
 NAMES = "frob", "ham", "x-ray"
@@ -154,8 +152,7 @@ def try_cable(behind):
         peer.close()
         forget_hosts()
     path = stand_ins(f"{behind.place.folder}/hosts-bin", systemctl=f"kill {index.index.process.pid}")
-    words = [sys.executable, f"{OPERATE}/index-health", "--restart", "index.service", "--patience", "2"]
-    ended = run_command([*host.under, *words, f"http://127.0.0.1:{index.port}"], PATH=path)
-    ends("an index that waits for a lost connection is restarted", ended, 1, "no answer")
+    ended = looked(path, "--patience", "2", f"http://127.0.0.1:{index.port}", under=host.under)
+    ends("an index that waits for a lost connection is restarted", ended, 8, "no answer")
     page = behind.front.ask("GET", "/simple/frob/", Accept="text/html, y/z")
     replies("and serves again", page, 200, None, b"frob-2.0.tar.gz")

@@ -6,6 +6,7 @@ import sys
 
 from operate.checks import check, ends
 from operate.packaged import is_possible
+from operate.watched import written
 from releases import COMMAND
 from running import run_command
 from serving import TOP
@@ -87,14 +88,6 @@ class Repository:
         return run_command([*command, *words], 120, **more)
 
 
-def text_of(path):
-    """The text of a file, or nothing where there is none."""
-    if not os.path.exists(path):
-        return ""
-    with open(path) as kept:
-        return kept.read()
-
-
 def try_release(place):
     """A release is made twice, and what is no release is refused."""
     if not is_possible() or not all(map(shutil.which, ("cc", "git"))):
@@ -120,7 +113,7 @@ def try_made(repository, folder):
     check("its program tells the commit, also in the package", all(it.startswith(told) for it in said), said)
     field = run_command(["dpkg-deb", "--field", f"{out}/{names[1]}", "Version"])
     ends("its package has the version", field, 0, VERSION)
-    text = text_of(f"{out}/{TAG}.txt")
+    text = written(f"{out}/{TAG}.txt")
     check("the text of its tag is that of CHANGELOG.md", text == TEXT, text)
     repository.git(*ended.stdout.splitlines()[-1].split()[1:] if text else ("tag", TAG))
     # something else is there by then, and the tree is another
@@ -128,7 +121,7 @@ def try_made(repository, folder):
     repository.put(COMMAND, "later\n")
     repository.committed()
     again = repository.release(f"{folder}/again", VERSION, TAG, TZ="Asia/Tokyo")
-    same = [text_of(f"{it}/SHA256SUMS") for it in (out, f"{folder}/again")]
+    same = [written(f"{it}/SHA256SUMS") for it in (out, f"{folder}/again")]
     check("a release made again from its tag is the same", same[0] and same[0] == same[1], (same, again.stdout))
 
 
@@ -150,5 +143,5 @@ def try_refused(repository, folder):
     check("nothing was made of them", not os.path.exists(out), out)
     ended = repository.release(out, VERSION, commit, "--program", made)
     ends("a release of a program that is built", ended, 0, f" {TAG} {commit}\n")
-    same = [text_of(f"{it}/SHA256SUMS") for it in (f"{folder}/first", out)]
+    same = [written(f"{it}/SHA256SUMS") for it in (f"{folder}/first", out)]
     check("and it is the same", same[0] and same[0] == same[1], same)
