@@ -80,11 +80,11 @@ class Kept(Asking):
 
 class Uploader(threading.Thread):
     """Uploads files of a project of its own to an index, or to what stands in front of one, until it is stopped or a
-    moment has come. `files` has what was acknowledged. What is to come again later does."""
+    moment has come, with a pause after each. `files` has what was acknowledged. What is to come again later does."""
 
-    def __init__(self, index, project, until):
+    def __init__(self, index, project, until, pause=0):
         super().__init__(daemon=True)
-        self.index, self.project, self.until, self.files = index, project, until, {}
+        self.index, self.project, self.until, self.pause, self.files = index, project, until, pause, {}
         while index.claim(project)[0] == 503:
             time.sleep(0.5)
 
@@ -100,6 +100,7 @@ class Uploader(threading.Thread):
             if reply[0] in (200, 201):
                 self.files[file] = body
                 number += 1
+                time.sleep(self.pause)
 
     def stop(self):
         self.until = 0
