@@ -8,6 +8,7 @@ import sys
 import tempfile
 
 from operate.checks import check
+from releases import COMMAND
 from running import run_command
 from serving import TOP
 
@@ -39,7 +40,9 @@ class Break:
         """Makes the break in a new copy, and returns the program that is tried in it."""
         for top in ("operate", "tools", "docs"):
             shutil.copytree(f"{TOP}/{top}", f"{copy}/{top}")
-        shutil.copy(f"{TOP}/LICENSE", copy)
+        for file in ("LICENSE", "CHANGELOG.md", COMMAND):
+            os.makedirs(os.path.dirname(f"{copy}/{file}"), exist_ok=True)
+            shutil.copy(f"{TOP}/{file}", f"{copy}/{file}")
         for path, old, new in self.changes:
             with open(f"{copy}/{path}") as kept:
                 text = kept.read()
