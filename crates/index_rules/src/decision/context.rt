@@ -56,12 +56,14 @@ impl<'a> Context<'a> {
     }
 }
 
+/// Whether one of the users has this id.
 fn is_one(users: &[UserId], user: &[u8]) -> bool
     ensures { result ≡ list_any (same user.now) users.now }
 {
     users.iter().any(|one| user == one.text().as_bytes())
 }
 
+/// Whether each of the users has this id.
 fn is_each(users: &[UserId], user: &[u8]) -> bool
     ensures { result ≡ list_all (same user.now) users.now }
 {
