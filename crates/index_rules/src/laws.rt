@@ -56,7 +56,6 @@ pub fn tables_of_a_legal_history_are_sound()
 {}
 
 /// The tables of a new index stand for the opening alone.
-
 pub fn first_tables_stand_for_the_opening()
     ensures { (user token : Bytes) → StandsFor (first_tables user token) (begins user token) }
 {}

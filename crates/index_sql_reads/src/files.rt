@@ -91,6 +91,7 @@ fn has_usual_file<S: Alter>(
     }
 }
 
+/// Whether the file is undeleted and one of this release of the name.
 fn is_undeleted_of(file: &FileRecord, name: &NormalName, release: &Release) -> bool
     ensures { result ≡ is_undeleted_of_release name.now release.now file.now }
 {
