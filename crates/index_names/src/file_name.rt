@@ -44,7 +44,7 @@ pub struct FileName {
     kind: FileKind,
 }
 
-// By hand: a drop is then one call at each exit of a function (docs/ARCHITECTURE.md, "What a proof costs").
+// By hand: a drop is then one call at each exit of a function (docs/PROOF-COSTS.md).
 impl Drop for FileName {
     fn drop(self) {
         let FileName {

@@ -19,7 +19,7 @@ pub(crate) struct Accounts {
     ghost agree: { AreBearers (table_of users) (bearers_of bearers) },
 }
 
-// By hand: a drop is then one call at each exit of a function (docs/ARCHITECTURE.md, "What a proof costs").
+// By hand: a drop is then one call at each exit of a function (docs/PROOF-COSTS.md).
 impl Drop for Accounts {
     fn drop(self) {
         let Accounts {

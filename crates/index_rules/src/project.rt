@@ -27,7 +27,7 @@ pub struct Project {
     last_upload: Option<u64>,
 }
 
-// By hand: a drop is then one call at each exit of a function (docs/ARCHITECTURE.md, "What a proof costs").
+// By hand: a drop is then one call at each exit of a function (docs/PROOF-COSTS.md).
 impl Drop for Project {
     fn drop(self) {
         let Project {

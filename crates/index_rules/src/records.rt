@@ -40,7 +40,7 @@ pub struct CaseRecord {
     pub state: CaseState,
 }
 
-// By hand: a drop is then one call at each exit of a function (docs/ARCHITECTURE.md, "What a proof costs").
+// By hand: a drop is then one call at each exit of a function (docs/PROOF-COSTS.md).
 impl Drop for CaseRecord {
     fn drop(self) {
         let CaseRecord {

@@ -18,7 +18,7 @@ pub struct UserId {
     text: Text,
 }
 
-// By hand: a drop is then one call at each exit of a function (docs/ARCHITECTURE.md, "What a proof costs").
+// By hand: a drop is then one call at each exit of a function (docs/PROOF-COSTS.md).
 impl Drop for UserId {
     fn drop(self) {
         let UserId { text: _text } = self;
