@@ -1,5 +1,5 @@
 -- How a subcommand ends, by the run of work that it made.
-use Rattle.std.specs.Prelude.{◌≡◌, ◌↔◌, ℕ, false, Option, Result, Ok, Err, IfErr, IfOk, IsErrAnd}
+use Rattle.std.specs.Prelude.{◌≡◌, ◌↔◌, ℕ, Option, Result, Ok, Err, IfErr, IfOk, IsErrAnd}
 use Rattle.std.specs.Process.{exit_status}
 use Rattle.std.specs.declared.process.ExitCode.{ExitCode}
 use Rattle.sqlite.specs.declared.FileStore.{FileStore}
@@ -10,7 +10,8 @@ use Rattle.index.specs.declared.database.Left.{Left}
 use Rattle.index.specs.declared.end.End.{End}
 use Rattle.index.specs.declared.end.End.TheVariants as end
 use Rattle.index.specs.Chains.{WorkLeadsOn}
-use Rattle.index.specs.Ends.{closing_of, end_by, is_store}
+use Rattle.index.specs.Ends.{closing_of, end_by}
+use Rattle.index.specs.Openings.{IsToldOf}
 use Rattle.index.specs.Runs.{EndsRunOn}
 use Rattle.index.specs.Tasks.{Task}
 
@@ -21,7 +22,7 @@ pub record ComesOfRun {D : Type 0} (g : Ghosts D) (task : Task) (start : Image) 
   pub ends : EndsRunOn g task start run
   pub leads : WorkLeadsOn g task start run
   pub done : IfOk run (λ it. result ≡ end_by it.1 (closing_of it.0))
-  pub refused : IfErr run (λ it. IsErrAnd result (λ told. (is_store told ≡ is_store it.0) × (is_store it.0 ≡ false → told ≡ it.0)))
+  pub refused : IfErr run (λ it. IsErrAnd result (IsToldOf it.0 it.1))
 
 -- the status of a job is 0 where its run went well, and else it ends as that did
 abbrev pub IsStatusOf : Result ℕ End → Result ExitCode End → Type 0
