@@ -13,27 +13,43 @@ def open_text(file):
 
 
 class Edit:
-    """A wrong body: its function, and what is wrong with it if it can't be tried."""
+    """A wrong body, or the harmless twin of one: its function, and what is wrong with it if it can't be tried."""
 
-    def __init__(self, rt, crate, file):
+    def __init__(self, rt, crate, file, is_twin=False):
         self.file, self.is_of_must_fail = file, os.path.basename(os.path.dirname(file)) == "must-fail"
         self.name = os.path.splitext(os.path.relpath(file, os.path.dirname(crate.folder)))[0]
-        self.wrong = rt.read_edit(file, crate.folder)[1]
-        self.text = rt.rtlib.text_of(file) or ""
+        self.text, self.is_twin = rt.rtlib.text_of(file) or "", is_twin
+        self.wrong = rt.read_edit(file, crate.folder)[1] or (self.wrong_of_twin(crate.folder) if is_twin else None)
         found = re.search(r"^fn: (\S+)$", self.text, re.M)
         self.function = found and found[1]
         self.is_alone = not self.wrong and bool(self.function) and not self.is_within(crate.folder)
 
     def pairs(self):
-        """Yields the file, the text that goes and the text that comes, of each change."""
-        path = old = None
+        """Yields the file, the text that goes and the text that comes, of each change. A twin makes those alone that
+        have a line of its own, below the wrong body's."""
+        path, old, comes = None, None, "twin:" if self.is_twin else "new:"
         for line in self.text.split("\n"):
             if line.startswith("file: "):
                 path = line[len("file: "):].strip()
             elif line.startswith("old: "):
                 old = line[len("old: "):]
-            elif line.startswith("new:"):
-                yield path, old, re.sub(r"\A ", "", line[len("new:"):])
+            elif line.startswith(comes):
+                yield path, old, re.sub(r"\A ", "", line[len(comes):])
+
+    def has_twin(self):
+        return bool(re.search("^twin:", self.text, re.M))
+
+    def wrong_of_twin(self, folder):
+        """Returns why the twin can't be made, or None."""
+        texts = {}
+        for path, old, comes in self.pairs():
+            text = texts.get(path) or open_text(f"{folder}/{path}")
+            if comes == old:
+                return "its twin is the text that stands there"
+            if text.count(old) != 1:
+                return f"an 'old:' text is in {path} {text.count(old)} times with the twin, and not once"
+            texts[path] = text.replace(old, comes)
+        return None if texts else "it has no line 'twin:', a harmless change of the same shape"
 
     def is_within(self, folder):
         """Returns whether the changes stand below the head of the function, and of no other: other text may be
@@ -155,14 +171,33 @@ def emptied(file, text, asked):
     return "\n".join(rows)
 
 
-def edits_of(rt, crate, parts):
-    """Returns the crate's edits, and the files that are none and stand among them."""
+def made_together(folder, edits):
+    """Returns the texts of the files that these edits change, by their path in the crate, or None where they don't fit
+    beside one another."""
+    texts = {}
+    for it in edits:
+        texts = it.beside(folder, texts, ())[1]
+        if texts is None:
+            return None
+    return texts
+
+
+def share_of(edits, share):
+    """Returns the edits of every n-th crate, from the k-th on, of a share (k, n). So many crates are in each: their
+    checks cost less than those of single edits from all crates. A k that is too great goes round."""
+    of = min(share[1], len(edits)) or 1
+    return {crate: its for at, (crate, its) in enumerate(edits.items()) if at % of == (share[0] - 1) % of}
+
+
+def edits_of(rt, crate, parts, are_twins=False):
+    """Returns the crate's edits, or the twins of those in must-fail/ and of others that have one, and the files that
+    are none and stand among them."""
     edits, strange = [], []
     for part in parts:
         folder = f"{crate.folder}/{part}"
         for name in sorted(os.listdir(folder)) if os.path.isdir(folder) else []:
             if name.endswith(".edit"):
-                edits.append(Edit(rt, crate, f"{folder}/{name}"))
+                edits.append(Edit(rt, crate, f"{folder}/{name}", are_twins))
             elif not name.endswith(".md"):
                 strange.append(os.path.relpath(f"{folder}/{name}"))
-    return edits, strange
+    return [it for it in edits if not are_twins or it.is_of_must_fail or it.has_twin()], strange

@@ -15,6 +15,7 @@ RUN = (
     ("/var/lib/index/", "/var/lib/index/%i/"),
     ("/var/backups/index", "/var/backups/index/%i"),
     ("index.service", "index@%i.service"),
+    ("index-health.service", "index-health@%i.service"),
     ("/index.prom", "/index-%i.prom"),
 )
 # a folder for the copies of each

@@ -134,21 +134,23 @@ def accepted(reply):
 
 
 class Index(Running, Asking):
-    """The built program, serving on loopback the index in a file, or a new one. What it says on standard error is
-    kept."""
+    """The built program, serving the index in a file, or a new one. It listens on `listen`, or on `host`, where it is
+    asked. `under` are the words of a command that becomes it. What it says on standard error is kept."""
 
-    def __init__(self, program, requests=1_000_000, path=None, patience=30, setting=None, port=0, at=None, keep=None):
-        self.patience = patience
+    def __init__(self, program, requests=1_000_000, path=None, patience=30, setting=None, port=0, at=None, keep=None,
+                 host="127.0.0.1", listen=None, under=()):
+        self.patience, self.program, self.host, self.listen = patience, program, host, listen or host
         self.said, self.folder = tempfile.TemporaryFile(), tempfile.TemporaryDirectory()
         self.path = path or f"{self.folder.name}/index.db"
-        words = [program, "serve", "--db", self.path, "--listen", f"127.0.0.1:{port}", "--requests", str(requests)]
+        words = [*under, program, "serve", "--db", self.path]
+        words += ["--listen", f"{self.listen}:{port}", "--requests", str(requests)]
         words += [] if at is None else ["--at", str(at)]
         words += [] if keep is None else ["--keep-recent", str(keep)]
         super().__init__(words, stdout=subprocess.PIPE, stderr=self.said, env={**os.environ, **(setting or {})})
 
     def __enter__(self):
         if not os.path.exists(self.path):
-            make_index(self.words[0], self.path)
+            make_index(self.program, self.path)
         super().__enter__()
         try:
             self.port = self.told_port()
@@ -163,17 +165,17 @@ class Index(Running, Asking):
         self.folder.cleanup()
 
     def told_port(self):
-        """The port in the line `listening on 127.0.0.1:PORT`, which has to come within so many seconds."""
+        """The port in the line `listening on ADDRESS:PORT`, which has to come within so many seconds."""
         line, until = b"", time.monotonic() + self.patience
         while not line.endswith(b"\n"):
             ready, _, _ = select.select([self.process.stdout], [], [], max(0, until - time.monotonic()))
             read = os.read(self.process.stdout.fileno(), 4096) if ready else b""
             if not read:
-                raise SystemExit(f"{self.words[0]} serve does not listen: {line!r} {self.errors()!r}")
+                raise SystemExit(f"{self.program} serve does not listen: {line!r} {self.errors()!r}")
             line += read
-        start = b"listening on 127.0.0.1:"
+        start = f"listening on {self.listen}:".encode()
         if not line.startswith(start):
-            raise SystemExit(f"{self.words[0]} serve printed {line!r}")
+            raise SystemExit(f"{self.program} serve printed {line!r}")
         return int(line[len(start):])
 
     def errors(self):
@@ -181,4 +183,4 @@ class Index(Running, Asking):
         return self.said.read()
 
     def ask(self, method, path, body=None, **headers):
-        return exchange(http.client.HTTPConnection("127.0.0.1", self.port, timeout=30), method, path, body, headers)
+        return exchange(http.client.HTTPConnection(self.host, self.port, timeout=30), method, path, body, headers)

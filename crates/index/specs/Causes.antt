@@ -1,5 +1,5 @@
 -- Why the database failed, by what is known of it.
-use Rattle.std.specs.Prelude.{◌≡◌, ◌⊎◌, ℕ, Bool, ◌==◌, ◌&&◌, not, List, Option, Some, None, codes, find, option_map, if◌then◌else◌, string_bytes}
+use Rattle.std.specs.Prelude.{◌≡◌, ◌⊎◌, ℕ, Bool, true, false, ◌==◌, ◌&&◌, not, List, Option, Some, None, codes, find, option_map, if◌then◌else◌, string_bytes}
 use Rattle.std.specs.List.{list_any, starts_with}
 use Rattle.std.specs.Str.Lossy.{utf8_lossy}
 use Rattle.std.specs.declared.io.ErrorKind.{ErrorKind}
@@ -44,6 +44,18 @@ cause_of_kind _ = None
 abbrev pub cause_of_node : Bool → Bool → ℕ → Option Cause
 cause_of_node is_folder is_file names =
     if is_folder then Some cause.Folder else if not is_file then Some cause.NoRegularFile else if names == 1 then None else Some cause.SecondName
+
+-- it is found at the path of a database, whose files are not opened for it
+abbrev pub is_at_path : Cause → Bool
+is_at_path cause.NoFile = true
+is_at_path cause.NoFolder = true
+is_at_path cause.NotMade = true
+is_at_path cause.NoRight = true
+is_at_path cause.Folder = true
+is_at_path cause.NoRegularFile = true
+is_at_path cause.SecondName = true
+is_at_path cause.Beside = true
+is_at_path _ = false
 
 -- ---- the objects of a schema
 

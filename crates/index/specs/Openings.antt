@@ -1,9 +1,9 @@
 -- Two files that are opened, and a run that does nothing on them.
-use Rattle.std.specs.Prelude.{◌≡◌, ◌⊎◌, false, IsTrue, Option, Some, None, Result, IfOk, IfErr, IfSome}
+use Rattle.std.specs.Prelude.{◌≡◌, ◌⊎◌, ◌<◌, false, IsTrue, Option, Some, None, Result, IfOk, IfErr, IfSome}
 use Rattle.sqlite.specs.Effect.{Database}
 use Rattle.sqlite.specs.FileStore.{recovers}
 use Rattle.sqlite.specs.declared.FileStore.{FileStore}
-use Rattle.sqlite.specs.Files.{AreFoundIn, HoldsDatabase, IsCleanLeft, IsEmpty, IsNothing, IsOpened, file_state, over_files}
+use Rattle.sqlite.specs.Files.{AreFoundIn, HoldsDatabase, IsCleanLeft, IsEmpty, IsFullLeft, IsNothing, IsOpened, faults_left, file_state, over_files, tally_left}
 use Rattle.sqlite.specs.Start.{FindsIn}
 use Rattle.sqlite.specs.declared.file.Leftover.{Leftover}
 use Rattle.sqlite.specs.declared.file.Leftover.TheVariants as leftover
@@ -27,18 +27,33 @@ use Rattle.index_sql_opening.specs.NewAsks.{asks_of_new}
 use Rattle.index_tables.specs.Adopted.{IsOurs, IsRaised, IsReason}
 use Rattle.index_tables.specs.Opened.{IsCreated, IsFault, RefusesFound, RefusesNew, StoreForOthers}
 use Rattle.index_rules.specs.Tables.{Tables}
+use Rattle.index.specs.declared.cause.Cause.{Cause}
+use Rattle.index.specs.declared.cause.Cause.TheVariants as cause
 use Rattle.index.specs.declared.database.Left.{Left}
 use Rattle.index.specs.declared.database.Left.TheVariants as unused
 use Rattle.index.specs.declared.end.End.{End}
 use Rattle.index.specs.declared.end.End.TheVariants as end
-use Rattle.index.specs.Ends.{is_fault}
+use Rattle.index.specs.Causes.{cause_of_calls, is_at_path}
+use Rattle.index.specs.Ends.{is_fault, is_store}
 
 -- they recover to this database, and hold no other
 pub record HoldsOnly (image : Image) (db : Database) : Type 0 where
   pub read : AreFoundIn image db.trees
   pub alone : (other : Trees) → HoldsDatabase image other → db.trees ≡ other
 
+-- they hold some database
+abbrev pub HoldsSome : Image → Type 0
+HoldsSome image = (db : Trees) × HoldsDatabase image db
+
 -- ---- the opening
+
+-- Why two files were not opened. Memory was wanting. Or another program has them open. Or the system did not open them: what
+-- is found at their path may tell the cause.
+abbrev pub IsWhyNoFiles : End → Type 0
+IsWhyNoFiles told =
+    (told ≡ end.OutOfMemory)
+    ⊎ ((told ≡ end.Store (Some cause.InUse))
+    ⊎ ((found : Option Cause) × (told ≡ end.Store found) × IfSome found (λ it. IsTrue (is_at_path it))))
 
 module _ {D : Type 0} {g : disk.Ghosts D} where
   -- What a crash leaves of two files that can't be opened as a database. Before a write it is what they held. Where there
@@ -61,12 +76,28 @@ module _ {D : Type 0} {g : disk.Ghosts D} where
   abbrev pub IsOpenedOn : Image → Held (FileStore D g) → Type 0
   IsOpenedOn start conn = HasCleanDisk (file_state conn) → IsOpened conn × FindsIn start (file_state conn)
 
+  -- Why two files that held this can't be opened as a database. Memory was wanting. Or they hold none, and are not new. Or a
+  -- call on them failed: what the failed calls met is the cause. Or they are as large as they may be.
+  abbrev pub IsWhyNoDatabase : Image → Leftover D g → End → Type 0
+  IsWhyNoDatabase start left told =
+      (told ≡ end.OutOfMemory)
+      ⊎ ((((told ≡ end.Store (Some cause.NoDatabase)) ⊎ (told ≡ end.Store (Some cause.Damaged))) × (¬ HoldsSome start) × (¬ IsNothing start))
+      ⊎ (((told ≡ end.Store (cause_of_calls (tally_left left) false)) × (0 < faults_left left))
+      ⊎ ((told ≡ end.Store (Some cause.Full)) × IsFullLeft left)))
+
+  -- why the opening of two files failed; of files that were opened that is known if they have returned what was written
+  abbrev pub IsWhyShut : Image → End → Option (Leftover D g) → Type 0
+  IsWhyShut start told None = IsWhyNoFiles told
+  IsWhyShut start told (Some left) = IsCleanLeft left → IsWhyNoDatabase start left told
+
   -- how the opening of files that held this ends
   pub record EndsOpening (start : Image) (result : Result (Held (FileStore D g)) (End × Option (Leftover D g))) : Type 0 where
     pub outside : IfOk result (λ conn. conn.in_transaction ≡ false)
     pub opened : IfOk result (IsOpenedOn start)
     pub shut : IfErr result (λ e. IfSome e.1 (LeavesShut start))
     pub fault : IfErr result (λ e. IsTrue (is_fault e.0))
+    -- the error of SQLite is told, or what is found at the path
+    pub why : IfErr result (λ e. IsWhyShut start e.0 e.1)
 
 -- ---- a database that is refused
 
@@ -117,10 +148,17 @@ module _ {D : Type 0} {g : disk.Ghosts D} where
   LeavesUnused IsRefused start (unused.Refused left) =
       IsRefused start (file_state left.conn) × (HasCleanDisk (file_state left.conn) → OpensAgain left.conn.store)
 
-  -- Why nothing was done on two files that held this. Those that can't be opened, or closed, have failed, or memory was
-  -- wanting. A database was refused for a reason of this kind.
+  -- Why nothing was done on two files that held this: they were not opened, or memory was wanting before; or they can't be
+  -- opened as a database; or that was refused for a reason of this kind.
   abbrev pub IsWhyUnused : (Held (FileStore D g) → Held (FileStore D g) → OpenFault → Type 0) → Image → End → Option (Left D g) → Type 0
-  IsWhyUnused IsFor start told None = IsTrue (is_fault told)
-  IsWhyUnused IsFor start told (Some (unused.Shut left)) = IsTrue (is_fault told)
+  IsWhyUnused IsFor start told None = (told ≡ end.Open open_fault.OutOfMemory) ⊎ IsWhyNoFiles told
+  IsWhyUnused IsFor start told (Some (unused.Shut left)) = IsTrue (is_fault told) × IsWhyShut start told (Some left)
   IsWhyUnused IsFor start told (Some (unused.Refused left)) =
       (told ≡ end.Open left.why) × ((first : Held (FileStore D g)) × IsOpenedOn start first × IsFor first left.conn left.why)
+
+  -- The end that is told of two files on which nothing was done. The cause for which a database was refused is looked for in
+  -- its schema, and in what its files met.
+  abbrev pub IsToldOf : End → Option (Left D g) → End → Type 0
+  IsToldOf why None told = told ≡ why
+  IsToldOf why (Some (unused.Shut left)) told = told ≡ why
+  IsToldOf why (Some (unused.Refused left)) told = (is_store told ≡ is_store why) × (is_store why ≡ false → told ≡ why)

@@ -1,6 +1,6 @@
 -- A run of the program: what it finds in a database file and its log, and what is left in the files, at the end of the run
 -- and by a crash.
-use Rattle.std.specs.Prelude.{◌≡◌, ◌⊎◌, ℕ, false, IsTrue, Result, IfOk, IfErr, IfSome, Option}
+use Rattle.std.specs.Prelude.{◌≡◌, ◌⊎◌, ◌↔◌, ℕ, false, IsTrue, Result, IfOk, IfErr, IfSome, IsErrOf, Option, None, Some}
 use Rattle.sqlite.specs.Closing.{HoldsAlone}
 use Rattle.sqlite.specs.Effect.{Database}
 use Rattle.sqlite.specs.declared.FileStore.{FileStore}
@@ -14,7 +14,11 @@ use Rattle.sqlite.specs.Tree.{Trees}
 use Rattle.sqlite.specs.WalFiles.{outcomes}
 use Rattle.sqlite_disk.specs.declared.Disk.{Ghosts}
 use Rattle.sqlite_disk.specs.declared.Files.{Files}
+use Rattle.index_digest.specs.Digest.{read_digest}
 use Rattle.index_sql_opening.specs.Names.{has_any_of}
+use Rattle.index_rules.specs.declared.open.OpenFault.TheVariants as open_fault
+use Rattle.index_rules.specs.FirstTables.{IsBadFirstUser, first_tables}
+use Rattle.index_rules.specs.Maps.{Bytes}
 use Rattle.index_rules.specs.Tables.{Tables}
 use Rattle.index_sql_schema.specs.Records.{tables_in}
 use Rattle.index_sql_schema.specs.Schema.{index_schema}
@@ -23,7 +27,8 @@ use Rattle.index_tables.specs.BooksState.{AreCurrent, IsWorking}
 use Rattle.index_tables.specs.Reopened.{MayLeave}
 use Rattle.index.specs.declared.database.Left.{Left}
 use Rattle.index.specs.declared.end.End.{End}
-use Rattle.index.specs.Openings.{HoldsOnly, IsUnfound, IsWhyUnfound, IsWhyUnused, LeavesUnused}
+use Rattle.index.specs.declared.end.End.TheVariants as end
+use Rattle.index.specs.Openings.{HoldsOnly, IsBadFirstUserByHex, IsUnfound, IsUnmade, IsWhyUnfound, IsWhyUnmade, IsWhyUnused, LeavesUnused}
 use Rattle.index.specs.Tasks.{Does, MayLeaveBy, Task}
 
 -- ---- two files
@@ -109,6 +114,24 @@ pub record EndsRunOn {D : Type 0} (g : Ghosts D) (task : Task) (start : Image)
   -- what is refused is as it was, or an index of version 1 became one of today
   pub refused : IfErr result (λ e. IfSome e.1 (LeavesUnused IsUnfound start))
   pub why : IfErr result (λ e. IsWhyUnused (IsWhyUnfound over_files) start e.0 e.1)
+
+-- ---- an init on two files
+
+-- how it ends, by its user and the hex digits of the token's digest
+pub record EndsInitOn {D : Type 0} (g : Ghosts D) (user digits : Bytes) (start : Image)
+    (result : Result (Result (Files D) (End × FileStore D g)) (End × Option (Left D g))) : Type 0 where
+  pub bad_first_user : IsErrOf result (end.Open open_fault.BadFirstUser, None) ↔ IsBadFirstUserByHex user digits
+  -- the files held nothing of an index, and hold the new one
+  pub created : IfOk result (λ closed. IfOk closed (λ files. AreClean g files.log files.db
+      → (digest : Bytes) × (read_digest digits ≡ Some digest) × Created g (first_tables user digest) start files))
+  -- where the log was not copied, a crash leaves the new index
+  pub unclosed : IfOk result (λ closed. IfErr closed (λ e. IsClean (over_files.view e.1)
+      → (digest : Bytes) × (read_digest digits ≡ Some digest) × CreatedInLog (first_tables user digest) start e.1))
+  -- what is refused is as it was
+  pub refused : (digest : Bytes) → read_digest digits ≡ Some digest
+      → IfErr result (λ e. IfSome e.1 (LeavesUnused (IsUnmade (first_tables user digest)) start))
+  pub why : (digest : Bytes) → read_digest digits ≡ Some digest → (¬ IsBadFirstUser user digest)
+      → IfErr result (λ e. IsWhyUnused (IsWhyUnmade user digest over_files) start e.0 e.1)
 
 -- ---- the same of a connection, before its files are known
 

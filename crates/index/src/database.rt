@@ -18,8 +18,8 @@ ghost use Rattle.index_tables.specs.Opened.{IsCreated};
 ghost use Rattle.index.specs.declared.end.End.{End as EndData};
 ghost use Rattle.index.specs.Causes.{IsKnown, IsObject, other_object};
 ghost use Rattle.index.specs.Chains.{InitLeadsOn, WorkLeadsOn};
-ghost use Rattle.index.specs.Ends.{closing_of, is_fault, is_store};
-ghost use Rattle.index.specs.Openings.{IsBadFirstUserByHex, IsOpenedOn, IsUnmade, IsWhyUnfound, IsWhyUnmade, IsWhyUnused, LeavesUnused};
+ghost use Rattle.index.specs.Ends.{closing_of, is_fault};
+ghost use Rattle.index.specs.Openings.{IsBadFirstUserByHex, IsOpenedOn, IsToldOf, IsUnmade, IsWhyUnfound, IsWhyUnmade, IsWhyUnused, LeavesUnused};
 ghost use Rattle.index.specs.Runs.{Created, CreatedInLog, EndsRunOn, EndsWork, IsMadeNew, LeavesAsWas};
 ghost use Rattle.index.specs.Tasks.{Does, MayLeaveBy, Task};
 
@@ -290,8 +290,7 @@ pub fn let_go<D: Disk + Drop>(closed: Closed<D>) -> Result<(), End>
 /// Why nothing was done. The files are let go as they are. What they hold, and what became of the calls on them, may tell
 /// why they were refused.
 pub fn why<D: Disk + Drop>(alloc: Global, unused: Unused<D>) -> End
-    ensures store { is_store result ≡ is_store unused.0 }
-    ensures other { is_store unused.0 ≡ false → result ≡ unused.0 }
+    ensures { IsToldOf unused.0 unused.1 result }
 {
     let (end, left) = unused;
     match left {

@@ -1,15 +1,14 @@
 //! The program's subcommands.
-ghost use Rattle.std.specs.Prelude.{◌≡◌, ◌↔◌, ◌∷◌, ◌++◌, [], IfOk, OnOk, codes, decimal, unwrap_or};
+ghost use Rattle.std.specs.Prelude.{◌≡◌, ◌↔◌, ◌∷◌, ◌++◌, [], IfErr, IfOk, OnOk, codes, decimal, unwrap_or};
 ghost use Rattle.std.specs.Io.KnownBytes.{Appends};
 ghost use Rattle.std.specs.Process.{exit_status};
 ghost use Rattle.sqlite.specs.WalFiles.{image_at};
 ghost use Rattle.index_digest.specs.Digest.{sha256};
-ghost use Rattle.index_names.specs.Faults.{FailsByEither};
-ghost use Rattle.index_rules.specs.FirstTables.{RefusesBadFirstUser, first_tables};
+ghost use Rattle.index_rules.specs.FirstTables.{first_tables};
 ghost use Rattle.index_rules.specs.Tables.{Tables};
 ghost use Rattle.index.specs.Ends.{end_by};
-ghost use Rattle.index.specs.Jobs.{ComesOfRun, EndsAs, IsStatusOf, IsStatusOfCheck};
-ghost use Rattle.index.specs.Tasks.{CountWrong, Does, WriteReport};
+ghost use Rattle.index.specs.Jobs.{ComesByPath, ComesOfInit, ComesOfRun, EndsApply, EndsAs, EndsAsInit, EndsAsOrEarly, EndsReport, IsStatusOf, IsStatusOfCheck};
+ghost use Rattle.index.specs.Tasks.{AnswerConnections, CountWrong, Does};
 
 use crate::database::{self, Work};
 use crate::end::End;
@@ -38,19 +37,37 @@ pub fn init<S: Start>(
     user: &str,
     token: &str,
     page_sums: bool,
-) -> Result<ExitCode, End> {
-    match database::create(rt, db, start, user, token, page_sums) {
-        Ok(closed) => database::let_go(closed)?,
-        Err(unused) => return Err(database::why(rt.alloc(), unused)),
-    }
+) -> Result<ExitCode, End>
+    ensures { EndsAsInit ⟦<FileFrom<S> as Disk>⟧ user.now token.now (image_at S.Start) result }
+{
+    make(rt, db, start, user, token, page_sums)?;
     match println!(rt; "created") {
         Ok(()) => Ok(ExitCode::SUCCESS),
         Err(_) => Err(End::WriteFault),
     }
 }
 
+/// Makes a new index in a file.
+fn make<S: Start>(
+    rt: &HostRuntime,
+    db: &str,
+    start: S,
+    user: &str,
+    token: &str,
+    page_sums: bool,
+) -> Result<(), End>
+    ensures { ComesOfInit ⟦<FileFrom<S> as Disk>⟧ user.now token.now (image_at S.Start) result }
+{
+    match database::create(rt, db, start, user, token, page_sums) {
+        Ok(closed) => database::let_go(closed),
+        Err(unused) => Err(database::why(rt.alloc(), unused)),
+    }
+}
+
 /// Answers the lines of standard input, on the tables of a database or on tables in memory.
-pub fn apply<S: Start>(rt: &HostRuntime, db: Option<&str>, start: S) -> Result<ExitCode, End> {
+pub fn apply<S: Start>(rt: &HostRuntime, db: Option<&str>, start: S) -> Result<ExitCode, End>
+    ensures { EndsApply ⟦<FileFrom<S> as Disk>⟧ db.entry (image_at S.Start) result }
+{
     let Ok(reader) = BufReader::new(rt.alloc(), rt.stdin()) else {
         return Err(End::OutOfMemory);
     };
@@ -58,11 +75,24 @@ pub fn apply<S: Start>(rt: &HostRuntime, db: Option<&str>, start: S) -> Result<E
         source: Input::new(reader),
         sink: Output::new(io::writer(rt)),
     };
-    match db {
-        Some(db) => work_on(rt, db, start, &mut lines)?,
-        None => work_in_memory(rt, &mut lines)??,
-    };
+    work_by_path(rt, db, start, &mut lines)?;
     Ok(ExitCode::SUCCESS)
+}
+
+/// Does work on the index in a file or, where no path is given, on tables in memory, and gives the number that it found.
+fn work_by_path<S: Start, W: Work>(
+    rt: &HostRuntime,
+    db: Option<&str>,
+    start: S,
+    work: &mut W,
+) -> Result<u64, End>
+    ensures { ComesByPath ⟦<FileFrom<S> as Disk>⟧ db.entry (W.task work.old work.new)
+        (image_at S.Start) result }
+{
+    match db {
+        Some(db) => work_on(rt, db, start, work),
+        None => work_in_memory(rt, work)?,
+    }
 }
 
 /// Does work on the index in a file, and gives the number that it found.
@@ -98,8 +128,7 @@ fn ended_by(end: Result<u64, End>, closed: Result<(), End>) -> Result<u64, End>
 fn work_in_memory<W: Work>(rt: &HostRuntime, work: &mut W) -> Result<Result<u64, End>, OpenFault>
     ensures worked { let first = first_tables (codes "office") (sha256 (codes "office")) in
         IfOk result (λ end. (T : Tables) × Does (W.task work.old work.new) end first T) }
-    ensures bad_first_user { RefusesBadFirstUser (codes "office") (sha256 (codes "office")) result }
-    ensures fault { FailsByEither result OpenFault.BadFirstUser OpenFault.OutOfMemory }
+    ensures fault { IfErr result (λ fault. fault ≡ OpenFault.OutOfMemory) }
 {
     let books = PlainBooks::new(rt.alloc(), b"office", Digest256::of(b"office"))?;
     let mut desk = Desk::new(Recent::new(rt.alloc(), books, work.keep_recent()));
@@ -151,7 +180,10 @@ pub fn serve<S: Start>(
     db: &str,
     start: S,
     words: ServeWords<'_>,
-) -> Result<ExitCode, End> {
+) -> Result<ExitCode, End>
+    ensures { EndsAsOrEarly ⟦<FileFrom<S> as Disk>⟧ (AnswerConnections words.entry.at
+        words.entry.requests) (image_at S.Start) IsStatusOf result }
+{
     let site = Site::new(rt.alloc())?;
     let mut serving = serving_by(&site, words);
     work_on(rt, db, start, &mut serving)?;
@@ -229,8 +261,7 @@ fn tell_address(rt: &HostRuntime, listener: &TcpListener) -> io::Result<()> {
 
 /// Writes the report on the tables of a database.
 pub fn report<S: Start>(rt: &HostRuntime, db: &str, start: S) -> Result<ExitCode, End>
-    ensures { (had has : _) × EndsAs ⟦<FileFrom<S> as Disk>⟧
-        (WriteReport had has) (image_at S.Start) IsStatusOf result }
+    ensures { EndsReport ⟦<FileFrom<S> as Disk>⟧ (image_at S.Start) result }
 {
     let mut reporting = Reporting {
         sink: Output::new(io::writer(rt)),

@@ -10,13 +10,17 @@ mod objects;
 mod opening;
 mod path;
 
-ghost use Rattle.std.specs.Prelude.{◌≡◌, IfOk, IsErr};
+ghost use Rattle.std.specs.Prelude.{◌≡◌, ◌⊎◌, map, option_map, string_bytes, IfOk, IsErr};
 ghost use Rattle.std.specs.Process.{exit_status};
+ghost use Rattle.sqlite.specs.WalFiles.{image_at};
+ghost use Rattle.index_words.specs.Reading.{ReadsJob};
+ghost use Rattle.index.specs.Jobs.{EndsByWords, EndsJob, IsShown, path_of};
 
 use crate::end::End;
 use crate::job::ServeWords;
 use index_words::{Job, WordsEnd, read_words};
-use sqlite::{Start, Wary};
+use sqlite::{FileFrom, Start, Wary};
+use sqlite_disk::Disk;
 use std::io::ErrorKind;
 use std::process::ExitCode;
 use std::{env, io};
@@ -39,19 +43,33 @@ fn words(rt: &HostRuntime) -> io::Result<Vec<String>> {
 }
 
 /// Does what the words ask for. A database that they name held what `S` says.
-fn run<S: Start>(rt: &HostRuntime, words: &[String], start: S) -> ExitCode {
+fn run<S: Start>(rt: &HostRuntime, words: &[String], start: S) -> ExitCode
+    ensures { (read : _) × ReadsJob (map string_bytes words.now) read
+        × EndsByWords ⟦<FileFrom<S> as Disk>⟧ read (image_at S.Start) result }
+{
     match read_words(rt.alloc(), words) {
         Ok(asked) => status_of_end(rt, database_of(asked), perform(rt, asked, start)),
-        Err(WordsEnd::Clap(error)) => match error.print(rt) {
-            Err(_) if !error.use_stderr() => tell_fault(rt, None, End::WriteFault),
-            _ => ExitCode::from(error.exit_code() as u8),
-        },
+        Err(WordsEnd::Clap(error)) => show(rt, &error),
         Err(WordsEnd::OutOfMemory) => tell_fault(rt, None, End::OutOfMemory),
     }
 }
 
+/// Prints the help, the version or a mistake in the words, and answers the status.
+fn show(rt: &HostRuntime, error: &clap::Error) -> ExitCode
+    ensures shown { IsShown error.now
+        → (exit_status result ≡ 0) ⊎ (exit_status result ≡ 1) }
+    ensures mistake { (¬ IsShown error.now) → exit_status result ≡ 2 }
+{
+    match error.print(rt) {
+        Err(_) if !error.use_stderr() => tell_fault(rt, None, End::WriteFault),
+        _ => ExitCode::from(error.exit_code() as u8),
+    }
+}
+
 /// Does a job, and answers the status that it ends with.
-fn perform<S: Start>(rt: &HostRuntime, asked: Job<'_>, start: S) -> Result<ExitCode, End> {
+fn perform<S: Start>(rt: &HostRuntime, asked: Job<'_>, start: S) -> Result<ExitCode, End>
+    ensures { EndsJob ⟦<FileFrom<S> as Disk>⟧ asked.entry (image_at S.Start) result }
+{
     match asked {
         Job::Init {
             db,
@@ -81,7 +99,9 @@ fn perform<S: Start>(rt: &HostRuntime, asked: Job<'_>, start: S) -> Result<ExitC
 }
 
 /// The path of the database that a job works on.
-fn database_of(asked: Job<'_>) -> Option<&str> {
+fn database_of(asked: Job<'_>) -> Option<&str>
+    ensures { option_map (λ path. path.now) result ≡ path_of asked.entry }
+{
     match asked {
         Job::Init { db, .. } | Job::Serve { db, .. } | Job::Report { db } | Job::Check { db } => {
             Some(db)

@@ -1,12 +1,13 @@
 //! The opening of a database file, and the token of the first user of a new index.
-ghost use Rattle.std.specs.Prelude.{◌≡◌, ◌≢◌, ◌↔◌, Some, IfOk, IsErrOf, IsTrue};
+ghost use Rattle.std.specs.Prelude.{◌≡◌, ◌≢◌, ◌↔◌, Some, IfOk, IfSome, IsErrOf, IsTrue};
 ghost use Rattle.sqlite_store.specs.FileStore.{view};
 ghost use Rattle.sqlite.specs.Files.{IsBlankAs, file_state};
 ghost use Rattle.sqlite.specs.State.{HasCleanDisk};
 ghost use Rattle.sqlite.specs.WalFiles.{image_at};
 ghost use Rattle.index_digest.specs.Digest.{read_digest};
 ghost use Rattle.index_names.specs.Faults.{FailsByEither};
-ghost use Rattle.index.specs.Ends.{end_of_error, is_fault, is_store};
+ghost use Rattle.index.specs.Causes.{is_at_path};
+ghost use Rattle.index.specs.Ends.{end_of_error, is_fault};
 ghost use Rattle.index.specs.Openings.{EndsOpening, IsBadFirstUserByHex};
 
 use crate::cause::Cause;
@@ -43,7 +44,8 @@ pub fn open<S: Start>(
 fn unopened(rt: &HostRuntime, path: &str, error: Error) -> End
     ensures fault { IsTrue (is_fault result) }
     ensures told { error ≢ Error.SqliteFailure ErrorCode.CannotOpen → result ≡ end_of_error error }
-    ensures store { error ≡ Error.SqliteFailure ErrorCode.CannotOpen → IsTrue (is_store result) }
+    ensures found { error ≡ Error.SqliteFailure ErrorCode.CannotOpen → (cause : _)
+        × (result ≡ End.Store cause) × IfSome cause (λ it. IsTrue (is_at_path it)) }
 {
     match error {
         Error::SqliteFailure(ErrorCode::CannotOpen) => End::Store(cause_at(rt, path)),

@@ -1,5 +1,6 @@
 -- SHA-256 digests as lists of bytes, and the texts that they are written in.
-use Rattle.std.specs.Prelude.{◌≡◌, ℕ, ◌==◌, ◌&&◌, Bool, if◌then◌else◌, List, length, codes, Option, None}
+use Rattle.std.specs.Prelude.{◌≡◌, ℕ, ◌==◌, ◌&&◌, Bool, if◌then◌else◌, List, length, codes, Option}
+use Rattle.std.specs.Prelude.{None}
 use Rattle.std.specs.List.{list_all, list_any}
 use Rattle.std.specs.Result.{result_ok}
 use Rattle.hex.specs.Hex.{IsBytes, decode_of, encode_lower}
@@ -26,7 +27,7 @@ pub record IsDigest (digest : List ℕ) : Type 0 where
 abbrev pub text_digits : List ℕ
 text_digits = codes "0123456789abcdef"
 
--- a digit of `0-9`, or a letter of `a-f` or `A-F`
+-- a digit of `0-9`, or a letter of `a-f`
 unfoldable pub is_text_digit : ℕ → Bool
 is_text_digit c = list_any (λ digit. digit == c) text_digits
 

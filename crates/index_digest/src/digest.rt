@@ -10,6 +10,7 @@ use std::marker::Model;
 // The digits of a digest's text.
 const TEXT_DIGITS: &[u8; 16] = b"0123456789abcdef";
 
+/// Whether the byte is a hex digit in lower case.
 #[tactic(auto, unfolding(crate::specs::Digest::is_text_digit))]
 fn is_text_digit(c: u8) -> bool
     ensures { result ≡ is_text_digit c }
@@ -23,6 +24,7 @@ fn are_text_digits(text: &[u8]) -> bool
     text.iter().all(|&c| is_text_digit(c))
 }
 
+/// Whether the text is 64 hex digits in lower case.
 fn is_digest_text(text: &[u8]) -> bool
     ensures { result ≡ is_digest_text text.now }
 {

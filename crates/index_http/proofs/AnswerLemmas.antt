@@ -1,5 +1,5 @@
 -- The reply to a request is what was shown of it, or the answer to its call.
-use Rattle.std.proofs.Common.{◌≡◌, ℕ, true, false, refl, Option, Result}
+use Rattle.std.proofs.Common.{◌≡◌, ℕ, true, refl, Option, Result}
 use Rattle.index_rules.specs.Maps.{Bytes}
 use Rattle.index_rules.specs.Tables.{Tables}
 use Rattle.index_desk.specs.Rules.{by_tables}
@@ -8,7 +8,7 @@ use Rattle.index_message.specs.Resources.{is_head, is_reading}
 use Rattle.index_message.specs.declared.message.Message.{Message}
 use Rattle.index_message.specs.declared.message.Message.TheVariants.{Whole}
 use Rattle.index_http.specs.Ends.{Ends}
-use Rattle.index_http.specs.Exchanges.{RepliesTo, RepliesToRequest, Shows}
+use Rattle.index_http.specs.Exchanges.{RepliesTo, Shows}
 use Rattle.index_http.specs.Shows.{EndsShown}
 use Rattle.index_http.specs.declared.end.IoEnd.{IoEnd}
 use Rattle.index_http.proofs.EndLemmas.{ends_map}
@@ -17,11 +17,6 @@ use Rattle.index_http.proofs.EndLemmas.{ends_map}
 abbrev pub IsReplyTo : Type 0 → ℕ → Tables → (Tables → Type 0) → Message → Bytes → Type 0
 IsReplyTo Cause at T IsLater message text = (later : Tables) × RepliesTo by_tables Cause at T message text later × IsLater later
 
--- what was acted is a reply of this kind
-abbrev pub IsActed : Type 0 → ℕ → Tables → (Tables → Type 0) → Request → Bytes → Bytes → Type 0
-IsActed Cause at T IsLater request body text =
-    (later : Tables) × RepliesToRequest by_tables Cause at T request body false text later × IsLater later
-
 module _ (Cause : Type 0) (at : ℕ) (T : Tables) (IsLater : Tables → Type 0) (request : Request) (body : Bytes)
     (before after : Option Bytes) (result : Result (Unit {0}) IoEnd) where
   pub look_ends : is_reading request.method ≡ true → IsLater T
@@ -29,9 +24,3 @@ module _ (Cause : Type 0) (at : ℕ) (T : Tables) (IsLater : Tables → Type 0) 
       → Ends (IsReplyTo Cause at T IsLater (Whole request body)) (IsLater T) before after result
   look_ends reads same ends =
       ends_map _ _ _ _ before after result (λ text shown. (T, (shown.0, shown.1, rw reads (shown.2, refl)), same)) (λ _. same) ends
-
-  pub call_ends : is_reading request.method ≡ false
-      → Ends (IsActed Cause at T IsLater request body) (IsLater T) before after result
-      → Ends (IsReplyTo Cause at T IsLater (Whole request body)) (IsLater T) before after result
-  call_ends changes ends =
-      ends_map _ _ _ _ before after result (λ text acted. (acted.0, rw changes acted.1, acted.2)) (λ same. same) ends

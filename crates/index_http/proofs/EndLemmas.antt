@@ -2,14 +2,19 @@
 use Rattle.std.proofs.Common.{◌≡◌, ◌⊎◌, ℕ, Bool, true, false, inl, inr, refl, sym, subst, Option, Result, Ok, Err}
 use Rattle.index_rules.specs.Maps.{Bytes}
 use Rattle.index_rules.specs.Tables.{Tables}
-use Rattle.index_rules.specs.Told.{CountsStore, is_store}
+use Rattle.index_rules.specs.Told.{CountsStore, is_store, tells_store}
 use Rattle.index_rules.specs.declared.answer.Fault.{Fault}
 use Rattle.index_rules.specs.declared.answer.Fault.TheVariants.{Store, OutOfMemory as NoMemory}
+use Rattle.index_io.specs.Counts.{HasFailed}
+use Rattle.index_rules.specs.declared.books.Books.{Ghosts}
+use Rattle.index_desk.specs.Looks.{LooksAt}
 use Rattle.index_http.specs.Ends.{Ends}
 use Rattle.index_http.specs.Exchanges.{store_reply}
 use Rattle.index_http.specs.Replies.{Reply, reply_text}
 use Rattle.index_http.specs.Sends.{SendsText}
+use Rattle.index_http.specs.Shown.{SendsFound, reply_of_shown}
 use Rattle.index_http.specs.Shows.{EndsFault, EndsShown, IsShown}
+use Rattle.index_http.specs.declared.shown.Shown.{Shown}
 use Rattle.index_http.specs.declared.end.IoEnd.{IoEnd}
 use Rattle.index_http.specs.declared.end.IoEnd.TheVariants.{ReadFault, OutOfMemory, WriteFault, Cut}
 
@@ -41,6 +46,16 @@ fault_ends to_head IsReply Cause Store before after result caused sends =
 fault_ends to_head IsReply Cause NoMemory before after result caused (is, kept) =
     subst (λ r. EndsShown to_head IsReply Cause before after r) (sym is) (tt, kept)
 
+-- what a look at the desk found, and that was sent
+pub found_ends : {S : Type 0} (g : Ghosts S) (old new : S) (to_head : Bool) (IsReply : Tables → Reply → Type 0) (found : Result Shown Fault)
+    (before after : Option Bytes) (result : Result (Unit {0}) IoEnd)
+    → LooksAt g old new found (λ T shown. IsReply T (reply_of_shown shown)) → SendsFound to_head found before after result → g.IsHonest old → g.IsClean new
+    → EndsShown to_head (IsReply (g.tables old)) (HasFailed (g.failures old) (g.failures new)) before after result
+found_ends g old new to_head IsReply (Ok shown) before after result looks sends honest clean =
+    shown_ends _ _ _ _ (reply_of_shown shown) _ _ _ refl (looks.found (looks.look.lasts honest clean)) sends
+found_ends g old new to_head IsReply (Err fault) before after result looks sends honest clean =
+    fault_ends _ _ _ fault _ _ _ (λ store. inr (looks.look.store store)) sends
+
 -- a reply that was sent is no end for want of memory
 pub sent_memory : (text : Bytes) (before after : Option Bytes) (result : Result (Unit {0}) IoEnd) → SendsText text before after result → result ≡ Err OutOfMemory → ⊥
 sent_memory text before after result sends is = subst (λ r. SendsText text before after r) is sends
@@ -56,6 +71,12 @@ pub fault_stores : (to_head : Bool) (fault : Fault) (before after : Option Bytes
     → CountsStore old new (is_store fault) → result ≡ Err OutOfMemory → new ≡ old
 fault_stores to_head Store before after result old new sends counts is = absurd (sent_memory _ before after result sends is)
 fault_stores to_head NoMemory before after result old new none counts is = counts
+
+-- so of what a look found
+pub found_stores : (to_head : Bool) (found : Result Shown Fault) (before after : Option Bytes) (result : Result (Unit {0}) IoEnd) (old new : ℕ)
+    → SendsFound to_head found before after result → CountsStore old new (tells_store found) → result ≡ Err OutOfMemory → new ≡ old
+found_stores to_head (Ok shown) before after result old new sends counts is = absurd (sent_memory _ before after result sends is)
+found_stores to_head (Err fault) before after result old new sends counts is = fault_stores to_head fault before after result old new sends counts is
 
 -- ---- a reply of one kind is one of another
 

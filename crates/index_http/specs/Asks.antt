@@ -1,23 +1,23 @@
 -- What a message asks of a desk, and what a crash may leave once a call was taken.
-use Rattle.std.specs.Prelude.{◌≡◌, ◌⊎◌, ℕ, Bool, true, [], Option, Some, None, Result, Err, if◌then◌else◌}
+use Rattle.std.specs.Prelude.{◌≡◌, ◌⊎◌, ℕ, true, [], Option, Some, None, Result, Err, if◌then◌else◌}
 use Rattle.index_io.specs.Bytes.{IsInput}
-use Rattle.index_io.specs.declared.sink.Sink.{Ghosts as Outs}
 use Rattle.index_rules.specs.declared.answer.Answer.{Answer}
-use Rattle.index_rules.specs.declared.books.Books.{Ghosts}
 use Rattle.index_rules.specs.declared.call.Call.{Call}
 use Rattle.index_rules.specs.Maps.{Bytes}
-use Rattle.index_rules.specs.Tables.{Tables}
 use Rattle.index_desk.specs.Invariants.{KeepsInvariants}
 use Rattle.index_desk.specs.Looks.{LeavesTables}
+use Rattle.index_desk.specs.Rules.{by_tables}
 use Rattle.index_desk.specs.Takes.{Takes}
 use Rattle.index_message.specs.Messages.{IsMessage}
 use Rattle.index_message.specs.Resources.{is_head, is_put, is_reading}
 use Rattle.index_message.specs.declared.message.Message.{Message}
 use Rattle.index_message.specs.declared.message.Message.TheVariants.{Faulty, Whole}
 use Rattle.index_http.specs.Ends.{Ends, RepliesBy}
-use Rattle.index_http.specs.Exchanges.{call_of}
+use Rattle.index_http.specs.Exchanges.{RepliesTo, call_of}
 use Rattle.index_http.specs.Replies.{answer_reply, reply_text}
 use Rattle.index_http.specs.Sends.{SendsOnly, is_cut, is_silent}
+use Rattle.index_http.specs.Shows.{asks_page, is_look}
+use Rattle.index_http.specs.Steps.{DeskStep, SinkStep}
 use Rattle.index_http.specs.declared.end.IoEnd.{IoEnd}
 use Rattle.index_http.specs.declared.end.IoEnd.TheVariants.{OutOfMemory}
 
@@ -46,19 +46,23 @@ Asks at given Looked Took before after result =
     × AsksFor (call_in at message) (text_of_answer message) Looked Took before after result)
 
 -- so of a desk: what is taken of it is a call, and else no table changed, and a crash leaves nothing new
-abbrev pub AsksDesk : {S K : Type 0} → Ghosts S → Outs K → S → S → K → K → Result (Unit {0}) IoEnd → ℕ → Option Bytes → Type 0
-AsksDesk g out old new before after result at given =
-    Asks at given (LeavesTables g old new) (Takes g old new) (out.contents before) (out.contents after) result
+abbrev pub AsksDesk : {S K : Type 0} → ℕ → Option Bytes
+    → DeskStep S → SinkStep K → Result (Unit {0}) IoEnd → Type 0
+AsksDesk at given desk sink result = Asks at given
+    (LeavesTables desk.books desk.old desk.new) (Takes desk.books desk.old desk.new)
+    (sink.out.contents sink.old) (sink.out.contents sink.new) result
 
--- a message was answered at a desk that makes this call, or none: the reply is of this kind by the tables, and the text of
--- the answer, where a call was taken; where memory ran out nothing was asked of the desk, or it was a look, and no fault of
--- the store is told as that; and only a page is cut short, when no table changed
-pub record AnswersBy {S K : Type 0} (g : Ghosts S) (out : Outs K) (old new : S) (before after : K) (result : Result (Unit {0}) IoEnd)
-    (has_page is_look : Bool) (IsReply : Type 0 → Tables → Bytes → Tables → Type 0) (call : Option Call) (text_of : Answer → Bytes) : Type 0 where
-  pub tables : RepliesBy g out old new before after result IsReply
-  pub asks : AsksFor call text_of (LeavesTables g old new) (Takes g old new) (out.contents before) (out.contents after) result
-  pub memory : result ≡ Err OutOfMemory → (new ≡ old) ⊎ (is_look ≡ true)
-  pub stores : result ≡ Err OutOfMemory → g.stores new ≡ g.stores old
-  pub cut : is_cut result ≡ true → LeavesTables g old new
-  pub sends : SendsOnly out before after has_page result
-  pub keeps : KeepsInvariants g old new
+-- a message was answered: the reply is that to the message by the tables, and the text of the answer, where it makes a call
+-- and that was taken; where memory ran out nothing was asked of the desk, or it was a look, and no fault of the store is told
+-- as that; and only a page is cut short, when no table changed
+pub record AnswersBy {S K : Type 0} (at : ℕ) (message : Message) (desk : DeskStep S) (sink : SinkStep K)
+    (result : Result (Unit {0}) IoEnd) : Type 0 where
+  pub tables : RepliesBy (λ cause T. RepliesTo by_tables cause at T message) desk sink result
+  pub asks : AsksFor (call_in at message) (text_of_answer message)
+      (LeavesTables desk.books desk.old desk.new) (Takes desk.books desk.old desk.new)
+      (sink.out.contents sink.old) (sink.out.contents sink.new) result
+  pub memory : result ≡ Err OutOfMemory → (desk.new ≡ desk.old) ⊎ (is_look message ≡ true)
+  pub stores : result ≡ Err OutOfMemory → desk.books.stores desk.new ≡ desk.books.stores desk.old
+  pub cut : is_cut result ≡ true → LeavesTables desk.books desk.old desk.new
+  pub sends : SendsOnly sink.out sink.old sink.new (asks_page message) result
+  pub keeps : KeepsInvariants desk.books desk.old desk.new

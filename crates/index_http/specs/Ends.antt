@@ -2,8 +2,6 @@
 use Rattle.std.specs.Prelude.{◌≡◌, ℕ, Option, Result, Ok, Err}
 use Rattle.std.specs.Io.KnownBytes.{Keeps}
 use Rattle.index_io.specs.Counts.{HasFailed}
-use Rattle.index_io.specs.declared.sink.Sink.{Ghosts as Outs}
-use Rattle.index_rules.specs.declared.books.Books.{Ghosts}
 use Rattle.index_rules.specs.Facts.{HasOneBearer}
 use Rattle.index_rules.specs.Maps.{Bytes}
 use Rattle.index_rules.specs.Tables.{Tables}
@@ -14,6 +12,7 @@ use Rattle.index_desk.specs.Rules.{by_history}
 use Rattle.index_desk.specs.Takes.{ByHistory}
 use Rattle.index_http.specs.Exchanges.{RepliesToInput}
 use Rattle.index_http.specs.Sends.{SendsText}
+use Rattle.index_http.specs.Steps.{DeskStep, SinkStep}
 use Rattle.index_http.specs.declared.end.IoEnd.{IoEnd}
 use Rattle.index_http.specs.declared.end.IoEnd.TheVariants.{ReadFault, OutOfMemory, WriteFault, Cut}
 
@@ -38,13 +37,15 @@ Stands is_honest tables s T = is_honest s → tables s ≡ T
 
 -- of a store that was honest, and is clean after it: a reply of this kind went out, or a front of it, by the tables before
 -- and those after it, which stand where the store is honest still; or nothing did, and the tables stand as they were
-abbrev pub RepliesBy : {S K : Type 0} → Ghosts S → Outs K → S → S → K → K → Result (Unit {0}) IoEnd
-    → (Type 0 → Tables → Bytes → Tables → Type 0) → Type 0
-RepliesBy g out old new before after result IsReply =
-    g.IsHonest old → g.IsClean new → HasOneBearer (g.tables old) →
-    Ends (λ text. (later : Tables) × IsReply (HasFailed (g.failures old) (g.failures new)) (g.tables old) text later
-    × Stands g.IsHonest g.tables new later)
-    (Stands g.IsHonest g.tables new (g.tables old)) (out.contents before) (out.contents after) result
+abbrev pub RepliesBy : {S K : Type 0} → (Type 0 → Tables → Bytes → Tables → Type 0)
+    → DeskStep S → SinkStep K → Result (Unit {0}) IoEnd → Type 0
+RepliesBy IsReply desk sink result =
+    desk.books.IsHonest desk.old → desk.books.IsClean desk.new → HasOneBearer (desk.books.tables desk.old) →
+    Ends (λ text. (later : Tables)
+    × IsReply (HasFailed (desk.books.failures desk.old) (desk.books.failures desk.new)) (desk.books.tables desk.old) text later
+    × Stands desk.books.IsHonest desk.books.tables desk.new later)
+    (Stands desk.books.IsHonest desk.books.tables desk.new (desk.books.tables desk.old))
+    (sink.out.contents sink.old) (sink.out.contents sink.new) result
 
 -- the tables stand for a legal history after which the connection ends so, by the history before it
 pub record EndsAfter (Cause : Type 0) (at : ℕ) (h : History) (given before after : Option Bytes) (result : Result (Unit {0}) IoEnd) (T' : Tables) : Type 0 where
@@ -54,6 +55,9 @@ pub record EndsAfter (Cause : Type 0) (at : ℕ) (h : History) (given before aft
   pub stands : StandsFor T' later
 
 -- by each legal history for which the tables stood, where the store is honest at the end
-abbrev pub RepliesByHistory : {S K : Type 0} → Ghosts S → Outs K → S → S → K → K → Result (Unit {0}) IoEnd → ℕ → Option Bytes → Type 0
-RepliesByHistory g out old new before after result at given =
-    ByHistory g old new (λ h. EndsAfter (HasFailed (g.failures old) (g.failures new)) at h given (out.contents before) (out.contents after) result)
+abbrev pub RepliesByHistory : {S K : Type 0} → ℕ → Option Bytes
+    → DeskStep S → SinkStep K → Result (Unit {0}) IoEnd → Type 0
+RepliesByHistory at given desk sink result =
+    ByHistory desk.books desk.old desk.new (λ h. EndsAfter
+    (HasFailed (desk.books.failures desk.old) (desk.books.failures desk.new)) at h given
+    (sink.out.contents sink.old) (sink.out.contents sink.new) result)

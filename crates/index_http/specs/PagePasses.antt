@@ -3,7 +3,6 @@ use Rattle.std.specs.Prelude.{◌≡◌, ◌⊎◌, ℕ, ◌<◌, ◌≤◌, Boo
 use Rattle.std.specs.Global.{Vec}
 use Rattle.std.specs.Io.KnownBytes.{Keeps}
 use Rattle.index_io.specs.Counts.{FailsAtMostOnce, HasFailed}
-use Rattle.index_io.specs.declared.sink.Sink.{Ghosts as Outs}
 use Rattle.index_rules.specs.Maps.{Bytes}
 use Rattle.index_rules.specs.Tables.{Tables}
 use Rattle.index_rules.specs.declared.answer.Fault.{Fault}
@@ -16,6 +15,7 @@ use Rattle.index_pages.specs.Ends.{most_bytes}
 use Rattle.index_pages.specs.declared.end.PageEnd.{PageEnd}
 use Rattle.index_pages.specs.declared.end.PageEnd.TheVariants as page_end
 use Rattle.index_http.specs.Sends.{SendsOnly, SendsText, is_cut, is_silent}
+use Rattle.index_http.specs.Steps.{DeskStep, SinkStep}
 use Rattle.index_http.specs.declared.end.IoEnd.{IoEnd}
 use Rattle.index_http.specs.declared.end.IoEnd.TheVariants.{WriteFault, Cut}
 
@@ -88,15 +88,17 @@ pub record IsMeasured (page : Option Bytes) (count : ℕ) : Type 0 where
 
 -- the page of the tables is sent, where there is one, and else nothing; the end tells how much of it went out; no table
 -- changes
-pub record SendsPage {S K : Type 0} (g : Ghosts S) (out : Outs K) (old new : S) (before after : K)
-    (result : Result (Unit {0}) IoEnd) (page_of : Tables → Option Bytes) : Type 0 where
-  pub sent : g.IsHonest old → g.IsClean new → (page : Bytes) → page_of (g.tables old) ≡ Some page
-      → SendsText page (out.contents before) (out.contents after) result
-  pub none : g.IsHonest old → g.IsClean new → page_of (g.tables old) ≡ None
-      → Keeps (out.contents before) (out.contents after) × (result ≡ Err (Cut 0))
-  pub sends : SendsOnly out before after true result
+pub record SendsPage {S K : Type 0} (page_of : Tables → Option Bytes)
+    (desk : DeskStep S) (sink : SinkStep K) (result : Result (Unit {0}) IoEnd) : Type 0 where
+  pub sent : desk.books.IsHonest desk.old → desk.books.IsClean desk.new
+      → (page : Bytes) → page_of (desk.books.tables desk.old) ≡ Some page
+      → SendsText page (sink.out.contents sink.old) (sink.out.contents sink.new) result
+  pub none : desk.books.IsHonest desk.old → desk.books.IsClean desk.new
+      → page_of (desk.books.tables desk.old) ≡ None
+      → Keeps (sink.out.contents sink.old) (sink.out.contents sink.new) × (result ≡ Err (Cut 0))
+  pub sends : SendsOnly sink.out sink.old sink.new true result
   pub told : is_silent result ≡ false
-  pub keeps : KeepsTables g old new (is_cut result)
+  pub keeps : KeepsTables desk.books desk.old desk.new (is_cut result)
 
 -- a text that was gathered is that of the page of the tables, none of which changes
 pub record Gathers {S : Type 0} (g : Ghosts S) (old new : S) (result : Result (Option (Vec ℕ)) Fault) (page_of : Tables → Option Bytes) : Type 0 where

@@ -3,7 +3,6 @@ use Rattle.std.specs.Prelude.{◌≡◌, ◌⊎◌, ◌&&◌, Bool, true, false,
 use Rattle.std.specs.Io.KnownBytes.{Keeps}
 use Rattle.index_io.specs.Bytes.{IsInput}
 use Rattle.index_io.specs.Counts.{HasFailed}
-use Rattle.index_io.specs.declared.sink.Sink.{Ghosts as Outs}
 use Rattle.index_message.specs.Messages.{IsMessage}
 use Rattle.index_message.specs.Requests.{Request}
 use Rattle.index_message.specs.Resources.{is_head, is_reading}
@@ -15,12 +14,12 @@ use Rattle.index_rules.specs.Maps.{Bytes}
 use Rattle.index_rules.specs.Tables.{Tables}
 use Rattle.index_rules.specs.declared.answer.Fault.{Fault}
 use Rattle.index_rules.specs.declared.answer.Fault.TheVariants.{Store, OutOfMemory as NoMemory}
-use Rattle.index_rules.specs.declared.books.Books.{Ghosts}
 use Rattle.index_desk.specs.Looks.{LeavesTables}
 use Rattle.index_http.specs.Ends.{Ends}
 use Rattle.index_http.specs.Exchanges.{store_reply}
 use Rattle.index_http.specs.Replies.{Reply, reply_text}
 use Rattle.index_http.specs.Sends.{SendsOnly, SendsText}
+use Rattle.index_http.specs.Steps.{DeskStep, SinkStep}
 use Rattle.index_http.specs.declared.end.IoEnd.{IoEnd}
 use Rattle.index_http.specs.declared.end.IoEnd.TheVariants.{OutOfMemory}
 
@@ -33,22 +32,6 @@ IsShown to_head IsReply Cause text =
 abbrev pub EndsShown : Bool → (Reply → Type 0) → Type 0 → Option Bytes → Option Bytes → Result (Unit {0}) IoEnd → Type 0
 EndsShown to_head IsReply Cause before after result = Ends (IsShown to_head IsReply Cause) (Unit {0}) before after result
 
--- a look at the desk, and the reply that it sent: of a store that was honest, and is clean after it, the reply is of this
--- kind by the tables; no table changed; only a page can be cut short, which no reply to `HEAD`
--- has; and a fault of the store of the books is not told as want of memory
-pub record ShowsBy {S K : Type 0} (g : Ghosts S) (out : Outs K) (old new : S) (before after : K) (is_page to_head : Bool)
-    (result : Result (Unit {0}) IoEnd) (IsReply : Tables → Reply → Type 0) : Type 0 where
-  pub shown : g.IsHonest old → g.IsClean new
-      → EndsShown to_head (IsReply (g.tables old)) (HasFailed (g.failures old) (g.failures new)) (out.contents before) (out.contents after) result
-  pub leaves : LeavesTables g old new
-  pub sends : SendsOnly out before after (is_page && not to_head) result
-  pub stores : result ≡ Err OutOfMemory → g.stores new ≡ g.stores old
-
--- a look that failed: a fault of the store is replied, and where memory ran out nothing went out
-abbrev pub EndsFault : Bool → Fault → Option Bytes → Option Bytes → Result (Unit {0}) IoEnd → Type 0
-EndsFault to_head Store before after result = SendsText (reply_text to_head store_reply) before after result
-EndsFault to_head NoMemory before after result = (result ≡ Err OutOfMemory) × Keeps before after
-
 -- a page
 abbrev pub is_page : Resource → Bool
 is_page Root = true
@@ -59,9 +42,44 @@ is_page (File file) = false
 is_page (Name name) = false
 is_page Requests = false
 
+-- whether a look is at a page, and whether it replies to `HEAD`, which sends a head alone
+pub record Look : Type 0 where
+  pub is_page : Bool
+  pub to_head : Bool
+
+-- a look at a page
+abbrev pub a_page : Bool → Look
+a_page to_head = record { is_page = true; to_head = to_head }
+
+-- a look at what is no page
+abbrev pub no_page : Bool → Look
+no_page to_head = record { is_page = false; to_head = to_head }
+
+-- what a request asks to look at
+abbrev pub look_of : Request → Look
+look_of request = record { is_page = is_page request.resource; to_head = is_head request.method }
+
+-- a look at the desk, and the reply that went to the sink: of a store that was honest, and is clean after it, the reply is of
+-- this kind by the tables; no table changed; only a page can be cut short, which no reply to `HEAD` has; and a fault of the
+-- store of the books is not told as want of memory
+pub record ShowsBy {S K : Type 0} (look : Look) (IsReply : Tables → Reply → Type 0)
+    (desk : DeskStep S) (sink : SinkStep K) (result : Result (Unit {0}) IoEnd) : Type 0 where
+  pub shown : desk.books.IsHonest desk.old → desk.books.IsClean desk.new
+      → EndsShown look.to_head (IsReply (desk.books.tables desk.old))
+      (HasFailed (desk.books.failures desk.old) (desk.books.failures desk.new))
+      (sink.out.contents sink.old) (sink.out.contents sink.new) result
+  pub leaves : LeavesTables desk.books desk.old desk.new
+  pub sends : SendsOnly sink.out sink.old sink.new (look.is_page && not look.to_head) result
+  pub stores : result ≡ Err OutOfMemory → desk.books.stores desk.new ≡ desk.books.stores desk.old
+
+-- a look that failed: a fault of the store is replied, and where memory ran out nothing went out
+abbrev pub EndsFault : Bool → Fault → Option Bytes → Option Bytes → Result (Unit {0}) IoEnd → Type 0
+EndsFault to_head Store before after result = SendsText (reply_text to_head store_reply) before after result
+EndsFault to_head NoMemory before after result = (result ≡ Err OutOfMemory) × Keeps before after
+
 -- a look whose reply has a page in it: to `HEAD` none has
 abbrev pub shows_page : Request → Bool
-shows_page request = is_page request.resource && not (is_head request.method)
+shows_page request = is_reading request.method && (is_page request.resource && not (is_head request.method))
 
 -- a message whose reply has a page in it, where it is no request that changes something
 abbrev pub asks_page : Message → Bool

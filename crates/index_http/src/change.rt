@@ -1,10 +1,11 @@
 //! Requests that change something.
 ghost use Rattle.std.specs.Prelude.{◌≡◌, Some, IfOk, false};
-ghost use Rattle.index_desk.specs.Rules.{by_tables};
 ghost use Rattle.index_json.specs.Requests.{request_of};
+ghost use Rattle.index_message.specs.Resources.{is_reading};
 ghost use Rattle.index_message.specs.declared.message.Message.TheVariants.{Whole};
-ghost use Rattle.index_http.specs.Asks.{AnswersBy, text_of_answer};
-ghost use Rattle.index_http.specs.Exchanges.{RepliesToRequest, asked_by as asked_by_lem, asked_of_file as asked_of_file_lem, call_of as call_of_lem};
+ghost use Rattle.index_http.specs.Asks.{AnswersBy};
+ghost use Rattle.index_http.specs.Steps.{at_desk, to_sink};
+ghost use Rattle.index_http.specs.Exchanges.{asked_by as asked_by_lem, asked_of_file as asked_of_file_lem, call_of as call_of_lem};
 
 use crate::end::IoEnd;
 use crate::reply::{answer_reply, message_reply};
@@ -26,9 +27,9 @@ pub fn act<K: Sink, B: Books>(
     request: &Request,
     body: Bytes,
 ) -> Result<(), IoEnd>
-    ensures { AnswersBy B.Books K.Sink desk.old desk.new sink.old sink.new result false false
-        (λ cause T. RepliesToRequest by_tables cause at T request.now body false)
-        (call_of_lem at request.now body) (text_of_answer (Whole request.now body)) }
+    requires { is_reading request.now.method ≡ false }
+    ensures { AnswersBy at (Whole request.now body)
+        (at_desk B.Books desk.old desk.new) (to_sink K.Sink sink.old sink.new) result }
 {
     let method = request.method();
     let Some(call) = call_of(alloc, at, request, body)? else {

@@ -7,11 +7,12 @@ ghost use Rattle.index_message.specs.Heads.{longest_head};
 ghost use Rattle.index_message.specs.Lengths.{longest_upload};
 ghost use Rattle.index_message.specs.Messages.{EndsUnfinished};
 ghost use Rattle.index_message.specs.Reads.{TakesAtMost};
-ghost use Rattle.index_http.specs.Asks.{AnswersBy, AsksDesk, call_in, text_of_answer};
+ghost use Rattle.index_http.specs.Asks.{AnswersBy, AsksDesk};
 ghost use Rattle.index_http.specs.Ends.{RepliesBy, RepliesByHistory};
-ghost use Rattle.index_http.specs.Exchanges.{RepliesTo, RepliesToInput};
+ghost use Rattle.index_http.specs.Exchanges.{RepliesToInput};
 ghost use Rattle.index_http.specs.Sends.{FailsOnly, is_cut};
 ghost use Rattle.index_http.specs.Shows.{GivesMessage, asks_page, is_look};
+ghost use Rattle.index_http.specs.Steps.{at_desk, to_sink};
 
 use crate::change::act;
 use crate::end::IoEnd;
@@ -41,17 +42,18 @@ pub fn answer_one<S: Source, K: Sink, B: Keeper>(
     at: u64,
 ) -> Result<(), IoEnd>
     // By the tables: the reply to the message that the input begins with, or that of a fault, and the tables after it.
-    ensures tables { RepliesBy B.Books K.Sink desk.old desk.new sink.old sink.new result
-        (λ cause T. RepliesToInput by_tables cause at T (S.remaining source.old)) }
+    ensures tables { RepliesBy
+        (λ cause T. RepliesToInput by_tables cause at T (S.remaining source.old))
+        (at_desk B.Books desk.old desk.new) (to_sink K.Sink sink.old sink.new) result }
 
     // By a legal history for which the tables stood: the same, and they stand for the history with what was accepted.
-    ensures history { RepliesByHistory B.Books K.Sink desk.old desk.new sink.old sink.new result
-        at (S.remaining source.old) }
+    ensures history { RepliesByHistory at (S.remaining source.old)
+        (at_desk B.Books desk.old desk.new) (to_sink K.Sink sink.old sink.new) result }
 
     // The desk takes one call at most, that of the message, and the reply is that to its answer. Else no table changes, and
     // a crash leaves nothing new.
-    ensures asks { AsksDesk B.Books K.Sink desk.old desk.new sink.old sink.new result
-        at (S.remaining source.old) }
+    ensures asks { AsksDesk at (S.remaining source.old)
+        (at_desk B.Books desk.old desk.new) (to_sink K.Sink sink.old sink.new) result }
 
     // Where memory ran out nothing was asked of the desk, or it was a look: an answer to a call is always replied.
     ensures memory { result ≡ Err IoEnd.OutOfMemory → (desk.new ≡ desk.old)
@@ -90,9 +92,8 @@ fn answer<K: Sink, B: Keeper>(
     at: u64,
     message: Message,
 ) -> Result<(), IoEnd>
-    ensures { AnswersBy B.Books K.Sink desk.old desk.new sink.old sink.new result
-        (asks_page message) (is_look message) (λ cause T. RepliesTo by_tables cause at T message)
-        (call_in at message) (text_of_answer message) }
+    ensures { AnswersBy at message
+        (at_desk B.Books desk.old desk.new) (to_sink K.Sink sink.old sink.new) result }
 {
     match message {
         Message::Faulty { fault, is_head } => send_reply(sink, is_head, message_reply(fault)),

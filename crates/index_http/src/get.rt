@@ -1,26 +1,28 @@
 //! Looks at pages, files and standings. None changes a table.
-ghost use Rattle.std.specs.Prelude.{◌≡◌, Err, IfErr, IfOk, IfSome, IsSome, Some, true, false, bytes_eq, is_some};
+ghost use Rattle.std.specs.Prelude.{◌≡◌, Err, IfErr, IfOk, IfSome, IsSome, true, false, bytes_eq, is_some};
 ghost use Rattle.index_names.specs.FileName.{read_file_name};
 ghost use Rattle.index_names.specs.Project.{read_name};
+ghost use Rattle.index_desk.specs.Looks.{LooksAt};
 ghost use Rattle.index_desk.specs.Rules.{by_tables};
-ghost use Rattle.index_message.specs.Resources.{is_head};
 ghost use Rattle.index_http.specs.Exchanges.{IsAccepted, Shows, ShowsAt, ShowsFile, ShowsName, ShowsSpelling};
-ghost use Rattle.index_http.specs.Shows.{ShowsBy, is_page};
+ghost use Rattle.index_http.specs.Shown.{reply_of_shown};
+ghost use Rattle.index_http.specs.Shows.{ShowsBy, a_page, look_of, no_page};
+ghost use Rattle.index_http.specs.Steps.{at_desk, to_sink};
 
 use crate::end::IoEnd;
 use crate::page_replies::{show_project, show_root};
 use crate::reply::{
-    file_reply, json_reply, message_reply, redirect, redirect_to_project, redirect_to_root,
-    refusal_reply,
+    file_reply, message_reply, redirect, redirect_to_project, redirect_to_root, refusal_reply,
 };
-use crate::send::{send_fault, send_reply};
+use crate::send::{send_fault, send_found, send_reply};
+use crate::shown::Shown;
 use index_desk::{Desk, Keeper};
 use index_io::Sink;
 use index_json::standing_text;
 use index_message::{Allowed, MessageFault, Request, Resource};
 use index_names::{FileName, NameFault, NormalName, normal};
 use index_pages::Served;
-use index_rules::{Books, Bytes, Refusal};
+use index_rules::{Books, Bytes, Fault, Refusal};
 use std::alloc::{AllocError, Global};
 
 /// Shows what a request asks for.
@@ -30,9 +32,9 @@ pub fn show<K: Sink, B: Keeper>(
     desk: &mut Desk<B>,
     request: &Request,
 ) -> Result<(), IoEnd>
-    ensures { ShowsBy B.Books K.Sink desk.old desk.new sink.old sink.new
-        (is_page request.now.resource) (is_head request.now.method) result
-        (λ T. Shows by_tables T request.now.fields request.now.resource) }
+    ensures { ShowsBy (look_of request.now)
+        (λ T. Shows by_tables T request.now.fields request.now.resource)
+        (at_desk B.Books desk.old desk.new) (to_sink K.Sink sink.old sink.new) result }
 {
     let to_head = request.method().is_head();
     match request.resource() {
@@ -47,7 +49,7 @@ pub fn show<K: Sink, B: Keeper>(
         }
         Resource::ProjectPage(given) => show_at(alloc, sink, desk, to_head, request, given),
         Resource::File(given) => show_file(alloc, sink, desk, to_head, given),
-        Resource::Name(given) => show_name(alloc, sink, desk, to_head, given),
+        Resource::Name(given) => send_found(sink, to_head, standing_of(alloc, desk, given)),
         Resource::Requests => send_reply(
             sink,
             to_head,
@@ -98,8 +100,9 @@ fn show_at<K: Sink, B: Keeper>(
     request: &Request,
     given: &Bytes,
 ) -> Result<(), IoEnd>
-    ensures shown { ShowsBy B.Books K.Sink desk.old desk.new sink.old sink.new true to_head result
-        (λ T. ShowsAt by_tables T request.now.fields given.now (read_name given.now)) }
+    ensures shown { ShowsBy (a_page to_head)
+        (λ T. ShowsAt by_tables T request.now.fields given.now (read_name given.now))
+        (at_desk B.Books desk.old desk.new) (to_sink K.Sink sink.old sink.new) result }
     // What is no name is replied as such, and is never a want of memory.
     ensures readable { result ≡ Err IoEnd.OutOfMemory → IsSome (read_name given.now) }
 {
@@ -119,8 +122,9 @@ fn show_spelling<K: Sink, B: Keeper>(
     given: &Bytes,
     name: &NormalName,
 ) -> Result<(), IoEnd>
-    ensures { ShowsBy B.Books K.Sink desk.old desk.new sink.old sink.new true to_head result
-        (λ T. ShowsSpelling by_tables T request.now.fields name.now (bytes_eq name.now given.now)) }
+    ensures { ShowsBy (a_page to_head)
+        (λ T. ShowsSpelling by_tables T request.now.fields name.now (bytes_eq name.now given.now))
+        (at_desk B.Books desk.old desk.new) (to_sink K.Sink sink.old sink.new) result }
 {
     if name.text().as_bytes() == given.as_slice() {
         let chosen = accepted_type(alloc, request)?;
@@ -138,8 +142,9 @@ fn show_file<K: Sink, B: Keeper>(
     to_head: bool,
     given: &Bytes,
 ) -> Result<(), IoEnd>
-    ensures { ShowsBy B.Books K.Sink desk.old desk.new sink.old sink.new false to_head result
-        (λ T. ShowsFile by_tables T given.now (is_some (read_file_name given.now))) }
+    ensures { ShowsBy (no_page to_head)
+        (λ T. ShowsFile by_tables T given.now (is_some (read_file_name given.now)))
+        (at_desk B.Books desk.old desk.new) (to_sink K.Sink sink.old sink.new) result }
 {
     let Some(file) = file_of(alloc, given)? else {
         return send_reply(sink, to_head, refusal_reply(Refusal::NoFile));
@@ -158,43 +163,14 @@ fn show_file<K: Sink, B: Keeper>(
     }
 }
 
-/// Shows what stands of a name.
-fn show_name<K: Sink, B: Books>(
-    alloc: Global,
-    sink: &mut K,
-    desk: &mut Desk<B>,
-    to_head: bool,
-    given: &Bytes,
-) -> Result<(), IoEnd>
-    ensures { ShowsBy B.Books K.Sink desk.old desk.new sink.old sink.new false to_head result
-        (λ T. ShowsName by_tables T (read_name given.now)) }
+/// What stands of a name, or that it is none.
+fn standing_of<B: Books>(alloc: Global, desk: &mut Desk<B>, given: &Bytes) -> Result<Shown, Fault>
+    ensures { LooksAt B.Books desk.old desk.new result
+        (λ T shown. ShowsName by_tables T (read_name given.now) (reply_of_shown shown)) }
 {
     let Some(name) = name_of(alloc, given)? else {
-        return send_reply(sink, to_head, refusal_reply(Refusal::BadName));
+        return Ok(Shown::Refused(Refusal::BadName));
     };
-    show_standing(alloc, sink, desk, to_head, &name)
-}
-
-/// Shows what stands of a name that was read.
-fn show_standing<K: Sink, B: Books>(
-    alloc: Global,
-    sink: &mut K,
-    desk: &mut Desk<B>,
-    to_head: bool,
-    name: &NormalName,
-) -> Result<(), IoEnd>
-    ensures { ShowsBy B.Books K.Sink desk.old desk.new sink.old sink.new false to_head result
-        (λ T. ShowsName by_tables T (Some name.now)) }
-{
-    match desk.standing(alloc, name) {
-        Ok(standing) => {
-            let text = standing_text(alloc, &standing);
-            drop(standing);
-            match text {
-                Ok(text) => send_reply(sink, to_head, json_reply(text.as_bytes())),
-                Err(_) => Err(IoEnd::OutOfMemory),
-            }
-        }
-        Err(fault) => send_fault(sink, to_head, fault),
-    }
+    let standing = desk.standing(alloc, &name)?;
+    Ok(Shown::Standing(standing_text(alloc, &standing)?))
 }

@@ -11,6 +11,7 @@ mod page_passes;
 mod page_replies;
 mod reply;
 mod send;
+mod shown;
 mod status;
 mod texts;
 

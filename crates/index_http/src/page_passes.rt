@@ -5,6 +5,7 @@ ghost use Rattle.index_desk.specs.Pages.{text_in};
 ghost use Rattle.index_pages.specs.Pages.{root_page_of};
 ghost use Rattle.index_http.specs.PagePasses.{MeasuresPass, MeasuresPage, MeasuresText, SendsPage, sent_by, without_stop as without_stop_lem};
 ghost use Rattle.index_http.specs.Sends.{is_silent};
+ghost use Rattle.index_http.specs.Steps.{at_desk, to_sink};
 
 use crate::end::IoEnd;
 use index_desk::Desk;
@@ -37,8 +38,8 @@ pub fn root_text<K: Sink, B: Books>(
     sink: &mut K,
     served: Served,
 ) -> Result<(), IoEnd>
-    ensures { SendsPage B.Books K.Sink desk.old desk.new sink.old sink.new result
-        (λ T. text_in T served None) }
+    ensures { SendsPage (λ T. text_in T served None)
+        (at_desk B.Books desk.old desk.new) (to_sink K.Sink sink.old sink.new) result }
 {
     let mut page = PageText::root(alloc, served, sink);
     let walked = desk.walk_root(alloc, &mut page);
@@ -76,8 +77,8 @@ pub fn project_text<K: Sink, B: Books>(
     name: &NormalName,
     served: Served,
 ) -> Result<(), IoEnd>
-    ensures { SendsPage B.Books K.Sink desk.old desk.new sink.old sink.new result
-        (λ T. text_in T served (Some name.now)) }
+    ensures { SendsPage (λ T. text_in T served (Some name.now))
+        (at_desk B.Books desk.old desk.new) (to_sink K.Sink sink.old sink.new) result }
 {
     let mut page = PageText::project(alloc, name, served, sink);
     let walked = desk.walk_project(alloc, name, &mut page);

@@ -1,6 +1,6 @@
 //! Pages, whose head tells their length before their text is sent.
 ghost use Rattle.std.specs.Prelude.{◌≡◌, None, true, false, not};
-ghost use Rattle.index_desk.specs.Looks.{LeavesTables};
+ghost use Rattle.index_desk.specs.Looks.{LeavesTables, LooksAt};
 ghost use Rattle.index_desk.specs.Pages.{page_in};
 ghost use Rattle.index_desk.specs.Rules.{by_tables};
 ghost use Rattle.index_http.specs.Exchanges.{ShowsProject, ShowsRoot};
@@ -8,13 +8,16 @@ ghost use Rattle.index_http.specs.PagePasses.{Gathers, IsMeasured, MeasuresText,
 ghost use Rattle.index_http.specs.PageShows.{ShowsWhole, after_head};
 ghost use Rattle.index_http.specs.Replies.{page_reply, reply_text};
 ghost use Rattle.index_http.specs.Sends.{SendsBytes, SendsOnly, is_cut, is_silent, is_write_fault};
-ghost use Rattle.index_http.specs.Shows.{ShowsBy};
+ghost use Rattle.index_http.specs.Shown.{reply_of_shown};
+ghost use Rattle.index_http.specs.Shows.{ShowsBy, a_page};
+ghost use Rattle.index_http.specs.Steps.{at_desk, to_sink};
 
 use crate::end::IoEnd;
 use crate::gather::{gathered_project, gathered_root};
 use crate::page_passes::{project_length, project_text, root_length, root_text};
 use crate::reply::{Fields, message_reply, page_reply, refusal_reply};
-use crate::send::{send_fault, send_head, send_reply};
+use crate::send::{send_fault, send_found, send_head, send_reply};
+use crate::shown::Shown;
 use http::StatusCode;
 use index_desk::{Desk, Keeper, Page};
 use index_io::Sink;
@@ -32,8 +35,8 @@ pub fn show_root<K: Sink, B: Keeper>(
     to_head: bool,
     chosen: Option<Served>,
 ) -> Result<(), IoEnd>
-    ensures { ShowsBy B.Books K.Sink desk.old desk.new sink.old sink.new true to_head result
-        (λ T. ShowsRoot by_tables T chosen) }
+    ensures { ShowsBy (a_page to_head) (λ T. ShowsRoot by_tables T chosen)
+        (at_desk B.Books desk.old desk.new) (to_sink K.Sink sink.old sink.new) result }
 {
     match chosen {
         Some(served) => show_page(alloc, sink, desk, to_head, Page::Root, served),
@@ -50,30 +53,28 @@ pub fn show_project<K: Sink, B: Keeper>(
     chosen: Option<Served>,
     name: &NormalName,
 ) -> Result<(), IoEnd>
-    ensures { ShowsBy B.Books K.Sink desk.old desk.new sink.old sink.new true to_head result
-        (λ T. ShowsProject by_tables T name.now chosen) }
+    ensures { ShowsBy (a_page to_head) (λ T. ShowsProject by_tables T name.now chosen)
+        (at_desk B.Books desk.old desk.new) (to_sink K.Sink sink.old sink.new) result }
 {
     match chosen {
         Some(served) => show_page(alloc, sink, desk, to_head, Page::Project(name), served),
-        None => show_no_page(alloc, sink, desk, to_head, name),
+        None => send_found(sink, to_head, no_page_of(alloc, desk, name)),
     }
 }
 
-/// Shows that there is no page of a project, or none of a type that can be chosen.
-fn show_no_page<K: Sink, B: Books>(
+/// That there is no page of a project, or none of a type that can be chosen.
+fn no_page_of<B: Books>(
     alloc: Global,
-    sink: &mut K,
     desk: &mut Desk<B>,
-    to_head: bool,
     name: &NormalName,
-) -> Result<(), IoEnd>
-    ensures { ShowsBy B.Books K.Sink desk.old desk.new sink.old sink.new false to_head result
-        (λ T. ShowsProject by_tables T name.now None) }
+) -> Result<Shown, Fault>
+    ensures { LooksAt B.Books desk.old desk.new result
+        (λ T shown. ShowsProject by_tables T name.now None (reply_of_shown shown)) }
 {
-    match desk.is_held(alloc, name) {
-        Ok(true) => send_reply(sink, to_head, message_reply(MessageFault::NotAcceptable)),
-        Ok(false) => send_reply(sink, to_head, refusal_reply(Refusal::NoProject)),
-        Err(fault) => send_fault(sink, to_head, fault),
+    if desk.is_held(alloc, name)? {
+        Ok(Shown::Faulty(MessageFault::NotAcceptable))
+    } else {
+        Ok(Shown::Refused(Refusal::NoProject))
     }
 }
 
@@ -86,8 +87,8 @@ fn show_page<K: Sink, B: Keeper>(
     page: Page<'_>,
     served: Served,
 ) -> Result<(), IoEnd>
-    ensures { ShowsBy B.Books K.Sink desk.old desk.new sink.old sink.new true to_head result
-        (λ T. ShowsWhole served (page_in T served page.entry)) }
+    ensures { ShowsBy (a_page to_head) (λ T. ShowsWhole served (page_in T served page.entry))
+        (at_desk B.Books desk.old desk.new) (to_sink K.Sink sink.old sink.new) result }
 {
     if let Some(text) = desk.kept_page(page, served) {
         return send_reply(sink, to_head, page_reply(served, text));
@@ -128,8 +129,8 @@ fn show_in_passes<K: Sink, B: Books>(
     page: Page<'_>,
     served: Served,
 ) -> Result<(), IoEnd>
-    ensures { ShowsBy B.Books K.Sink desk.old desk.new sink.old sink.new true to_head result
-        (λ T. ShowsWhole served (page_in T served page.entry)) }
+    ensures { ShowsBy (a_page to_head) (λ T. ShowsWhole served (page_in T served page.entry))
+        (at_desk B.Books desk.old desk.new) (to_sink K.Sink sink.old sink.new) result }
 {
     match length_of(alloc, desk, page, served) {
         Ok(Some(size)) => send_page(alloc, sink, desk, to_head, page, served, size),
@@ -189,8 +190,8 @@ fn send_text<K: Sink, B: Books>(
     page: Page<'_>,
     served: Served,
 ) -> Result<(), IoEnd>
-    ensures { SendsPage B.Books K.Sink desk.old desk.new sink.old sink.new result
-        (λ T. page_in T served page.entry) }
+    ensures { SendsPage (λ T. page_in T served page.entry)
+        (at_desk B.Books desk.old desk.new) (to_sink K.Sink sink.old sink.new) result }
 {
     match page {
         Page::Root => root_text(alloc, desk, sink, served),

@@ -4,10 +4,12 @@ ghost use Rattle.http.specs.StatusCode.{code_digits};
 ghost use Rattle.index_io.specs.Bytes.{joined};
 ghost use Rattle.index_http.specs.Replies.{fields_text, head_text, phrase_of, reply_head, reply_of, reply_text};
 ghost use Rattle.index_http.specs.Sends.{SendsBytes, SendsHead, SendsOnly};
+ghost use Rattle.index_http.specs.Shown.{SendsFound};
 ghost use Rattle.index_http.specs.Shows.{EndsFault};
 
 use crate::end::IoEnd;
 use crate::reply::{Fields, Reply, store_reply};
+use crate::shown::Shown;
 use crate::texts::{field_pieces, phrase};
 use http::StatusCode;
 use index_io::{Sink, write_pieces};
@@ -50,6 +52,21 @@ pub fn send_fault<K: Sink>(sink: &mut K, is_head: bool, fault: Fault) -> Result<
     match fault {
         Fault::OutOfMemory => Err(IoEnd::OutOfMemory),
         Fault::Store => send_reply(sink, is_head, store_reply()),
+    }
+}
+
+/// Sends what a look found, or ends a look that failed.
+pub fn send_found<K: Sink>(
+    sink: &mut K,
+    is_head: bool,
+    found: Result<Shown, Fault>,
+) -> Result<(), IoEnd>
+    ensures found { SendsFound is_head found (K.contents sink.old) (K.contents sink.new) result }
+    ensures sends { SendsOnly K.Sink sink.old sink.new false result }
+{
+    match found {
+        Ok(shown) => send_reply(sink, is_head, shown.reply()),
+        Err(fault) => send_fault(sink, is_head, fault),
     }
 }
 

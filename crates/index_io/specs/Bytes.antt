@@ -1,5 +1,6 @@
 -- What a read takes and a write adds, where the bytes are known.
-use Rattle.std.specs.Prelude.{◌≡◌, ℕ, ◌<◌, ◌≤◌, List, [], ◌∷◌, length, take, Option, Some, None, Result, IfOk, IfErr, OnOk, ⊤}
+use Rattle.std.specs.Prelude.{◌≡◌, ℕ, ◌<◌, ◌≤◌, List, [], ◌∷◌, length, take, Option, Some, None}
+use Rattle.std.specs.Prelude.{Result, IfOk, IfErr, OnOk, ⊤}
 use Rattle.std.specs.Borrow.{Bor}
 use Rattle.std.specs.Io.KnownBytes.{Appends, Consumes, IsAtEnd}
 use Rattle.std.specs.List.{flat_map}
@@ -21,17 +22,22 @@ pub record AppendsFront (bytes : List ℕ) (old new : Option (List ℕ)) (count 
   pub sent : Appends old new (take count bytes)
 
 -- a write that succeeds answers how long a front of the bytes went out
-abbrev pub WritesFront : {S E : Type 0} → (S → Option (List ℕ)) → S → S → List ℕ → Result ℕ E → Type 0
-WritesFront contents old new bytes result = IfOk result (AppendsFront bytes (contents old) (contents new))
+abbrev pub WritesFront : {S E : Type 0} → (S → Option (List ℕ)) → S → S → List ℕ
+    → Result ℕ E → Type 0
+WritesFront contents old new bytes result =
+    IfOk result (AppendsFront bytes (contents old) (contents new))
 
 -- all of the bytes went out, where writing them succeeds
-abbrev pub WritesAll : {S A E : Type 0} → (S → Option (List ℕ)) → S → S → List ℕ → Result A E → Type 0
+abbrev pub WritesAll : {S A E : Type 0} → (S → Option (List ℕ)) → S → S → List ℕ
+    → Result A E → Type 0
 WritesAll contents old new bytes result = OnOk result (Appends (contents old) (contents new) bytes)
 
 -- an error tells how many of the bytes went out, and not all did
-abbrev pub WritesUpTo : {S A : Type 0} → (S → Option (List ℕ)) → S → S → List ℕ → Result A ℕ → Type 0
+abbrev pub WritesUpTo : {S A : Type 0} → (S → Option (List ℕ)) → S → S → List ℕ
+    → Result A ℕ → Type 0
 WritesUpTo contents old new bytes result =
-    IfErr result (λ count. (count < length bytes) × Appends (contents old) (contents new) (take count bytes))
+    IfErr result
+    (λ count. (count < length bytes) × Appends (contents old) (contents new) (take count bytes))
 
 -- the bytes of pieces, one piece after another
 abbrev pub joined : List (Bor (List ℕ)) → List ℕ

@@ -62,6 +62,7 @@ fn write_again<W: Write>(writer: &mut W, bytes: &[u8]) -> Result<usize, Failed>
     ensures front { WritesFront W.contents writer.old writer.new bytes.now result }
     ensures kept { OnErr result (Keeps (W.contents writer.old) (W.contents writer.new)) }
 {
+    // The bound is there because a proof needs an end: no run lives long enough to be interrupted as often.
     for _ in 0..u64::MAX {
         match writer.write(bytes) {
             Ok(0) => return Err(Failed),

@@ -66,6 +66,7 @@ fn read_again<R: Read>(reader: &mut R, room: &mut [u8]) -> Result<usize, Failed>
     ensures bound { ReadsAtMost result room.new }
     ensures bytes { ReadConsumes (R.remaining reader.old) (R.remaining reader.new) result room.new }
 {
+    // The bound is there because a proof needs an end: no run lives long enough to be interrupted as often.
     for _ in 0..u64::MAX {
         match reader.read(room) {
             Ok(count) => return Ok(count),

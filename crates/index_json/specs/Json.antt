@@ -1,5 +1,6 @@
 -- The JSON value that bytes are, and what its members say.
-use Rattle.std.specs.Prelude.{ℕ, Bool, List, if◌then◌else◌, Option, None, option_map, option_and_then, unwrap_or}
+use Rattle.std.specs.Prelude.{ℕ, Bool, List, if◌then◌else◌, Option, None, option_map}
+use Rattle.std.specs.Prelude.{option_and_then, unwrap_or}
 use Rattle.std.specs.Str.{is_utf8}
 use Rattle.std.specs.Result.{result_ok}
 use Rattle.hex.specs.Hex.{decode_of}

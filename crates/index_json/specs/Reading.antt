@@ -1,5 +1,6 @@
 -- Reading the keys of a JSON object.
-use Rattle.std.specs.Prelude.{◌≡◌, ℕ, ◌==◌, Bool, List, if◌then◌else◌, Option, Some, None, option_and_then, option_map, Result, Err, IfOk}
+use Rattle.std.specs.Prelude.{◌≡◌, ℕ, ◌==◌, Bool, List, if◌then◌else◌, Option, Some, None}
+use Rattle.std.specs.Prelude.{option_and_then, option_map, Result, Err, IfOk}
 use Rattle.std.specs.Borrow.{Bor}
 use Rattle.serde_json.specs.Data.{Data}
 use Rattle.index_json.specs.declared.object_reader.ObjectReader.{ObjectReader}
@@ -67,11 +68,13 @@ abbrev pub Reads : {A : Type 0} → Result A Unread → Option A → Type 0
 Reads result read = ReadsAs (λ found. found) result read
 
 -- the same of an object, which is what its reader has after it
-abbrev pub ReadsTo : {A : Type 0} → ObjectReader → ObjectReader → Result A Unread → Reading A → Type 0
+abbrev pub ReadsTo : {A : Type 0} → ObjectReader → ObjectReader → Result A Unread
+    → Reading A → Type 0
 ReadsTo before after result reading =
     ReadsAs (λ found. (found, object_of after)) result (reading (object_of before))
 
 -- the same of a text that is found where it stands
-abbrev pub ReadsTextTo : ObjectReader → ObjectReader → Result (Bor (List ℕ)) Unread → Reading (List ℕ) → Type 0
+abbrev pub ReadsTextTo : ObjectReader → ObjectReader → Result (Bor (List ℕ)) Unread
+    → Reading (List ℕ) → Type 0
 ReadsTextTo before after result reading =
     ReadsAs (λ found. (found.now, object_of after)) result (reading (object_of before))

@@ -1,13 +1,20 @@
 -- The rows of requests: a key `do` with the row's name, and the row's own keys.
-use Rattle.std.specs.Prelude.{ℕ, List, if◌then◌else◌, Option, Some, None, bytes_eq, codes, option_and_then}
+use Rattle.std.specs.Prelude.{ℕ, List, if◌then◌else◌, Option, Some, None, bytes_eq, codes}
+use Rattle.std.specs.Prelude.{option_and_then}
 use Rattle.index_retention.specs.declared.attempts.CaseKind.{CaseKind}
 use Rattle.index_retention.specs.declared.attempts.CaseKind.TheVariants.{Continue, Reuse}
 use Rattle.index_retention.specs.declared.attempts.Means.{Means}
 use Rattle.index_retention.specs.declared.attempts.Means.TheVariants.{Profile, Author, Pages}
 use Rattle.index_rules.specs.declared.call.Request.{Request}
-use Rattle.index_rules.specs.declared.call.Request.TheVariants.{AddUser, SetToken, SetQuota, Claim, AddOwner, RemoveOwner, Upload, Delete, BanFile, Yank, Unyank, Relinquish, Prohibit, Allow, OpenCase, RecordAttempt, Transfer, CloseCase, AnswerCase}
+use Rattle.index_rules.specs.declared.call.Request.TheVariants.{AddUser, SetToken, SetQuota, Claim}
+use Rattle.index_rules.specs.declared.call.Request.TheVariants.{AddOwner, RemoveOwner, Upload}
+use Rattle.index_rules.specs.declared.call.Request.TheVariants.{Delete, BanFile, Yank, Unyank}
+use Rattle.index_rules.specs.declared.call.Request.TheVariants.{Relinquish, Prohibit, Allow}
+use Rattle.index_rules.specs.declared.call.Request.TheVariants.{OpenCase, RecordAttempt, Transfer}
+use Rattle.index_rules.specs.declared.call.Request.TheVariants.{CloseCase, AnswerCase}
 use Rattle.index_json.specs.Json.{hex_bytes, json_of}
-use Rattle.index_json.specs.Reading.{Reading, ◌>>=◌, always, flag, maybe, number, read_whole, text, texts}
+use Rattle.index_json.specs.Reading.{Reading, ◌>>=◌, always, flag, maybe, number, read_whole, text}
+use Rattle.index_json.specs.Reading.{texts}
 
 -- ---- rows on users
 

@@ -2,7 +2,8 @@
 use Rattle.std.specs.Prelude.{◌≡◌, ℕ, List, map, Option, Some, None, OnOk, Result, String, codes}
 use Rattle.std.specs.BTreeMap.{BTreeMap}
 use Rattle.std.specs.declared.alloc.Global.{Global}
-use Rattle.serde_json.specs.Data.{Data, null, boolean, number, unsigned, string, array, object, Members, no_members, member, put}
+use Rattle.serde_json.specs.Data.{Data, null, boolean, number, unsigned, string, array, object}
+use Rattle.serde_json.specs.Data.{Members, no_members, member, put}
 use Rattle.serde_json.specs.View.{items_of, members_view}
 use Rattle.serde_json.specs.Written.{compact_text}
 use Rattle.serde_json.specs.declared.value.Value.{Value}
@@ -87,8 +88,10 @@ standing_text_of standing = compact_text (standing_value standing)
 -- ---- the same by what is put into an object, whatever the order
 
 -- where nothing failed, this was put into the members of an object
-abbrev pub PutsMembers : {A E : Type 0} → BTreeMap (String Global) Value → BTreeMap (String Global) Value → Result A E → (Members → Members) → Type 0
-PutsMembers old new result change = OnOk result (members_view new.entries ≡ change (members_view old.entries))
+abbrev pub PutsMembers : {A E : Type 0} → BTreeMap (String Global) Value
+    → BTreeMap (String Global) Value → Result A E → (Members → Members) → Type 0
+PutsMembers old new result change =
+    OnOk result (members_view new.entries ≡ change (members_view old.entries))
 
 -- the words below put members before members, as the code does
 abbrev pub name_put : List ℕ → List ℕ → Members → Members

@@ -29,6 +29,7 @@ macro_rules! refusal_text_by {
     };
 }
 
+/// The name of a refusal in an answer.
 #[tactic(auto, unfolding(crate::proofs::OnLiterals::answers_on_literals))]
 fn refusal_text(refusal: Refusal) -> &'static str
     ensures { result.now ≡ answer_text_of (Answer.Refused refusal) }

@@ -62,6 +62,7 @@ pub fn read_request(alloc: Global, bytes: &[u8]) -> Result<Option<Request>, Faul
     }
 }
 
+/// Reads a line, or says why it cannot be read.
 #[tactic(auto, unfolding(crate::specs::Line::line_of))]
 fn line_read(alloc: Global, line: &[u8]) -> Result<Line, Unread>
     ensures { Reads result (line_of line.now) }
@@ -70,6 +71,7 @@ fn line_read(alloc: Global, line: &[u8]) -> Result<Line, Unread>
     line_in(alloc, &value)
 }
 
+/// Reads a request, or says why it cannot be read.
 #[tactic(auto, unfolding(crate::specs::Requests::request_of))]
 fn request_read(alloc: Global, bytes: &[u8]) -> Result<Request, Unread>
     ensures { Reads result (request_of bytes.now) }
@@ -89,6 +91,7 @@ fn parse(alloc: Global, bytes: &[u8]) -> Result<Value, Unread>
     }
 }
 
+/// The line that an object is, if it has no other key.
 fn line_in(alloc: Global, value: &Value) -> Result<Line, Unread>
     ensures { Reads result (read_whole line_row (view value.now)) }
 {
@@ -98,6 +101,7 @@ fn line_in(alloc: Global, value: &Value) -> Result<Line, Unread>
     object.finish(line)
 }
 
+/// The request that an object is, if it has no other key.
 fn request_in(alloc: Global, value: &Value) -> Result<Request, Unread>
     ensures { Reads result (read_whole request_row (view value.now)) }
 {
@@ -117,6 +121,7 @@ fn line_named(alloc: Global, word: &str, object: &mut ObjectReader<'_>) -> Resul
     }
 }
 
+/// The call of an object whose `do` is this word. Of its token the digest is kept.
 fn call_in(alloc: Global, word: &str, object: &mut ObjectReader<'_>) -> Result<Line, Unread>
     ensures { ReadsTo object.old object.new result (call_row word.now) }
 {

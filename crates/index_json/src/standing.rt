@@ -29,6 +29,7 @@ pub fn standing_text(alloc: Global, standing: &Standing) -> Result<String, Fault
     Ok(text?)
 }
 
+/// The object of a standing.
 fn standing_value(alloc: Global, standing: &Standing) -> Result<Value, AllocError>
     ensures { IfOk result (λ value. view value ≡ standing_value_lem standing.now) }
 {
@@ -51,6 +52,7 @@ fn object_of(members: Map<String, Value>, done: Result<(), AllocError>) -> Resul
     }
 }
 
+/// Puts the members of a standing, by the state of its name.
 fn put_standing(
     members: &mut Map<String, Value>,
     alloc: Global,
@@ -65,6 +67,7 @@ fn put_standing(
     }
 }
 
+/// Puts the members that each standing has: the name and its state.
 fn put_name(
     members: &mut Map<String, Value>,
     alloc: Global,
@@ -77,6 +80,7 @@ fn put_name(
     put_text(members, alloc, "state", state)
 }
 
+/// Puts the members of a held name.
 fn put_held(
     members: &mut Map<String, Value>,
     alloc: Global,
@@ -95,6 +99,7 @@ fn put_held(
     put_name(members, alloc, &held.name, "held")
 }
 
+/// Puts the charge and the quota of a held name, and how it is shown.
 fn put_project(
     members: &mut Map<String, Value>,
     alloc: Global,
@@ -118,6 +123,7 @@ fn put_text(
     put(members, alloc, key, Value::try_from_str(alloc, text)?)
 }
 
+/// The array of the owners' ids.
 fn owners_value(alloc: Global, owners: &[UserId]) -> Result<Value, AllocError>
     ensures { IfOk result (λ value. view value ≡ text_array owners.now) }
 {
@@ -128,6 +134,7 @@ fn owners_value(alloc: Global, owners: &[UserId]) -> Result<Value, AllocError>
     Ok(Value::Array(texts))
 }
 
+/// The object of the open case, or `null` if none is open.
 fn case_value(alloc: Global, case: &Option<CaseRecord>) -> Result<Value, AllocError>
     ensures { IfOk result (λ value. view value ≡ case_value_lem case.now) }
 {
@@ -137,6 +144,7 @@ fn case_value(alloc: Global, case: &Option<CaseRecord>) -> Result<Value, AllocEr
     }
 }
 
+/// The object of a case.
 fn open_case_value(alloc: Global, case: &CaseRecord) -> Result<Value, AllocError>
     ensures { IfOk result (λ value. view value ≡ open_case_value_lem case.now) }
 {
@@ -145,6 +153,7 @@ fn open_case_value(alloc: Global, case: &CaseRecord) -> Result<Value, AllocError
     object_of(members, done)
 }
 
+/// Puts the members of a case.
 fn put_case(
     members: &mut Map<String, Value>,
     alloc: Global,
@@ -189,6 +198,7 @@ fn put_times(
     put(members, alloc, "sent", Value::from(case.state.sent()))
 }
 
+/// Puts the kind of a case, its candidate and his three texts.
 fn put_case_texts(
     members: &mut Map<String, Value>,
     alloc: Global,
@@ -203,6 +213,7 @@ fn put_case_texts(
     put_text(members, alloc, "work", case.work.as_str())
 }
 
+/// The word for the kind of a case.
 fn kind_text(kind: CaseKind) -> &'static str
     ensures { result.now ≡ kind_text_lem kind }
 {

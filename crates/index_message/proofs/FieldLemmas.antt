@@ -1,5 +1,5 @@
 -- The values of a field, one field after another.
-use Rattle.std.proofs.Common.{◌≡◌, ◌∷◌, ◌++◌, [], suc, ◌<◌, map, drop, ℕ, List, length, get_or, Option, Some, None, Bor, true, false, ap, ◌∙◌}
+use Rattle.std.proofs.Common.{◌≡◌, ◌∷◌, [], suc, ◌<◌, map, drop, ℕ, List, length, get_or, Option, Some, None, Bor, true, false, ap, ◌∙◌}
 use Rattle.std.proofs.Math.Seq.{drop-cons}
 use Rattle.httparse.specs.Spans.{header_bytes}
 use Rattle.httparse.specs.declared.spans.HeaderSpan.{HeaderSpan}

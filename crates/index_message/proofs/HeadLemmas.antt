@@ -1,17 +1,20 @@
 -- Heads of bounded length: what decides that none comes.
 use Rattle.std.proofs.lemmas.Str.{IsUtf8-from_ascii}
 use Rattle.httparse.proofs.OnLiterals.{httparse_on_literals}
-use Rattle.std.proofs.lemmas.List.Elements.{All-nil}
-use Rattle.std.proofs.Common.{All, IsAscii, IsTrue, zero, suc, inl, refl, codes, ◌≡◌, ℕ, ◌<◌, List, [], ◌∷◌, ◌++◌, length, take, drop, sym, ◌∙◌, ap, arith, length-append}
-use Rattle.std.specs.Prelude.{Option, Some, None, unwrap_or}
+use Rattle.std.proofs.lemmas.List.Elements.{All-cons, All-nil}
+use Rattle.std.proofs.lemmas.Bool.{cases_Bool, eqb-true}
+use Rattle.std.proofs.Common.{All, IsAscii, IsTrue, zero, suc, inl, inr, nat_eq, refl, codes, ◌≡◌, ℕ, ◌<◌, List, [], ◌∷◌, ◌++◌, length, take, drop, sym, ◌∙◌, ap, arith, length-append}
+use Rattle.std.specs.Prelude.{Option, Some, None, unwrap_or, ◌⊎◌, ◌&&◌}
+use Rattle.std.specs.List.{starts_with}
 use Rattle.std.specs.Io.KnownBytes.{IsAtEnd}
-use Rattle.std.proofs.lemmas.List.{append-nil, take-append-le, take-append-drop, length-map, length-take-le}
+use Rattle.std.proofs.lemmas.List.{append_assoc, append-nil, take-append-le, take-append-drop, length-map, length-take-le}
 use Rattle.std.proofs.Math.Seq.{take-append_seam}
-use Rattle.httparse.specs.Grammar.{IsRequestHead, RequestHead, print_request, HasNoRequest, MayBecomeRequest, is_token_byte, is_uri_byte, lf}
+use Rattle.httparse.specs.Grammar.{IsRequestHead, RequestHead, print_request, HasNoRequest, MayBecomeRequest, AllPass, is_token_byte, is_uri_byte, lf}
 use Rattle.httparse.specs.Spans.{IsRequestAt, IsRequestWithin}
 use Rattle.httparse.specs.declared.spans.HeaderSpan.{HeaderSpan}
 use Rattle.httparse.specs.declared.spans.RequestSpans.{RequestSpans}
 use Rattle.index_message.specs.Heads.{HasNoHead}
+use Rattle.index_message.specs.Messages.{begins_with_head}
 
 -- a head has a byte
 head_length : (h : RequestHead) → IsRequestHead h → 0 < length (print_request h)
@@ -75,3 +78,63 @@ none_by_limit bytes rest full none h q x =
 pub none_at_end : (bytes : List ℕ) (left : Option (List ℕ)) → IsAtEnd left → HasNoRequest bytes → HasNoHead (bytes ++ unwrap_or left [])
 none_at_end bytes None end none = λ h q x. none h q (x.reads.0, sym (append-nil bytes) ∙ x.reads.1)
 none_at_end bytes (Some xs) end none = λ h q x. none h q (x.reads.0, sym (ap (λ e. bytes ++ e) end ∙ append-nil bytes) ∙ x.reads.1)
+
+-- ---- the method of a head that can't be read
+
+-- what follows these bytes does not tell whether they begin with this text, or they are a front of it
+pub decided : (text bytes : List ℕ)
+    → ((rest : List ℕ) → starts_with nat_eq (bytes ++ rest) text ≡ starts_with nat_eq bytes text) ⊎ ((more : List ℕ) × (text ≡ bytes ++ more))
+decided [] bytes = inl (λ rest. refl)
+decided (c ∷ text) [] = inr (c ∷ text, refl)
+decided (c ∷ text) (b ∷ bytes) = elim (cases_Bool (nat_eq c b)) [
+  | inl same ↦ elim (decided text bytes) [
+    | inl tells ↦ inl (λ rest. ap (λ so. nat_eq c b && so) (tells rest))
+    | inr front ↦ inr (front.0, let is = eqb-true c b same in let e = front.1 in cc)
+  ]
+  | inr other ↦ inl (λ rest. ap (λ so. so && starts_with nat_eq (bytes ++ rest) text) other ∙ sym (ap (λ so. so && starts_with nat_eq bytes text) other))
+]
+
+-- a byte of a method before others
+token : (b : ℕ) (bytes : List ℕ) → IsTrue (is_token_byte b) → AllPass is_token_byte bytes → AllPass is_token_byte (b ∷ bytes)
+token = All-cons (λ b. IsTrue (is_token_byte b))
+
+-- the least head of this method
+abbrev head_of_head : RequestHead
+head_of_head = record { blank = []; method = codes "HEAD"; target = codes "x"; minor = 0; line_end = lf; fields = []; last = lf }
+
+is_head_of_head : IsRequestHead head_of_head
+unfolding httparse_on_literals
+is_head_of_head = record {
+  method = (omega arith, token 72 (codes "EAD") refl (token 69 (codes "AD") refl (token 65 (codes "D") refl (token 68 [] refl (All-nil (λ b. IsTrue (is_token_byte b)))))));
+  target = (omega arith, all_one (λ b. IsTrue (is_uri_byte b)) 120 refl);
+  target_text = IsUtf8-from_ascii (codes "x") ascii_x;
+  minor = omega arith;
+  fields = All-nil _;
+}
+
+-- a front of it may become a head
+may_come : (bytes more : List ℕ) → codes "HEAD " ≡ bytes ++ more → ((rest : List ℕ) → HasNoHead (bytes ++ rest)) → ⊥
+unfolding httparse_on_literals
+may_come bytes more is never =
+    let behind = codes "x HTTP/1.0\n\n" in
+    never (more ++ behind) head_of_head []
+    (record { reads = (is_head_of_head, sym (append_assoc bytes more behind) ∙ ap (λ front. front ++ behind) (sym is)); short = omega arith; few = omega arith })
+
+-- whether an input without a head begins with the method `HEAD` is told by the bytes that came: none can follow that make them a head,
+pub method_when_never : (bytes left : List ℕ) → ((more : List ℕ) → HasNoHead (bytes ++ more)) → begins_with_head (bytes ++ left) ≡ begins_with_head bytes
+method_when_never bytes left never = elim (decided (codes "HEAD ") bytes) [
+  | inl tells ↦ tells left
+  | inr front ↦ absurd (may_come bytes front.0 front.1 never)
+]
+
+-- or they are as many as a head may have,
+pub method_at_limit : (bytes left : List ℕ) → length bytes ≡ 16384 → begins_with_head (bytes ++ left) ≡ begins_with_head bytes
+method_at_limit bytes left full = elim (decided (codes "HEAD ") bytes) [
+  | inl tells ↦ tells left
+  | inr front ↦ absurd (let long = simp length-append at (ap length front.1) in omega (arith, full, long))
+]
+
+-- or the input has ended
+pub method_at_end : (bytes : List ℕ) (left : Option (List ℕ)) → IsAtEnd left → begins_with_head (bytes ++ unwrap_or left []) ≡ begins_with_head bytes
+method_at_end bytes None end = ap begins_with_head (append-nil bytes)
+method_at_end bytes (Some xs) end = ap begins_with_head (ap (λ e. bytes ++ e) end ∙ append-nil bytes)

@@ -1,5 +1,6 @@
 -- The message that a connection begins with.
-use Rattle.std.specs.Prelude.{◌≡◌, ◌⊎◌, ℕ, ◌<◌, ◌≤◌, Bool, false, List, ◌++◌, drop, take, length, if◌then◌else◌, nat_le, bytes_eq, codes, Option, Some, None, Result, Ok, Err}
+use Rattle.std.specs.Prelude.{◌≡◌, ◌⊎◌, ℕ, ◌<◌, ◌≤◌, Bool, List, ◌++◌, drop, take, length, if◌then◌else◌, nat_eq, nat_le, bytes_eq, codes, Option, Some, None, Result, Ok, Err}
+use Rattle.std.specs.List.{starts_with}
 use Rattle.std.specs.Global.{Vec}
 use Rattle.std.specs.Io.KnownBytes.{Consumes, IsAtEnd}
 use Rattle.httparse.specs.Grammar.{RequestHead}
@@ -74,6 +75,10 @@ is_head_name name = bytes_eq name (codes "HEAD")
 abbrev pub request_asked : Asked → List Field → Request
 request_asked asked fields = record { method = asked.method; resource = asked.resource; fields = fields }
 
+-- so it has none where these bytes begin with the method `HEAD`, whatever follows them
+abbrev pub begins_with_head : Bytes → Bool
+begins_with_head bytes = starts_with nat_eq bytes (codes "HEAD ")
+
 -- the message of a request with these fields and this body
 abbrev pub whole_of : Asked → List Field → Bytes → Message
 whole_of asked fields body = Whole (request_asked asked fields) body
@@ -92,7 +97,7 @@ message_of head rest = message_by head rest (asked_of head)
 -- the message that an input begins with; bytes behind it are none of it
 abbrev pub IsMessage : Bytes → Message → Type 0
 IsMessage input message =
-    (HasNoHead input × (message ≡ Faulty BadHead false))
+    (HasNoHead input × (message ≡ Faulty BadHead (begins_with_head input)))
     ⊎ ((head : RequestHead) × (rest : Bytes) × HasHead input head rest × (message ≡ message_of head rest))
 
 -- the message of the bytes that are left, where they are known

@@ -1,6 +1,7 @@
 //! The head of a request, read in whatever pieces it comes.
 ghost use Rattle.std.specs.Prelude.{◌≡◌, ◌≤◌, ◌<◌, ◌+◌, [], true, false, length, vec_len, None, Ok, Err, IfErr, IfOk, IfSome, OnOk};
 ghost use Rattle.index_message.specs.Heads.{AwaitsHead, FailsInHead, HasNoHead, IsHeadAt, Tries, longest_head, most_fields};
+ghost use Rattle.index_message.specs.Messages.{begins_with_head};
 ghost use Rattle.index_message.specs.Reads.{FailsAtOnce, FailsBelow, Fills, GivesBytes, GivesUpTo, HasEnded, ReadsWithin, ReadsOnly, and_left};
 
 use httparse::Status;
@@ -47,6 +48,9 @@ pub fn read_head<S: Source>(
     ensures consumed { OnOk result (GivesBytes S.Source source.old source.new held.new.items) }
     ensures head { IfOk result (λ found. IfSome found (IsHeadAt held.new.items fields.new)) }
     ensures none { result ≡ Ok None → HasNoHead (and_left held.new.items (S.remaining source.new)) }
+    ensures method { result ≡ Ok None →
+        begins_with_head (and_left held.new.items (S.remaining source.new))
+        ≡ begins_with_head held.new.items }
     ensures prompt { FailsInHead S.Source source.old source.new held.new.items result }
     ensures memory { result ≡ Err ReadEnd.OutOfMemory → AwaitsHead held.new.items }
     ensures reads { ReadsWithin S.Source source.old source.new longest_head result }

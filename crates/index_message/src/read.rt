@@ -40,7 +40,7 @@ pub fn read_message<S: Source>(
     let Some(spans) = read_head(source, &mut bytes, &mut fields)? else {
         return Ok(Message::Faulty {
             fault: MessageFault::BadHead,
-            is_head: false,
+            is_head: bytes.as_slice().starts_with(b"HEAD "),
         });
     };
     read_rest(alloc, site, source, bytes, &fields, spans)

@@ -1,5 +1,6 @@
 -- What the code's cut of a file name says of what is read.
-use Rattle.std.specs.Prelude.{◌≡◌, ℕ, false, List, [], ◌∷◌, Option, Some, None, MatchOption, option_copied, IsTrue}
+use Rattle.std.specs.Prelude.{◌≡◌, ℕ, false, List, [], ◌∷◌, Option, Some, None, MatchOption}
+use Rattle.std.specs.Prelude.{option_copied, IsTrue}
 use Rattle.std.specs.Borrow.{Bor}
 use Rattle.std.specs.List.{before_last, after_last, list_any, slice_split}
 use Rattle.index_names.specs.declared.cut.Cut.{Cut}
@@ -9,9 +10,14 @@ use Rattle.index_names.specs.Release.{is_version_text, named_release}
 use Rattle.index_names.specs.FileName.{Spelled}
 use Rattle.index_names.specs.Spelling.{WheelCut, is_hyphen}
 
--- the name and the version of a cut are such, and what is read are their project, their release and the kind
+-- the name and the version of a cut are such, and what is read are their
+-- project, their release and the kind
 pub record IsCutReadAs (cut : Cut) (spelled : Option Spelled) : Type 0 where
-  pub value : spelled ≡ Some (record { project = normal_form cut.name.now; release = named_release cut.version.now; kind = cut.kind })
+  pub value : spelled ≡ Some (record {
+    project = normal_form cut.name.now;
+    release = named_release cut.version.now;
+    kind = cut.kind;
+  })
   pub name : IsTrue (is_project_name cut.name.now)
   pub version : IsTrue (is_version_text cut.version.now)
 
@@ -20,8 +26,8 @@ abbrev pub IsCutOf : Option Cut → Option Spelled → Type 0
 IsCutOf None spelled = spelled ≡ None
 IsCutOf (Some cut) spelled = IsCutReadAs cut spelled
 
--- the parts before and after the first hyphen of a text, where it has one: it is parted there, and the second part at
--- its hyphens
+-- the parts before and after the first hyphen of a text, where it has one: it is parted there, and
+-- the second part at its hyphens
 abbrev pub CutsAtFirstHyphen : List ℕ → Option (Bor (List ℕ) × Bor (List ℕ)) → Type 0
 CutsAtFirstHyphen text cut =
     MatchOption cut (slice_split is_hyphen text ≡ text ∷ [])
@@ -30,10 +36,16 @@ CutsAtFirstHyphen text cut =
 -- the parts before and after its last hyphen
 abbrev pub CutsAtLastHyphen : List ℕ → Option (Bor (List ℕ) × Bor (List ℕ)) → Type 0
 CutsAtLastHyphen text cut =
-    MatchOption cut (list_any is_hyphen text ≡ false)
-    (λ parts. (parts.0.now ≡ before_last is_hyphen text) × (parts.1.now ≡ after_last is_hyphen text))
+    MatchOption cut (list_any is_hyphen text ≡ false) (λ parts.
+    (parts.0.now ≡ before_last is_hyphen text) × (parts.1.now ≡ after_last is_hyphen text))
 
 -- the parts of a wheel name as texts
 abbrev pub wheel_cut : WheelParts → WheelCut
-wheel_cut parts =
-    record { distribution = parts.distribution.now; version = parts.version.now; build = option_copied parts.build; python = parts.python.now; abi = parts.abi.now; platform = parts.platform.now }
+wheel_cut parts = record {
+  distribution = parts.distribution.now;
+  version = parts.version.now;
+  build = option_copied parts.build;
+  python = parts.python.now;
+  abi = parts.abi.now;
+  platform = parts.platform.now;
+}

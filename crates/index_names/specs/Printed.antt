@@ -1,7 +1,8 @@
 -- What the faults print.
 use Rattle.std.specs.Prelude.{ℕ, List, codes}
 use Rattle.index_names.specs.declared.fault.NameFault.{NameFault}
-use Rattle.index_names.specs.declared.fault.NameFault.TheVariants.{BadName, BadFileName, BadRelease, OutOfMemory}
+use Rattle.index_names.specs.declared.fault.NameFault.TheVariants.{BadName, BadFileName, BadRelease}
+use Rattle.index_names.specs.declared.fault.NameFault.TheVariants.{OutOfMemory}
 
 -- what is wrong with a name
 abbrev pub name_fault_text : NameFault → List ℕ

@@ -1,5 +1,7 @@
 -- Project names (PEP 508, "Names") and their normal form (PEP 503, "Normalized Names").
-use Rattle.std.specs.Prelude.{◌≡◌, ℕ, ◌-◌, Bool, true, false, ◌&&◌, ◌||◌, ◌==◌, nat_le, if◌then◌else◌, List, [], ◌∷◌, Option, Some, None, map, length, slice_index}
+use Rattle.std.specs.Prelude.{◌≡◌, ℕ, ◌-◌, Bool, true, false, ◌&&◌, ◌||◌, ◌==◌, nat_le}
+use Rattle.std.specs.Prelude.{if◌then◌else◌, List, [], ◌∷◌, Option, Some, None, map, length}
+use Rattle.std.specs.Prelude.{slice_index}
 use Rattle.std.specs.List.{list_all, join_with_byte}
 use Rattle.std.specs.Str.{byte}
 use Rattle.std.specs.Char.{is_ascii_alphanumeric, to_ascii_lowercase}
@@ -15,7 +17,8 @@ longest_project_name = 128
 -- 1 to 128 letters, digits and separators, of which the first and the last are letters or digits
 abbrev pub is_project_name : List ℕ → Bool
 is_project_name x =
-    nat_le 1 (length x) && nat_le (length x) longest_project_name && list_all (λ c. is_ascii_alphanumeric c || is_separator c) x
+    nat_le 1 (length x) && nat_le (length x) longest_project_name
+    && list_all (λ c. is_ascii_alphanumeric c || is_separator c) x
     && is_ascii_alphanumeric (slice_index x 0)
     && is_ascii_alphanumeric (slice_index x (length x - 1))
 
@@ -24,7 +27,8 @@ abbrev pub begins_run : List ℕ → Bool
 begins_run [] = false
 begins_run (c ∷ x) = is_ascii_alphanumeric c
 
--- with a letter or digit before what follows: it lengthens the run that begins there, or is a run of its own
+-- with a letter or digit before what follows: it lengthens the run that begins
+-- there, or is a run of its own
 abbrev pub with_before : ℕ → Bool → List (List ℕ) → List (List ℕ)
 with_before c true (run ∷ runs) = (c ∷ run) ∷ runs
 with_before c true [] = (c ∷ []) ∷ []
@@ -33,7 +37,8 @@ with_before c false runs = (c ∷ []) ∷ runs
 -- the maximal runs of letters and digits, in order
 abbrev pub runs_of : List ℕ → List (List ℕ)
 runs_of [] = []
-runs_of (c ∷ x) = if is_ascii_alphanumeric c then with_before c (begins_run x) (runs_of x) else runs_of x
+runs_of (c ∷ x) =
+    if is_ascii_alphanumeric c then with_before c (begins_run x) (runs_of x) else runs_of x
 
 -- the runs in lower case, joined by single hyphens
 abbrev pub normal_form : List ℕ → List ℕ

@@ -1,12 +1,16 @@
--- Version texts, and the releases that they name. Versions are not parsed (PEP 440 is left to the installer).
-use Rattle.std.specs.Prelude.{◌≡◌, ℕ, ◌-◌, Bool, ◌&&◌, ◌||◌, ◌==◌, nat_le, if◌then◌else◌, List, Option, Some, None, map, length, slice_index}
+-- Version texts, and the releases that they name. Versions are not parsed (PEP
+-- 440 is left to the installer).
+use Rattle.std.specs.Prelude.{◌≡◌, ℕ, ◌-◌, Bool, ◌&&◌, ◌||◌, ◌==◌, nat_le, if◌then◌else◌, List}
+use Rattle.std.specs.Prelude.{Option, Some, None, map, length, slice_index}
 use Rattle.std.specs.List.{list_all}
 use Rattle.std.specs.Str.{byte}
 use Rattle.std.specs.Char.{is_ascii_alphanumeric, to_ascii_lowercase}
 
 -- a byte that version texts may have
 abbrev pub is_version_byte : ℕ → Bool
-is_version_byte c = is_ascii_alphanumeric c || (c == byte ".") || (c == byte "_") || (c == byte "+") || (c == byte "!")
+is_version_byte c =
+    is_ascii_alphanumeric c || (c == byte ".") || (c == byte "_") || (c == byte "+")
+    || (c == byte "!")
 
 -- the most bytes of a version text
 abbrev pub longest_version : ℕ

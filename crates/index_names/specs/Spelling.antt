@@ -1,6 +1,7 @@
 -- What the file names of wheels (PEP 427, "File name convention") and of source archives (PEP 625,
 -- "Specification") spell.
-use Rattle.std.specs.Prelude.{◌≡◌, ℕ, ◌≤◌, Bool, true, not, ◌&&◌, ◌||◌, ◌==◌, nat_le, List, [], ◌∷◌, ◌++◌, Option, Some, None, length, slice_index, codes, IsTrue}
+use Rattle.std.specs.Prelude.{◌≡◌, ℕ, ◌≤◌, Bool, true, not, ◌&&◌, ◌||◌, ◌==◌, nat_le, List, [], ◌∷◌}
+use Rattle.std.specs.Prelude.{◌++◌, Option, Some, None, length, slice_index, codes, IsTrue}
 use Rattle.std.specs.Char.{is_ascii_alphanumeric, is_ascii_digit}
 use Rattle.std.specs.List.{list_all, join_with_byte}
 use Rattle.std.specs.Option.{option_map_or}
@@ -47,9 +48,8 @@ is_build_tag x = is_tag x && is_ascii_digit (slice_index x 0)
 -- the parts of a wheel name are in order (PEP 427)
 abbrev pub is_wheel_cut : WheelCut → Bool
 is_wheel_cut cut =
-    is_distribution cut.distribution && is_version_text cut.version && option_map_or is_build_tag cut.build true
-    && is_tag cut.python
-    && is_tag cut.abi
+    is_distribution cut.distribution && is_version_text cut.version
+    && option_map_or is_build_tag cut.build true && is_tag cut.python && is_tag cut.abi
     && is_tag cut.platform
 
 -- the parts of the name of a source archive are in order (PEP 625)
@@ -96,5 +96,7 @@ longest_file_name = 255
 
 -- a file name of 1 to 255 bytes spells a project, a release and a kind
 abbrev pub Spells : List ℕ → List ℕ → List ℕ → FileKind → Type 0
-Spells f project release Wheel = (1 ≤ length f) × (length f ≤ longest_file_name) × IsWheelOf f project release
-Spells f project release Source = (1 ≤ length f) × (length f ≤ longest_file_name) × IsSourceOf f project release
+Spells f project release Wheel =
+    (1 ≤ length f) × (length f ≤ longest_file_name) × IsWheelOf f project release
+Spells f project release Source =
+    (1 ≤ length f) × (length f ≤ longest_file_name) × IsSourceOf f project release

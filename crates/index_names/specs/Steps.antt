@@ -6,4 +6,6 @@ use Rattle.std.specs.Str.{byte}
 -- a letter or digit, behind a hyphen where separators stand before it
 abbrev pub added : Bool → ℕ → List ℕ
 added is_apart c =
-    if is_ascii_alphanumeric c then (if is_apart then byte "-" ∷ to_ascii_lowercase c ∷ [] else to_ascii_lowercase c ∷ []) else []
+    if is_ascii_alphanumeric c
+    then (if is_apart then byte "-" ∷ to_ascii_lowercase c ∷ [] else to_ascii_lowercase c ∷ [])
+    else []

@@ -36,6 +36,7 @@ pub fn cut_of(bytes: &[u8]) -> Option<Cut<'_>>
     None
 }
 
+/// The name and the version of a source archive's stem, which are valid and parted by its last hyphen.
 #[tactic(auto, using(crate::proofs::HyphenLemmas::before_last_without))]
 fn cut_source(stem: &[u8]) -> Option<Cut<'_>>
     ensures { IsCutOf result (read_source stem.now) }

@@ -43,6 +43,7 @@ impl Model for NormalName {
 }
 
 impl NormalName {
+    /// The normal form of a valid project name.
     #[tactic(auto, using(crate::proofs::NormalFormLaws::normal_names))]
     pub(crate) fn of(alloc: Global, name: &[u8]) -> Result<NormalName, AllocError>
         requires { IsTrue (is_project_name name.now) }
@@ -100,6 +101,7 @@ fn is_separator(byte: u8) -> bool
     matches!(byte, b'-' | b'_' | b'.')
 }
 
+/// Whether each byte is a letter, a digit or a separator.
 fn has_name_bytes(bytes: &[u8]) -> bool
     ensures { result ≡ list_all (λ c. is_ascii_alphanumeric c || is_separator c) bytes.now }
 {
@@ -108,6 +110,7 @@ fn has_name_bytes(bytes: &[u8]) -> bool
         .all(|&byte| byte.is_ascii_alphanumeric() || is_separator(byte))
 }
 
+/// The name in lower case, with one hyphen in place of each run of separators (PEP 503).
 #[tactic(auto, using(crate::proofs::NormalForm::steps))]
 fn normalized(alloc: Global, bytes: &[u8]) -> Result<String, AllocError>
     requires { IsTrue (is_project_name bytes.now) }

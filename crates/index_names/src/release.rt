@@ -42,6 +42,7 @@ impl Model for Release {
 }
 
 impl Release {
+    /// The release of a valid version: its text in lower case.
     #[tactic(auto, using(crate::proofs::AsciiLemmas::texts, crate::proofs::ReleaseLaws::releases))]
     pub(crate) fn of(alloc: Global, version: &[u8]) -> Result<Release, AllocError>
         requires { IsTrue (is_version_text version.now) }
@@ -102,6 +103,7 @@ fn is_version_byte(byte: u8) -> bool
     byte.is_ascii_alphanumeric() || matches!(byte, b'.' | b'_' | b'+' | b'!')
 }
 
+/// Whether each byte may stand in a version.
 fn has_version_bytes(bytes: &[u8]) -> bool
     ensures { result ≡ list_all is_version_byte bytes.now }
 {

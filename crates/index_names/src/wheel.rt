@@ -69,6 +69,7 @@ fn wheel_parts(stem: &[u8]) -> Option<WheelParts<'_>>
     })
 }
 
+/// Whether each part is valid where it stands in a wheel's name.
 fn is_wheel(parts: &WheelParts<'_>) -> bool
     ensures { result ≡ is_wheel_cut (wheel_cut parts.now) }
 {
@@ -80,6 +81,7 @@ fn is_wheel(parts: &WheelParts<'_>) -> bool
         && is_tag(parts.platform)
 }
 
+/// Whether the bytes are a project name with no hyphen, which would part it.
 fn is_distribution(bytes: &[u8]) -> bool
     ensures { result ≡ is_distribution bytes.now }
 {
@@ -92,18 +94,21 @@ fn lacks_hyphen(bytes: &[u8]) -> bool
     bytes.iter().all(|&byte| byte != b'-')
 }
 
+/// Whether the bytes are a tag that begins with a digit.
 fn is_build_tag(bytes: &[u8]) -> bool
     ensures { result ≡ is_build_tag bytes.now }
 {
     is_tag(bytes) && bytes[0].is_ascii_digit()
 }
 
+/// Whether the bytes are one or more letters, digits, dots and underscores.
 fn is_tag(bytes: &[u8]) -> bool
     ensures { result ≡ is_tag bytes.now }
 {
     !bytes.is_empty() && has_tag_bytes(bytes)
 }
 
+/// Whether each byte may stand in a tag.
 fn has_tag_bytes(bytes: &[u8]) -> bool
     ensures { result ≡ list_all is_tag_byte bytes.now }
 {

@@ -1,5 +1,8 @@
--- The choice of a page's type by the values of `Accept` headers (RFC 9110, section 12.5.1; PEP 691, "Version + Format Selection").
-use Rattle.std.specs.Prelude.{◌≡◌, ℕ, ◌+◌, ◌-◌, ◌*◌, ◌<◌, ◌≤◌, ◌⊎◌, Bool, true, false, ◌&&◌, ◌||◌, List, [], ◌∷◌, map, drop, reverse, codes, if◌then◌else◌, ◌==◌, bytes_eq, Option, Some, None, is_some}
+-- The choice of a page's type by the values of `Accept` headers (RFC 9110, section 12.5.1; PEP 691,
+-- "Version + Format Selection").
+use Rattle.std.specs.Prelude.{◌≡◌, ℕ, ◌+◌, ◌-◌, ◌*◌, ◌<◌, ◌≤◌, ◌⊎◌, Bool, true, false, ◌&&◌, ◌||◌}
+use Rattle.std.specs.Prelude.{List, [], ◌∷◌, map, drop, reverse, codes, if◌then◌else◌, ◌==◌}
+use Rattle.std.specs.Prelude.{bytes_eq, Option, Some, None, is_some}
 use Rattle.std.specs.Char.{to_ascii_lowercase, is_ascii_digit}
 use Rattle.std.specs.List.{slice_split, flat_map, list_any, AllByRecursion}
 use Rattle.std.specs.Str.{byte}
@@ -37,9 +40,14 @@ digit_value c = c - byte "0"
 abbrev pub thousandths : List ℕ → Option ℕ
 thousandths [] = Some 0
 thousandths (a ∷ []) = if is_ascii_digit a then Some (100 * digit_value a) else None
-thousandths (a ∷ b ∷ []) = if is_ascii_digit a && is_ascii_digit b then Some (100 * digit_value a + 10 * digit_value b) else None
+thousandths (a ∷ b ∷ []) =
+    if is_ascii_digit a && is_ascii_digit b
+    then Some (100 * digit_value a + 10 * digit_value b)
+    else None
 thousandths (a ∷ b ∷ c ∷ []) =
-    if is_ascii_digit a && (is_ascii_digit b && is_ascii_digit c) then Some (100 * digit_value a + 10 * digit_value b + digit_value c) else None
+    if is_ascii_digit a && (is_ascii_digit b && is_ascii_digit c)
+    then Some (100 * digit_value a + 10 * digit_value b + digit_value c)
+    else None
 thousandths (a ∷ b ∷ c ∷ d ∷ more) = None
 
 -- nothing, or a point and up to three digits
@@ -55,7 +63,10 @@ one_with (Some n) = if n == 0 then Some 1000 else None
 -- 0 or 1, which a fraction may follow; nothing else is a quality
 abbrev pub quality_of : List ℕ → Option ℕ
 quality_of [] = None
-quality_of (c ∷ bytes) = if c == byte "0" then fraction bytes else if c == byte "1" then one_with (fraction bytes) else None
+quality_of (c ∷ bytes) =
+    if c == byte "0" then fraction bytes
+    else if c == byte "1" then one_with (fraction bytes)
+    else None
 
 -- the piece begins with `q=`, in either case
 abbrev pub is_quality : List ℕ → Bool
@@ -66,7 +77,8 @@ is_quality (a ∷ b ∷ more) = ((a == byte "q") || (a == byte "Q")) && (b == by
 -- the quality that the first of the pieces with `q=` gives, and 1 without one
 abbrev pub first_quality : List (List ℕ) → Option ℕ
 first_quality [] = Some 1000
-first_quality (piece ∷ pieces) = if is_quality piece then quality_of (drop 2 piece) else first_quality pieces
+first_quality (piece ∷ pieces) =
+    if is_quality piece then quality_of (drop 2 piece) else first_quality pieces
 
 -- ---- items
 
@@ -117,8 +129,12 @@ or_anything items = if list_any is_readable items then items else anything ∷ [
 -- whether a range in lower case names the type itself; `latest` is version 1
 unfoldable pub names : Served → List ℕ → Bool
 names PlainHtml range = bytes_eq range (codes "text/html")
-names Html range = bytes_eq range (codes "application/vnd.pypi.simple.v1+html") || bytes_eq range (codes "application/vnd.pypi.simple.latest+html")
-names Json range = bytes_eq range (codes "application/vnd.pypi.simple.v1+json") || bytes_eq range (codes "application/vnd.pypi.simple.latest+json")
+names Html range =
+    bytes_eq range (codes "application/vnd.pypi.simple.v1+html")
+    || bytes_eq range (codes "application/vnd.pypi.simple.latest+html")
+names Json range =
+    bytes_eq range (codes "application/vnd.pypi.simple.v1+json")
+    || bytes_eq range (codes "application/vnd.pypi.simple.latest+json")
 
 -- whether it is of all subtypes of the type's own
 unfoldable pub names_all_beside : Served → List ℕ → Bool
@@ -129,18 +145,24 @@ names_all_beside Json range = bytes_eq range (codes "application/*")
 -- how closely a range in lower case names a type: 0 where it does not cover it
 unfoldable pub specificity : Served → List ℕ → ℕ
 specificity served range =
-    if names served range then 3 else if names_all_beside served range then 2 else if bytes_eq range (codes "*/*") then 1 else 0
+    if names served range then 3
+    else if names_all_beside served range then 2
+    else if bytes_eq range (codes "*/*") then 1
+    else 0
 
 -- nothing
 abbrev pub no_claim : Claim
 no_claim = record { specificity = 0; quality = 0 }
 
--- the claim of a range with this quality: nothing where the range does not cover the type, or the quality is malformed
+-- the claim of a range with this quality: nothing where the range does not cover the type,
+-- or the quality is malformed
 abbrev pub claim_of : ℕ → Option ℕ → Claim
 claim_of specificity None = no_claim
-claim_of specificity (Some quality) = if specificity == 0 then no_claim else record { specificity = specificity; quality = quality }
+claim_of specificity (Some quality) =
+    if specificity == 0 then no_claim else record { specificity = specificity; quality = quality }
 
--- how closely an item names a type, with its quality; nothing where it does not cover it, or is malformed
+-- how closely an item names a type, with its quality; nothing where it does
+-- not cover it, or is malformed
 abbrev pub claim : Served → Item → Claim
 claim served item = claim_of (specificity served (map to_ascii_lowercase item.range)) item.quality
 
@@ -148,14 +170,16 @@ claim served item = claim_of (specificity served (map to_ascii_lowercase item.ra
 
 -- a claim that is less specific, or as specific and of no greater quality
 abbrev pub IsAtMost : Claim → Claim → Type 0
-IsAtMost a b = (a.specificity < b.specificity) ⊎ ((a.specificity ≡ b.specificity) × (a.quality ≤ b.quality))
+IsAtMost a b =
+    (a.specificity < b.specificity) ⊎ ((a.specificity ≡ b.specificity) × (a.quality ≤ b.quality))
 
 -- it holds of one of them
 abbrev pub SomeOf : {X : Type 0} → (X → Type 0) → List X → Type 0
 SomeOf P [] = ⊥
 SomeOf P (x ∷ xs) = P x ⊎ SomeOf P xs
 
--- the greatest quality among the most specific items that cover the type, and 0 where none does (RFC 9110, section 12.5.1)
+-- the greatest quality among the most specific items that cover the type, and 0 where none
+-- does (RFC 9110, section 12.5.1)
 pub record IsQuality (items : List Item) (served : Served) (quality : ℕ) : Type 0 where
   pub top : Claim
   pub none_above : AllByRecursion (λ item. IsAtMost (claim served item) top) items
@@ -172,9 +196,12 @@ rank Json = 2
 abbrev pub IsFirstGreatest : (Served → ℕ) → Option Served → Type 0
 IsFirstGreatest quality None = (served : Served) → quality served ≡ 0
 IsFirstGreatest quality (Some chosen) =
-    (0 < quality chosen) × ((served : Served) → (quality served ≤ quality chosen) × (rank served < rank chosen → quality served < quality chosen))
+    (0 < quality chosen) × ((served : Served) → (quality served ≤ quality chosen)
+    × (rank served < rank chosen → quality served < quality chosen))
 
 -- the choice by the values of all `Accept` headers
 abbrev pub IsChosen : List (Bor (List ℕ)) → Option Served → Type 0
 IsChosen values chosen =
-    (quality : Served → ℕ) × ((served : Served) → IsQuality (or_anything (items_of values)) served (quality served)) × IsFirstGreatest quality chosen
+    (quality : Served → ℕ)
+    × ((served : Served) → IsQuality (or_anything (items_of values)) served (quality served))
+    × IsFirstGreatest quality chosen

@@ -1,5 +1,6 @@
 -- How the text of a page ends.
-use Rattle.std.specs.Prelude.{◌≡◌, ℕ, ◌+◌, ◌<◌, ◌≤◌, List, ◌∷◌, ◌++◌, length, take, Option, Result, Ok, Err}
+use Rattle.std.specs.Prelude.{◌≡◌, ℕ, ◌+◌, ◌<◌, ◌≤◌, List, ◌∷◌, ◌++◌, length, take, Option, Result}
+use Rattle.std.specs.Prelude.{Ok, Err}
 use Rattle.std.specs.Io.KnownBytes.{Appends}
 use Rattle.index_io.specs.Counts.{HasFailed}
 use Rattle.index_rules.specs.Maps.{Bytes}
@@ -45,7 +46,8 @@ pub record SendsAll (before after : SinkState) (old new : ℕ) (text : Bytes) : 
   pub steady : after.failures ≡ before.failures
 
 -- a front of a text went out
-pub record SendsFront (before after : SinkState) (old : ℕ) (end : PageEnd) (text : Bytes) : Type 0 where
+pub record SendsFront (before after : SinkState) (old : ℕ) (end : PageEnd)
+    (text : Bytes) : Type 0 where
   pub size : ℕ
   pub sends : Sends before after old (count_of end) (take size text)
   pub past : StoreOnlyIfTooLong end (old + length text)
@@ -57,14 +59,16 @@ Closes text before after old (Ok n) = SendsAll before after old n text
 Closes text before after old (Err end) = SendsFront before after old end text
 
 -- the text of this row went out
-pub record SendsRow {R : Type 0} (rest : Rest R) (row : R) (later : Rest R) (before after : SinkState) (old new : ℕ) : Type 0 where
+pub record SendsRow {R : Type 0} (rest : Rest R) (row : R) (later : Rest R)
+    (before after : SinkState) (old new : ℕ) : Type 0 where
   pub text : Bytes
   pub next : IsNext rest row text later
   pub sends : Sends before after old new text
   pub steady : after.failures ≡ before.failures
 
 -- a front of the text of this row went out, whatever rows come after it
-pub record SendsRowFront {R : Type 0} (rest : Rest R) (row : R) (before after : SinkState) (old : ℕ) (end : PageEnd) : Type 0 where
+pub record SendsRowFront {R : Type 0} (rest : Rest R) (row : R) (before after : SinkState) (old : ℕ)
+    (end : PageEnd) : Type 0 where
   pub bytes : Bytes
   pub sends : Sends before after old (count_of end) bytes
   pub begins : (rows : List R) → (left : Bytes) × (rest (row ∷ rows) ≡ bytes ++ left)

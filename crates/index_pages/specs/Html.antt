@@ -1,5 +1,6 @@
 -- The pages in HTML (PEP 503, "Specification"), of version 1.0 (PEP 629, "Specification").
-use Rattle.std.specs.Prelude.{ℕ, List, [], ◌∷◌, ◌++◌, codes, Option, Some, None, if◌then◌else◌, ◌==◌, length}
+use Rattle.std.specs.Prelude.{ℕ, List, [], ◌∷◌, ◌++◌, codes, Option, Some, None, if◌then◌else◌}
+use Rattle.std.specs.Prelude.{◌==◌, length}
 use Rattle.std.specs.List.{flat_map, concat}
 use Rattle.std.specs.Borrow.{Bor}
 use Rattle.std.specs.Str.{byte}
@@ -17,8 +18,11 @@ text_of_pieces pieces = flat_map (λ piece. piece.now) pieces
 -- a byte of a text or of an attribute's value (PEP 503: `<` and `>` have to be encoded)
 abbrev pub escape_byte : ℕ → Bytes
 escape_byte c =
-    if c == byte "&" then codes "&amp;" else if c == byte "<" then codes "&lt;" else if c == byte ">" then codes "&gt;"
-    else if c == 34 then codes "&quot;" else c ∷ []
+    if c == byte "&" then codes "&amp;"
+    else if c == byte "<" then codes "&lt;"
+    else if c == byte ">" then codes "&gt;"
+    else if c == 34 then codes "&quot;"
+    else c ∷ []
 
 -- a text with these four bytes escaped
 unfoldable pub escape : Bytes → Bytes
@@ -30,7 +34,8 @@ attribute name value = concat (codes " " ∷ name ∷ codes "=\"" ∷ escape val
 
 -- the Python versions that a file is for (PEP 503), left out where nothing was declared
 abbrev pub requires_attribute : Bytes → Bytes
-requires_attribute requires = if length requires == 0 then [] else attribute (codes "data-requires-python") requires
+requires_attribute requires =
+    if length requires == 0 then [] else attribute (codes "data-requires-python") requires
 
 -- why a file is yanked, where it is; the reason may be empty (PEP 592, "Specification")
 abbrev pub yanked_attribute : Option Bytes → Bytes
@@ -40,7 +45,8 @@ yanked_attribute (Some reason) = attribute (codes "data-yanked") reason
 -- the begin of an anchor, with the reference to a file and its digest (PEP 503)
 abbrev pub reference : Bytes → Bytes → Bytes → Bytes
 reference project file digest =
-    concat (codes "<a href=\"/files/" ∷ project ∷ codes "/" ∷ file ∷ codes "#sha256=" ∷ text_of digest ∷ codes "\"" ∷ [])
+    concat (codes "<a href=\"/files/" ∷ project ∷ codes "/" ∷ file ∷ codes "#sha256="
+    ∷ text_of digest ∷ codes "\"" ∷ [])
 
 -- the line of a file
 unfoldable pub file_anchor : Bytes → FileRow → Bytes
@@ -51,12 +57,14 @@ file_anchor project row = concat (
 
 -- what stands before a page's title
 unfoldable pub head : Bytes
-head = codes "<!DOCTYPE html>\n<html>\n<head>\n<meta charset=\"utf-8\">\n<meta name=\"pypi:repository-version\" content=\"1.0\">\n<title>"
+head =
+    codes "<!DOCTYPE html>\n<html>\n<head>\n<meta charset=\"utf-8\">\n<meta name=\"pypi:repository-version\" content=\"1.0\">\n<title>"
 
 -- what stands before the files
 unfoldable pub project_top : Bytes → Bytes
-project_top project = concat (
-    head ∷ codes "Links for " ∷ project ∷ codes "</title>\n</head>\n<body>\n<h1>Links for " ∷ project ∷ codes "</h1>\n" ∷ [])
+project_top project =
+    concat (head ∷ codes "Links for " ∷ project
+    ∷ codes "</title>\n</head>\n<body>\n<h1>Links for " ∷ project ∷ codes "</h1>\n" ∷ [])
 
 -- what stands behind the rows
 abbrev pub bottom : Bytes
@@ -68,7 +76,9 @@ project_html project rows = project_top project ++ (flat_map (file_anchor projec
 
 -- the line of a held name
 unfoldable pub name_anchor : Bytes → Bytes → Bytes
-name_anchor name shown = concat (codes "<a href=\"/simple/" ∷ name ∷ codes "/\">" ∷ escape shown ∷ codes "</a><br>\n" ∷ [])
+name_anchor name shown =
+    concat (codes "<a href=\"/simple/" ∷ name ∷ codes "/\">" ∷ escape shown
+    ∷ codes "</a><br>\n" ∷ [])
 
 -- the line of a name that is held, and nothing for a prohibited one
 abbrev pub anchor_of_name : Bytes → NameRecord → Bytes

@@ -1,7 +1,10 @@
--- The pages in JSON (PEP 691, "JSON Serialization"), of version 1.1 (PEP 700, "Specification"): compact, with keys in byte order.
-use Rattle.std.specs.Prelude.{true, List, [], ◌∷◌, map, codes, Option, Some, None, if◌then◌else◌, ◌==◌, length}
+-- The pages in JSON (PEP 691, "JSON Serialization"), of version 1.1 (PEP 700, "Specification"):
+-- compact, with keys in byte order.
+use Rattle.std.specs.Prelude.{true, List, [], ◌∷◌, map, codes, Option, Some, None, if◌then◌else◌}
+use Rattle.std.specs.Prelude.{◌==◌, length}
 use Rattle.std.specs.List.{flat_map, concat}
-use Rattle.serde_json.specs.Data.{Data, boolean, number, unsigned, string, array, object, Members, no_members, member}
+use Rattle.serde_json.specs.Data.{Data, boolean, number, unsigned, string, array, object, Members}
+use Rattle.serde_json.specs.Data.{no_members, member}
 use Rattle.serde_json.specs.View.{items_of}
 use Rattle.serde_json.specs.Written.{compact_text}
 use Rattle.index_digest.specs.Digest.{text_of}
@@ -22,7 +25,8 @@ hashes digest = object (member (codes "sha256") (string (text_of digest)) no_mem
 
 -- the Python versions that a file is for, left out where nothing was declared
 abbrev pub requires_member : Bytes → Members → Members
-requires_member requires later = if length requires == 0 then later else member (codes "requires-python") (string requires) later
+requires_member requires later =
+    if length requires == 0 then later else member (codes "requires-python") (string requires) later
 
 -- why a file is yanked: the reason as a text, or true where it is empty
 abbrev pub reason_data : Bytes → Data

@@ -20,4 +20,5 @@ root_page_of served rows = if is_json served then root_json rows else root_html 
 
 -- the page of a project, which lists these files
 abbrev pub project_page_of : Served → Bytes → List FileRow → Bytes
-project_page_of served project rows = if is_json served then project_json project rows else project_html project rows
+project_page_of served project rows =
+    if is_json served then project_json project rows else project_html project rows

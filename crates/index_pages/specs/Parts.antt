@@ -1,5 +1,7 @@
--- What is still to be written of each page: by whether it is in JSON, whether a row came, the releases so far, and the rows that are still to come.
-use Rattle.std.specs.Prelude.{ℕ, Bool, true, false, List, [], ◌∷◌, ◌++◌, map, codes, Option, Some, None, if◌then◌else◌, ◌==◌, length}
+-- What is still to be written of each page: by whether it is in JSON, whether a row came, the
+-- releases so far, and the rows that are still to come.
+use Rattle.std.specs.Prelude.{ℕ, Bool, true, false, List, [], ◌∷◌, ◌++◌, map, codes, Option, Some}
+use Rattle.std.specs.Prelude.{None, if◌then◌else◌, ◌==◌, length}
 use Rattle.std.specs.List.{flat_map}
 use Rattle.json.specs.Print.{quoted}
 use Rattle.serde_json.specs.Data.{Data, number, string, unsigned}
@@ -22,7 +24,8 @@ once is_started top = if is_started then [] else top
 
 -- in HTML
 abbrev pub html_rest : Bytes → Bool → List FileRow → Bytes
-html_rest project is_started rows = once is_started (project_top project) ++ (flat_map (file_anchor project) rows ++ bottom)
+html_rest project is_started rows =
+    once is_started (project_top project) ++ (flat_map (file_anchor project) rows ++ bottom)
 
 -- the text of a file
 unfoldable pub file_text : Bytes → FileRow → Bytes
@@ -50,11 +53,14 @@ url_text project file = later_member (codes "url") (string (url_of project file)
 
 -- the member of the Python versions, left out where nothing was declared
 abbrev pub requires_text : Bytes → Bytes
-requires_text requires = if length requires == 0 then [] else later_member (codes "requires-python") (string requires)
+requires_text requires =
+    if length requires == 0 then [] else later_member (codes "requires-python") (string requires)
 
 -- a file up to its size
 abbrev pub file_front : FileRow → Bytes
-file_front row = codes "{\"filename\":" ++ (json_text row.file ++ (hashes_text row.digest ++ requires_text row.requires_python))
+file_front row =
+    codes "{\"filename\":"
+    ++ (json_text row.file ++ (hashes_text row.digest ++ requires_text row.requires_python))
 
 -- the member of the reason, left out where the file is not yanked
 abbrev pub yanked_text : Option Bytes → Bytes
@@ -67,7 +73,8 @@ files_top = codes "{\"files\":["
 
 -- the text of a file, behind what stands before it
 abbrev pub file_line : Bytes → Bool → FileRow → Bytes
-file_line project is_started row = once is_started files_top ++ (comma_if is_started ++ file_text project row)
+file_line project is_started row =
+    once is_started files_top ++ (comma_if is_started ++ file_text project row)
 
 -- the releases behind those that stand already, and the bracket behind them
 abbrev pub releases_text : Bool → List Bytes → Bytes
@@ -76,17 +83,23 @@ releases_text is_later releases = items_text is_later (items_of (map string rele
 -- what stands behind the files and their bracket
 unfoldable pub files_bottom : Bytes → List Bytes → Bytes
 files_bottom project releases =
-    codes ",\"meta\":{\"api-version\":\"1.1\"},\"name\":" ++ (json_text project ++ (codes ",\"versions\":[" ++ (releases_text false releases ++ codes "}")))
+    codes ",\"meta\":{\"api-version\":\"1.1\"},\"name\":"
+    ++ (json_text project
+    ++ (codes ",\"versions\":[" ++ (releases_text false releases ++ codes "}")))
 
 -- in JSON, where the releases stand behind the files
 abbrev pub json_rest : Bytes → Bool → List Bytes → List FileRow → Bytes
 json_rest project is_started releases rows =
-    once is_started files_top ++ (items_text is_started (items_of (map (file_data project) rows)) ++ files_bottom project (with_releases releases rows))
+    once is_started files_top
+    ++ (items_text is_started (items_of (map (file_data project) rows))
+    ++ files_bottom project (with_releases releases rows))
 
 -- in the one or the other
 abbrev pub project_rest : Bool → Bytes → Bool → List Bytes → List FileRow → Bytes
 project_rest as_json project is_started releases rows =
-    if as_json then json_rest project is_started releases rows else html_rest project is_started rows
+    if as_json
+    then json_rest project is_started releases rows
+    else html_rest project is_started rows
 
 -- ---- the root page
 
@@ -104,7 +117,8 @@ name_text shown = compact_text (name_data shown)
 
 -- the text of a held name, behind the names that stand already
 abbrev pub name_line : Bool → Bool → Bytes → Bytes → Bytes
-name_line as_json is_started name shown = if as_json then comma_if is_started ++ name_text shown else name_anchor name shown
+name_line as_json is_started name shown =
+    if as_json then comma_if is_started ++ name_text shown else name_anchor name shown
 
 -- what stands behind the names
 abbrev pub root_bottom : Bool → Bytes
@@ -112,10 +126,13 @@ root_bottom as_json = if as_json then codes "]}" else bottom
 
 -- a held name is written, and a prohibited one is passed over
 abbrev pub root_step : Bool → Bool → Bytes → NameRecord → (Bool → Bytes) → Bytes
-root_step as_json is_started name (Held project) later = (root_start as_json is_started ++ name_line as_json is_started name project.shown) ++ later true
+root_step as_json is_started name (Held project) later =
+    (root_start as_json is_started ++ name_line as_json is_started name project.shown) ++ later true
 root_step as_json is_started name Prohibited later = later is_started
 
 -- name by name
 abbrev pub root_rest : Bool → Bool → List NameRow → Bytes
 root_rest as_json is_started [] = root_start as_json is_started ++ root_bottom as_json
-root_rest as_json is_started (row ∷ rows) = root_step as_json is_started row.name row.record (λ is_started. root_rest as_json is_started rows)
+root_rest as_json is_started (row ∷ rows) =
+    root_step as_json is_started row.name row.record
+    (λ is_started. root_rest as_json is_started rows)

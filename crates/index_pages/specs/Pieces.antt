@@ -3,8 +3,10 @@ use Rattle.std.specs.Prelude.{◌++◌, OnOk, Result}
 use Rattle.index_rules.specs.Maps.{Bytes}
 use Rattle.index_pages.specs.Rest.{Rest, IsNext}
 
--- A text was put behind what was there. `holds` says of which texts something is the text so far: a count is that of each text of its length.
-pub record ExtendsText {O : Type 0} (holds : O → Bytes → Type 0) (before after : O) (text : Bytes) : Type 0 where
+-- A text was put behind what was there. `holds` says of which texts something is the text so far: a
+-- count is that of each text of its length.
+pub record ExtendsText {O : Type 0} (holds : O → Bytes → Type 0) (before after : O)
+    (text : Bytes) : Type 0 where
   pub behind : (front : Bytes) → holds before front → holds after (front ++ text)
 
 -- where nothing failed, this text was put behind what was there
@@ -12,12 +14,15 @@ abbrev pub Adds : {O A E : Type 0} → (O → Bytes → Type 0) → O → O → 
 Adds holds before after result text = OnOk result (ExtendsText holds before after text)
 
 -- the text of this row was put behind what was there
-pub record ExtendsByRow {R O : Type 0} (rest : Rest R) (row : R) (later : Rest R) (holds : O → Bytes → Type 0) (before after : O) : Type 0 where
+pub record ExtendsByRow {R O : Type 0} (rest : Rest R) (row : R) (later : Rest R)
+    (holds : O → Bytes → Type 0) (before after : O) : Type 0 where
   pub text : Bytes
   pub next : IsNext rest row text later
   pub adds : ExtendsText holds before after text
 
--- where nothing failed, a page of this name had the text of a row before it, and that was put behind what was there
-abbrev pub AddsRow : {P R O A E : Type 0} → (P → Bytes → Rest R) → Bytes → P → R → P → (O → Bytes → Type 0) → O → O → Result A E → Type 0
+-- where nothing failed, a page of this name had the text of a row before it, and that
+-- was put behind what was there
+abbrev pub AddsRow : {P R O A E : Type 0} → (P → Bytes → Rest R) → Bytes → P → R → P
+    → (O → Bytes → Type 0) → O → O → Result A E → Type 0
 AddsRow rest name old row new holds before after result =
     OnOk result (ExtendsByRow (rest old name) row (rest new name) holds before after)

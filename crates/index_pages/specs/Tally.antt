@@ -1,5 +1,6 @@
 -- How the choice is made: the best claim on each type so far, item by item.
-use Rattle.std.specs.Prelude.{ℕ, Bool, false, ◌||◌, ◌&&◌, List, [], ◌∷◌, map, if◌then◌else◌, ◌==◌, nat_lt, Option}
+use Rattle.std.specs.Prelude.{ℕ, Bool, false, ◌||◌, ◌&&◌, List, [], ◌∷◌, map, if◌then◌else◌, ◌==◌}
+use Rattle.std.specs.Prelude.{nat_lt, Option}
 use Rattle.std.specs.Option.{option_map_or}
 use Rattle.std.specs.Str.{byte}
 use Rattle.std.specs.Borrow.{Bor}
@@ -12,7 +13,9 @@ use Rattle.index_pages.specs.declared.served.Served.TheVariants.{PlainHtml, Html
 
 -- the first claim is more specific, or as specific and of a greater quality
 abbrev pub is_above : Claim → Claim → Bool
-is_above a b = nat_lt b.specificity a.specificity || ((a.specificity == b.specificity) && nat_lt b.quality a.quality)
+is_above a b =
+    nat_lt b.specificity a.specificity
+    || ((a.specificity == b.specificity) && nat_lt b.quality a.quality)
 
 -- the second claim where it is above the first
 abbrev pub better : Claim → Claim → Claim

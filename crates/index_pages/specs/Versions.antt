@@ -19,7 +19,9 @@ with_releases held (row ∷ rows) = with_releases (with_release held row.release
 abbrev pub versions_of : List FileRow → List Bytes
 versions_of rows = with_releases [] rows
 
--- they rise strictly in byte order, so each stands once, and they are exactly the releases of the files
+-- they rise strictly in byte order, so each stands once, and they are
+-- exactly the releases of the files
 pub record ListsReleases (rows : List FileRow) : Type 0 where
   pub rising : IsStrictlySortedBy bytes_cmp (versions_of rows)
-  pub exact : (release : Bytes) → list_any (same release) (versions_of rows) ≡ list_any (λ row. same release row.release) rows
+  pub exact : (release : Bytes)
+      → list_any (same release) (versions_of rows) ≡ list_any (λ row. same release row.release) rows

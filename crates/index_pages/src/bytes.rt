@@ -26,6 +26,7 @@ pub fn append_escaped<O: Pieces>(out: &mut O, text: &[u8]) -> Result<(), AllocEr
     Ok(())
 }
 
+/// Appends a byte, or what HTML has in its place.
 fn append_escaped_byte<O: Pieces>(out: &mut O, byte: u8) -> Result<(), AllocError>
     ensures { Adds O.holds out.old out.new result (escape_byte byte) }
 {

@@ -18,12 +18,14 @@ pub fn cut(bytes: &[u8], separator: u8) -> (&[u8], Option<&[u8]>)
     (bytes, None)
 }
 
+/// Whether the byte is optional white space (RFC 9110, section 5.6.3).
 fn is_blank(byte: u8) -> bool
     ensures { result ≡ is_blank_lem byte }
 {
     byte == b' ' || byte == b'\t'
 }
 
+/// The bytes without the blanks that they begin with.
 fn trim_start(bytes: &[u8]) -> &[u8]
     ensures { result.now ≡ skip_blanks bytes.now }
 {
@@ -37,6 +39,7 @@ fn trim_start(bytes: &[u8]) -> &[u8]
     rest
 }
 
+/// The bytes without the blanks that they end in.
 fn trim_end(bytes: &[u8]) -> &[u8]
     ensures { result.now ≡ reverse (skip_blanks (reverse bytes.now)) }
 {

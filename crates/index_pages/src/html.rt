@@ -84,6 +84,7 @@ fn append_reference<O: Pieces>(
     Ok(())
 }
 
+/// Appends the attribute `data-requires-python`, or nothing if its value is empty.
 fn append_requires<O: Pieces>(out: &mut O, requires_python: &[u8]) -> Result<(), AllocError>
     ensures { Adds O.holds out.old out.new result (requires_attribute requires_python.now) }
 {
@@ -93,6 +94,7 @@ fn append_requires<O: Pieces>(out: &mut O, requires_python: &[u8]) -> Result<(),
     append_attribute(out, b"data-requires-python", requires_python)
 }
 
+/// Appends the attribute `data-yanked` with the reason, or nothing if the release is not yanked.
 fn append_yanked<O: Pieces>(out: &mut O, yanked: &Option<Text>) -> Result<(), AllocError>
     ensures { Adds O.holds out.old out.new result (yanked_attribute yanked.now) }
 {
@@ -102,6 +104,7 @@ fn append_yanked<O: Pieces>(out: &mut O, yanked: &Option<Text>) -> Result<(), Al
     }
 }
 
+/// Appends a space, the name, and the value escaped and in quotes.
 fn append_attribute<O: Pieces>(out: &mut O, name: &[u8], value: &[u8]) -> Result<(), AllocError>
     ensures { Adds O.holds out.old out.new result (attribute name.now value.now) }
 {

@@ -126,6 +126,7 @@ fn thousandths(digits: &[u8]) -> Option<u16>
     }
 }
 
+/// The value of an ASCII digit.
 fn digit(byte: u8) -> u16
     requires { (48 ≤ byte) × (byte ≤ 57) }
     ensures { result + 48 ≡ byte }

@@ -50,6 +50,7 @@ fn append_front<O: Pieces>(out: &mut O, row: &FileRow) -> Result<(), AllocError>
     Ok(())
 }
 
+/// Appends the member `hashes`, with the digest in hex.
 fn append_hashes<O: Pieces>(out: &mut O, digest: &Digest256) -> Result<(), AllocError>
     ensures { Adds O.holds out.old out.new result (hashes_text digest.now) }
 {
@@ -59,6 +60,7 @@ fn append_hashes<O: Pieces>(out: &mut O, digest: &Digest256) -> Result<(), Alloc
     Ok(())
 }
 
+/// Appends the member `requires-python`, or nothing if its text is empty.
 fn append_requires<O: Pieces>(out: &mut O, requires_python: &str) -> Result<(), AllocError>
     ensures { Adds O.holds out.old out.new result (requires_text requires_python.now) }
 {
@@ -70,6 +72,7 @@ fn append_requires<O: Pieces>(out: &mut O, requires_python: &str) -> Result<(), 
     Ok(())
 }
 
+/// Appends the member `size`.
 fn append_size<O: Pieces>(out: &mut O, size: u64) -> Result<(), AllocError>
     ensures { Adds O.holds out.old out.new result (size_text size) }
 {
@@ -79,6 +82,7 @@ fn append_size<O: Pieces>(out: &mut O, size: u64) -> Result<(), AllocError>
     Ok(())
 }
 
+/// Appends the member `url`, a path from the top of the site.
 fn append_url<O: Pieces>(out: &mut O, project: &str, file: &str) -> Result<(), AllocError>
     ensures { Adds O.holds out.old out.new result (url_text project.now file.now) }
 {
@@ -90,6 +94,7 @@ fn append_url<O: Pieces>(out: &mut O, project: &str, file: &str) -> Result<(), A
     Ok(())
 }
 
+/// Appends the member `yanked` with the reason, or nothing if the release is not yanked.
 fn append_yanked<O: Pieces>(out: &mut O, yanked: &Option<Text>) -> Result<(), AllocError>
     ensures { Adds O.holds out.old out.new result (yanked_text yanked.now) }
 {

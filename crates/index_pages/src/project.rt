@@ -50,6 +50,7 @@ impl ProjectPage {
         }
     }
 
+    /// Appends a row in JSON, after the start of the page if it is the first row, and notes its release.
     fn json_row<O: Pieces>(
         &mut self,
         project: &str,
@@ -65,6 +66,7 @@ impl ProjectPage {
         Ok(())
     }
 
+    /// Appends a row in HTML, after the start of the page if it is the first row.
     fn html_row<O: Pieces>(
         &mut self,
         project: &str,
@@ -80,6 +82,7 @@ impl ProjectPage {
         Ok(())
     }
 
+    /// Appends the end of the page in JSON, after its start if it had no row.
     fn json_end<O: Pieces>(&self, project: &str, out: &mut O) -> Result<(), AllocError>
         ensures { Adds O.holds out.old out.new result (json_left self.now project.now []) }
     {
@@ -89,6 +92,7 @@ impl ProjectPage {
         Ok(())
     }
 
+    /// Appends the end of the page in HTML, after its start if it had no row.
     fn html_end<O: Pieces>(&self, project: &str, out: &mut O) -> Result<(), AllocError>
         ensures { Adds O.holds out.old out.new result (html_left self.now project.now []) }
     {
@@ -195,6 +199,7 @@ fn append_releases<O: Pieces>(out: &mut O, releases: &BTreeSet<Release>) -> Resu
     Ok(())
 }
 
+/// Appends a release to the list of them, after a comma if it is not the first.
 fn append_release<O: Pieces>(
     out: &mut O,
     release: &Release,

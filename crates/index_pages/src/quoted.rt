@@ -42,6 +42,7 @@ fn is_plain(text: &[u8]) -> bool
     is_plain
 }
 
+/// Appends the text as it stands between the quotes of a JSON string.
 fn append_escapes<O: Pieces>(out: &mut O, text: &[u8]) -> Result<(), AllocError>
     ensures { Adds O.holds out.old out.new result (escape text.now) }
 {
@@ -51,6 +52,7 @@ fn append_escapes<O: Pieces>(out: &mut O, text: &[u8]) -> Result<(), AllocError>
     Ok(())
 }
 
+/// Appends a byte, or its escape in a JSON string (RFC 8259, section 7).
 #[tactic(auto, unfolding(json::specs::Print::escape_byte))]
 fn append_json_byte<O: Pieces>(out: &mut O, byte: u8) -> Result<(), AllocError>
     ensures { Adds O.holds out.old out.new result (escape_byte byte) }
@@ -76,6 +78,7 @@ fn append_json_byte<O: Pieces>(out: &mut O, byte: u8) -> Result<(), AllocError>
     }
 }
 
+/// The hex digit, in lower case, of a value below 16.
 fn hex_digit(value: u8) -> u8
     requires { value < 16 }
     ensures { result ≡ digit_char value }

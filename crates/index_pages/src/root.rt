@@ -92,6 +92,7 @@ fn append_start<O: Pieces>(out: &mut O, as_json: bool, is_started: bool) -> Resu
     }
 }
 
+/// Appends what the page has of a held name, in the page's format.
 fn append_line<O: Pieces>(
     out: &mut O,
     page: &RootPage,
@@ -107,6 +108,7 @@ fn append_line<O: Pieces>(
     }
 }
 
+/// Appends a name as it is shown, after a comma if it is not the first.
 fn append_json_name<O: Pieces>(out: &mut O, shown: &str, is_later: bool) -> Result<(), AllocError>
     ensures { Adds O.holds out.old out.new result (comma_if is_later ++ name_text shown.now) }
 {

@@ -101,6 +101,7 @@ fn better(a: Claim, b: Claim) -> Claim
     }
 }
 
+/// The claim of an item on a type: none if its range does not cover the type, or its quality is malformed.
 fn claim_of(served: Served, item: &Item<'_>) -> Claim
     ensures { result ≡ claim served (shown item.now) }
 {

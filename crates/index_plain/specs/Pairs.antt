@@ -20,7 +20,9 @@ module _ {A B : Type 0} (P : A → A → Ordering) (Q : B → B → Ordering) wh
     -- the entries of all inner maps; of those at one key the first counts
     abbrev pub entries_of_all : List (A × BTreeMap B X) → List ((A × B) × X)
     entries_of_all [] = []
-    entries_of_all (e ∷ es) = entries_at e.0 e.1.entries ++ where_key by_both (λ p. not (eq_by_cmp P e.0 p.0)) (entries_of_all es)
+    entries_of_all (e ∷ es) =
+        entries_at e.0 e.1.entries
+        ++ where_key by_both (λ p. not (eq_by_cmp P e.0 p.0)) (entries_of_all es)
 
     -- the map from pairs that a map of maps is
     abbrev pub pairs_of : FinMap P (BTreeMap B X) → FinMap by_both X
@@ -35,14 +37,18 @@ module _ {A B : Type 0} (P : A → A → Ordering) (Q : B → B → Ordering) wh
     pairs_in m = pairs_of (map_of P m)
 
     -- the map from pairs has become what this makes of it
-    abbrev pub TurnsBy : BTreeMap A (BTreeMap B X) → BTreeMap A (BTreeMap B X) → (FinMap by_both X → FinMap by_both X) → Type 0
+    abbrev pub TurnsBy : BTreeMap A (BTreeMap B X) → BTreeMap A (BTreeMap B X)
+        → (FinMap by_both X → FinMap by_both X) → Type 0
     TurnsBy old new change = pairs_in new ≡ change (pairs_in old)
 
     -- it has this value at the pair, or stays as it was where memory ran out
-    abbrev pub PutsPair : {T E : Type 0} → BTreeMap A (BTreeMap B X) → BTreeMap A (BTreeMap B X) → A × B → X → Result T E → Type 0
+    abbrev pub PutsPair : {T E : Type 0} → BTreeMap A (BTreeMap B X) → BTreeMap A (BTreeMap B X)
+        → A × B → X → Result T E → Type 0
     PutsPair old new pair value result = Puts (pairs_in old) (pairs_in new) pair value result
 
     -- so it has, and nothing else at the first key of the pair
-    abbrev pub PutsPairAlone : {T E : Type 0} → BTreeMap A (BTreeMap B X) → BTreeMap A (BTreeMap B X) → A × B → X → Result T E → Type 0
+    abbrev pub PutsPairAlone : {T E : Type 0} → BTreeMap A (BTreeMap B X)
+        → BTreeMap A (BTreeMap B X) → A × B → X → Result T E → Type 0
     PutsPairAlone old new pair value result =
-        TurnsTo (pairs_in old) (pairs_in new) (insert (without_first pair.0 (pairs_in old)) pair value) result
+        TurnsTo (pairs_in old) (pairs_in new)
+        (insert (without_first pair.0 (pairs_in old)) pair value) result

@@ -11,7 +11,9 @@ abbrev pub PicksKey : {K X : Type 0} {R : K → K → Ordering} → FinMap R X �
 PicksKey table picked = MatchOption picked (table ≡ empty) (λ key. IsSome (get table key.now))
 
 -- a second key that stands at this first one, or none where none does
-abbrev pub PicksSecond : {A B X : Type 0} (P : A → A → Ordering) (Q : B → B → Ordering) → BTreeMap A (BTreeMap B X) → A → Option (Bor B) → Type 0
+abbrev pub PicksSecond : {A B X : Type 0} (P : A → A → Ordering) (Q : B → B → Ordering)
+    → BTreeMap A (BTreeMap B X) → A → Option (Bor B) → Type 0
 PicksSecond {A} {B} P Q m first picked =
     let pairs = pairs_in P Q m in
-    MatchOption picked ((second : B) → get pairs (first, second) ≡ None) (λ second. IsSome (get pairs (first, second.now)))
+    MatchOption picked ((second : B) → get pairs (first, second) ≡ None)
+    (λ second. IsSome (get pairs (first, second.now)))

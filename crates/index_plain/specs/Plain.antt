@@ -1,12 +1,18 @@
 -- The tables that the ordered maps hold.
-use Rattle.std.specs.Prelude.{◌≡◌, ◌≢◌, ℕ, Bool, true, false, List, Result, IfOk, IfErr, OnOk, OnErr, is_ok, ⊤}
+use Rattle.std.specs.Prelude.{◌≡◌, ◌≢◌, ℕ, Bool, true, false, List, Result, IfOk, IfErr, OnOk}
+use Rattle.std.specs.Prelude.{OnErr, is_ok, ⊤}
 use Rattle.std.specs.FinMap.{remove}
 use Rattle.index_io.specs.Counts.{next_count}
 use Rattle.index_names.specs.Faults.{FailsByEither}
 use Rattle.index_rules.specs.declared.answer.Fault.{Fault}
 use Rattle.index_rules.specs.declared.answer.Fault.TheVariants as fault
 use Rattle.index_rules.specs.declared.change.Change.{Change}
-use Rattle.index_rules.specs.declared.change.Change.TheVariants.{SetQuota, Claim, AddOwner, RemoveOwner, Upload, Delete, BanFile, Yank, Unyank, Relinquish, Prohibit, Allow, OpenCase, RecordAttempt, Transfer, CloseCase, AnswerCase}
+use Rattle.index_rules.specs.declared.change.Change.TheVariants.{SetQuota, Claim, AddOwner}
+use Rattle.index_rules.specs.declared.change.Change.TheVariants.{RemoveOwner, Upload, Delete}
+use Rattle.index_rules.specs.declared.change.Change.TheVariants.{BanFile, Yank, Unyank, Relinquish}
+use Rattle.index_rules.specs.declared.change.Change.TheVariants.{Prohibit, Allow, OpenCase}
+use Rattle.index_rules.specs.declared.change.Change.TheVariants.{RecordAttempt, Transfer, CloseCase}
+use Rattle.index_rules.specs.declared.change.Change.TheVariants.{AnswerCase}
 use Rattle.index_rules.specs.declared.open.OpenFault.{OpenFault}
 use Rattle.index_rules.specs.declared.open.OpenFault.TheVariants as open_fault
 use Rattle.index_rules.specs.declared.rows.FileRow.{FileRow}
@@ -55,39 +61,47 @@ abbrev pub Writes : Change → PlainBooks → PlainBooks → Type 0
 Writes change = BecomesBy (means change)
 
 -- a change was made, or where memory ran out no table was changed; it is not counted here
-pub record Makes {E : Type 0} (change : Change) (old new : PlainBooks) (result : Result (Unit {0}) E) : Type 0 where
+pub record Makes {E : Type 0} (change : Change) (old new : PlainBooks)
+    (result : Result (Unit {0}) E) : Type 0 where
   pub written : OnOk result (plain_tables new ≡ means change (plain_tables old))
   pub unchanged : OnErr result (plain_tables new ≡ plain_tables old)
   pub failures : failures_of new ≡ failures_of old
 
 -- a change was made, or where memory ran out no table was changed, and the failure is counted
-pub record MakesOrCounts (change : Change) (old new : PlainBooks) (result : Result (Unit {0}) Fault) : Type 0 where
+pub record MakesOrCounts (change : Change) (old new : PlainBooks)
+    (result : Result (Unit {0}) Fault) : Type 0 where
   pub written : OnOk result (plain_tables new ≡ means change (plain_tables old))
   pub unchanged : OnErr result (plain_tables new ≡ plain_tables old)
   pub failures : failures_of new ≡ next_count (failures_of old) (is_ok result)
   pub memory : IfErr result (λ error. error ≡ fault.OutOfMemory)
 
--- what the trait says of a look, of these books: they are always honest, a crash leaves nothing of them, and
--- none answers `Store`
+-- what the trait says of a look, of these books: they are always honest, a crash leaves nothing of
+-- them, and none answers `Store`
 abbrev pub LooksUp : (old new : PlainBooks) (succeeds : Bool) → Type 0
-LooksUp old new succeeds = calls.LooksUp plain_tables (λ books. ⊤) (λ books. ⊤) (λ books T. ⊥) failures_of (λ books. 0) old new succeeds false
+LooksUp old new succeeds =
+    calls.LooksUp plain_tables (λ books. ⊤) (λ books. ⊤) (λ books T. ⊥) failures_of (λ books. 0) old
+    new succeeds false
 
 -- a look that fails for want of memory alone
-pub record LooksInMemory {A : Type 0} (old new : PlainBooks) (result : Result A Fault) : Type 0 where
+pub record LooksInMemory {A : Type 0} (old new : PlainBooks)
+    (result : Result A Fault) : Type 0 where
   pub look : LooksUp old new (is_ok result)
   pub memory : IfErr result (λ error. error ≡ fault.OutOfMemory)
 
 -- a walk over these rows, which no fault of a store ends
-pub record Hands {K R : Type 0} (takes stops : K → R → K → Type 0) (rows : List R) (before after : K) (result : Result (Unit {0}) WalkEnd) : Type 0 where
+pub record Hands {K R : Type 0} (takes stops : K → R → K → Type 0) (rows : List R)
+    (before after : K) (result : Result (Unit {0}) WalkEnd) : Type 0 where
   pub walked : Walks takes stops rows before after result
   pub memory : IfErr result (λ end. end ≢ walk_end.Store)
 
 -- a walk over the held names of these books
-abbrev pub HandsNames : {K : Type 0} (takes stops : K → NameRow → K → Type 0) → PlainBooks → K → K → Result (Unit {0}) WalkEnd → Type 0
+abbrev pub HandsNames : {K : Type 0} (takes stops : K → NameRow → K → Type 0) → PlainBooks → K → K
+    → Result (Unit {0}) WalkEnd → Type 0
 HandsNames takes stops books = Hands takes stops (held_rows_in (plain_tables books))
 
 -- a walk over the undeleted files of a name
-abbrev pub HandsFiles : {K : Type 0} (takes stops : K → FileRow → K → Type 0) → PlainBooks → Bytes → K → K → Result (Unit {0}) WalkEnd → Type 0
+abbrev pub HandsFiles : {K : Type 0} (takes stops : K → FileRow → K → Type 0) → PlainBooks → Bytes
+    → K → K → Result (Unit {0}) WalkEnd → Type 0
 HandsFiles takes stops books name = Hands takes stops (file_rows_in (plain_tables books) name)
 
 -- the books of a new index, in which no call has failed, or why there are none
@@ -103,7 +117,8 @@ without_case name T = record T { cases = remove T.cases name }
 
 -- without its yanks and its case
 abbrev pub without_yanks_and_case : Bytes → Tables → Tables
-without_yanks_and_case name T = record T { yanks = without_name name T.yanks; cases = remove T.cases name }
+without_yanks_and_case name T =
+    record T { yanks = without_name name T.yanks; cases = remove T.cases name }
 
 -- without its owners, its yanks and its case
 abbrev pub without_all_but_record : Bytes → Tables → Tables

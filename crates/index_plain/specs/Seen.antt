@@ -1,5 +1,7 @@
--- What the tables have at the keys of a call, in parts: each line is that of a view (`Sees`). And the rows of one file and of one name.
-use Rattle.std.specs.Prelude.{◌≡◌, false, if◌then◌else◌, List, [], ◌∷◌, filter, Option, option_and_then}
+-- What the tables have at the keys of a call, in parts: each line is that of a view (`Sees`). And
+-- the rows of one file and of one name.
+use Rattle.std.specs.Prelude.{◌≡◌, false, if◌then◌else◌, List, [], ◌∷◌, filter, Option}
+use Rattle.std.specs.Prelude.{option_and_then}
 use Rattle.std.specs.Option.{option_map_or}
 use Rattle.std.specs.FinMap.{get}
 use Rattle.index_rules.specs.declared.keys.Keys.{Keys}
@@ -7,7 +9,8 @@ use Rattle.index_rules.specs.declared.records.FileRecord.{FileRecord}
 use Rattle.index_rules.specs.declared.records.NameRecord.{NameRecord}
 use Rattle.index_rules.specs.declared.rows.FileRow.{FileRow}
 use Rattle.index_rules.specs.declared.rows.NameRow.{NameRow}
-use Rattle.index_rules.specs.Facts.{AreOwners, IsBearerAs, at_both, caller_of, has_release_in, is_banned_in, of_both, yank_in}
+use Rattle.index_rules.specs.Facts.{AreOwners, IsBearerAs, at_both, caller_of, has_release_in}
+use Rattle.index_rules.specs.Facts.{is_banned_in, of_both, yank_in}
 use Rattle.index_rules.specs.Maps.{Bytes}
 use Rattle.index_rules.specs.Sound.{is_undeleted_of}
 use Rattle.index_rules.specs.TableRows.{file_row_in, is_held_row, name_row}
@@ -37,7 +40,8 @@ pub record SeesName (T : Tables) (name : Option Bytes) (seen : NameSeen) : Type 
 
 -- the row of a file, where it is an undeleted one of the name
 abbrev pub rows_of_file : Tables → Bytes → Bytes × FileRecord → List FileRow
-rows_of_file T name entry = if is_undeleted_of name entry.1 then file_row_in T name entry ∷ [] else []
+rows_of_file T name entry =
+    if is_undeleted_of name entry.1 then file_row_in T name entry ∷ [] else []
 
 -- the row of a name, where it is held
 abbrev pub rows_of_name : Bytes → NameRecord → List NameRow

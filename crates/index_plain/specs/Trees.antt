@@ -24,5 +24,6 @@ pub record TurnsTo {M A E : Type 0} (old new made : M) (result : Result A E) : T
   pub unchanged : OnErr result (new ≡ old)
 
 -- so it has this value at the key
-abbrev pub Puts : {K X A E : Type 0} {R : K → K → Ordering} → FinMap R X → FinMap R X → K → X → Result A E → Type 0
+abbrev pub Puts : {K X A E : Type 0} {R : K → K → Ordering} → FinMap R X → FinMap R X → K → X
+    → Result A E → Type 0
 Puts old new key value result = TurnsTo old new (insert old key value) result

@@ -80,6 +80,7 @@ impl PlainBooks {
         PlainBooks::opened(alloc, user, token)
     }
 
+    /// What `new` makes, by one definition.
     fn opened(alloc: Global, user: &[u8], token: Digest256) -> Result<PlainBooks, OpenFault>
         ensures { Opens user.now token result }
     {

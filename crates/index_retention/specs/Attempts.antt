@@ -1,5 +1,6 @@
 -- The attempts to reach a name's owner, and what a case keeps of them.
-use Rattle.std.specs.Prelude.{ℕ, ◌+◌, ◌<◌, ◌≤◌, ◌↔◌, ◌==◌, Bool, true, false, ◌||◌, if◌then◌else◌, List, length, count_by, reverse, Option, Some, None, IsSome}
+use Rattle.std.specs.Prelude.{ℕ, ◌+◌, ◌<◌, ◌≤◌, ◌↔◌, ◌==◌, Bool, true, false, ◌||◌, if◌then◌else◌}
+use Rattle.std.specs.Prelude.{List, length, count_by, reverse, Option, Some, None, IsSome}
 use Rattle.std.specs.List.{find, list_any}
 use Rattle.std.specs.Option.{option_map, option_or}
 use Rattle.index_retention.specs.declared.attempts.Means.{Means}
@@ -30,8 +31,8 @@ is_same_means a b = false
 abbrev pub is_of_means : Means → Attempt → Bool
 is_of_means means attempt = is_same_means means attempt.means
 
--- what a case keeps of its attempts: how many there are, how many were sent, which of the three means occur, sent or
--- not, and the moment of the first that was sent
+-- what a case keeps of its attempts: how many there are, how many were sent, which of the three
+-- means occur, sent or not, and the moment of the first that was sent
 pub record Tally : Type 0 where
   pub attempts : ℕ
   pub sent : ℕ
@@ -42,8 +43,14 @@ pub record Tally : Type 0 where
 
 -- a tally of these parts
 abbrev pub tally_from : ℕ → ℕ → Bool → Bool → Bool → Option ℕ → Tally
-tally_from attempts sent profile author pages first =
-    record { attempts = attempts; sent = sent; profile = profile; author = author; pages = pages; first = first }
+tally_from attempts sent profile author pages first = record {
+  attempts = attempts;
+  sent = sent;
+  profile = profile;
+  author = author;
+  pages = pages;
+  first = first;
+}
 
 -- no attempt more is recorded
 abbrev pub is_full : Tally → Bool

@@ -1,7 +1,9 @@
 -- What the faults print.
 use Rattle.std.specs.Prelude.{ℕ, List, codes}
 use Rattle.index_retention.specs.declared.fault.CaseFault.{CaseFault}
-use Rattle.index_retention.specs.declared.fault.CaseFault.TheVariants.{AttemptsFull, TooFewAttempts, TooEarly, RecentRelease, HomePageActive}
+use Rattle.index_retention.specs.declared.fault.CaseFault.TheVariants.{AttemptsFull, TooFewAttempts}
+use Rattle.index_retention.specs.declared.fault.CaseFault.TheVariants.{TooEarly, RecentRelease}
+use Rattle.index_retention.specs.declared.fault.CaseFault.TheVariants.{HomePageActive}
 
 -- what stands against a transfer, or a further attempt
 abbrev pub case_fault_text : CaseFault → List ℕ

@@ -1,9 +1,12 @@
 -- When a case is ready for a transfer, in the manner of PEP 541.
-use Rattle.std.specs.Prelude.{ℕ, ◌≡◌, ◌+◌, ◌≤◌, Bool, true, false, ◌||◌, ◌&&◌, not, nat_lt, List, [], ◌∷◌, Option, IsTrue, IfSome, IsSomeAnd}
+use Rattle.std.specs.Prelude.{ℕ, ◌≡◌, ◌+◌, ◌≤◌, Bool, true, false, ◌||◌, ◌&&◌, not, nat_lt, List}
+use Rattle.std.specs.Prelude.{[], ◌∷◌, Option, IsTrue, IfSome, IsSomeAnd}
 use Rattle.std.specs.List.{find}
 use Rattle.std.specs.Option.{option_map_or}
 use Rattle.index_retention.specs.declared.fault.CaseFault.{CaseFault}
-use Rattle.index_retention.specs.declared.fault.CaseFault.TheVariants.{AttemptsFull, TooFewAttempts, TooEarly, RecentRelease, HomePageActive}
+use Rattle.index_retention.specs.declared.fault.CaseFault.TheVariants.{AttemptsFull, TooFewAttempts}
+use Rattle.index_retention.specs.declared.fault.CaseFault.TheVariants.{TooEarly, RecentRelease}
+use Rattle.index_retention.specs.declared.fault.CaseFault.TheVariants.{HomePageActive}
 use Rattle.index_retention.specs.Attempts.{Tally}
 
 -- in seconds: 42 days of 86,400, and 365
@@ -20,7 +23,8 @@ fewest_sent = 3
 
 -- fewer than three attempts were sent, or one of the three means has no attempt
 abbrev pub too_few_attempts : Tally → Bool
-too_few_attempts tally = nat_lt tally.sent fewest_sent || not (tally.profile && tally.author && tally.pages)
+too_few_attempts tally =
+    nat_lt tally.sent fewest_sent || not (tally.profile && tally.author && tally.pages)
 
 -- the moment is less than six weeks after the first sent attempt
 abbrev pub too_early : Tally → ℕ → Bool
@@ -28,7 +32,8 @@ too_early tally at = option_map_or (λ first. nat_lt at (first + six_weeks)) tal
 
 -- the moment is less than twelve months after the latest upload, if there is one
 abbrev pub recent_release : Option ℕ → ℕ → Bool
-recent_release last_upload at = option_map_or (λ uploaded. nat_lt at (uploaded + twelve_months)) last_upload false
+recent_release last_upload at =
+    option_map_or (λ uploaded. nat_lt at (uploaded + twelve_months)) last_upload false
 
 -- the office doesn't state that the owner's home page is quiet
 abbrev pub home_page_active : Bool → Bool
@@ -48,11 +53,13 @@ stands_against tally last_upload quiet at HomePageActive = home_page_active quie
 
 -- the least of them that does
 abbrev pub transfer_fault : Tally → Option ℕ → Bool → ℕ → Option CaseFault
-transfer_fault tally last_upload quiet at = find (stands_against tally last_upload quiet at) transfer_faults
+transfer_fault tally last_upload quiet at =
+    find (stands_against tally last_upload quiet at) transfer_faults
 
--- a case is ready for a transfer: three attempts or more were sent, each of the three means has an attempt, six weeks
--- or more have passed since the first that was sent, twelve months or more since the latest upload, where there is one,
--- and the office states that the home page is quiet; these are the opposites of what may stand against it
+-- a case is ready for a transfer: three attempts or more were sent, each of the three means has an
+-- attempt, six weeks or more have passed since the first that was sent, twelve months or more since
+-- the latest upload, where there is one, and the office states that the home page is quiet; these
+-- are the opposites of what may stand against it
 pub record IsReady (tally : Tally) (last_upload : Option ℕ) (quiet : Bool) (at : ℕ) : Type 0 where
   pub sent : fewest_sent ≤ tally.sent
   pub profile : tally.profile ≡ true

@@ -20,6 +20,7 @@ fn is_within(at: u64, since: u64, seconds: u64) -> bool
     at < since || at - since < seconds
 }
 
+/// Whether fewer than three attempts were sent, or one of the three means has no attempt.
 fn has_too_few_attempts(case: &CaseState) -> bool
     ensures { result ≡ too_few_attempts case.now }
 {

@@ -1,10 +1,10 @@
 -- In a legal history a file name is bound to the digest and the size of its first upload, and a ban of it is for good.
-use Rattle.std.proofs.Common.{◌≡◌, ℕ, Bool, true, false, cond, inl, inr, sym, ap, ◌∙◌, [], Option, Some, None, length, refl}
+use Rattle.std.proofs.Common.{◌≡◌, ℕ, Bool, true, false, cond, inl, inr, sym, ap, ◌∙◌, [], Option, Some, None, is_none, length, refl}
 use Rattle.std.specs.Option.{option_or, option_map_or}
 use Rattle.std.specs.FinMap.{get}
-use Rattle.std.proofs.lemmas.Bool.{false≢true}
-use Rattle.index_digest.specs.Digest.{read_digest}
-use Rattle.index_rules.specs.declared.answer.Refusal.TheVariants.{BadDigest, BadFileName, FileBanned, FileNameTaken}
+use Rattle.std.proofs.lemmas.Bool.{false≢true, true≢false}
+use Rattle.index_digest.specs.Digest.{read_digest, sha256}
+use Rattle.index_rules.specs.declared.answer.Refusal.TheVariants.{BadDigest, BadFileName, DigestMismatch, FileBanned, FileNameTaken}
 use Rattle.index_rules.specs.declared.call.Call.{Call}
 use Rattle.index_rules.specs.declared.call.Request.{Request}
 use Rattle.index_rules.specs.declared.call.Request.TheVariants.{Upload, BanFile}
@@ -18,10 +18,11 @@ use Rattle.index_rules.specs.History.{History, begins, more, is_read_as}
 use Rattle.index_rules.specs.PastFiles.{first_upload_after, first_upload_by, is_banned_by, is_banned_after}
 use Rattle.index_rules.specs.StandsFor.{file_after}
 use Rattle.index_rules.specs.Legal.{IsLegal, verdict_after, facts_after}
-use Rattle.index_rules.specs.Laws.{IsUploadOf, HasUpload, BindsFiles, IsBanOf, HasBan, KeepsBans}
+use Rattle.index_rules.specs.Laws.{IsUploadOf, HasUpload, BindsFiles, DeclaresBodies, DeclaresBody, IsBanOf, HasBan, KeepsBans}
 use Rattle.index_rules.proofs.KeyLemmas.{same-refl}
 use Rattle.index_rules.proofs.Accepted.{accepted}
 use Rattle.index_rules.proofs.PastReading.{read_itself}
+use Rattle.index_rules.proofs.SoundLemmas.{digest_is}
 use Rattle.index_rules.proofs.StepFiles.{known-here}
 use Rattle.index_rules.proofs.StandsOn.{tables_of, verdict_agrees, legal_made}
 
@@ -31,21 +32,23 @@ known_before (Upload file sha256 body requires) f before first is =
     ap (λ o. option_or o (cond (is_read_as (read_file file) f) (Some (or_empty (read_digest sha256), length body)) None)) is
 known_before r f before first is = is
 
--- an accepted upload has the digest and the size that are known after it
+-- the digest and the size of an accepted upload's body are known after it
 known_now : (T : Tables) (h : History) → ((file : Bytes) → get T.files file ≡ file_after h file) → (at : ℕ) (token : Bytes) (r : Request) (f : Bytes) (first : Bytes × ℕ)
     → verdict_now T (record { at = at; token = token; request = r }) ≡ Accept → IsUploadOf r f first → first_upload_by r f (first_upload_after h f) ≡ Some first
-known_now T h files at token (Upload file sha256 body requires) f first accepts is =
-    let c : Call = record { at = at; token = token; request = Upload file sha256 body requires } in
+known_now T h files at token (Upload file declared body requires) f first accepts is =
+    let c : Call = record { at = at; token = token; request = Upload file declared body requires } in
     let all = accepted c (facts_in T c) accepts in
     let reads : read_file file ≡ Some file = read_itself file (all.not_refused BadFileName refl) in
     let both : Some f ≡ Some file = sym is.0 ∙ reads in
     let here : f ≡ file = cc in
-    (λ i. first_upload_by (Upload file sha256 body requires) (here i) (first_upload_after h (here i)))
-    ∙ known-here T h files at token [] file sha256 body requires reads (all.not_refused BadDigest refl) (all.not_refused FileNameTaken refl)
+    let digest : sha256 body ≡ or_empty (read_digest declared) = digest_is (read_digest declared) body (all.not_refused BadDigest refl) (all.not_refused DigestMismatch refl) in
+    (λ i. first_upload_by (Upload file declared body requires) (here i) (first_upload_after h (here i)))
+    ∙ known-here T h files at token [] file declared body requires reads (all.not_refused BadDigest refl) (all.not_refused FileNameTaken refl)
+    ∙ ap (λ known. Some (known, length body)) (sym digest)
     ∙ ap Some (sym is.1)
 known_now T h files at token r f first accepts is = absurd is
 
--- each upload has the digest and the size that are known
+-- the digest and the size of each upload's body are known
 known_upload : (h : History) → IsLegal h → (f : Bytes) (first : Bytes × ℕ) → HasUpload h f first → first_upload_after h f ≡ Some first
 known_upload (begins user token) legal f first is = absurd is
 known_upload (more h e) legal f first (inl is) =
@@ -56,6 +59,24 @@ known_upload (more h e) legal f first (inr is) = known_before e.call.request f (
 pub binds_files : (h : History) → IsLegal h → BindsFiles h
 binds_files h legal f first second one other =
     let both : Some first ≡ Some second = sym (known_upload h legal f first one) ∙ known_upload h legal f second other in cc
+
+-- ---- what an upload declares
+
+is_declared : (declared : Option Bytes) (body : Bytes) → is_none declared ≡ false → sha256 body ≡ or_empty declared → declared ≡ Some (sha256 body)
+is_declared None body unread is = absurd (true≢false unread)
+is_declared (Some digest) body unread is = ap Some (sym is)
+
+declares_body : (h : History) (at : ℕ) (token : Bytes) (r : Request) → verdict_after h (record { at = at; token = token; request = r }) ≡ Accept → DeclaresBody r
+declares_body h at token (Upload file declared body requires) accepts =
+    let c : Call = record { at = at; token = token; request = Upload file declared body requires } in
+    let all = accepted c (facts_after h c) accepts in
+    is_declared (read_digest declared) body (all.not_refused BadDigest refl)
+    (digest_is (read_digest declared) body (all.not_refused BadDigest refl) (all.not_refused DigestMismatch refl))
+declares_body h at token r accepts = tt
+
+pub declares_bodies : (h : History) → IsLegal h → DeclaresBodies h
+declares_bodies (begins user token) legal = tt
+declares_bodies (more h e) legal = (declares_bodies h legal.0, declares_body h e.call.at e.call.token e.call.request legal.1)
 
 -- ---- bans
 

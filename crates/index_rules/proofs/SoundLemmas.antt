@@ -99,7 +99,7 @@ pub undeleted_there : (found : Option FileRecord) → is_undeleted found ≡ tru
 undeleted_there None undeleted = absurd (false≢true undeleted)
 undeleted_there (Some known) undeleted = (refl, undeleted)
 
-digest_is : (declared : Option Bytes) (body : Bytes) → is_none declared ≡ false → option_map_or (λ digest. not (same digest (sha256 body))) declared false ≡ false → sha256 body ≡ or_empty declared
+pub digest_is : (declared : Option Bytes) (body : Bytes) → is_none declared ≡ false → option_map_or (λ digest. not (same digest (sha256 body))) declared false ≡ false → sha256 body ≡ or_empty declared
 digest_is None body unread mismatched = absurd (true≢false unread)
 digest_is (Some digest) body unread mismatched = sym (same-is digest (sha256 body) (not-false _ mismatched))
 

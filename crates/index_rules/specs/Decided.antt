@@ -1,5 +1,6 @@
 -- What a decision says of a verdict.
-use Rattle.std.specs.Prelude.{◌≡◌, Bool, false, is_some, List, [], Option, Some, None, Result, Ok, Err, find, length}
+use Rattle.std.specs.Prelude.{◌≡◌, Bool, false, is_some, List, [], Option, Some, None, Result, Ok}
+use Rattle.std.specs.Prelude.{Err, find, length}
 use Rattle.std.specs.Option.{option_map_or}
 use Rattle.index_digest.specs.Digest.{read_digest, sha256}
 use Rattle.index_rules.specs.declared.answer.Refusal.{Refusal}
@@ -15,10 +16,12 @@ use Rattle.index_rules.specs.declared.change.Change.{Change}
 use Rattle.index_rules.specs.Projects.{Project}
 use Rattle.index_rules.specs.Maps.{Bytes, same}
 use Rattle.index_rules.specs.Facts.{Facts, facts_seen}
-use Rattle.index_rules.specs.Verdict.{Verdict, Accept, AlreadySo, Refuse, applies, verdict_of, verdict_on, file_refusals, is_already, refusals_of}
+use Rattle.index_rules.specs.Verdict.{Verdict, Accept, AlreadySo, Refuse, applies, verdict_of}
+use Rattle.index_rules.specs.Verdict.{verdict_on, file_refusals, is_already, refusals_of}
 use Rattle.index_rules.specs.Effect.{effect, the_project, upload_of, with_file}
 
--- the decision is the verdict, and its change the effect; memory can run out only where the verdict is to accept
+-- the decision is the verdict, and its change the effect; memory can run out only
+-- where the verdict is to accept
 abbrev pub Decides : Result Decision Stop → Verdict → Change → Type 0
 Decides (Ok decision.Already) verdict effect = verdict ≡ AlreadySo
 Decides (Ok (decision.Change change)) verdict effect = (verdict ≡ Accept) × (change ≡ effect)
@@ -27,7 +30,8 @@ Decides (Err stop.OutOfMemory) verdict effect = verdict ≡ Accept
 
 -- the decision on a call by these facts
 abbrev pub DecidesBy : Call → Facts → Result Decision Stop → Type 0
-DecidesBy call facts result = Decides result (verdict_on call facts) (effect call.at call.request facts)
+DecidesBy call facts result =
+    Decides result (verdict_on call facts) (effect call.at call.request facts)
 
 -- the same of what an accepted request needs, before its change is made
 abbrev pub Finds : {A : Type 0} → Result (Option A) Stop → Verdict → A → Type 0
@@ -48,20 +52,26 @@ effect_seen context request = effect context.at request (facts_seen context.view
 
 -- a decision on a request whose moment and token are in order
 abbrev pub DecidesIn : Context → Request → Result Decision Stop → Type 0
-DecidesIn context request result = Decides result (verdict_seen context (refusals_of request) request) (effect_seen context request)
+DecidesIn context request result =
+    Decides result (verdict_seen context (refusals_of request) request)
+    (effect_seen context request)
 
--- the same on an upload of these bytes whose parts are in order, whatever text declares their digest
+-- the same on an upload of these bytes whose parts are in order,
+-- whatever text declares their digest
 abbrev pub DecidesOnFile : Context → Bytes → Bytes → Bytes → Result Decision Stop → Type 0
-DecidesOnFile context file body requires result = (declared : Bytes) → read_digest declared ≡ Some (sha256 body) →
-    let request = Upload file declared body requires in
+DecidesOnFile context file body requires result =
+    (declared : Bytes) → read_digest declared ≡ Some (sha256 body)
+    → let request = Upload file declared body requires in
     Decides result (verdict_seen context file_refusals request) (effect_seen context request)
 
 -- the project with the body of such an upload
 abbrev pub FindsProject : Context → Bytes → Result (Option Project) Stop → Type 0
-FindsProject context body result = (declared : Bytes) → read_digest declared ≡ Some (sha256 body) →
-    let request = Upload [] declared body [] in
+FindsProject context body result =
+    (declared : Bytes) → read_digest declared ≡ Some (sha256 body)
+    → let request = Upload [] declared body [] in
     let held = the_project (facts_seen context.view.now request) in
-    Finds result (verdict_seen context file_refusals request) (with_file context.at (length body) held)
+    Finds result (verdict_seen context file_refusals request)
+    (with_file context.at (length body) held)
 
 -- the upload to a project that has the file in its charge is accepted
 abbrev pub Uploads : Context → Project → Bytes → Bytes → Bytes → Result Decision Stop → Type 0
@@ -70,4 +80,5 @@ Uploads context project file body requires result =
 
 -- whether the caller opened the case
 abbrev pub is_candidate_seen : Context → Bool
-is_candidate_seen context = option_map_or (λ case. same case.candidate context.caller.now.user) context.view.now.case false
+is_candidate_seen context =
+    option_map_or (λ case. same case.candidate context.caller.now.user) context.view.now.case false

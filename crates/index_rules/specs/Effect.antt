@@ -1,5 +1,6 @@
 -- What an accepted call writes, and what a change means for the tables.
-use Rattle.std.specs.Prelude.{ℕ, ◌+◌, ◌-◌, max, Bool, true, false, not, if◌then◌else◌, [], Option, Some, None, is_some, unwrap_or, option_map, length}
+use Rattle.std.specs.Prelude.{ℕ, ◌+◌, ◌-◌, max, Bool, true, false, not, if◌then◌else◌, [], Option}
+use Rattle.std.specs.Prelude.{Some, None, is_some, unwrap_or, option_map, length}
 use Rattle.std.specs.Option.{option_map_or}
 use Rattle.std.specs.FinMap.{get, insert, remove, retain_keys}
 use Rattle.index_digest.specs.Digest.{read_digest, sha256}
@@ -8,7 +9,12 @@ use Rattle.index_names.specs.Project.{read_name}
 use Rattle.index_names.specs.Release.{read_release}
 use Rattle.index_rules.specs.declared.call.Call.{Call}
 use Rattle.index_rules.specs.declared.call.Request.{Request}
-use Rattle.index_rules.specs.declared.call.Request.TheVariants.{AddUser, SetToken, SetQuota, Claim, AddOwner, RemoveOwner, Upload, Delete, BanFile, Yank, Unyank, Relinquish, Prohibit, Allow, OpenCase, RecordAttempt, Transfer, CloseCase, AnswerCase}
+use Rattle.index_rules.specs.declared.call.Request.TheVariants.{AddUser, SetToken, SetQuota, Claim}
+use Rattle.index_rules.specs.declared.call.Request.TheVariants.{AddOwner, RemoveOwner, Upload}
+use Rattle.index_rules.specs.declared.call.Request.TheVariants.{Delete, BanFile, Yank, Unyank}
+use Rattle.index_rules.specs.declared.call.Request.TheVariants.{Relinquish, Prohibit, Allow}
+use Rattle.index_rules.specs.declared.call.Request.TheVariants.{OpenCase, RecordAttempt, Transfer}
+use Rattle.index_rules.specs.declared.call.Request.TheVariants.{CloseCase, AnswerCase}
 use Rattle.index_rules.specs.declared.change.Change.{Change}
 use Rattle.index_rules.specs.declared.change.Change.TheVariants as change
 use Rattle.index_rules.specs.declared.records.NameRecord.{NameRecord}
@@ -37,7 +43,8 @@ or_empty read = unwrap_or read []
 abbrev pub the_caller : Facts → Bytes
 the_caller facts = or_empty (option_map (λ caller. caller.user) facts.caller)
 
--- stands where there is no held name, which an accepted request does not meet; so do the three below
+-- stands where there is no held name, which an accepted request does not
+-- meet; so do the three below
 abbrev pub no_project : Project
 no_project = record { shown = []; quota = 0; charge = 0; undeleted = 0; last_upload = None }
 
@@ -53,14 +60,29 @@ abbrev pub the_user : Facts → UserRecord
 the_user facts = unwrap_or facts.user no_user
 
 abbrev pub no_file : FileRecord
-no_file = record { project = []; release = []; digest = []; size = 0; requires_python = []; is_undeleted = false }
+no_file = record {
+  project = [];
+  release = [];
+  digest = [];
+  size = 0;
+  requires_python = [];
+  is_undeleted = false;
+}
 
 -- the record of the file
 abbrev pub the_file : Facts → FileRecord
 the_file facts = unwrap_or facts.file no_file
 
 abbrev pub no_case : CaseRecord
-no_case = record { kind = Continue; candidate = []; contact = []; work = []; why = []; opened = 0; state = tally_of [] }
+no_case = record {
+  kind = Continue;
+  candidate = [];
+  contact = [];
+  work = [];
+  why = [];
+  opened = 0;
+  state = tally_of [];
+}
 
 -- the record of the open case
 abbrev pub the_case : Facts → CaseRecord
@@ -75,11 +97,17 @@ later (Some before) at = max at before
 
 -- one more undeleted file of this size, uploaded at this moment
 abbrev pub with_file : ℕ → ℕ → Project → Project
-with_file at size project = record project { charge = project.charge + size; undeleted = project.undeleted + 1; last_upload = Some (later project.last_upload at) }
+with_file at size project =
+    record project {
+      charge = project.charge + size;
+      undeleted = project.undeleted + 1;
+      last_upload = Some (later project.last_upload at);
+    }
 
 -- one less of this size; nothing falls below 0
 abbrev pub without_file : ℕ → Project → Project
-without_file size project = record project { charge = project.charge - size; undeleted = project.undeleted - 1 }
+without_file size project =
+    record project { charge = project.charge - size; undeleted = project.undeleted - 1 }
 
 -- the record of a file that is deleted: all of it but the flag stays
 abbrev pub as_deleted : FileRecord → FileRecord
@@ -103,43 +131,81 @@ with_attempt_noted attempt case = record case { state = tally_with case.state at
 
 -- a file's record, of its upload with this digest
 abbrev pub new_file : Bytes → Bytes → Bytes → Bytes → FileRecord
-new_file digest file body requires =
-    record { project = project_of file; release = release_of file; digest = digest; size = length body; requires_python = requires; is_undeleted = true }
+new_file digest file body requires = record {
+  project = project_of file;
+  release = release_of file;
+  digest = digest;
+  size = length body;
+  requires_python = requires;
+  is_undeleted = true;
+}
 
--- the change by the upload of a file to a project that has it in its charge, and whether the name has a case that ends
+-- the change by the upload of a file to a project that has it in its charge, and whether
+-- the name has a case that ends
 abbrev pub upload_of : Project → Bytes → Bytes → Bytes → Bool → Change
-upload_of project file body requires ends_case = change.Upload (project_of file) project file (new_file (sha256 body) file body requires) body ends_case
+upload_of project file body requires ends_case =
+    change.Upload (project_of file) project file (new_file (sha256 body) file body requires) body
+    ends_case
 
--- the held name without the file that a ban deletes, where the file is undeleted; in sound tables the name of such a file
--- is held
+-- the held name without the file that a ban deletes, where the file is undeleted; in sound tables
+-- the name of such a file is held
 abbrev pub project_left : Facts → Option Project
-project_left facts = if is_undeleted facts.file then option_map (without_file (the_file facts).size) (held_project facts.name) else None
+project_left facts =
+    if is_undeleted facts.file
+    then option_map (without_file (the_file facts).size) (held_project facts.name)
+    else None
 
 -- a case that this candidate opened at this moment
 abbrev pub new_case : ℕ → Bytes → CaseKind → Bytes → Bytes → Bytes → CaseRecord
-new_case at candidate kind contact work why =
-    record { kind = kind; candidate = candidate; contact = contact; work = work; why = why; opened = at; state = tally_of [] }
+new_case at candidate kind contact work why = record {
+  kind = kind;
+  candidate = candidate;
+  contact = contact;
+  work = work;
+  why = why;
+  opened = at;
+  state = tally_of [];
+}
 
 -- what an accepted request at a moment writes
 abbrev pub effect : ℕ → Request → Facts → Change
-effect at (AddUser user office token) facts = change.AddUser (or_empty (read_user user)) (record { office = office; token = or_empty (read_token token) })
-effect at (SetToken user token) facts = change.SetToken (or_empty (read_user user)) (record { office = (the_user facts).office; token = or_empty (read_token token) })
-effect at (SetQuota name quota) facts = change.SetQuota (or_empty (read_name name)) (record (the_project facts) { quota = quota })
-effect at (Claim name) facts = change.Claim (or_empty (read_name name)) (new_project name) (the_caller facts)
-effect at (AddOwner name user) facts = change.AddOwner (or_empty (read_name name)) (or_empty (read_user user))
-effect at (RemoveOwner name user) facts = change.RemoveOwner (or_empty (read_name name)) (or_empty (read_user user))
+effect at (AddUser user office token) facts =
+    change.AddUser (or_empty (read_user user))
+    (record { office = office; token = or_empty (read_token token) })
+effect at (SetToken user token) facts =
+    change.SetToken (or_empty (read_user user))
+    (record { office = (the_user facts).office; token = or_empty (read_token token) })
+effect at (SetQuota name quota) facts =
+    change.SetQuota (or_empty (read_name name)) (record (the_project facts) { quota = quota })
+effect at (Claim name) facts =
+    change.Claim (or_empty (read_name name)) (new_project name) (the_caller facts)
+effect at (AddOwner name user) facts =
+    change.AddOwner (or_empty (read_name name)) (or_empty (read_user user))
+effect at (RemoveOwner name user) facts =
+    change.RemoveOwner (or_empty (read_name name)) (or_empty (read_user user))
 effect at (Upload file declared body requires) facts =
-    change.Upload (project_of file) (with_file at (length body) (the_project facts)) file (new_file (or_empty (read_digest declared)) file body requires) body (is_some facts.case)
-effect at (Delete file) facts = change.Delete (project_of file) (without_file (the_file facts).size (the_project facts)) file (as_deleted (the_file facts))
-effect at (BanFile file) facts = change.BanFile (project_of file) (project_left facts) file (as_deleted (the_file facts))
-effect at (Yank name release reason) facts = change.Yank (or_empty (read_name name)) (or_empty (read_release release)) reason
-effect at (Unyank name release) facts = change.Unyank (or_empty (read_name name)) (or_empty (read_release release))
+    change.Upload (project_of file) (with_file at (length body) (the_project facts)) file
+    (new_file (or_empty (read_digest declared)) file body requires) body (is_some facts.case)
+effect at (Delete file) facts =
+    change.Delete (project_of file) (without_file (the_file facts).size (the_project facts)) file
+    (as_deleted (the_file facts))
+effect at (BanFile file) facts =
+    change.BanFile (project_of file) (project_left facts) file (as_deleted (the_file facts))
+effect at (Yank name release reason) facts =
+    change.Yank (or_empty (read_name name)) (or_empty (read_release release)) reason
+effect at (Unyank name release) facts =
+    change.Unyank (or_empty (read_name name)) (or_empty (read_release release))
 effect at (Relinquish name) facts = change.Relinquish (or_empty (read_name name))
 effect at (Prohibit name) facts = change.Prohibit (or_empty (read_name name))
 effect at (Allow name) facts = change.Allow (or_empty (read_name name))
-effect at (OpenCase name kind contact work why) facts = change.OpenCase (or_empty (read_name name)) (new_case at (the_caller facts) kind contact work why)
-effect at (RecordAttempt name means sent) facts = change.RecordAttempt (or_empty (read_name name)) (with_attempt_noted (attempt_of means sent at) (the_case facts))
-effect at (Transfer name quiet) facts = change.Transfer (or_empty (read_name name)) (the_case facts).candidate
+effect at (OpenCase name kind contact work why) facts =
+    change.OpenCase (or_empty (read_name name))
+    (new_case at (the_caller facts) kind contact work why)
+effect at (RecordAttempt name means sent) facts =
+    change.RecordAttempt (or_empty (read_name name))
+    (with_attempt_noted (attempt_of means sent at) (the_case facts))
+effect at (Transfer name quiet) facts =
+    change.Transfer (or_empty (read_name name)) (the_case facts).candidate
 effect at (CloseCase name) facts = change.CloseCase (or_empty (read_name name))
 effect at (AnswerCase name) facts = change.AnswerCase (or_empty (read_name name))
 
@@ -168,8 +234,10 @@ means (change.Claim name project owner) T = record T {
   yanks = without_name name T.yanks;
   cases = remove T.cases name;
 }
-means (change.AddOwner name user) T = record T { owners = insert T.owners (name, user) tt; cases = remove T.cases name }
-means (change.RemoveOwner name user) T = record T { owners = remove T.owners (name, user); cases = remove T.cases name }
+means (change.AddOwner name user) T =
+    record T { owners = insert T.owners (name, user) tt; cases = remove T.cases name }
+means (change.RemoveOwner name user) T =
+    record T { owners = remove T.owners (name, user); cases = remove T.cases name }
 means (change.Upload name project file known body ends_case) T = record T {
   names = insert T.names name (Held project);
   files = insert T.files file known;
@@ -188,8 +256,10 @@ means (change.BanFile name project file known) T = record T {
   bodies = remove T.bodies file;
   bans = insert T.bans file tt;
 }
-means (change.Yank name release reason) T = record T { yanks = insert T.yanks (name, release) reason; cases = remove T.cases name }
-means (change.Unyank name release) T = record T { yanks = remove T.yanks (name, release); cases = remove T.cases name }
+means (change.Yank name release reason) T =
+    record T { yanks = insert T.yanks (name, release) reason; cases = remove T.cases name }
+means (change.Unyank name release) T =
+    record T { yanks = remove T.yanks (name, release); cases = remove T.cases name }
 means (change.Relinquish name) T = without_record name T
 means (change.Prohibit name) T = record T {
   names = insert T.names name Prohibited;

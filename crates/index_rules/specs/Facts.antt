@@ -1,5 +1,6 @@
 -- What a verdict rests on.
-use Rattle.std.specs.Prelude.{◌≡◌, Bool, true, false, not, ◌&&◌, ◌||◌, List, [], Option, Some, None, find, option_map, option_and_then}
+use Rattle.std.specs.Prelude.{◌≡◌, Bool, true, false, not, ◌&&◌, ◌||◌, List, [], Option, Some, None}
+use Rattle.std.specs.Prelude.{find, option_map, option_and_then}
 use Rattle.std.specs.Option.{option_map_or}
 use Rattle.std.specs.List.{list_any, list_all}
 use Rattle.std.specs.FinMap.{get, entries, keys, contains_key}
@@ -26,7 +27,8 @@ pub record Facts : Type 0 where
   pub bearer : Option Bytes
   -- the record of the name that the request speaks of
   pub name : Option NameRecord
-  -- whether the caller owns that name, whether the named user does, and whether that user alone does
+  -- whether the caller owns that name, whether the named user does, and
+  -- whether that user alone does
   pub owns : Bool
   pub named_owns : Bool
   pub sole : Bool
@@ -62,18 +64,23 @@ owns_in T name user = contains_key T.owners (name, user)
 
 -- the user owns the name, and nobody else does
 abbrev pub owns_alone_in : Tables → Bytes → Bytes → Bool
-owns_alone_in T name user = owns_in T name user && list_all (λ pair. not (same name pair.0) || same user pair.1) (keys T.owners)
+owns_alone_in T name user =
+    owns_in T name user
+    && list_all (λ pair. not (same name pair.0) || same user pair.1) (keys T.owners)
 
 -- a file of this name and release that is undeleted
 abbrev pub is_undeleted_of_release : Bytes → Bytes → FileRecord → Bool
-is_undeleted_of_release name release known = known.is_undeleted && same name known.project && same release known.release
+is_undeleted_of_release name release known =
+    known.is_undeleted && same name known.project && same release known.release
 
 -- the name has an undeleted file of this release
 abbrev pub has_release_in : Tables → Bytes → Bytes → Bool
-has_release_in T name release = list_any (λ file. is_undeleted_of_release name release file.1) (entries T.files)
+has_release_in T name release =
+    list_any (λ file. is_undeleted_of_release name release file.1) (entries T.files)
 
 -- what is there of a name and a release, where both are there
-abbrev pub at_both : {A : Type 0} → (Bytes → Bytes → Option A) → Option Bytes → Option Bytes → Option A
+abbrev pub at_both : {A : Type 0} → (Bytes → Bytes → Option A) → Option Bytes → Option Bytes
+    → Option A
 at_both found None release = None
 at_both found (Some name) None = None
 at_both found (Some name) (Some release) = found name release
@@ -93,7 +100,8 @@ facts_in T call = record {
   user = option_and_then (get T.users) (user_key call.request);
   bearer = option_map (λ user. user.0) (option_and_then (bearer_in T) (token_key call.request));
   name = option_and_then (get T.names) (name_key call.request);
-  owns = of_both (owns_in T) (name_key call.request) (option_map (λ user. user.0) (bearer_in T call.token));
+  owns = of_both (owns_in T) (name_key call.request)
+      (option_map (λ user. user.0) (bearer_in T call.token));
   named_owns = of_both (owns_in T) (name_key call.request) (user_key call.request);
   sole = of_both (owns_alone_in T) (name_key call.request) (user_key call.request);
   file = option_and_then (get T.files) (file_key call.request);
@@ -105,19 +113,24 @@ facts_in T call = record {
 
 -- no two users bear one digest
 abbrev pub HasOneBearer : Tables → Type 0
-HasOneBearer T = (u v : Bytes) (x y : UserRecord) → get T.users u ≡ Some x → get T.users v ≡ Some y → x.token ≡ y.token → u ≡ v
+HasOneBearer T =
+    (u v : Bytes) (x y : UserRecord) → get T.users u ≡ Some x → get T.users v ≡ Some y
+    → x.token ≡ y.token → u ≡ v
 
 -- ---- read off a view
 
 -- this user bears the token with this digest, or nobody does
 abbrev pub IsBearer : Tables → Bytes → Option (Bytes × UserRecord) → Type 0
-IsBearer T token None = (u : Bytes) (user : UserRecord) → get T.users u ≡ Some user → same token user.token ≡ false
+IsBearer T token None =
+    (u : Bytes) (user : UserRecord) → get T.users u ≡ Some user → same token user.token ≡ false
 IsBearer T token (Some user) = (get T.users user.0 ≡ Some user.1) × (same token user.1.token ≡ true)
 
 -- a part of such a user, where there is a digest to look for
-abbrev pub IsBearerAs : {A : Type 0} → (Bytes × UserRecord → A) → Tables → Option Bytes → Option A → Type 0
+abbrev pub IsBearerAs : {A : Type 0} → (Bytes × UserRecord → A) → Tables → Option Bytes
+    → Option A → Type 0
 IsBearerAs part T None found = found ≡ None
-IsBearerAs part T (Some token) found = (user : Option (Bytes × UserRecord)) × IsBearer T token user × (found ≡ option_map part user)
+IsBearerAs part T (Some token) found =
+    (user : Option (Bytes × UserRecord)) × IsBearer T token user × (found ≡ option_map part user)
 
 -- the owners of a name, each of them, in any order
 abbrev pub AreOwners : Tables → Option Bytes → List Bytes → Type 0
@@ -143,7 +156,8 @@ is_one_of users user = option_map_or (λ one. list_any (same one) users) user fa
 
 -- whether a user is there, and all of these are that user
 abbrev pub is_only_one_of : List Bytes → Option Bytes → Bool
-is_only_one_of users user = option_map_or (λ one. list_any (same one) users && list_all (same one) users) user false
+is_only_one_of users user =
+    option_map_or (λ one. list_any (same one) users && list_all (same one) users) user false
 
 -- what a view says of a request
 abbrev pub facts_seen : View → Request → Facts

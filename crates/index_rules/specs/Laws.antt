@@ -1,10 +1,14 @@
 -- What holds of every legal history. These words speak of no tables.
-use Rattle.std.specs.Prelude.{◌≡◌, ◌⊎◌, ℕ, ◌+◌, Bool, true, false, ◌&&◌, if◌then◌else◌, length, Some, option_map}
+use Rattle.std.specs.Prelude.{◌≡◌, ◌⊎◌, ℕ, ◌+◌, Bool, true, false, ◌&&◌, if◌then◌else◌, length}
+use Rattle.std.specs.Prelude.{Some, option_map}
 use Rattle.index_names.specs.Project.{read_name}
 use Rattle.index_names.specs.FileName.{project_of}
-use Rattle.index_digest.specs.Digest.{read_digest}
+use Rattle.index_digest.specs.Digest.{read_digest, sha256}
 use Rattle.index_rules.specs.declared.call.Request.{Request}
-use Rattle.index_rules.specs.declared.call.Request.TheVariants.{AddUser, SetToken, Claim, AddOwner, RemoveOwner, Upload, Delete, BanFile, Relinquish, Prohibit, Allow, Transfer}
+use Rattle.index_rules.specs.declared.call.Request.TheVariants.{AddUser, SetToken, Claim, AddOwner}
+use Rattle.index_rules.specs.declared.call.Request.TheVariants.{RemoveOwner, Upload, Delete}
+use Rattle.index_rules.specs.declared.call.Request.TheVariants.{BanFile, Relinquish, Prohibit}
+use Rattle.index_rules.specs.declared.call.Request.TheVariants.{Allow, Transfer}
 use Rattle.index_rules.specs.declared.records.UserRecord.{UserRecord}
 use Rattle.index_rules.specs.Maps.{Bytes, same}
 use Rattle.index_retention.specs.Attempts.{tally_of}
@@ -14,7 +18,8 @@ use Rattle.index_rules.specs.Requests.{name_key, read_file}
 use Rattle.index_rules.specs.Effect.{or_empty}
 use Rattle.index_rules.specs.History.{History, Entry, begins, more, is_read_as}
 use Rattle.index_rules.specs.PastUsers.{user_after}
-use Rattle.index_rules.specs.PastNames.{state_after, quota_after, last_upload_after, owns_after, yank_after}
+use Rattle.index_rules.specs.PastNames.{state_after, quota_after, last_upload_after, owns_after}
+use Rattle.index_rules.specs.PastNames.{yank_after}
 use Rattle.index_rules.specs.PastCases.{Case, case_after, is_unanswered_after}
 use Rattle.index_rules.specs.Legal.{IsLegal, verdict_after}
 use Rattle.index_rules.specs.PastFiles.{is_undeleted_after, size_after, charge_after}
@@ -23,13 +28,16 @@ use Rattle.index_rules.specs.PastFiles.{is_undeleted_after, size_after, charge_a
 
 -- at most one user bears a digest
 abbrev pub HasOneBearerOfEach : History → Type 0
-HasOneBearerOfEach h = (u v : Bytes) (x y : UserRecord) → user_after h u ≡ Some x → user_after h v ≡ Some y → x.token ≡ y.token → u ≡ v
+HasOneBearerOfEach h =
+    (u v : Bytes) (x y : UserRecord) → user_after h u ≡ Some x → user_after h v ≡ Some y
+    → x.token ≡ y.token → u ≡ v
 
 -- ---- a file name is bound for good
 
--- the request is an upload of the file with this digest and this size
+-- the request is an upload of the file, of a body with this digest and this size
 abbrev pub IsUploadOf : Request → Bytes → Bytes × ℕ → Type 0
-IsUploadOf (Upload file sha256 body requires) f first = (read_file file ≡ Some f) × (first ≡ (or_empty (read_digest sha256), length body))
+IsUploadOf (Upload file declared body requires) f first =
+    (read_file file ≡ Some f) × (first ≡ (sha256 body, length body))
 IsUploadOf request f first = ⊥
 
 -- some entry of the history is one
@@ -37,10 +45,22 @@ abbrev pub HasUpload : History → Bytes → Bytes × ℕ → Type 0
 HasUpload (begins user token) f first = ⊥
 HasUpload (more h e) f first = IsUploadOf e.call.request f first ⊎ HasUpload h f first
 
--- a file name is bound for good: any two uploads of it have the same digest and the same size, whatever stands between
--- them
+-- a file name is bound for good: any two uploads of it have the same digest and the same size,
+-- whatever stands between them
 abbrev pub BindsFiles : History → Type 0
-BindsFiles h = (f : Bytes) (first second : Bytes × ℕ) → HasUpload h f first → HasUpload h f second → first ≡ second
+BindsFiles h =
+    (f : Bytes) (first second : Bytes × ℕ) → HasUpload h f first → HasUpload h f second
+    → first ≡ second
+
+-- an upload declares the digest of its body
+abbrev pub DeclaresBody : Request → Type 0
+DeclaresBody (Upload file declared body requires) = read_digest declared ≡ Some (sha256 body)
+DeclaresBody request = Unit {0}
+
+-- so does each upload of the history
+abbrev pub DeclaresBodies : History → Type 0
+DeclaresBodies (begins user token) = Unit {0}
+DeclaresBodies (more h e) = DeclaresBodies h × DeclaresBody e.call.request
 
 -- the request is a ban of the file
 abbrev pub IsBanOf : Request → Bytes → Type 0
@@ -55,28 +75,45 @@ HasBan (more h e) f = IsBanOf e.call.request f ⊎ HasBan h f
 -- a ban is for good: no upload of a file stands after a ban of it
 abbrev pub KeepsBans : History → Type 0
 KeepsBans (begins user token) = Unit {0}
-KeepsBans (more h e) = KeepsBans h × ((f : Bytes) (first : Bytes × ℕ) → IsUploadOf e.call.request f first → HasBan h f → ⊥)
+KeepsBans (more h e) =
+    KeepsBans h
+    × ((f : Bytes) (first : Bytes × ℕ) → IsUploadOf e.call.request f first → HasBan h f → ⊥)
 
 -- ---- what moves a charge, a state, the owners
 
--- what a request does to the charge of a name `n`, in bytes, which is `before` ahead of its entry and `after` behind
--- it: an upload adds the size of its body to its own project, a delete takes the file's size away, so does a ban of an
--- undeleted file, a prohibit brings its own name to 0, and nothing else changes a charge
+-- what a request does to the charge of a name `n`, in bytes, which is `before` ahead of its entry
+-- and `after` behind it: an upload adds the size of its body to its own project, a delete takes the
+-- file's size away, so does a ban of an undeleted file, a prohibit brings its own name to 0, and
+-- nothing else changes a charge
 abbrev pub MovesCharge : Request → History → Bytes → ℕ → ℕ → Type 0
-MovesCharge (Upload file sha256 body requires) h n before after = after ≡ before + (if is_read_as (option_map project_of (read_file file)) n then length body else 0)
-MovesCharge (Delete file) h n before after = after + (if is_read_as (option_map project_of (read_file file)) n then size_after h (or_empty (read_file file)) else 0) ≡ before
+MovesCharge (Upload file sha256 body requires) h n before after =
+    after
+    ≡ before + (if is_read_as (option_map project_of (read_file file)) n then length body else 0)
+MovesCharge (Delete file) h n before after =
+    after
+    + (if is_read_as (option_map project_of (read_file file)) n
+    then size_after h (or_empty (read_file file))
+    else 0)
+    ≡ before
 MovesCharge (BanFile file) h n before after =
-    after + (if is_read_as (option_map project_of (read_file file)) n && is_undeleted_after h (or_empty (read_file file)) then size_after h (or_empty (read_file file)) else 0) ≡ before
-MovesCharge (Prohibit name) h n before after = after ≡ (if is_read_as (read_name name) n then 0 else before)
+    after
+    + (if is_read_as (option_map project_of (read_file file)) n
+    && is_undeleted_after h (or_empty (read_file file))
+    then size_after h (or_empty (read_file file))
+    else 0)
+    ≡ before
+MovesCharge (Prohibit name) h n before after =
+    after ≡ (if is_read_as (read_name name) n then 0 else before)
 MovesCharge request h n before after = after ≡ before
 
 -- an upload is of a file that is not undeleted
 abbrev pub UploadsAnew : Request → History → Type 0
-UploadsAnew (Upload file sha256 body requires) h = is_undeleted_after h (or_empty (read_file file)) ≡ false
+UploadsAnew (Upload file sha256 body requires) h =
+    is_undeleted_after h (or_empty (read_file file)) ≡ false
 UploadsAnew request h = Unit {0}
 
--- whether a request may change the state of a name: a claim, a relinquish, a prohibit and an allow may, of their own
--- name
+-- whether a request may change the state of a name: a claim, a relinquish, a prohibit and an
+-- allow may, of their own name
 abbrev pub may_move_state : Request → Bytes → Bool
 may_move_state (Claim name) n = is_read_as (read_name name) n
 may_move_state (Relinquish name) n = is_read_as (read_name name) n
@@ -84,7 +121,8 @@ may_move_state (Prohibit name) n = is_read_as (read_name name) n
 may_move_state (Allow name) n = is_read_as (read_name name) n
 may_move_state request n = false
 
--- whether it may change the owners of a name: these may, and an add_owner, a remove_owner and a transfer
+-- whether it may change the owners of a name: these may, and an add_owner, a
+-- remove_owner and a transfer
 abbrev pub may_move_owners : Request → Bytes → Bool
 may_move_owners (AddOwner name user) n = is_read_as (read_name name) n
 may_move_owners (RemoveOwner name user) n = is_read_as (read_name name) n
@@ -93,10 +131,13 @@ may_move_owners request n = may_move_state request n
 
 -- what an entry moves
 pub record Moves (h : History) (e : Entry) : Type 0 where
-  pub charge : (n : Bytes) → MovesCharge e.call.request h n (charge_after h n) (charge_after (more h e) n)
+  pub charge : (n : Bytes)
+      → MovesCharge e.call.request h n (charge_after h n) (charge_after (more h e) n)
   pub anew : UploadsAnew e.call.request h
-  pub state : (n : Bytes) → may_move_state e.call.request n ≡ false → state_after (more h e) n ≡ state_after h n
-  pub owners : (n u : Bytes) → may_move_owners e.call.request n ≡ false → owns_after (more h e) n u ≡ owns_after h n u
+  pub state : (n : Bytes) → may_move_state e.call.request n ≡ false
+      → state_after (more h e) n ≡ state_after h n
+  pub owners : (n u : Bytes) → may_move_owners e.call.request n ≡ false
+      → owns_after (more h e) n u ≡ owns_after h n u
 
 -- each entry moves what it may
 abbrev pub MovesAsRecorded : History → Type 0
@@ -105,11 +146,13 @@ MovesAsRecorded (more h e) = MovesAsRecorded h × Moves h e
 
 -- ---- every transfer was ready
 
--- what held right before a transfer of the name to the candidate of its case, and what holds right after it
+-- what held right before a transfer of the name to the candidate of its case,
+-- and what holds right after it
 pub record WasReady (h : History) (e : Entry) (name : Bytes) (quiet : Bool) : Type 0 where
   pub case : Case
   pub is_open : case_after h name ≡ Some case
-  -- three attempts were sent and each means was tried, six weeks and a year have passed, and the home page is quiet
+  -- three attempts were sent and each means was tried, six weeks and a year have
+  -- passed, and the home page is quiet
   pub ready : IsReady (tally_of case.attempts) (last_upload_after h name) quiet e.call.at
   -- no owner acted since the case was opened
   pub unanswered : is_unanswered_after h name ≡ true
@@ -120,18 +163,20 @@ pub record WasReady (h : History) (e : Entry) (name : Bytes) (quiet : Bool) : Ty
 
 -- an entry that is a transfer was
 abbrev pub TransferWasReady : Request → History → Entry → Type 0
-TransferWasReady (Transfer name quiet) h e = (n : Bytes) → read_name name ≡ Some n → WasReady h e n quiet
+TransferWasReady (Transfer name quiet) h e =
+    (n : Bytes) → read_name name ≡ Some n → WasReady h e n quiet
 TransferWasReady request h e = Unit {0}
 
--- every transfer was ready; that the charge and the state of the name are as they were too is said by `Moves`
+-- every transfer was ready; that the charge and the state of the name are as they
+-- were too is said by `Moves`
 abbrev pub TransfersWereReady : History → Type 0
 TransfersWereReady (begins user token) = Unit {0}
 TransfersWereReady (more h e) = TransfersWereReady h × TransferWasReady e.call.request h e
 
 -- ---- names don't touch one another
 
--- whether a request is on users, or speaks of the name; an upload, a delete and a ban of a file speak of the project that
--- the file name decides
+-- whether a request is on users, or speaks of the name; an upload, a delete and a ban of a file
+-- speak of the project that the file name decides
 abbrev pub is_kept : Request → Bytes → Bool
 is_kept (AddUser user office token) n = true
 is_kept (SetToken user token) n = true
@@ -140,9 +185,14 @@ is_kept request n = is_read_as (name_key request) n
 -- the opening, the entries on users, and the entries of the name, in their order
 abbrev pub history_of_name : Bytes → History → History
 history_of_name n (begins user token) = begins user token
-history_of_name n (more h e) = if is_kept e.call.request n then more (history_of_name n h) e else history_of_name n h
+history_of_name n (more h e) =
+    if is_kept e.call.request n then more (history_of_name n h) e else history_of_name n h
 
--- that is a legal history, and a call of the name has the same verdict in it: so for one name it makes no difference
--- what was accepted of others
+-- that is a legal history, and a call of the name has the same verdict in it: so for one name it
+-- makes no difference what was accepted of others
 abbrev pub StandsAlone : History → Type 0
-StandsAlone h = (n : Bytes) → IsLegal (history_of_name n h) × ((c : Call) → name_key c.request ≡ Some n → verdict_after (history_of_name n h) c ≡ verdict_after h c)
+StandsAlone h =
+    (n : Bytes)
+    → IsLegal (history_of_name n h)
+    × ((c : Call) → name_key c.request ≡ Some n
+    → verdict_after (history_of_name n h) c ≡ verdict_after h c)

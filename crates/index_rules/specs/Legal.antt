@@ -20,7 +20,10 @@ use Rattle.index_rules.specs.StandsFor.{StandsFor, name_after, file_after, case_
 
 -- the user as the caller of a call, with his office flag
 abbrev pub caller_after : History → Bytes → Caller
-caller_after h user = record { user = user; office = option_map_or (λ account. account.office) (user_after h user) false }
+caller_after h user = record {
+  user = user;
+  office = option_map_or (λ account. account.office) (user_after h user) false;
+}
 
 -- what a history says of a call, whose caller is the bearer of its token
 abbrev pub facts_after : History → Call → Facts
@@ -39,8 +42,8 @@ facts_after h call = record {
   case = option_and_then (case_record_after h) (name_key call.request);
 }
 
--- the verdict on a call after a history: the rules are those of the verdict on tables, and only the facts are read off
--- the history
+-- the verdict on a call after a history: the rules are those of the verdict on tables, and only the
+-- facts are read off the history
 abbrev pub verdict_after : History → Call → Verdict
 verdict_after h call = verdict_on call (facts_after h call)
 
@@ -48,10 +51,12 @@ verdict_after h call = verdict_on call (facts_after h call)
 abbrev pub with_call : History → Call → History
 with_call h call = more h (record { actor = or_empty (bearer_after h call.token); call = call })
 
--- each entry was accepted after the entries before it, and its actor bore its token there; the opening alone is legal
+-- each entry was accepted after the entries before it, and its actor bore its token
+-- there; the opening alone is legal
 abbrev pub IsLegal : History → Type 0
 IsLegal (begins user token) = Unit {0}
-IsLegal (more h e) = IsLegal h × (verdict_after h e.call ≡ Accept) × (bearer_after h e.call.token ≡ Some e.actor)
+IsLegal (more h e) =
+    IsLegal h × (verdict_after h e.call ≡ Accept) × (bearer_after h e.call.token ≡ Some e.actor)
 
 -- ---- calls in a row
 
@@ -62,19 +67,21 @@ history_after h call answer.Already = h
 history_after h call (answer.Refused refusal) = h
 history_after h call (answer.Fault fault) = h
 
--- each answer is the verdict in the history so far or a fault, and exactly the accepted calls are appended, in order
+-- each answer is the verdict in the history so far or a fault, and exactly the accepted
+-- calls are appended, in order
 abbrev pub Extends : History → List Call → List Answer → History → Type 0
 Extends = RunsOver verdict_after history_after
 
--- what is proved of one call: the answer is right, and the tables stand for the history that it leads to, which is
--- legal
+-- what is proved of one call: the answer is right, and the tables stand for the history that
+-- it leads to, which is legal
 pub record CarriesOn (h : History) (call : Call) (answer : Answer) (T' : Tables) : Type 0 where
   pub verdict : Answers (verdict_after h call) answer
   pub legal : IsLegal (history_after h call answer)
   pub stands : StandsFor T' (history_after h call answer)
 
 -- the same of calls in a row
-pub record CarriesOnAll (h : History) (calls : List Call) (answers : List Answer) (T' : Tables) : Type 0 where
+pub record CarriesOnAll (h : History) (calls : List Call) (answers : List Answer)
+    (T' : Tables) : Type 0 where
   pub after : History
   pub extends : Extends h calls answers after
   pub legal : IsLegal after

@@ -1,18 +1,24 @@
--- What a history makes of a retention case: which is open, and its attempts. A name has at most one open case (PEP 541
--- has the outline).
-use Rattle.std.specs.Prelude.{ℕ, Bool, false, not, ◌&&◌, ◌||◌, if◌then◌else◌, List, [], ◌∷◌, Option, Some, None, option_map}
+-- What a history makes of a retention case: which is open, and its attempts. A name has at most one
+-- open case (PEP 541 has the outline).
+use Rattle.std.specs.Prelude.{ℕ, Bool, false, not, ◌&&◌, ◌||◌, if◌then◌else◌, List, [], ◌∷◌, Option}
+use Rattle.std.specs.Prelude.{Some, None, option_map}
 use Rattle.index_names.specs.Project.{read_name}
 use Rattle.index_names.specs.FileName.{project_of}
 use Rattle.index_retention.specs.declared.attempts.CaseKind.{CaseKind}
 use Rattle.index_retention.specs.Attempts.{Attempt, attempt_of}
 use Rattle.index_rules.specs.declared.call.Request.{Request}
-use Rattle.index_rules.specs.declared.call.Request.TheVariants.{AddUser, SetToken, SetQuota, Claim, AddOwner, RemoveOwner, Upload, Delete, BanFile, Yank, Unyank, Relinquish, Prohibit, Allow, OpenCase, RecordAttempt, Transfer, CloseCase, AnswerCase}
+use Rattle.index_rules.specs.declared.call.Request.TheVariants.{AddUser, SetToken, SetQuota, Claim}
+use Rattle.index_rules.specs.declared.call.Request.TheVariants.{AddOwner, RemoveOwner, Upload}
+use Rattle.index_rules.specs.declared.call.Request.TheVariants.{Delete, BanFile, Yank, Unyank}
+use Rattle.index_rules.specs.declared.call.Request.TheVariants.{Relinquish, Prohibit, Allow}
+use Rattle.index_rules.specs.declared.call.Request.TheVariants.{OpenCase, RecordAttempt, Transfer}
+use Rattle.index_rules.specs.declared.call.Request.TheVariants.{CloseCase, AnswerCase}
 use Rattle.index_rules.specs.Maps.{Bytes}
 use Rattle.index_rules.specs.Requests.{read_file}
 use Rattle.index_rules.specs.History.{History, begins, more, is_read_as}
 
--- an open case: its kind, its candidate and his three texts, the moment of its opening, and all its attempts, the
--- newest first
+-- an open case: its kind, its candidate and his three texts, the moment of its opening, and all
+-- its attempts, the newest first
 pub record Case : Type 0 where
   pub kind : CaseKind
   pub candidate : Bytes
@@ -34,7 +40,8 @@ is_owners_request (SetQuota name quota) n = false
 is_owners_request (Claim name) n = false
 is_owners_request (AddOwner name user) n = is_read_as (read_name name) n
 is_owners_request (RemoveOwner name user) n = is_read_as (read_name name) n
-is_owners_request (Upload file sha256 body requires) n = is_read_as (option_map project_of (read_file file)) n
+is_owners_request (Upload file sha256 body requires) n =
+    is_read_as (option_map project_of (read_file file)) n
 is_owners_request (Delete file) n = is_read_as (option_map project_of (read_file file)) n
 is_owners_request (BanFile file) n = false
 is_owners_request (Yank name release reason) n = is_read_as (read_name name) n
@@ -48,19 +55,34 @@ is_owners_request (Transfer name quiet) n = false
 is_owners_request (CloseCase name) n = false
 is_owners_request (AnswerCase name) n = is_read_as (read_name name) n
 
--- the open case, after one request more; a claim has no line: where one is accepted the name is free, and a free name
--- has no open case, since a relinquish and a prohibit end it
+-- the open case, after one request more; a claim has no line: where one is accepted the name is
+-- free, and a free name has no open case, since a relinquish and a prohibit end it
 abbrev pub case_by : Request → Bytes → ℕ → Bytes → Option Case → Option Case
 case_by (OpenCase name kind contact work why) actor at n before =
-    if is_read_as (read_name name) n then Some (record { kind = kind; candidate = actor; contact = contact; work = work; why = why; opened = at; attempts = [] }) else before
-case_by (RecordAttempt name means sent) actor at n before = if is_read_as (read_name name) n then option_map (with_attempt (attempt_of means sent at)) before else before
+    if is_read_as (read_name name) n
+    then Some (record {
+      kind = kind;
+      candidate = actor;
+      contact = contact;
+      work = work;
+      why = why;
+      opened = at;
+      attempts = [];
+    })
+    else before
+case_by (RecordAttempt name means sent) actor at n before =
+    if is_read_as (read_name name) n
+    then option_map (with_attempt (attempt_of means sent at)) before
+    else before
 case_by (CloseCase name) actor at n before = if is_read_as (read_name name) n then None else before
-case_by (Transfer name quiet) actor at n before = if is_read_as (read_name name) n then None else before
+case_by (Transfer name quiet) actor at n before =
+    if is_read_as (read_name name) n then None else before
 case_by (Prohibit name) actor at n before = if is_read_as (read_name name) n then None else before
 case_by request actor at n before = if is_owners_request request n then None else before
 
--- the open case is the last that was opened, as long as it was not closed, the name was not transferred or prohibited,
--- and no owner's request of the name was accepted since; its attempts are those recorded since
+-- the open case is the last that was opened, as long as it was not closed, the name was not
+-- transferred or prohibited, and no owner's request of the name was accepted since; its
+-- attempts are those recorded since
 abbrev pub case_after : History → Bytes → Option Case
 case_after (begins user token) n = None
 case_after (more h e) n = case_by e.call.request e.actor e.call.at n (case_after h n)
@@ -74,8 +96,10 @@ abbrev pub opens_case : Request → Bytes → Bool
 opens_case (OpenCase name kind contact work why) n = is_read_as (read_name name) n
 opens_case request n = false
 
--- no owner's request of the name stands after the last opening of a case on it; no table keeps this, and
--- `TransfersWereReady` speaks of it
+-- no owner's request of the name stands after the last opening of a case on it; no table keeps
+-- this, and `TransfersWereReady` speaks of it
 abbrev pub is_unanswered_after : History → Bytes → Bool
 is_unanswered_after (begins user token) n = false
-is_unanswered_after (more h e) n = opens_case e.call.request n || (not (is_owners_request e.call.request n) && is_unanswered_after h n)
+is_unanswered_after (more h e) n =
+    opens_case e.call.request n
+    || (not (is_owners_request e.call.request n) && is_unanswered_after h n)

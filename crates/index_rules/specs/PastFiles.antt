@@ -1,6 +1,8 @@
--- What a history makes of a file name: whether it is known, undeleted and banned; and what its project is charged. What a
--- file name is, and which project and release it belongs to, is read off the name (PEP 427, PEP 625).
-use Rattle.std.specs.Prelude.{ℕ, Bool, true, false, ◌&&◌, if◌then◌else◌, List, [], ◌∷◌, length, Option, Some, None, sum_by}
+-- What a history makes of a file name: whether it is known, undeleted and banned; and what its
+-- project is charged. What a file name is, and which project and release it belongs to, is read off
+-- the name (PEP 427, PEP 625).
+use Rattle.std.specs.Prelude.{ℕ, Bool, true, false, ◌&&◌, if◌then◌else◌, List, [], ◌∷◌, length}
+use Rattle.std.specs.Prelude.{Option, Some, None, sum_by}
 use Rattle.std.specs.Option.{option_map_or, option_or}
 use Rattle.std.specs.List.{list_any}
 use Rattle.index_names.specs.Project.{read_name}
@@ -15,13 +17,19 @@ use Rattle.index_rules.specs.History.{History, begins, more, is_read_as}
 
 -- ---- known
 
--- what is known of a file, after one request more: what was known before stays, and no request takes it away
+-- what is known of a file, after one request more: what was known before stays,
+-- and no request takes it away
 abbrev pub first_upload_by : Request → Bytes → Option (Bytes × ℕ) → Option (Bytes × ℕ)
-first_upload_by (Upload file sha256 body requires) f before = option_or before (if is_read_as (read_file file) f then Some (or_empty (read_digest sha256), length body) else None)
+first_upload_by (Upload file sha256 body requires) f before =
+    option_or before
+    (if is_read_as (read_file file) f
+    then Some (or_empty (read_digest sha256), length body)
+    else None)
 first_upload_by request f before = before
 
--- the digest and the size of the first upload of the file in all of the history: the register of file names; the digest
--- is the declared one (FIPS 180-4), and an upload whose bytes have another is refused as DigestMismatch
+-- the digest and the size of the first upload of the file in all of the history: the register of
+-- file names; the digest is the declared one (FIPS 180-4), and an upload whose bytes have another
+-- is refused as DigestMismatch
 abbrev pub first_upload_after : History → Bytes → Option (Bytes × ℕ)
 first_upload_after (begins user token) f = None
 first_upload_after (more h e) f = first_upload_by e.call.request f (first_upload_after h f)
@@ -30,13 +38,16 @@ first_upload_after (more h e) f = first_upload_by e.call.request f (first_upload
 
 -- whether a file is undeleted, after one request more
 abbrev pub is_undeleted_by : Request → Bytes → Bool → Bool
-is_undeleted_by (Upload file sha256 body requires) f before = if is_read_as (read_file file) f then true else before
+is_undeleted_by (Upload file sha256 body requires) f before =
+    if is_read_as (read_file file) f then true else before
 is_undeleted_by (Delete file) f before = if is_read_as (read_file file) f then false else before
 is_undeleted_by (BanFile file) f before = if is_read_as (read_file file) f then false else before
-is_undeleted_by (Prohibit name) f before = if is_read_as (read_name name) (project_of f) then false else before
+is_undeleted_by (Prohibit name) f before =
+    if is_read_as (read_name name) (project_of f) then false else before
 is_undeleted_by request f before = before
 
--- of the uploads, deletes and bans of the file, and the prohibits of its project, the last is an upload
+-- of the uploads, deletes and bans of the file, and the prohibits of its
+-- project, the last is an upload
 abbrev pub is_undeleted_after : History → Bytes → Bool
 is_undeleted_after (begins user token) f = false
 is_undeleted_after (more h e) f = is_undeleted_by e.call.request f (is_undeleted_after h f)
@@ -57,7 +68,8 @@ is_banned_after (more h e) f = is_banned_by e.call.request f (is_banned_after h 
 
 -- what is declared of a file, after one request more
 abbrev pub requires_by : Request → Bytes → Bytes → Bytes
-requires_by (Upload file sha256 body requires) f before = if is_read_as (read_file file) f then requires else before
+requires_by (Upload file sha256 body requires) f before =
+    if is_read_as (read_file file) f then requires else before
 requires_by request f before = before
 
 -- the Python versions that the last upload of the file declared
@@ -67,7 +79,8 @@ requires_after (more h e) f = requires_by e.call.request f (requires_after h f)
 
 -- the bytes of a file, after one request more
 abbrev pub last_body_by : Request → Bytes → Bytes → Bytes
-last_body_by (Upload file sha256 body requires) f before = if is_read_as (read_file file) f then body else before
+last_body_by (Upload file sha256 body requires) f before =
+    if is_read_as (read_file file) f then body else before
 last_body_by request f before = before
 
 -- the bytes of the last upload of the file
@@ -102,12 +115,15 @@ is_charged_after h n f = is_undeleted_after h f && same n (project_of f)
 
 -- the sizes of the files that are there, added up
 abbrev pub charge_after : History → Bytes → ℕ
-charge_after h n = sum_by (λ f. if is_charged_after h n f then size_after h f else 0) (uploaded_files_after h)
+charge_after h n =
+    sum_by (λ f. if is_charged_after h n f then size_after h f else 0) (uploaded_files_after h)
 
 -- how many they are
 abbrev pub undeleted_count_after : History → Bytes → ℕ
-undeleted_count_after h n = sum_by (λ f. if is_charged_after h n f then 1 else 0) (uploaded_files_after h)
+undeleted_count_after h n =
+    sum_by (λ f. if is_charged_after h n f then 1 else 0) (uploaded_files_after h)
 
 -- whether one of them is of the release
 abbrev pub has_release_after : History → Bytes → Bytes → Bool
-has_release_after h n r = list_any (λ f. is_charged_after h n f && same r (release_of f)) (uploaded_files_after h)
+has_release_after h n r =
+    list_any (λ f. is_charged_after h n f && same r (release_of f)) (uploaded_files_after h)

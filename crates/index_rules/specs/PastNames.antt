@@ -1,13 +1,17 @@
--- What a history makes of a name: whether it is free, held or prohibited, how it is shown, its quota, its owners, its
--- yanks. A name is meant in its normal form (PEP 503).
-use Rattle.std.specs.Prelude.{ℕ, max, Bool, true, false, not, ◌&&◌, ◌||◌, if◌then◌else◌, List, [], ◌∷◌, Option, Some, None, option_map, option_and_then}
+-- What a history makes of a name: whether it is free, held or prohibited, how it is shown, its
+-- quota, its owners, its yanks. A name is meant in its normal form (PEP 503).
+use Rattle.std.specs.Prelude.{ℕ, max, Bool, true, false, not, ◌&&◌, ◌||◌, if◌then◌else◌, List, []}
+use Rattle.std.specs.Prelude.{◌∷◌, Option, Some, None, option_map, option_and_then}
 use Rattle.std.specs.Option.{option_map_or}
 use Rattle.std.specs.List.{list_all}
 use Rattle.index_names.specs.Project.{read_name}
 use Rattle.index_names.specs.FileName.{project_of}
 use Rattle.index_names.specs.Release.{read_release}
 use Rattle.index_rules.specs.declared.call.Request.{Request}
-use Rattle.index_rules.specs.declared.call.Request.TheVariants.{SetQuota, Claim, AddOwner, RemoveOwner, Upload, Yank, Unyank, Relinquish, Prohibit, Allow, Transfer}
+use Rattle.index_rules.specs.declared.call.Request.TheVariants.{SetQuota, Claim, AddOwner}
+use Rattle.index_rules.specs.declared.call.Request.TheVariants.{RemoveOwner, Upload, Yank, Unyank}
+use Rattle.index_rules.specs.declared.call.Request.TheVariants.{Relinquish, Prohibit, Allow}
+use Rattle.index_rules.specs.declared.call.Request.TheVariants.{Transfer}
 use Rattle.index_rules.specs.Maps.{Bytes, same}
 use Rattle.index_rules.specs.Users.{read_user}
 use Rattle.index_rules.specs.Requests.{read_file}
@@ -32,8 +36,8 @@ state_by (Prohibit name) n before = if is_read_as (read_name name) n then Prohib
 state_by (Allow name) n before = if is_read_as (read_name name) n then Free else before
 state_by request n before = before
 
--- a name is free at first; after that it is as the last claim, relinquish, prohibit or allow of it left it: held, free,
--- prohibited, free
+-- a name is free at first; after that it is as the last claim, relinquish, prohibit or allow of it
+-- left it: held, free, prohibited, free
 abbrev pub state_after : History → Bytes → State
 state_after (begins user token) n = Free
 state_after (more h e) n = state_by e.call.request n (state_after h n)
@@ -72,10 +76,12 @@ quota_after (more h e) n = quota_by e.call.request n (quota_after h n)
 -- the moments of the uploads, after one request more
 abbrev pub uploads_by : Request → ℕ → Bytes → List ℕ → List ℕ
 uploads_by (Claim name) at n before = if is_read_as (read_name name) n then [] else before
-uploads_by (Upload file sha256 body requires) at n before = if is_read_as (option_map project_of (read_file file)) n then at ∷ before else before
+uploads_by (Upload file sha256 body requires) at n before =
+    if is_read_as (option_map project_of (read_file file)) n then at ∷ before else before
 uploads_by request at n before = before
 
--- the moments of the name's uploads since its last claim, whether or not the files were deleted since
+-- the moments of the name's uploads since its last claim, whether or not
+-- the files were deleted since
 abbrev pub uploads_after : History → Bytes → List ℕ
 uploads_after (begins user token) n = []
 uploads_after (more h e) n = uploads_by e.call.request e.call.at n (uploads_after h n)
@@ -91,23 +97,30 @@ last_upload_after h n = greatest (uploads_after h n)
 
 -- ---- the owners
 
--- what one request gives and takes: a claim gives the name to its caller, and to nobody else; an add_owner gives it to
--- a user, and a remove_owner takes it from one; a transfer gives it to the candidate of its case, and to nobody else
+-- what one request gives and takes: a claim gives the name to its caller, and to nobody else; an
+-- add_owner gives it to a user, and a remove_owner takes it from one; a transfer gives it to the
+-- candidate of its case, and to nobody else
 abbrev pub is_given_by : Request → Bytes → Option Bytes → Bytes → Bytes → Bool → Bool
-is_given_by (Claim name) actor candidate n u before = if is_read_as (read_name name) n then same u actor else before
-is_given_by (AddOwner name user) actor candidate n u before = if is_read_as (read_name name) n && is_read_as (read_user user) u then true else before
-is_given_by (RemoveOwner name user) actor candidate n u before = if is_read_as (read_name name) n && is_read_as (read_user user) u then false else before
-is_given_by (Transfer name quiet) actor candidate n u before = if is_read_as (read_name name) n then is_read_as candidate u else before
+is_given_by (Claim name) actor candidate n u before =
+    if is_read_as (read_name name) n then same u actor else before
+is_given_by (AddOwner name user) actor candidate n u before =
+    if is_read_as (read_name name) n && is_read_as (read_user user) u then true else before
+is_given_by (RemoveOwner name user) actor candidate n u before =
+    if is_read_as (read_name name) n && is_read_as (read_user user) u then false else before
+is_given_by (Transfer name quiet) actor candidate n u before =
+    if is_read_as (read_name name) n then is_read_as candidate u else before
 is_given_by request actor candidate n u before = before
 
--- whether the name is given to the user; the candidate of a transfer is that of the case that is open right before it,
--- so it is asked of the history `h` before the entry
+-- whether the name is given to the user; the candidate of a transfer is that of the case that is
+-- open right before it, so it is asked of the history `h` before the entry
 abbrev pub is_given_after : History → Bytes → Bytes → Bool
 is_given_after (begins user token) n u = false
-is_given_after (more h e) n u = is_given_by e.call.request e.actor (candidate_after h n) n u (is_given_after h n u)
+is_given_after (more h e) n u =
+    is_given_by e.call.request e.actor (candidate_after h n) n u (is_given_after h n u)
 
--- an owner is a user to whom a held name is given; so a relinquish and a prohibit end all owners without a line of
--- their own: the name is held no more, and the claim that makes it held again gives it to its caller alone
+-- an owner is a user to whom a held name is given; so a relinquish and a prohibit end all owners
+-- without a line of their own: the name is held no more, and the claim that makes it held again
+-- gives it to its caller alone
 abbrev pub owns_after : History → Bytes → Bytes → Bool
 owns_after h n u = is_held_now (state_after h n) && is_given_after h n u
 
@@ -115,34 +128,43 @@ owns_after h n u = is_held_now (state_after h n) && is_given_after h n u
 abbrev pub receivers_by : Request → Bytes → (Bytes → Option Bytes) → List Bytes → List Bytes
 receivers_by (Claim name) actor candidate users = actor ∷ users
 receivers_by (AddOwner name user) actor candidate users = with_read (read_user user) users
-receivers_by (Transfer name quiet) actor candidate users = with_read (option_and_then candidate (read_name name)) users
+receivers_by (Transfer name quiet) actor candidate users =
+    with_read (option_and_then candidate (read_name name)) users
 receivers_by request actor candidate users = users
 
 -- all to whom any name was ever given
 abbrev pub receivers_after : History → List Bytes
 receivers_after (begins user token) = []
-receivers_after (more h e) = receivers_by e.call.request e.actor (candidate_after h) (receivers_after h)
+receivers_after (more h e) =
+    receivers_by e.call.request e.actor (candidate_after h) (receivers_after h)
 
 -- the user owns the name, and of all to whom any name was ever given nobody else does
 abbrev pub owns_alone_after : History → Bytes → Bytes → Bool
-owns_alone_after h n u = owns_after h n u && list_all (λ v. not (owns_after h n v) || same u v) (receivers_after h)
+owns_alone_after h n u =
+    owns_after h n u && list_all (λ v. not (owns_after h n v) || same u v) (receivers_after h)
 
 -- ---- the yanks (PEP 592)
 
--- the reason for which a release is yanked, after one request more; uploads and deletes have no line: a release stays
--- yanked when its files are deleted, and a file that is uploaded into it later is yanked too
+-- the reason for which a release is yanked, after one request more; uploads and deletes have
+-- no line: a release stays yanked when its files are deleted, and a file that is uploaded
+-- into it later is yanked too
 abbrev pub reason_by : Request → Bytes → Bytes → Option Bytes → Option Bytes
 reason_by (Claim name) n r before = if is_read_as (read_name name) n then None else before
-reason_by (Yank name release reason) n r before = if is_read_as (read_name name) n && is_read_as (read_release release) r then Some reason else before
-reason_by (Unyank name release) n r before = if is_read_as (read_name name) n && is_read_as (read_release release) r then None else before
+reason_by (Yank name release reason) n r before =
+    if is_read_as (read_name name) n && is_read_as (read_release release) r
+    then Some reason
+    else before
+reason_by (Unyank name release) n r before =
+    if is_read_as (read_name name) n && is_read_as (read_release release) r then None else before
 reason_by request n r before = before
 
--- the reason of the last yank of the release since the last claim of the name, where no unyank came after that yank
+-- the reason of the last yank of the release since the last claim of the name, where no
+-- unyank came after that yank
 abbrev pub reason_after : History → Bytes → Bytes → Option Bytes
 reason_after (begins user token) n r = None
 reason_after (more h e) n r = reason_by e.call.request n r (reason_after h n r)
 
--- a release of a held name is yanked for this reason (PEP 592, which marks files; here a yank is of all files of a
--- release); a relinquish and a prohibit end the yanks as they end the owners
+-- a release of a held name is yanked for this reason (PEP 592, which marks files; here a yank is of
+-- all files of a release); a relinquish and a prohibit end the yanks as they end the owners
 abbrev pub yank_after : History → Bytes → Bytes → Option Bytes
 yank_after h n r = if is_held_now (state_after h n) then reason_after h n r else None

@@ -17,12 +17,18 @@ with_token token user = record { office = user.office; token = token }
 
 -- what one request makes of a user's record
 abbrev pub user_by : Request → Bytes → Option UserRecord → Option UserRecord
-user_by (AddUser user office token) u before = if is_read_as (read_user user) u then Some (record { office = office; token = or_empty (read_token token) }) else before
-user_by (SetToken user token) u before = if is_read_as (read_user user) u then option_map (with_token (or_empty (read_token token))) before else before
+user_by (AddUser user office token) u before =
+    if is_read_as (read_user user) u
+    then Some (record { office = office; token = or_empty (read_token token) })
+    else before
+user_by (SetToken user token) u before =
+    if is_read_as (read_user user) u
+    then option_map (with_token (or_empty (read_token token))) before
+    else before
 user_by request u before = before
 
--- a user is there from the opening or from his add_user on; the office flag is that of this entry, and the digest that
--- of the user's last add_user or set_token
+-- a user is there from the opening or from his add_user on; the office flag is that of this entry,
+-- and the digest that of the user's last add_user or set_token
 abbrev pub user_after : History → Bytes → Option UserRecord
 user_after (begins user token) u = if same u user then Some (first_record token) else None
 user_after (more h e) u = user_by e.call.request u (user_after h u)

@@ -35,9 +35,20 @@ pub record FitsProject (quota charge undeleted : ℕ) : Type 0 where
 
 -- a project of these parts
 abbrev pub project_from : Bytes → ℕ → ℕ → ℕ → Option ℕ → Project
-project_from shown quota charge undeleted last_upload =
-    record { shown = shown; quota = quota; charge = charge; undeleted = undeleted; last_upload = last_upload }
+project_from shown quota charge undeleted last_upload = record {
+  shown = shown;
+  quota = quota;
+  charge = charge;
+  undeleted = undeleted;
+  last_upload = last_upload;
+}
 
 -- the project of a name that is claimed in this spelling
 abbrev pub new_project : Bytes → Project
-new_project shown = record { shown = shown; quota = first_quota; charge = 0; undeleted = 0; last_upload = None }
+new_project shown = record {
+  shown = shown;
+  quota = first_quota;
+  charge = 0;
+  undeleted = 0;
+  last_upload = None;
+}

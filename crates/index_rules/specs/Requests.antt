@@ -1,12 +1,18 @@
 -- The readable parts of a request.
-use Rattle.std.specs.Prelude.{◌≡◌, ◌⊎◌, Bool, true, false, Option, Some, None, IsSome, IsTrue, option_map, Result, IfOk, IfErr}
+use Rattle.std.specs.Prelude.{◌≡◌, ◌⊎◌, Bool, true, false, Option, Some, None, IsSome, IsTrue}
+use Rattle.std.specs.Prelude.{option_map, Result, IfOk, IfErr}
 use Rattle.index_names.specs.Project.{read_name}
 use Rattle.index_names.specs.FileName.{read_file_name, project_of}
 use Rattle.index_names.specs.Release.{read_release}
 use Rattle.index_digest.specs.Digest.{read_digest}
 use Rattle.index_rules.specs.declared.call.Call.{Call}
 use Rattle.index_rules.specs.declared.call.Request.{Request}
-use Rattle.index_rules.specs.declared.call.Request.TheVariants.{AddUser, SetToken, SetQuota, Claim, AddOwner, RemoveOwner, Upload, Delete, BanFile, Yank, Unyank, Relinquish, Prohibit, Allow, OpenCase, RecordAttempt, Transfer, CloseCase, AnswerCase}
+use Rattle.index_rules.specs.declared.call.Request.TheVariants.{AddUser, SetToken, SetQuota, Claim}
+use Rattle.index_rules.specs.declared.call.Request.TheVariants.{AddOwner, RemoveOwner, Upload}
+use Rattle.index_rules.specs.declared.call.Request.TheVariants.{Delete, BanFile, Yank, Unyank}
+use Rattle.index_rules.specs.declared.call.Request.TheVariants.{Relinquish, Prohibit, Allow}
+use Rattle.index_rules.specs.declared.call.Request.TheVariants.{OpenCase, RecordAttempt, Transfer}
+use Rattle.index_rules.specs.declared.call.Request.TheVariants.{CloseCase, AnswerCase}
 use Rattle.index_rules.specs.declared.keys.Keys.{Keys}
 use Rattle.index_rules.specs.Maps.{Bytes}
 use Rattle.index_rules.specs.Users.{read_user}
@@ -98,13 +104,22 @@ keys_of call = keys_of_request (Some call.token) call.request
 -- one of what is looked up for a request can be read of it
 abbrev pub HasReadableKey : Request → Type 0
 HasReadableKey request =
-    IsSome (user_key request) ⊎ IsSome (name_key request) ⊎ IsSome (file_key request) ⊎ IsSome (release_key request)
+    IsSome (user_key request) ⊎ IsSome (name_key request) ⊎ IsSome (file_key request)
+    ⊎ IsSome (release_key request)
 
 -- what is looked up for a request was read, or memory ran out over what can be read of it
-pub record ReadsKeys {E : Type 0} (caller : Option Bytes) (request : Request) (result : Result Keys E) : Type 0 where
+pub record ReadsKeys {E : Type 0} (caller : Option Bytes) (request : Request)
+    (result : Result Keys E) : Type 0 where
   pub keys : IfOk result (λ keys. keys ≡ keys_of_request caller request)
   pub readable : IfErr result (λ _. HasReadableKey request)
 
 -- a name alone
 abbrev pub keys_of_name : Bytes → Keys
-keys_of_name name = record { caller = None; user = None; token = None; name = Some name; file = None; release = None }
+keys_of_name name = record {
+  caller = None;
+  user = None;
+  token = None;
+  name = Some name;
+  file = None;
+  release = None;
+}

@@ -10,6 +10,7 @@ abbrev pub ReturnsItems : {A Alloc E : Type 0} → Result (Vec A Alloc) E → Li
 ReturnsItems result items = IfOk result (λ returned. returned.items ≡ items)
 
 -- a call returns what bytes are read as, and can fail only where they are readable
-pub record ReturnsRead {A E : Type 0} (read : Option A) (result : Result (Option A) E) : Type 0 where
+pub record ReturnsRead {A E : Type 0} (read : Option A)
+    (result : Result (Option A) E) : Type 0 where
   pub key : Returns result read
   pub readable : IfErr result (λ _. IsSome read)

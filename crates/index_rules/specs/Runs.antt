@@ -25,11 +25,13 @@ tables_after_change T change (Fault fault) = T
 
 -- the tables after a call that was answered so
 abbrev pub tables_after : Tables → Call → Answer → Tables
-tables_after T call answer = tables_after_change T (effect call.at call.request (facts_in T call)) answer
+tables_after T call answer =
+    tables_after_change T (effect call.at call.request (facts_in T call)) answer
 
--- calls in a row, over what a verdict is read off and what is next after an answer: each answer is the verdict at its
--- point or a fault
-abbrev pub RunsOver : {S : Type 0} → (S → Call → Verdict) → (S → Call → Answer → S) → S → List Call → List Answer → S → Type 0
+-- calls in a row, over what a verdict is read off and what is next after an answer: each answer is
+-- the verdict at its point or a fault
+abbrev pub RunsOver : {S : Type 0} → (S → Call → Verdict) → (S → Call → Answer → S) → S → List Call
+    → List Answer → S → Type 0
 RunsOver verdict next s [] [] s' = s' ≡ s
 RunsOver verdict next s [] (answer ∷ answers) s' = ⊥
 RunsOver verdict next s (call ∷ calls) [] s' = ⊥

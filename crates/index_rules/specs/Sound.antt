@@ -1,5 +1,6 @@
 -- Tables whose accounts add up.
-use Rattle.std.specs.Prelude.{◌≡◌, ℕ, ◌≤◌, Bool, true, false, ◌&&◌, if◌then◌else◌, Some, is_some, length, sum_by, count_by}
+use Rattle.std.specs.Prelude.{◌≡◌, ℕ, ◌≤◌, Bool, true, false, ◌&&◌, if◌then◌else◌, Some, is_some}
+use Rattle.std.specs.Prelude.{length, sum_by, count_by}
 use Rattle.std.specs.FinMap.{get, entries}
 use Rattle.index_names.specs.FileName.{read_file_name, project_of, release_of}
 use Rattle.index_digest.specs.Digest.{sha256}
@@ -37,31 +38,42 @@ pub record IsBodyOf (known : FileRecord) (body : Bytes) : Type 0 where
   pub size : length body ≡ known.size
   pub digest : sha256 body ≡ known.digest
 
--- each key stands once, since the tables are maps, and a prohibited name has neither charge nor quota
+-- each key stands once, since the tables are maps, and a prohibited name
+-- has neither charge nor quota
 pub record IsSound (T : Tables) : Type 0 where
   -- no two users bear one digest
   pub one_bearer : HasOneBearer T
   -- a name that has an owner is held
   pub owners : (name user : Bytes) → owns_in T name user ≡ true → is_held (get T.names name) ≡ true
   -- a held name has an owner
-  pub owned : (name : Bytes) → is_held (get T.names name) ≡ true → (user : Bytes) × (owns_in T name user ≡ true)
+  pub owned : (name : Bytes) → is_held (get T.names name) ≡ true
+      → (user : Bytes) × (owns_in T name user ≡ true)
   -- a name that has a yanked release is held
-  pub yanks : (name release : Bytes) → is_some (yank_in T name release) ≡ true → is_held (get T.names name) ≡ true
+  pub yanks : (name release : Bytes) → is_some (yank_in T name release) ≡ true
+      → is_held (get T.names name) ≡ true
   -- a name that has an open case is held
   pub cases : (name : Bytes) → is_some (get T.cases name) ≡ true → is_held (get T.names name) ≡ true
   -- each file has the project and the release that its name spells
-  pub spelled : (file : Bytes) (known : FileRecord) → get T.files file ≡ Some known → IsRecordOf file known
+  pub spelled : (file : Bytes) (known : FileRecord) → get T.files file ≡ Some known
+      → IsRecordOf file known
   -- an undeleted file's project is held
-  pub undeleted_held : (file : Bytes) (known : FileRecord) → get T.files file ≡ Some known → known.is_undeleted ≡ true → is_held (get T.names known.project) ≡ true
+  pub undeleted_held : (file : Bytes) (known : FileRecord) → get T.files file ≡ Some known
+      → known.is_undeleted ≡ true → is_held (get T.names known.project) ≡ true
   -- a held name's charge is the sum of the sizes of its undeleted files
-  pub charge : (name : Bytes) (project : Project) → held_project (get T.names name) ≡ Some project → project.charge ≡ charge_in T name
+  pub charge : (name : Bytes) (project : Project) → held_project (get T.names name) ≡ Some project
+      → project.charge ≡ charge_in T name
   -- its count is the number of these files
-  pub undeleted : (name : Bytes) (project : Project) → held_project (get T.names name) ≡ Some project → project.undeleted ≡ undeleted_count_in T name
+  pub undeleted : (name : Bytes) (project : Project)
+      → held_project (get T.names name) ≡ Some project
+      → project.undeleted ≡ undeleted_count_in T name
   -- its charge is not above its quota
-  pub quota : (name : Bytes) (project : Project) → held_project (get T.names name) ≡ Some project → project.charge ≤ project.quota
+  pub quota : (name : Bytes) (project : Project) → held_project (get T.names name) ≡ Some project
+      → project.charge ≤ project.quota
   -- the undeleted files, and no others, have a body
   pub bodies : (file : Bytes) → is_some (get T.bodies file) ≡ is_undeleted (get T.files file)
   -- each body has the size and the digest of its file's record
-  pub bytes : (file body : Bytes) (known : FileRecord) → get T.bodies file ≡ Some body → get T.files file ≡ Some known → IsBodyOf known body
+  pub bytes : (file body : Bytes) (known : FileRecord) → get T.bodies file ≡ Some body
+      → get T.files file ≡ Some known → IsBodyOf known body
   -- a banned file is known, and not undeleted
-  pub bans : (file : Bytes) → is_banned_in T file ≡ true → (known : FileRecord) × (get T.files file ≡ Some known) × (known.is_undeleted ≡ false)
+  pub bans : (file : Bytes) → is_banned_in T file ≡ true
+      → (known : FileRecord) × (get T.files file ≡ Some known) × (known.is_undeleted ≡ false)

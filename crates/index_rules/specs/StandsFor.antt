@@ -13,9 +13,12 @@ use Rattle.index_rules.specs.Tables.{Tables}
 use Rattle.index_rules.specs.Facts.{owns_in, yank_in, is_banned_in}
 use Rattle.index_rules.specs.History.{History}
 use Rattle.index_rules.specs.PastUsers.{user_after}
-use Rattle.index_rules.specs.PastNames.{State, Free, Held, Prohibited, state_after, shown_after, quota_after, last_upload_after, owns_after, yank_after}
+use Rattle.index_rules.specs.PastNames.{State, Free, Held, Prohibited, state_after, shown_after}
+use Rattle.index_rules.specs.PastNames.{quota_after, last_upload_after, owns_after, yank_after}
 use Rattle.index_rules.specs.PastCases.{Case, case_after}
-use Rattle.index_rules.specs.PastFiles.{first_upload_after, is_undeleted_after, is_banned_after, requires_after, last_body_after, charge_after, undeleted_count_after}
+use Rattle.index_rules.specs.PastFiles.{first_upload_after, is_undeleted_after, is_banned_after}
+use Rattle.index_rules.specs.PastFiles.{requires_after, last_body_after, charge_after}
+use Rattle.index_rules.specs.PastFiles.{undeleted_count_after}
 
 -- nothing is kept of a free name, its values of a held one, and no values of a prohibited one
 abbrev pub record_of_state : State → Project → Option NameRecord
@@ -25,7 +28,13 @@ record_of_state Prohibited project = Some name_record.Prohibited
 
 -- the record of a held name: its shown name, quota, charge, count and latest upload
 abbrev pub project_after : History → Bytes → Project
-project_after h n = record { shown = shown_after h n; quota = quota_after h n; charge = charge_after h n; undeleted = undeleted_count_after h n; last_upload = last_upload_after h n }
+project_after h n = record {
+  shown = shown_after h n;
+  quota = quota_after h n;
+  charge = charge_after h n;
+  undeleted = undeleted_count_after h n;
+  last_upload = last_upload_after h n;
+}
 
 -- the record of a name
 abbrev pub name_after : History → Bytes → Option NameRecord
@@ -44,7 +53,9 @@ file_of_upload f requires is_undeleted first = record {
 
 -- the record of a file is there where the file is known
 abbrev pub file_after : History → Bytes → Option FileRecord
-file_after h f = option_map (file_of_upload f (requires_after h f) (is_undeleted_after h f)) (first_upload_after h f)
+file_after h f =
+    option_map (file_of_upload f (requires_after h f) (is_undeleted_after h f))
+    (first_upload_after h f)
 
 -- the bytes of a file are there where it is undeleted
 abbrev pub body_after : History → Bytes → Option Bytes
@@ -66,8 +77,8 @@ record_of_case case = record {
 abbrev pub case_record_after : History → Bytes → Option CaseRecord
 case_record_after h n = option_map record_of_case (case_after h n)
 
--- the tables hold exactly these records; each key stands once, since the tables are maps, so this says all there is to
--- say of them: tables that stand for one history are equal
+-- the tables hold exactly these records; each key stands once, since the tables are maps, so this
+-- says all there is to say of them: tables that stand for one history are equal
 pub record StandsFor (T : Tables) (h : History) : Type 0 where
   pub users : (user : Bytes) → get T.users user ≡ user_after h user
   pub names : (name : Bytes) → get T.names name ≡ name_after h name

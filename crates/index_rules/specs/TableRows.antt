@@ -40,4 +40,5 @@ file_row_in T name entry = record {
 
 -- the undeleted files of a name
 abbrev pub file_rows_in : Tables → Bytes → List FileRow
-file_rows_in T name = map (file_row_in T name) (filter (λ entry. is_undeleted_of name entry.1) (entries T.files))
+file_rows_in T name =
+    map (file_row_in T name) (filter (λ entry. is_undeleted_of name entry.1) (entries T.files))

@@ -1,5 +1,6 @@
 -- Texts and token digests that requests bring.
-use Rattle.std.specs.Prelude.{ℕ, Bool, IsTrue, not, ◌&&◌, nat_le, [], length, Option, Some, None, option_and_then, if◌then◌else◌}
+use Rattle.std.specs.Prelude.{ℕ, Bool, IsTrue, not, ◌&&◌, nat_le, [], length, Option, Some, None}
+use Rattle.std.specs.Prelude.{option_and_then, if◌then◌else◌}
 use Rattle.std.specs.Char.{is_control}
 use Rattle.std.specs.List.{list_any}
 use Rattle.std.specs.Str.{is_utf8, chars}
@@ -26,4 +27,6 @@ pub record AreEvidence (contact work why : Bytes) : Type 0 where
 
 -- the digest of a token that a text gives; the empty text is no token
 unfoldable pub read_token : Bytes → Option Bytes
-read_token text = option_and_then (λ digest. if same digest (sha256 []) then None else Some digest) (read_digest text)
+read_token text =
+    option_and_then (λ digest. if same digest (sha256 []) then None else Some digest)
+    (read_digest text)

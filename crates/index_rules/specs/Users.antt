@@ -1,12 +1,14 @@
 -- User ids.
-use Rattle.std.specs.Prelude.{◌≡◌, ℕ, Bool, ◌&&◌, ◌||◌, nat_le, length, Option, Some, None, if◌then◌else◌}
+use Rattle.std.specs.Prelude.{◌≡◌, ℕ, Bool, ◌&&◌, ◌||◌, nat_le, length, Option, Some, None}
+use Rattle.std.specs.Prelude.{if◌then◌else◌}
 use Rattle.std.specs.List.{list_all}
 use Rattle.std.specs.Str.{byte}
 use Rattle.index_rules.specs.Maps.{Bytes}
 
 -- a letter of `a-z`, or a digit
 abbrev pub is_user_letter : ℕ → Bool
-is_user_letter c = (nat_le (byte "a") c && nat_le c (byte "z")) || (nat_le (byte "0") c && nat_le c (byte "9"))
+is_user_letter c =
+    (nat_le (byte "a") c && nat_le c (byte "z")) || (nat_le (byte "0") c && nat_le c (byte "9"))
 
 -- the most bytes of a user id
 abbrev pub longest_user_id : ℕ

@@ -1,12 +1,33 @@
--- The verdict on a call: the least refusal that applies, else that it is so already, else that it is accepted.
-use Rattle.std.specs.Prelude.{ℕ, ◌+◌, Bool, true, false, not, ◌&&◌, ◌==◌, nat_lt, List, [], ◌∷◌, length, Option, Some, None, is_some, is_none, find}
+-- The verdict on a call: the least refusal that applies, else that it is so
+-- already, else that it is accepted.
+use Rattle.std.specs.Prelude.{ℕ, ◌+◌, Bool, true, false, not, ◌&&◌, ◌==◌, nat_lt, List, [], ◌∷◌}
+use Rattle.std.specs.Prelude.{length, Option, Some, None, is_some, is_none, find}
 use Rattle.std.specs.Option.{option_map_or}
 use Rattle.index_digest.specs.Digest.{read_digest, sha256}
 use Rattle.index_rules.specs.declared.call.Call.{Call}
 use Rattle.index_rules.specs.declared.call.Request.{Request}
-use Rattle.index_rules.specs.declared.call.Request.TheVariants.{AddUser, SetToken, SetQuota, Claim, AddOwner, RemoveOwner, Upload, Delete, BanFile, Yank, Unyank, Relinquish, Prohibit, Allow, OpenCase, RecordAttempt, Transfer, CloseCase, AnswerCase}
+use Rattle.index_rules.specs.declared.call.Request.TheVariants.{AddUser, SetToken, SetQuota, Claim}
+use Rattle.index_rules.specs.declared.call.Request.TheVariants.{AddOwner, RemoveOwner, Upload}
+use Rattle.index_rules.specs.declared.call.Request.TheVariants.{Delete, BanFile, Yank, Unyank}
+use Rattle.index_rules.specs.declared.call.Request.TheVariants.{Relinquish, Prohibit, Allow}
+use Rattle.index_rules.specs.declared.call.Request.TheVariants.{OpenCase, RecordAttempt, Transfer}
+use Rattle.index_rules.specs.declared.call.Request.TheVariants.{CloseCase, AnswerCase}
 use Rattle.index_rules.specs.declared.answer.Refusal.{Refusal}
-use Rattle.index_rules.specs.declared.answer.Refusal.TheVariants.{BadMoment, BadToken, NotOffice, BadUser, BadName, BadFileName, BadRelease, BadText, BadDigest, TooLarge, DigestMismatch, QuotaTooLarge, NoUser, UserExists, TokenTaken, NameProhibited, NoProject, NotOwner, NameHeld, LastOwner, FilesRemain, NoFile, NoRelease, FileNameTaken, FileBanned, OverQuota, QuotaBelowCharge, CaseOpen, OwnerCandidate, NoCase, AttemptsFull, TooFewAttempts, TooEarly, RecentRelease, HomePageActive}
+use Rattle.index_rules.specs.declared.answer.Refusal.TheVariants.{BadMoment, BadToken, NotOffice}
+use Rattle.index_rules.specs.declared.answer.Refusal.TheVariants.{BadUser, BadName, BadFileName}
+use Rattle.index_rules.specs.declared.answer.Refusal.TheVariants.{BadRelease, BadText, BadDigest}
+use Rattle.index_rules.specs.declared.answer.Refusal.TheVariants.{TooLarge, DigestMismatch}
+use Rattle.index_rules.specs.declared.answer.Refusal.TheVariants.{QuotaTooLarge, NoUser, UserExists}
+use Rattle.index_rules.specs.declared.answer.Refusal.TheVariants.{TokenTaken, NameProhibited}
+use Rattle.index_rules.specs.declared.answer.Refusal.TheVariants.{NoProject, NotOwner, NameHeld}
+use Rattle.index_rules.specs.declared.answer.Refusal.TheVariants.{LastOwner, FilesRemain, NoFile}
+use Rattle.index_rules.specs.declared.answer.Refusal.TheVariants.{NoRelease, FileNameTaken}
+use Rattle.index_rules.specs.declared.answer.Refusal.TheVariants.{FileBanned, OverQuota}
+use Rattle.index_rules.specs.declared.answer.Refusal.TheVariants.{QuotaBelowCharge, CaseOpen}
+use Rattle.index_rules.specs.declared.answer.Refusal.TheVariants.{OwnerCandidate, NoCase}
+use Rattle.index_rules.specs.declared.answer.Refusal.TheVariants.{AttemptsFull, TooFewAttempts}
+use Rattle.index_rules.specs.declared.answer.Refusal.TheVariants.{TooEarly, RecentRelease}
+use Rattle.index_rules.specs.declared.answer.Refusal.TheVariants.{HomePageActive}
 use Rattle.index_rules.specs.declared.records.UserRecord.{UserRecord}
 use Rattle.index_rules.specs.declared.records.NameRecord.{NameRecord}
 use Rattle.index_rules.specs.declared.records.NameRecord.TheVariants.{Held, Prohibited}
@@ -90,11 +111,14 @@ has_files name = option_map_or (λ project. nat_lt 0 project.undeleted) (held_pr
 abbrev pub is_other_file : Option Bytes → ℕ → Option FileRecord → Bool
 is_other_file declared size None = false
 is_other_file None size (Some known) = false
-is_other_file (Some digest) size (Some known) = not (same digest known.digest && (size == known.size))
+is_other_file (Some digest) size (Some known) =
+    not (same digest known.digest && (size == known.size))
 
 -- more bytes would bring the charge above the quota
 abbrev pub exceeds_quota : ℕ → Option NameRecord → Bool
-exceeds_quota size name = option_map_or (λ project. nat_lt project.quota (project.charge + size)) (held_project name) false
+exceeds_quota size name =
+    option_map_or (λ project. nat_lt project.quota (project.charge + size)) (held_project name)
+    false
 
 -- ---- questions on the request
 
@@ -102,7 +126,8 @@ exceeds_quota size name = option_map_or (λ project. nat_lt project.quota (proje
 abbrev pub brings_text : Request → Bool
 brings_text (Upload file sha256 body requires) = is_text requires
 brings_text (Yank name release reason) = is_text reason
-brings_text (OpenCase name kind contact work why) = is_evidence contact && is_evidence work && is_evidence why
+brings_text (OpenCase name kind contact work why) =
+    is_evidence contact && is_evidence work && is_evidence why
 brings_text request = true
 
 -- the body has more bytes than a file may have
@@ -112,7 +137,8 @@ is_too_large request = false
 
 -- the body has not the digest that is declared
 abbrev pub is_mismatched : Request → Bool
-is_mismatched (Upload file declared body requires) = option_map_or (λ digest. not (same digest (sha256 body))) (read_digest declared) false
+is_mismatched (Upload file declared body requires) =
+    option_map_or (λ digest. not (same digest (sha256 body))) (read_digest declared) false
 is_mismatched request = false
 
 -- the quota is above the largest one
@@ -122,27 +148,37 @@ is_quota_too_large request = false
 
 -- the quota is below what the name is charged already
 abbrev pub is_quota_below_charge : Request → Facts → Bool
-is_quota_below_charge (SetQuota name quota) facts = option_map_or (λ project. nat_lt quota project.charge) (held_project facts.name) false
+is_quota_below_charge (SetQuota name quota) facts =
+    option_map_or (λ project. nat_lt quota project.charge) (held_project facts.name) false
 is_quota_below_charge request facts = false
 
 -- the file name stands for another digest or size already
 abbrev pub uploads_other_file : Request → Facts → Bool
-uploads_other_file (Upload file declared body requires) facts = is_other_file (read_digest declared) (length body) facts.file
+uploads_other_file (Upload file declared body requires) facts =
+    is_other_file (read_digest declared) (length body) facts.file
 uploads_other_file request facts = false
 
 -- the body would bring the charge of its project above the quota
 abbrev pub uploads_over_quota : Request → Facts → Bool
-uploads_over_quota (Upload file sha256 body requires) facts = not (is_undeleted facts.file) && exceeds_quota (length body) facts.name
+uploads_over_quota (Upload file sha256 body requires) facts =
+    not (is_undeleted facts.file) && exceeds_quota (length body) facts.name
 uploads_over_quota request facts = false
 
 -- a candidate closes the case that he opened
 abbrev pub closes_own_case : Request → Facts → Bool
-closes_own_case (CloseCase name) facts = option_map_or (λ case. option_map_or (λ caller. same case.candidate caller.user) facts.caller false) facts.case false
+closes_own_case (CloseCase name) facts =
+    option_map_or
+    (λ case. option_map_or (λ caller. same case.candidate caller.user) facts.caller false)
+    facts.case false
 closes_own_case request facts = false
 
 -- what stands against a transfer, of the case, the latest upload, the statement and the moment
 abbrev pub hinders : ℕ → Request → Facts → CaseFault → Bool
-hinders at (Transfer name quiet) facts fault = option_map_or (λ case. option_map_or (λ project. stands_against case.state project.last_upload quiet at fault) (held_project facts.name) false) facts.case false
+hinders at (Transfer name quiet) facts fault =
+    option_map_or
+    (λ case. option_map_or (λ project. stands_against case.state project.last_upload quiet at fault)
+    (held_project facts.name) false)
+    facts.case false
 hinders at request facts fault = false
 
 -- the refusal by what stands against a transfer, or a further attempt
@@ -157,9 +193,11 @@ refusal_of case_fault.HomePageActive = HomePageActive
 
 -- where a request that nothing refuses changes nothing
 abbrev pub is_already : Request → Facts → Bool
-is_already (AddUser user office token) facts = option_map_or (is_user_with office (read_token token)) facts.user false
+is_already (AddUser user office token) facts =
+    option_map_or (is_user_with office (read_token token)) facts.user false
 is_already (SetToken user token) facts = bears (read_token token) facts.user
-is_already (SetQuota name quota) facts = option_map_or (λ project. quota == project.quota) (held_project facts.name) false
+is_already (SetQuota name quota) facts =
+    option_map_or (λ project. quota == project.quota) (held_project facts.name) false
 is_already (Claim name) facts = facts.owns
 is_already (AddOwner name user) facts = facts.named_owns
 is_already (RemoveOwner name user) facts = not facts.named_owns
@@ -221,23 +259,32 @@ file_refusals = NoProject ∷ NotOwner ∷ FileNameTaken ∷ FileBanned ∷ Over
 
 -- the refusals that a request can meet beside BadMoment and BadToken, least first
 abbrev pub refusals_of : Request → List Refusal
-refusals_of (AddUser user office token) = NotOffice ∷ BadUser ∷ BadDigest ∷ UserExists ∷ TokenTaken ∷ []
+refusals_of (AddUser user office token) =
+    NotOffice ∷ BadUser ∷ BadDigest ∷ UserExists ∷ TokenTaken ∷ []
 refusals_of (SetToken user token) = NotOffice ∷ BadUser ∷ BadDigest ∷ NoUser ∷ TokenTaken ∷ []
-refusals_of (SetQuota name quota) = NotOffice ∷ BadName ∷ QuotaTooLarge ∷ NoProject ∷ QuotaBelowCharge ∷ []
+refusals_of (SetQuota name quota) =
+    NotOffice ∷ BadName ∷ QuotaTooLarge ∷ NoProject ∷ QuotaBelowCharge ∷ []
 refusals_of (Claim name) = BadName ∷ NameProhibited ∷ NameHeld ∷ []
 refusals_of (AddOwner name user) = BadUser ∷ BadName ∷ NoUser ∷ NoProject ∷ NotOwner ∷ []
-refusals_of (RemoveOwner name user) = BadUser ∷ BadName ∷ NoUser ∷ NoProject ∷ NotOwner ∷ LastOwner ∷ []
-refusals_of (Upload file sha256 body requires) = BadFileName ∷ BadText ∷ BadDigest ∷ TooLarge ∷ DigestMismatch ∷ file_refusals
+refusals_of (RemoveOwner name user) =
+    BadUser ∷ BadName ∷ NoUser ∷ NoProject ∷ NotOwner ∷ LastOwner ∷ []
+refusals_of (Upload file sha256 body requires) =
+    BadFileName ∷ BadText ∷ BadDigest ∷ TooLarge ∷ DigestMismatch ∷ file_refusals
 refusals_of (Delete file) = BadFileName ∷ NoProject ∷ NotOwner ∷ NoFile ∷ []
 refusals_of (BanFile file) = NotOffice ∷ BadFileName ∷ NoFile ∷ []
-refusals_of (Yank name release reason) = BadName ∷ BadRelease ∷ BadText ∷ NoProject ∷ NotOwner ∷ NoRelease ∷ []
+refusals_of (Yank name release reason) =
+    BadName ∷ BadRelease ∷ BadText ∷ NoProject ∷ NotOwner ∷ NoRelease ∷ []
 refusals_of (Unyank name release) = BadName ∷ BadRelease ∷ NoProject ∷ NotOwner ∷ NoRelease ∷ []
 refusals_of (Relinquish name) = BadName ∷ NoProject ∷ NotOwner ∷ FilesRemain ∷ []
 refusals_of (Prohibit name) = NotOffice ∷ BadName ∷ []
 refusals_of (Allow name) = NotOffice ∷ BadName ∷ []
-refusals_of (OpenCase name kind contact work why) = BadName ∷ BadText ∷ NoProject ∷ CaseOpen ∷ OwnerCandidate ∷ []
-refusals_of (RecordAttempt name means sent) = NotOffice ∷ BadName ∷ NoProject ∷ NoCase ∷ AttemptsFull ∷ []
-refusals_of (Transfer name quiet) = NotOffice ∷ BadName ∷ NoProject ∷ NoCase ∷ TooFewAttempts ∷ TooEarly ∷ RecentRelease ∷ HomePageActive ∷ []
+refusals_of (OpenCase name kind contact work why) =
+    BadName ∷ BadText ∷ NoProject ∷ CaseOpen ∷ OwnerCandidate ∷ []
+refusals_of (RecordAttempt name means sent) =
+    NotOffice ∷ BadName ∷ NoProject ∷ NoCase ∷ AttemptsFull ∷ []
+refusals_of (Transfer name quiet) =
+    NotOffice ∷ BadName ∷ NoProject ∷ NoCase ∷ TooFewAttempts ∷ TooEarly ∷ RecentRelease
+    ∷ HomePageActive ∷ []
 refusals_of (CloseCase name) = NotOffice ∷ BadName ∷ NoProject ∷ NoCase ∷ []
 refusals_of (AnswerCase name) = BadName ∷ NoProject ∷ NotOwner ∷ NoCase ∷ []
 
@@ -249,7 +296,10 @@ verdict_of None false = Accept
 
 -- the verdict on a call by the facts
 abbrev pub verdict_on : Call → Facts → Verdict
-verdict_on call facts = verdict_of (find (applies call.at call.request facts) (BadMoment ∷ BadToken ∷ refusals_of call.request)) (is_already call.request facts)
+verdict_on call facts =
+    verdict_of
+    (find (applies call.at call.request facts) (BadMoment ∷ BadToken ∷ refusals_of call.request))
+    (is_already call.request facts)
 
 -- the verdict on the tables as they are
 abbrev pub verdict_now : Tables → Call → Verdict

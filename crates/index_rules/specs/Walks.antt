@@ -23,16 +23,20 @@ walk_end_of fault.OutOfMemory = OutOfMemory
 walk_end_of fault.Store = Store
 
 -- what is left of a taker at an early end: it stopped among the rows, or it took a front of them
-abbrev pub EndsEarly : {K R : Type 0} → (K → R → K → Type 0) → (K → R → K → Type 0) → List R → K → K → WalkEnd → Type 0
+abbrev pub EndsEarly : {K R : Type 0} → (K → R → K → Type 0) → (K → R → K → Type 0) → List R → K → K
+    → WalkEnd → Type 0
 EndsEarly takes stops rows before after Stopped = StoppedAmong takes stops rows before after
 EndsEarly takes stops rows before after OutOfMemory = TookFront takes rows before after
 EndsEarly takes stops rows before after Store = TookFront takes rows before after
 
 -- a walk that does not end early gave the taker all rows, and it took them
-abbrev pub Walks : {K R A : Type 0} → (K → R → K → Type 0) → (K → R → K → Type 0) → List R → K → K → Result A WalkEnd → Type 0
+abbrev pub Walks : {K R A : Type 0} → (K → R → K → Type 0) → (K → R → K → Type 0) → List R → K → K
+    → Result A WalkEnd → Type 0
 Walks takes stops rows before after (Ok done) = Took takes rows before after
 Walks takes stops rows before after (Err end) = EndsEarly takes stops rows before after end
 
 -- a walk gave the taker some rows in this way
-abbrev pub WalksSome : {K R A : Type 0} → (K → R → K → Type 0) → (K → R → K → Type 0) → K → K → Result A WalkEnd → Type 0
-WalksSome {K} {R} takes stops before after result = (rows : List R) × Walks takes stops rows before after result
+abbrev pub WalksSome : {K R A : Type 0} → (K → R → K → Type 0) → (K → R → K → Type 0) → K → K
+    → Result A WalkEnd → Type 0
+WalksSome {K} {R} takes stops before after result =
+    (rows : List R) × Walks takes stops rows before after result

@@ -80,7 +80,8 @@ pub enum Refusal {
     HomePageActive,
 }
 
-/// Why a call could not be answered. It changed nothing.
+/// Why a call could not be answered. It changed nothing while the program runs; after a restart its request may turn
+/// out to have been applied, as a whole.
 #[derive(Clone, Copy, Debug, PartialEq, Eq, Hash)]
 pub enum Fault {
     OutOfMemory,

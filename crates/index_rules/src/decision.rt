@@ -70,6 +70,7 @@ pub fn decide(alloc: Global, call: Call, view: &View) -> Result<Decision, Stop>
     judge(alloc, call, view)
 }
 
+/// The decision on a call: its moment and its token are judged before its request.
 fn judge(alloc: Global, call: Call, view: &View) -> Result<Decision, Stop>
     ensures { DecidesBy call (facts_seen view.now call.request) result }
 {
@@ -125,6 +126,7 @@ fn decide_on(context: &Context<'_>, request: &Request) -> Result<Decision, Stop>
         Request::Claim { name } => claim(context, name),
         Request::AddOwner { name, user } => add_owner(context, name, user),
         Request::RemoveOwner { name, user } => remove_owner(context, name, user),
+        // `decide_in` sends no upload here: one match over all requests would cost the prover more.
         Request::Upload { .. } => unreachable!(),
         Request::Delete { file } => delete(context, file),
         Request::BanFile { file } => ban_file(context, file),

@@ -46,7 +46,7 @@ impl Keys {
     ///
     /// # Errors
     ///
-    /// `AllocError` for want of memory.
+    /// `OutOfMemory`.
     pub fn of_name(name: &NormalName) -> Result<Keys, Fault>
         ensures keys { IfOk result (λ keys. keys ≡ keys_of_name name.now) }
         ensures memory { IfErr result (λ fault. fault ≡ Fault.OutOfMemory) }
@@ -68,7 +68,7 @@ impl Call {
     ///
     /// # Errors
     ///
-    /// `AllocError` for want of memory.
+    /// `OutOfMemory`.
     pub fn keys(&self, alloc: Global) -> Result<Keys, Fault>
         ensures keys { IfOk result (λ keys. keys ≡ keys_of self.now) }
         ensures memory { IfErr result (λ fault. fault ≡ Fault.OutOfMemory) }

@@ -6,7 +6,7 @@ ghost use Rattle.index_rules.specs.Legal.{IsLegal};
 ghost use Rattle.index_rules.specs.Tables.{Tables};
 ghost use Rattle.index_rules.specs.Sound.{IsSound};
 ghost use Rattle.index_rules.specs.StandsFor.{StandsFor};
-ghost use Rattle.index_rules.specs.Laws.{BindsFiles, HasOneBearerOfEach, KeepsBans, MovesAsRecorded, StandsAlone, TransfersWereReady};
+ghost use Rattle.index_rules.specs.Laws.{BindsFiles, DeclaresBodies, HasOneBearerOfEach, KeepsBans, MovesAsRecorded, StandsAlone, TransfersWereReady};
 
 /// A token has one bearer: no two users bear one digest.
 #[tactic(auto, using(crate::proofs::StandsOn::one_bearer_of_each))]
@@ -14,11 +14,13 @@ pub fn tokens_have_one_bearer()
     ensures { (h : History) → IsLegal h → HasOneBearerOfEach h }
 {}
 
-/// A file name is bound for good: any two uploads of it have the same digest and size, whatever stands between
-/// them, be it a delete or a prohibition of the project. After a ban of it there is none.
-#[tactic(auto, using(crate::proofs::BindLemmas::binds_files, crate::proofs::BindLemmas::keeps_bans))]
+/// A file name is bound for good: the bodies of any two uploads of it have the same digest and size, whatever stands
+/// between them, be it a delete or a prohibition of the project. Each upload declares the digest of its body. After a ban
+/// of the file there is none.
+#[tactic(auto, using(crate::proofs::BindLemmas::binds_files, crate::proofs::BindLemmas::declares_bodies, crate::proofs::BindLemmas::keeps_bans))]
 pub fn file_names_are_bound()
     ensures bound { (h : History) → IsLegal h → BindsFiles h }
+    ensures declared { (h : History) → IsLegal h → DeclaresBodies h }
     ensures bans { (h : History) → IsLegal h → KeepsBans h }
 {}
 
@@ -54,7 +56,6 @@ pub fn tables_of_a_legal_history_are_sound()
 {}
 
 /// The tables of a new index stand for the opening alone.
-
 pub fn first_tables_stand_for_the_opening()
     ensures { (user token : Bytes) → StandsFor (first_tables user token) (begins user token) }
 {}

@@ -95,6 +95,7 @@ pub fn to_name(alloc: Global, name: &Bytes) -> Result<NormalName, AllocError>
     match normal(alloc, name.as_slice()) {
         Ok(key) => Ok(key),
         Err(NameFault::OutOfMemory) => Err(AllocError),
+        // By `requires` the bytes are valid.
         Err(_) => unreachable!(),
     }
 }
@@ -123,6 +124,7 @@ pub fn to_user(alloc: Global, user: &Bytes) -> Result<UserId, AllocError>
     match UserId::read(alloc, user.as_slice()) {
         Ok(key) => Ok(key),
         Err(UserFault::OutOfMemory) => Err(AllocError),
+        // By `requires` the bytes are valid.
         Err(UserFault::BadUser) => unreachable!(),
     }
 }
@@ -142,6 +144,7 @@ pub fn to_release(alloc: Global, release: &Bytes) -> Result<Release, AllocError>
     match release_key(alloc, release.as_slice()) {
         Ok(key) => Ok(key),
         Err(NameFault::OutOfMemory) => Err(AllocError),
+        // By `requires` the bytes are valid.
         Err(_) => unreachable!(),
     }
 }
@@ -163,6 +166,7 @@ pub fn to_file(alloc: Global, file: &Bytes) -> Result<FileName, AllocError>
     match FileName::read(alloc, file.as_slice()) {
         Ok(key) => Ok(key),
         Err(NameFault::OutOfMemory) => Err(AllocError),
+        // By `requires` the bytes are valid.
         Err(_) => unreachable!(),
     }
 }
@@ -178,6 +182,7 @@ pub fn is_text(bytes: &Bytes) -> bool
     }
 }
 
+/// Whether the text is short enough to be kept and has no control character.
 fn is_kept_text(text: &str) -> bool
     ensures { result ≡ is_text_lem text.now }
 {
@@ -191,6 +196,7 @@ pub fn to_text(alloc: Global, text: &Bytes) -> Result<Text, AllocError>
 {
     match str::from_utf8(text.as_slice()) {
         Ok(text) => Ok(Text::new(String::from_str(alloc, text)?)),
+        // By `requires` the bytes are UTF-8.
         Err(_) => unreachable!(),
     }
 }

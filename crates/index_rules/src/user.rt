@@ -104,6 +104,7 @@ pub(crate) fn is_user_id(bytes: &[u8]) -> bool
     !bytes.is_empty() && bytes.len() <= LONGEST_USER_ID && has_user_letters(bytes)
 }
 
+/// Whether each byte may stand in a user id.
 fn has_user_letters(bytes: &[u8]) -> bool
     ensures { result ≡ list_all is_user_letter_lem bytes.now }
 {

@@ -9,7 +9,7 @@ use Rattle.index_sql_opening.specs.Migrated.{IsMigrating}
 use Rattle.index_sql_opening.specs.NewAsks.{Unlimited}
 use Rattle.index_sql_opening.proofs.SureTexts.{table_sure}
 use Rattle.index_sql_schema.specs.FirstVersion.{IsFirstVersion, first_version_schema, without_bans}
-use Rattle.index_sql_schema.specs.Index.{same_version}
+use Rattle.index_sql_schema.specs.Index.{same_meta}
 use Rattle.index_sql_schema.specs.Schema.{index_schema}
 use Rattle.index_sql_schema.specs.StatementTexts.{update_version_text}
 use Rattle.index_sql_schema.specs.TableTexts.{bans_text}
@@ -17,10 +17,10 @@ use Rattle.index_sql_schema.proofs.BanTable.{creates_bans, first_eight}
 use Rattle.index_sql_writes.specs.Transaction.{MakesInTransaction}
 use Rattle.index_sql_writes.proofs.AskLemmas.{IsWrite}
 
-pub bans_made : (old new : State) (count : ℕ) → IsMigrating old → ExecutesInside 0 bans_text [] old new (Ok count) → MakesInTransaction without_bans same_version old new
+pub bans_made : (old new : State) (count : ℕ) → IsMigrating old → ExecutesInside 0 bans_text [] old new (Ok count) → MakesInTransaction without_bans same_meta old new
 bans_made old new count ready ran =
     let it = creates_bans old new count ready.first ran.0 in
-    record { ready = record { is_open = ran.1.is_open; inside = ran.1.mode; index = it.index }; tables = it.tables; committed = ran.1.committed_is; version = it.version; records = it.records }
+    record { ready = record { is_open = ran.1.is_open; inside = ran.1.mode; index = it.index }; tables = it.tables; committed = ran.1.committed_is; meta = it.meta; records = it.records }
 
 -- SQL understands both statements
 pub bans_sure : IsWrite first_version_schema bans_text 0

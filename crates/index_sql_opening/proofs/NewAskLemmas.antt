@@ -8,7 +8,7 @@ use Rattle.sqlite.specs.Held.{Held, state}
 use Rattle.sqlite.specs.State.{State, ExecutesInside}
 use Rattle.index_rules.specs.declared.records.UserRecord.{UserRecord}
 use Rattle.index_rules.specs.Maps.{Bytes}
-use Rattle.index_sql_schema.specs.Index.{same_version}
+use Rattle.index_sql_schema.specs.Index.{same_meta}
 use Rattle.index_sql_schema.specs.CreateSteps.{IsStage, no_tables}
 use Rattle.index_sql_writes.specs.Asks.{Ask, CanAsk}
 use Rattle.index_sql_writes.specs.Transaction.{MakesInTransaction}
@@ -65,9 +65,9 @@ can_put s made unlimited = record { ready = (made_all s s refl made).ready; reco
 -- and the first user
 pub first_user : {S A B : Type 0} (g : Ghosts S) (user : Bytes) (account : UserRecord) {first mid last : MutBor (Held S)} {a : A} → CreatesTables g 0 9 first mid (Ok a) → (r : Result B Error)
     → TakesStep g (puts_user user account) (put_user_ask user account) mid last r
-    → StepsFrom g (IsStage 0) (MakesInTransaction (λ _. one_user user account) (λ _. None)) (table_asks 0 9 ++ (put_user_ask user account ∷ [])) first last r
+    → StepsFrom g (IsStage 0) (MakesInTransaction (λ _. one_user user account) (λ _. [])) (table_asks 0 9 ++ (put_user_ask user account ∷ [])) first last r
 first_user g user account {first = first} {mid = mid} {last = last} made r put =
     let empty = λ (did : Advances 9 (state g first.now) (state g mid.now)). made_all (state g first.now) (state g mid.now) did.1 did.0 in
-    steps_then g (table_asks 0 9) (MakesInTransaction (λ _. one_user user account) (λ _. None)) (put_user_ask user account ∷ []) (λ can. can.0) (λ did. (empty did).ready) (λ can did limit. can_put (state g mid.now) did.0 (limit ∙ can.1))
-    (λ did more. makes_then (λ _. no_tables) (puts_user user account) (λ _. None) same_version _ _ _ (empty did) more) made r
+    steps_then g (table_asks 0 9) (MakesInTransaction (λ _. one_user user account) (λ _. [])) (put_user_ask user account ∷ []) (λ can. can.0) (λ did. (empty did).ready) (λ can did limit. can_put (state g mid.now) did.0 (limit ∙ can.1))
+    (λ did more. makes_then (λ _. no_tables) (puts_user user account) (λ _. []) same_meta _ _ _ (empty did) more) made r
     (step_alone g (puts_user user account) (put_user_ask user account) mid last r put)

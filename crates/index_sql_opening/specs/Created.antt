@@ -1,11 +1,13 @@
 -- What the making of a new index leaves.
-use Rattle.std.specs.Prelude.{◌≡◌, ℕ, Option, Some}
+use Rattle.std.specs.Prelude.{◌≡◌, ℕ, List, [], ◌∷◌}
+use Rattle.sqlite_value.specs.Order.{Row}
 use Rattle.sqlite.specs.Effect.{Database, IsDatabase}
 use Rattle.sqlite.specs.State.{State}
 use Rattle.index_rules.specs.declared.records.UserRecord.{UserRecord}
 use Rattle.index_rules.specs.Maps.{Bytes}
 use Rattle.index_rules.specs.Tables.{Tables}
 use Rattle.index_sql_schema.specs.Schema.{no_schema}
+use Rattle.index_sql_schema.specs.Index.{version_row}
 use Rattle.index_sql_schema.specs.CreateSteps.{IsStage, no_tables}
 use Rattle.index_sql_writes.specs.Writes.{puts_user}
 
@@ -22,6 +24,6 @@ one_user user account = puts_user user account no_tables
 abbrev pub Advances : ℕ → State → State → Type 0
 Advances n old new = IsStage n new × (new.committed ≡ old.committed)
 
--- version 2, whatever was told
-abbrev pub version_2 : Option ℕ → Option ℕ
-version_2 version = Some 2
+-- meta has one row, that of version 2, whatever it had
+abbrev pub one_version_row : List Row → List Row
+one_version_row rows = version_row 2 ∷ []

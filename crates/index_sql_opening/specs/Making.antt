@@ -1,5 +1,6 @@
 -- What the making of an index in a database leaves, in one transaction.
-use Rattle.std.specs.Prelude.{◌≡◌, ℕ, false, List, IfErr, IsTrue, OnErr, OnOk, Option, Result}
+use Rattle.std.specs.Prelude.{◌≡◌, ℕ, false, List, IfErr, IsTrue, OnErr, OnOk, Result}
+use Rattle.sqlite_value.specs.Order.{Row}
 use Rattle.sqlite_schema.specs.declared.schema.Schema.{Schema}
 use Rattle.sqlite_trees.specs.declared.store.Store.{Ghosts}
 use Rattle.sqlite.specs.declared.error.Error.{Error}
@@ -26,11 +27,11 @@ IsOfSchema g held schema = (state g held).now.schema ≡ schema
 abbrev pub IsBySchema : {S : Type 0} → Ghosts S → Schema → (Database → Type 0) → Held S → Type 0
 IsBySchema g schema IsKind held = IsTrue (state g held).is_open → (state g held).now.schema ≡ schema → IsKind (state g held).now
 
--- Of an open database of such a kind an index is made: `change` says with which tables, `told` which version it tells, and
+-- Of an open database of such a kind an index is made: `change` says with which tables, `rows` with which rows of meta, and
 -- `asks` which statements make it.
-pub record MakesIndex {S A : Type 0} (g : Ghosts S) (IsKind : Database → Type 0) (change : Tables → Tables) (told : Option ℕ → Option ℕ) (asks : List Ask) (old new : Held S) (result : Result A Error) : Type 0 where
+pub record MakesIndex {S A : Type 0} (g : Ghosts S) (IsKind : Database → Type 0) (change : Tables → Tables) (rows : List Row → List Row) (asks : List Ask) (old new : Held S) (result : Result A Error) : Type 0 where
   -- where it succeeds on a clean disk, the index is there, and committed
-  pub made : HasCleanDisk (state g new) → OnOk result (IsTrue (state g old).is_open → IsKind (state g old).now → IsMade change told (state g old) (state g new))
+  pub made : HasCleanDisk (state g new) → OnOk result (IsTrue (state g old).is_open → IsKind (state g old).now → IsMade change rows (state g old) (state g new))
   -- after an error, while the connection is open, the database is as it was committed
   pub unchanged : HasCleanDisk (state g new) → IsTrue (state g new).is_open → IsKind (state g old).now → OnErr result (IsUndone (state g old) (state g new))
   pub outside : new.in_transaction ≡ false
@@ -38,7 +39,7 @@ pub record MakesIndex {S A : Type 0} (g : Ghosts S) (IsKind : Database → Type 
   pub was_open : HasCleanDisk (state g new) → IsTrue (state g new).is_open → IsTrue (state g old).is_open
   -- a crash leaves what it could leave before, or the whole index
   pub crash : IsTrue (state g old).is_open → IsKind (state g old).now
-      → LeavesWholeChange change told (state g old) (state g new)
+      → LeavesWholeChange change rows (state g old) (state g new)
   -- it fails by the store only for a reason of the store, or where SQL refuses a statement
   pub reason : HasCleanDisk (state g new) → (IsTrue (state g old).is_open → IsKind (state g old).now) → IfErr result (FailsForRefusal asks (state g old) (state g new))
 

@@ -1,15 +1,11 @@
 -- What is made of a database of version 1.
-use Rattle.std.specs.Prelude.{◌≡◌, ℕ, true, List, [], ◌∷◌, IsTrue, Option, option_map}
+use Rattle.std.specs.Prelude.{◌≡◌, true, List, [], ◌∷◌, IsTrue}
 use Rattle.sqlite.specs.State.{State}
 use Rattle.index_sql_opening.specs.NewAsks.{text_ask}
 use Rattle.index_sql_schema.specs.FirstVersion.{IsFirstVersion}
 use Rattle.index_sql_schema.specs.StatementTexts.{update_version_text}
 use Rattle.index_sql_schema.specs.TableTexts.{bans_text}
 use Rattle.index_sql_writes.specs.Asks.{Ask}
-
--- version 2, where one was told
-abbrev pub version_2_if_any : Option ℕ → Option ℕ
-version_2_if_any = option_map (λ _. 2)
 
 -- a transaction on a database of version 1 is under way
 pub record IsMigrating (s : State) : Type 0 where

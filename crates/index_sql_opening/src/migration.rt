@@ -1,10 +1,10 @@
 //! How a database of version 1 becomes an index of today.
 ghost use Rattle.std.specs.Prelude.{◌≡◌, [], ◌∷◌, false};
-ghost use Rattle.index_sql_opening.specs.Migrated.{version_2_if_any, asks_of_migration, IsMigrating};
+ghost use Rattle.index_sql_opening.specs.Migrated.{asks_of_migration, IsMigrating};
 ghost use Rattle.index_sql_opening.specs.NewAsks.{text_ask, StepsFrom};
 ghost use Rattle.index_sql_opening.specs.Making.{MakesIndex};
 ghost use Rattle.index_sql_schema.specs.FirstVersion.{IsFirstVersion, without_bans};
-ghost use Rattle.index_sql_schema.specs.Index.{same_version};
+ghost use Rattle.index_sql_schema.specs.Index.{raised, same_meta};
 ghost use Rattle.index_sql_schema.specs.StatementTexts.{update_version_text};
 ghost use Rattle.index_sql_schema.specs.TableTexts.{bans_text};
 ghost use Rattle.index_sql_writes.specs.Transaction.{IsInTransaction, MakesInTransaction};
@@ -16,15 +16,15 @@ use sqlite::{Alter, Connection, Error, Transaction};
 
 /// Makes the table of the bans.
 fn make_bans<S: Alter>(tx: &mut Transaction<'_, S>) -> Result<(), Error>
-    ensures { StepsFrom S.Store IsMigrating (MakesInTransaction without_bans same_version)
+    ensures { StepsFrom S.Store IsMigrating (MakesInTransaction without_bans same_meta)
         (text_ask bans_text ∷ []) tx.old.conn tx.new.conn result }
 {
     run_statement(tx, BANS, &[])
 }
 
-/// Sets the version, where one is told.
+/// Sets the version in the row with id 1. The other rows stay.
 fn raise_version<S: Alter>(tx: &mut Transaction<'_, S>) -> Result<(), Error>
-    ensures { StepsFrom S.Store IsInTransaction (MakesInTransaction (λ T. T) version_2_if_any)
+    ensures { StepsFrom S.Store IsInTransaction (MakesInTransaction (λ T. T) raised)
         (text_ask update_version_text ∷ []) tx.old.conn tx.new.conn result }
 {
     run_statement(tx, UPDATE_VERSION, &[])
@@ -32,22 +32,22 @@ fn raise_version<S: Alter>(tx: &mut Transaction<'_, S>) -> Result<(), Error>
 
 /// Makes an index of a database of version 1.
 fn migrate_tables<S: Alter>(tx: &mut Transaction<'_, S>) -> Result<(), Error>
-    ensures { StepsFrom S.Store IsMigrating (MakesInTransaction without_bans version_2_if_any)
+    ensures { StepsFrom S.Store IsMigrating (MakesInTransaction without_bans raised)
         asks_of_migration tx.old.conn tx.new.conn result }
 {
     make_bans(tx)?;
     raise_version(tx)
 }
 
-/// Makes an index of a database of version 1, with the same tables and no bans, in one transaction. A crash leaves what
-/// was there, or the whole index.
+/// Makes an index of a database of version 1, with the same tables and no bans, in one transaction. The rows of `meta`
+/// stay, but for the version. A crash leaves what was there, or the whole index.
 ///
 /// # Errors
 ///
 /// The error of the statement that failed, or of the commit. After it the database is as it was.
 pub fn migrate<S: Alter>(conn: &mut Connection<S>) -> Result<(), Error>
     requires { conn.old.in_transaction ≡ false }
-    ensures made { MakesIndex S.Store IsFirstVersion without_bans version_2_if_any asks_of_migration
+    ensures made { MakesIndex S.Store IsFirstVersion without_bans raised asks_of_migration
         conn.old conn.new result }
 {
     let mut tx = conn.transaction();

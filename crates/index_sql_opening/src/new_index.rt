@@ -1,9 +1,10 @@
 //! What a new index holds.
 ghost use Rattle.std.specs.Prelude.{◌≡◌, [], ◌∷◌, false};
 ghost use Rattle.index_sql_schema.specs.CreateSteps.{IsStage};
+ghost use Rattle.index_sql_schema.specs.Index.{with_version_2};
 ghost use Rattle.index_sql_writes.specs.Transaction.{IsInTransaction, MakesInTransaction};
 ghost use Rattle.index_sql_opening.specs.NewAsks.{StepsFrom, asks_of_new, put_version_ask};
-ghost use Rattle.index_sql_opening.specs.Created.{version_2, one_user, IsBlank};
+ghost use Rattle.index_sql_opening.specs.Created.{one_user, one_version_row, IsBlank};
 ghost use Rattle.index_sql_opening.specs.Making.{MakesIndex};
 
 use crate::tables::make_tables;
@@ -12,22 +13,22 @@ use index_sql_schema::statement_texts::PUT_VERSION;
 use index_sql_writes::{put_user, run_statement};
 use sqlite::{Alter, Connection, Error, Transaction};
 
-/// Writes the version of the tables, where none is there yet.
+/// Puts the row of the version among those of `meta`.
 fn put_version<S: Alter>(tx: &mut Transaction<'_, S>) -> Result<(), Error>
-    ensures { StepsFrom S.Store IsInTransaction (MakesInTransaction (λ T. T) version_2)
+    ensures { StepsFrom S.Store IsInTransaction (MakesInTransaction (λ T. T) with_version_2)
         (put_version_ask ∷ []) tx.old.conn tx.new.conn result }
 {
     run_statement(tx, PUT_VERSION, &[])
 }
 
-/// Makes the tables, with the version and one user.
+/// Makes the tables, with the row of the version and one user.
 fn make_all<S: Alter>(
     tx: &mut Transaction<'_, S>,
     user: &UserId,
     account: &UserRecord,
 ) -> Result<(), Error>
     ensures { StepsFrom S.Store (IsStage 0)
-        (MakesInTransaction (λ _. one_user user.now account.now) version_2)
+        (MakesInTransaction (λ _. one_user user.now account.now) one_version_row)
         (asks_of_new user.now account.now) tx.old.conn tx.new.conn result }
 {
     make_tables(tx)?;
@@ -35,8 +36,8 @@ fn make_all<S: Alter>(
     put_version(tx)
 }
 
-/// Makes a new index of a blank database, with this user and nothing else. A crash leaves what was there, or the whole
-/// index.
+/// Makes a new index of a blank database, with this user and the row of the version, and nothing else. A crash leaves
+/// what was there, or the whole index.
 ///
 /// # Errors
 ///
@@ -47,7 +48,7 @@ pub fn fill_new<S: Alter>(
     account: &UserRecord,
 ) -> Result<(), Error>
     requires { conn.old.in_transaction ≡ false }
-    ensures made { MakesIndex S.Store IsBlank (λ _. one_user user.now account.now) version_2
+    ensures made { MakesIndex S.Store IsBlank (λ _. one_user user.now account.now) one_version_row
         (asks_of_new user.now account.now) conn.old conn.new result }
 {
     let mut tx = conn.transaction();

@@ -9,12 +9,15 @@ use Rattle.index_sql_schema.specs.Looks.{QueriesOnly}
 use Rattle.index_sql_schema.specs.Reasons.{FailsForReason}
 use Rattle.index_sql_reads.specs.ConnectionTables.{tables_of}
 
--- On a clean disk the answer is what the tables have. They stay as they are, and a fault of the store has a reason.
-pub record FindsInTables {S A : Type 0} (g : Ghosts S) (old new : Held S) (result : Result A Fault) (Has : Tables → A → Type 0) : Type 0 where
+-- On a clean disk the answer is what the tables have. They stay as they are, and a
+-- fault of the store has a reason.
+pub record FindsInTables {S A : Type 0} (g : Ghosts S) (old new : Held S) (result : Result A Fault)
+    (Has : Tables → A → Type 0) : Type 0 where
   pub found : HasCleanDisk (state g new) → IfOk result (Has (tables_of g old))
   pub looks : QueriesOnly g old new (is_ok result)
   pub reason : FailsForReason g old new result
 
 -- the answer is this of them
-abbrev pub Gets : {S A : Type 0} → Ghosts S → Held S → Held S → Result A Fault → (Tables → A) → Type 0
+abbrev pub Gets : {S A : Type 0} → Ghosts S → Held S → Held S → Result A Fault
+    → (Tables → A) → Type 0
 Gets g old new result value = FindsInTables g old new result (λ T it. it ≡ value T)

@@ -1,12 +1,14 @@
 -- Rows that a query gives one at a time, as they are handed to a taker.
-use Rattle.std.specs.Prelude.{◌≡◌, ◌⊎◌, ℕ, ◌≤◌, ◌-◌, ◌^◌, false, List, [], length, Result, Ok, Err, OnOk, IfErr, None}
+use Rattle.std.specs.Prelude.{◌≡◌, ◌⊎◌, ℕ, ◌≤◌, ◌-◌, ◌^◌, false, List, [], length, Result, Ok, Err}
+use Rattle.std.specs.Prelude.{OnOk, IfErr, None}
 use Rattle.std.specs.List.{AllByRecursion}
 use Rattle.sqlite_trees.specs.declared.store.Store.{Ghosts}
 use Rattle.sqlite_value.specs.Order.{Row}
 use Rattle.sqlite.specs.declared.error.Error.{Error}
 use Rattle.sqlite.specs.Given.{HasGiven, Advances}
 use Rattle.sqlite.specs.Held.{Held, state}
-use Rattle.sqlite.specs.State.{HasCleanDisk, IsUnchanged, Fails, FailsToQuery, Survives, Shown, CommitsShowing}
+use Rattle.sqlite.specs.State.{HasCleanDisk, IsUnchanged, Fails, FailsToQuery, Survives, Shown}
+use Rattle.sqlite.specs.State.{CommitsShowing}
 use Rattle.index_sql_schema.specs.Unchanged.{IsUnchangedIfOpen}
 use Rattle.index_sql_schema.specs.Faults.{fault_by}
 use Rattle.index_sql_schema.specs.Reasons.{HasReason}
@@ -29,13 +31,16 @@ module _ {S : Type 0} (g : Ghosts S) where
     pub same : HasCleanDisk (state g now) → IsUnchanged (state g old) (state g now)
 
   -- it runs the query, and has given these rows
-  pub record IsGiving (sql : List ℕ) (params : Row) (old now : Held S) (given : List Row) : Type 0 where
+  pub record IsGiving (sql : List ℕ) (params : Row) (old now : Held S)
+      (given : List Row) : Type 0 where
     pub stayed : HasStayed sql params old now
     pub gave : HasCleanDisk (state g now) → HasGiven g sql params now given
 
   -- a query that stood at its start has given these rows
   abbrev pub Gives : Held S → Held S → List Row → Type 0
-  Gives old now given = (sql : List ℕ) (params : Row) (before : Held S) → IsGiving sql params before old [] → IsGiving sql params before now given
+  Gives old now given =
+      (sql : List ℕ) (params : Row) (before : Held S) → IsGiving sql params before old []
+      → IsGiving sql params before now given
 
   -- the last look for a row: none was left, the query failed, or nothing was done
   pub record IsLastLook (old new : Held S) (result : Result (Unit {0}) WalkEnd) : Type 0 where
@@ -43,35 +48,52 @@ module _ {S : Type 0} (g : Ghosts S) where
     pub survives : Survives (state g old) (state g new) (λ _. ⊥)
     pub kept : HasCleanDisk (state g new) → IsUnchangedIfOpen (state g old) (state g new)
         ⊎ ((error : Error) × Fails (state g old) (state g new) ⊥ error)
-    pub same : has_fault result ≡ false → HasCleanDisk (state g new) → IsUnchanged (state g old) (state g new)
+    pub same : has_fault result ≡ false → HasCleanDisk (state g new)
+        → IsUnchanged (state g old) (state g new)
     pub ended : HasCleanDisk (state g new) → OnOk result (Advances g old new None)
 
-  -- why a walk ends by a fault of the store: the query fails so after these rows, or they are not read
+  -- why a walk ends by a fault of the store: the query fails so after
+  -- these rows, or they are not read
   abbrev pub FailsAfter : (Row → Type 0) → List ℕ → Row → Held S → Held S → List Row → Type 0
-  FailsAfter IsRow sql params last new rows = ((error : Error) × FailsToQuery sql params (state g last) (state g new) error × (fault_by error ≡ fault.Store)) ⊎ IsUnread IsRow rows
+  FailsAfter IsRow sql params last new rows =
+      ((error : Error) × FailsToQuery sql params (state g last) (state g new) error
+      × (fault_by error ≡ fault.Store))
+      ⊎ IsUnread IsRow rows
 
   -- what is left of the rows of a query was handed over
-  pub record HasHanded {K : Type 0} (IsRow : Row → Type 0) (takes stops : K → Row → K → Type 0) (old new : Held S) (before after : K) (result : Result (Unit {0}) WalkEnd) : Type 0 where
+  pub record HasHanded {K : Type 0} (IsRow : Row → Type 0) (takes stops : K → Row → K → Type 0)
+      (old new : Held S) (before after : K) (result : Result (Unit {0}) WalkEnd) : Type 0 where
     pub rows : List Row
     pub walks : Walks takes stops rows before after result
     -- the connection as it was when the last of them had been given
     pub last : Held S
     pub gives : Gives old last rows
     pub looks : IsLastLook last new result
-    pub reason : HasCleanDisk (state g new) → (sql : List ℕ) (params : Row) → HasGiven g sql params last rows → IfErr result (λ end. end ≡ Store → FailsAfter IsRow sql params last new rows)
+    pub reason : HasCleanDisk (state g new) → (sql : List ℕ) (params : Row)
+        → HasGiven g sql params last rows
+        → IfErr result (λ end. end ≡ Store → FailsAfter IsRow sql params last new rows)
 
   -- ---- what the rows have to do with the tables
 
   -- these rows are the answer of the query, or those that it had given where the walk ended early
   abbrev pub IsOf : List ℕ → Row → Held S → List Row → Result (Unit {0}) WalkEnd → Type 0
-  IsOf sql params held rows (Ok done) = (old new : Held S) × IsUnchanged (state g held) (state g old) × Shown sql params (state g old) (state g new) rows
-  IsOf sql params held rows (Err end) = (rows ≡ []) ⊎ ((at : Held S) × IsUnchanged (state g held) (state g at) × HasGiven g sql params at rows)
+  IsOf sql params held rows (Ok done) =
+      (old new : Held S) × IsUnchanged (state g held) (state g old)
+      × Shown sql params (state g old) (state g new) rows
+  IsOf sql params held rows (Err end) =
+      (rows ≡ [])
+      ⊎ ((at : Held S) × IsUnchanged (state g held) (state g at) × HasGiven g sql params at rows)
 
   -- the first rows of its answer are not read
   abbrev pub GivesUnread : (Row → Type 0) → List ℕ → Row → Held S → Type 0
-  GivesUnread IsRow sql params held = (rows : List Row) × (at : Held S) × IsUnchanged (state g held) (state g at) × HasGiven g sql params at rows × IsUnread IsRow rows
+  GivesUnread IsRow sql params held =
+      (rows : List Row) × (at : Held S) × IsUnchanged (state g held) (state g at)
+      × HasGiven g sql params at rows × IsUnread IsRow rows
 
-  -- on a clean disk a query and its walk ended by a fault of the store only for a reason of a look, or since the first rows of
-  -- its answer are not read
-  pub record QueryEndsForReason (IsRow : Row → Type 0) (sql : List ℕ) (params : Row) (old new : Held S) (result : Result (Unit {0}) WalkEnd) : Type 0 where
-    pub reason : HasCleanDisk (state g new) → IfErr result (λ end. end ≡ Store → HasReason (state g old) (state g new) ⊎ GivesUnread IsRow sql params old)
+  -- on a clean disk a query and its walk ended by a fault of the store only for a reason of a look,
+  -- or since the first rows of its answer are not read
+  pub record QueryEndsForReason (IsRow : Row → Type 0) (sql : List ℕ) (params : Row)
+      (old new : Held S) (result : Result (Unit {0}) WalkEnd) : Type 0 where
+    pub reason : HasCleanDisk (state g new)
+        → IfErr result (λ end.
+        end ≡ Store → HasReason (state g old) (state g new) ⊎ GivesUnread IsRow sql params old)

@@ -4,7 +4,8 @@ use Rattle.std.specs.Option.{option_map_or}
 use Rattle.std.specs.FinMap.{get}
 use Rattle.index_rules.specs.declared.keys.Keys.{Keys}
 use Rattle.index_rules.specs.Tables.{Tables}
-use Rattle.index_rules.specs.Facts.{AreOwners, IsBearerAs, at_both, caller_of, has_release_in, is_banned_in, of_both, yank_in}
+use Rattle.index_rules.specs.Facts.{AreOwners, IsBearerAs, at_both, caller_of, has_release_in}
+use Rattle.index_rules.specs.Facts.{is_banned_in, of_both, yank_in}
 use Rattle.index_sql_reads.specs.declared.views.UsersSeen.{UsersSeen}
 use Rattle.index_sql_reads.specs.declared.views.NameSeen.{NameSeen}
 use Rattle.index_sql_reads.specs.declared.views.FilesSeen.{FilesSeen}

@@ -12,16 +12,21 @@ use Rattle.index_sql_schema.specs.Looks.{QueriesOnly}
 use Rattle.index_sql_schema.specs.RecordRows.{AreRecords}
 use Rattle.index_sql_reads.specs.ConnectionTables.{tables_of}
 
--- on a clean disk, where all rows are those of records, a walk over these rows ends by `Store` only for a reason of a look,
--- or since they are more than it counts
-abbrev pub EndsForReason : {S A R : Type 0} → Ghosts S → Held S → Held S → List R → Result A WalkEnd → Type 0
+-- on a clean disk, where all rows are those of records, a walk over these rows ends by `Store` only
+-- for a reason of a look, or since they are more than it counts
+abbrev pub EndsForReason : {S A R : Type 0} → Ghosts S → Held S → Held S → List R
+    → Result A WalkEnd → Type 0
 EndsForReason g old new rows result =
     HasCleanDisk (state g new) → AreRecords (state g old).now
-    → IfErr result (λ end. end ≡ Store → HasReason (state g old) (state g new) ⊎ (2 ^ 64 - 1 ≤ length rows))
+    → IfErr result
+    (λ end. end ≡ Store → HasReason (state g old) (state g new) ⊎ (2 ^ 64 - 1 ≤ length rows))
 
 -- any walk hands over some rows, and on a clean disk those of the tables; these stay as they are
-pub record HandsRows {S K R A : Type 0} (g : Ghosts S) (takes stops : K → R → K → Type 0) (rows_in : Tables → List R) (old new : Held S) (before after : K) (result : Result A WalkEnd) : Type 0 where
-  pub walked : HasCleanDisk (state g new) → Walks takes stops (rows_in (tables_of g old)) before after result
+pub record HandsRows {S K R A : Type 0} (g : Ghosts S) (takes stops : K → R → K → Type 0)
+    (rows_in : Tables → List R) (old new : Held S) (before after : K)
+    (result : Result A WalkEnd) : Type 0 where
+  pub walked : HasCleanDisk (state g new)
+      → Walks takes stops (rows_in (tables_of g old)) before after result
   pub given : (rows : List R) × Walks takes stops rows before after result
   pub looks : QueriesOnly g old new (not (has_fault result))
   pub reason : EndsForReason g old new (rows_in (tables_of g old)) result

@@ -1,8 +1,9 @@
 //! Look-ups of files and releases.
-ghost use Rattle.std.specs.Prelude.{◌≡◌, true};
+ghost use Rattle.std.specs.Prelude.{◌≡◌, IfSome, map, true};
 ghost use Rattle.std.specs.FinMap.{get};
 ghost use Rattle.index_rules.specs.Facts.{has_release_in, is_banned_in, is_undeleted_of_release, yank_in};
 ghost use Rattle.index_sql_reads.specs.Finds.{Gets, FindsInTables};
+ghost use Rattle.index_sql_reads.specs.UsualNames.{in_file_name, usual_text};
 
 use crate::from_row::{first, has_row};
 use index_names::{FileName, NormalName, Release};
@@ -90,22 +91,33 @@ fn has_usual_file<S: Alter>(
     }
 }
 
+/// Whether the file is undeleted and one of this release of the name.
 fn is_undeleted_of(file: &FileRecord, name: &NormalName, release: &Release) -> bool
     ensures { result ≡ is_undeleted_of_release name.now release.now file.now }
 {
     file.is_undeleted && *name == file.project && *release == file.release
 }
 
-/// The name that build tools give the file of the release that ends so, where there is memory for it.
-fn usual_name(alloc: Global, name: &NormalName, release: &Release, end: &[u8]) -> Option<FileName> {
-    let mut text = Vec::new(alloc);
-    for &byte in name.text().as_bytes() {
-        text.push(if byte == b'-' { b'_' } else { byte }).ok()?;
-    }
+/// The name that build tools give the file of the release that ends so, if there is memory for it.
+fn usual_name(alloc: Global, name: &NormalName, release: &Release, end: &[u8]) -> Option<FileName>
+    ensures { IfSome result (λ file. file ≡ usual_text name.now release.now end.now) }
+{
+    let mut text = with_underscores(alloc, name.text().as_bytes())?;
     text.push(b'-').ok()?;
     text.extend_from_slice(release.text().as_bytes()).ok()?;
     text.extend_from_slice(end).ok()?;
     FileName::read(alloc, text.as_slice()).ok()
+}
+
+/// A name with an underscore for each hyphen, if there is memory for it.
+fn with_underscores(alloc: Global, name: &[u8]) -> Option<Vec<u8>>
+    ensures { IfSome result (λ text. text.items ≡ map in_file_name name.now) }
+{
+    let mut text = Vec::new(alloc);
+    for &byte in name {
+        text.push(if byte == b'-' { b'_' } else { byte }).ok()?;
+    }
+    Some(text)
 }
 
 /// Whether any file of the name is undeleted and of the release.

@@ -59,6 +59,8 @@ fn hand_all<S: Alter, K, H: Hand<K>>(
     ensures handed { HasHanded S.Store H.is_row H.takes H.stops
         rows.old.conn.now rows.new.conn.now taker.old taker.new result }
 {
+    // The bound is there because a proof needs an end: no table has as many rows. The proof names the loop by its
+    // label.
     'rows: for _given in 0..u64::MAX {
         match rows.next() {
             Ok(Some(row)) => H::hand(alloc, row, taker)?,

@@ -59,6 +59,7 @@ pub fn view<S: Alter>(
     Ok(view_of(users, files, name))
 }
 
+/// The caller, the user whom the call names and the bearer of the token that it brings.
 fn see_users<S: Alter>(
     alloc: Global,
     conn: &mut IndexConnection<S>,
@@ -76,6 +77,7 @@ fn see_users<S: Alter>(
     })
 }
 
+/// What the tables have of the file, the release and the name that the call speaks of.
 fn see_project<S: Alter>(
     alloc: Global,
     conn: &mut IndexConnection<S>,
@@ -89,6 +91,7 @@ fn see_project<S: Alter>(
     Ok((files, name))
 }
 
+/// What the tables have of the file and of the release that the call names.
 fn see_files<S: Alter>(
     alloc: Global,
     conn: &mut IndexConnection<S>,
@@ -108,6 +111,7 @@ fn see_files<S: Alter>(
     })
 }
 
+/// The record, the owners and the case of the name that the call speaks of.
 fn see_name<S: Alter>(
     alloc: Global,
     conn: &mut IndexConnection<S>,

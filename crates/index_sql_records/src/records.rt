@@ -126,6 +126,7 @@ pub fn case_record(alloc: Global, row: &Row) -> Result<CaseRecord, Fault>
     })
 }
 
+/// The kind of a case by the number in its row; any other number is a fault of the store.
 fn case_kind(row: &Row) -> Result<CaseKind, Fault>
     ensures { ReadsRow result (IsKind (column row.now 2))
         (λ it. it ≡ kind_by (number_in (column row.now 2))) }

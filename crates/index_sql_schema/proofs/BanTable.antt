@@ -1,7 +1,6 @@
 -- CREATE TABLE bans: a database of version 1 gets the tables of an index.
-use Rattle.std.proofs.Common.{◌≡◌, ℕ, [], ◌∷◌, find, option_map, Ok, refl, sym, ap, subst, ◌∙◌}
+use Rattle.std.proofs.Common.{◌≡◌, ℕ, [], ◌∷◌, Ok, refl, sym, subst, ◌∙◌}
 use Rattle.std.specs.Fmt.{digits}
-use Rattle.sqlite_value.specs.Order.{column}
 use Rattle.sqlite_trees.specs.Tree.{Trees}
 use Rattle.std.specs.List.{AllByRecursion}
 use Rattle.sqlite_schema.specs.declared.schema.Table.{Table}
@@ -13,8 +12,8 @@ use Rattle.index_sql_schema.specs.TableTexts.{bans_text}
 use Rattle.index_sql_schema.specs.Schema.{index_schema, bans_at}
 use Rattle.index_sql_schema.specs.CreateSteps.{stage}
 use Rattle.index_sql_schema.specs.FirstVersion.{first_version_schema, IsFirstVersion, without_bans}
-use Rattle.index_sql_schema.specs.Index.{AreRows, Changes, is_version}
-use Rattle.index_sql_schema.specs.Records.{number_in, tables_in}
+use Rattle.index_sql_schema.specs.Index.{AreRows, Changes}
+use Rattle.index_sql_schema.specs.Records.{tables_in}
 use Rattle.index_sql_schema.specs.RecordRows.{IsRecordIn, AreRecordsIn, AreRecordsOf}
 use Rattle.index_sql_schema.proofs.CreateLemmas.{creates, makes_bans}
 
@@ -29,7 +28,7 @@ all_nine = refl
 tables_after : (db next : Trees) → KeepsRows first_version_schema.tables db next → next 17 ≡ [] → tables_in next ≡ without_bans (tables_in db)
 tables_after db next h none = rw (h.1.0, h.1.1.0, h.1.1.1.0, h.1.1.1.1.0, h.1.1.1.1.1.0, h.1.1.1.1.1.1.0, h.1.1.1.1.1.1.1.0, none) refl
 
--- an index with the same tables, where nothing is banned, and with the same version
+-- an index with the same tables, where nothing is banned, and with the same rows of meta
 pub creates_bans : (old new : State) (count : ℕ) → IsFirstVersion old.now → Executes bans_text [] old new (Ok count)
     → Changes without_bans old.now new.now
 unfolding digits
@@ -42,7 +41,7 @@ creates_bans old new count h ran =
     record {
       tables = tables_after old.now.trees new.now.trees kept empty;
       index = record { schema = it.0 ∙ all_nine; sound = it.3; numbered = nine };
-      version = ap (λ rows. option_map (λ r. number_in (column r 3)) (find is_version rows)) kept.0;
+      meta = kept.0;
       records = λ before.
           let was = subst (λ (s : Schema). AreRecordsOf s.tables old.now.trees) h.schema before in
           let eight = all_both (λ (t : Table). new.now.trees t.tree ≡ old.now.trees t.tree) (λ (t : Table). AreRecordsIn old.now.trees t.tree) (λ (t : Table). AreRecordsIn new.now.trees t.tree) (λ t same rows. subst (AllByRecursion (IsRecordIn t.tree)) (sym same) rows) first_version_schema.tables kept was in

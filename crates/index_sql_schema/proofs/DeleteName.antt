@@ -30,7 +30,7 @@ use Rattle.index_rules.proofs.OwnerLists.{pair_total, exact_pair}
 use Rattle.index_sql_schema.specs.Records.{tables_in, text_key, user_in, case_in, pair_key, name_in, nothing_in, reason_in, file_in, body_in}
 use Rattle.index_sql_schema.proofs.Permutations.{short_permutation}
 use Rattle.index_sql_schema.specs.Schema.{index_schema, names_at, owners_at, yanks_at, cases_at}
-use Rattle.index_sql_schema.specs.Index.{rowid_in, IsIndex, Changes, version_in}
+use Rattle.index_sql_schema.specs.Index.{rowid_in, IsIndex, Changes}
 use Rattle.index_sql_schema.proofs.QueryShapes.{plan, from_one, is_param}
 use Rattle.index_sql_schema.proofs.KeyLemmas.{IsText, IsPair, agree_texts}
 use Rattle.index_sql_schema.proofs.KeyedLemmas.{once, gone_is, kept_is}
@@ -270,9 +270,6 @@ module _ (name : Bytes) where
         bans = map_from {R = bytes_cmp} text_key nothing_in (d.rest.4 i);
       }
 
-  version_kept : (old new : Database) → Dropped old.trees new.trees → version_in new.trees ≡ version_in old.trees
-  version_kept old new d = rw d.rest.0 refl
-
   -- no row has the name, so nothing goes
   dropped_none : (old : Database) (next : Trees) → IsIndex old → filter named (old.trees 4) ≡ [] → Writes index_schema Enforced old.trees (edit_with (names_at 4) [] []) (Ok next) → Dropped old.trees next
   dropped_none old next h none wrote =
@@ -340,4 +337,4 @@ module _ (name : Bytes) where
         | inr one ↦ dropped_one old.now new.now.trees h one.0 one.1 (subst (λ l. Writes index_schema Enforced db (edit_with (names_at 4) l []) (Ok new.now.trees)) one.1 writes)
       ] in
       let index = indexed old.now new.now h wrote.2 w.sound dropped in
-      record { tables = tables_after old.now new.now dropped; index = index; version = version_kept old.now new.now dropped; records = recorded old.now new.now h index dropped }
+      record { tables = tables_after old.now new.now dropped; index = index; meta = dropped.rest.0; records = recorded old.now new.now h index dropped }

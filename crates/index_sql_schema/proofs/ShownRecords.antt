@@ -1,5 +1,5 @@
 -- The rows of records stay such where each column is shown in its place.
-use Rattle.std.proofs.Common.{◌≡◌, inl, inr, pos, List, [], ◌∷◌, refl, sym, subst, arith}
+use Rattle.std.proofs.Common.{inl, inr, [], ◌∷◌, subst, arith}
 use Rattle.sqlite_value.specs.Order.{Row, column}
 use Rattle.sqlite_schema.specs.declared.schema.Schema.{Schema}
 use Rattle.sqlite.specs.Effect.{Database}

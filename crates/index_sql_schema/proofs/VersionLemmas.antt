@@ -1,22 +1,26 @@
 -- The rows of meta, and the one among them that has the version: there is one at most.
-use Rattle.std.proofs.Common.{◌≡◌, ◌≤◌, pos, Bool, true, false, not, ◌&&◌, ◌||◌, List, [], ◌∷◌, codes, drop, filter, length, slice_get, Some, refl, sym, ap, subst, ◌∙◌, true≢false, arith, int_eq, IsPermutation, find}
+use Rattle.std.proofs.Common.{◌≡◌, ◌≤◌, pos, Bool, true, false, not, ◌&&◌, ◌||◌, cond, List, [], ◌∷◌, drop, filter, find, length, map, option_map, slice_get, None, Some, Ordering, Less, Equal, Greater, refl, sym, ap, subst, ◌∙◌, true≢false, arith, int_eq}
 use Rattle.std.specs.List.{AllByRecursion}
-use Rattle.std.specs.Prelude.{bytes_eq}
+use Rattle.std.specs.Ordering.{match_ordering}
 use Rattle.std.proofs.lemmas.Int.{ints}
-use Rattle.sqlite_value.specs.Order.{Row, column, bytes}
+use Rattle.sqlite_value.specs.Order.{Row, column, value_cmp}
+use Rattle.sqlite_trees.specs.Tree.{rowid, put_row}
 use Rattle.sqlite_sql.specs.Ops.{is_null}
+use Rattle.sqlite_rules.specs.Edit.{put_all}
 use Rattle.sqlite_schema.specs.declared.schema.Table.{Table}
 use Rattle.sqlite_schema.specs.declared.schema.Schema.{Schema}
 use Rattle.sqlite_schema.specs.declared.schema.Constraint.{Constraint}
 use Rattle.sqlite_schema.specs.declared.schema.Constraint.TheVariants.{Datatype, NotNull}
 use Rattle.sqlite_schema.specs.Rules.{Keeps, passes, are_typed, are_present, has_computed}
 use Rattle.sqlite.specs.Effect.{Database, IsDatabase}
-use Rattle.sqlite_keyed.proofs.ListLemmas.{all_both, all-slice_get, slice_get-filter, IsPermutation-filter}
+use Rattle.sqlite_keyed.specs.Lists.{delete_where}
+use Rattle.sqlite_keyed.proofs.ListLemmas.{all_both, all_weaker, all-slice_get}
 use Rattle.sqlite_keyed.proofs.KeyedLemmas.{same_int}
-use Rattle.index_sql_schema.proofs.Permutations.{one_passes, short_permutation}
+use Rattle.index_sql_schema.proofs.Permutations.{one_passes}
 use Rattle.index_sql_schema.specs.Schema.{meta_at}
-use Rattle.index_sql_schema.specs.Index.{rowid_in, AreRows, is_version}
-use Rattle.index_sql_schema.proofs.EditLemmas.{Differ}
+use Rattle.index_sql_schema.specs.Index.{rowid_in, AreRows, as_version_2, is_first, is_version, raised, version_among}
+use Rattle.index_sql_schema.specs.Records.{number_in}
+use Rattle.index_sql_schema.proofs.EditLemmas.{Differ, filter_passes}
 use Rattle.index_sql_schema.proofs.KeyLemmas.{IsText}
 use Rattle.index_sql_schema.proofs.TypedLemmas.{as_text, first_part, second_part}
 
@@ -45,25 +49,64 @@ module _ (schema : Schema) (first : slice_get schema.tables 0 ≡ Some (meta_at 
 
 -- ---- the one with the version
 
-other : (a b : Row) → Differ a b → is_version a ≡ true → is_version b ≡ false
-other a b apart here = go (int_eq (rowid_in b) (pos 1)) refl
+other_first : (a b : Row) → Differ a b → is_first a ≡ true → is_first b ≡ false
+other_first a b apart here = go (is_first b) refl
   where
-    first : rowid_in a ≡ pos 1
-    first = same_int (rowid_in a) (pos 1) (first_part _ _ here)
-
-    go : (c : Bool) → int_eq (rowid_in b) (pos 1) ≡ c → (c && bytes_eq (bytes (column b 2)) (codes "python-index")) ≡ false
-    go false e = refl
+    go : (c : Bool) → is_first b ≡ c → is_first b ≡ false
+    go false e = e
     go true e =
+        let first = same_int (rowid_in a) (pos 1) here in
         let second = same_int (rowid_in b) (pos 1) e in
         let same : int_eq (rowid_in a) (rowid_in b) ≡ true = grind (arith, ints) in
         absurd (true≢false (sym same ∙ apart))
 
-pub one_version : (rows : List Row) → AreRows rows → length (filter is_version rows) ≤ 1
-one_version rows are = one_passes Differ is_version rows other are.0
+-- no two rows have id 1
+pub one_first : (rows : List Row) → AreRows rows → length (filter is_first rows) ≤ 1
+one_first rows are = one_passes Differ is_first rows other_first are.0
 
--- in whatever order the rows stand
-pub same_version : (rows others : List Row) → AreRows rows → IsPermutation rows others → find is_version others ≡ find is_version rows
-same_version rows others are order =
-    sym (slice_get-filter is_version others)
-    ∙ ap (λ l. slice_get l 0) (short_permutation _ _ (one_version rows are) (IsPermutation-filter is_version rows others order))
-    ∙ slice_get-filter is_version rows
+other_id : (r : Row) → is_first r ≡ false → is_version r ≡ false
+other_id r other = rw other refl
+
+pub one_version : (rows : List Row) → AreRows rows → length (filter is_version rows) ≤ 1
+one_version rows are = one_passes Differ is_version rows (λ a b apart here. other_id b (other_first a b apart (first_part _ _ here))) are.0
+
+-- ---- the version where the row with id 1 is put back
+
+none_found : (rows : List Row) → AllByRecursion (λ r. is_first r ≡ false) rows → find is_version rows ≡ None
+none_found [] all = refl
+none_found (r ∷ rows) all = rw all.0 (none_found rows all.1)
+
+put_found : (n : Row) (rows : List Row) → AllByRecursion (λ r. is_first r ≡ false) rows → find is_version (put_row n rows) ≡ cond (is_version n) (Some n) None
+put_found n [] all = refl
+put_found n (r ∷ rows) all = go (value_cmp (rowid r) (rowid n)) (put_found n rows all.1)
+  where
+    go : (o : Ordering) → find is_version (put_row n rows) ≡ cond (is_version n) (Some n) None → find is_version (match_ordering o (r ∷ put_row n rows) (n ∷ rows) (n ∷ r ∷ rows)) ≡ cond (is_version n) (Some n) None
+    go Less more = rw all.0 more
+    go Equal more = ap (cond (is_version n) (Some n)) (none_found rows all.1)
+    go Greater more = ap (cond (is_version n) (Some n)) (none_found (r ∷ rows) all)
+
+found_first : (rows : List Row) → find is_version rows ≡ find is_version (filter is_first rows)
+found_first [] = refl
+found_first (r ∷ rows) = go (is_first r) refl (found_first rows)
+  where
+    go : (b : Bool) → is_first r ≡ b → find is_version rows ≡ find is_version (filter is_first rows) → find is_version (r ∷ rows) ≡ find is_version (cond b (r ∷ filter is_first rows) (filter is_first rows))
+    go true e more = ap (cond (is_version r) (Some r)) more
+    go false e more = rw e more
+
+put_tells : (found rest : List Row) → length found ≤ 1 → AllByRecursion (λ r. is_first r ≡ false) rest → version_among (put_all rest (map as_version_2 found)) ≡ option_map (λ _. 2) (version_among found)
+put_tells [] rest short all = ap (option_map (λ r. number_in (column r 3))) (none_found rest all)
+put_tells (r ∷ []) rest short all =
+    ap (option_map (λ r. number_in (column r 3))) (put_found (as_version_2 r) rest all)
+    ∙ elim (is_version r) as (λ b. option_map (λ r. number_in (column r 3)) (cond b (Some (as_version_2 r)) None) ≡ option_map (λ _. 2) (option_map (λ r. number_in (column r 3)) (cond b (Some r) None))) [ true ↦ refl | false ↦ refl ]
+put_tells (r ∷ s ∷ more) rest short all = absurd (omega arith)
+
+was_false : (b : Bool) → not b ≡ true → b ≡ false
+was_false true h = absurd (true≢false (sym h))
+was_false false h = refl
+
+-- version 2 is told, where a version was
+pub raised_tells : (rows : List Row) → AreRows rows → version_among (raised rows) ≡ option_map (λ _. 2) (version_among rows)
+raised_tells rows are =
+    let others = all_weaker _ (λ r. is_first r ≡ false) (λ r it. was_false (is_first r) it.1) (delete_where is_first rows) (filter_passes (λ r. not (is_first r)) rows) in
+    put_tells (filter is_first rows) (delete_where is_first rows) (one_first rows are) others
+    ∙ ap (λ found. option_map (λ _. 2) (option_map (λ r. number_in (column r 3)) found)) (sym (found_first rows))

@@ -171,20 +171,22 @@ module _ (at : ℕ) (table : Table) (is : slice_get index_schema.tables at ≡ S
 
     -- an edit that puts rows in place of those that pass
     replaces : (p : Row → Bool) (found news : List Row) (next : Trees) → IsPermutation (filter p (old.now.trees table.tree)) found → Applies index_schema Enforced old.now.trees (edit_with table found news) next
-        → IsPermutation (news ++ delete_where p (old.now.trees table.tree)) (next table.tree) × AreRows (next table.tree)
+        → IsPermutation (news ++ delete_where p (old.now.trees table.tree)) (next table.tree) × AreRows (next table.tree) × (next table.tree ≡ put_all (delete_where p (old.now.trees table.tree)) news)
     replaces p found news next order it =
         let rows = old.now.trees table.tree in
         let are = are_rows at table is old.now h in
         let left = matched_gone rows found p are order in
         let put = put_all_fresh news (delete_where p rows) (are_whole news it.keyed) (subst (λ l. are_fresh l news ≡ true) left it.fresh) (kept_rows p rows are) in
-        subst (λ l. IsPermutation (news ++ delete_where p rows) l × AreRows l) (sym (it.rows ∙ ap (λ l. put_all l news) left)) put
+        let is : next table.tree ≡ put_all (delete_where p rows) news = it.rows ∙ ap (λ l. put_all l news) left in
+        (subst (IsPermutation (news ++ delete_where p rows)) (sym is) put.0, subst AreRows (sym is) put.1, is)
 
-    -- UPDATE makes the rows that pass what f says
+    -- UPDATE makes the rows that pass what f says, and puts them in again in the order in which it found them
     pub updates_rows : (tests project : List Term) (p : Row → Bool) (f : Row → Row) → command_of (understood index_schema text) ≡ Update at (plan (from_one table.tree tests (col 1 0 ∷ project) []))
         → ((found : List Row) → works index_schema Enforced 0 table.tree (map (row_at (old.now.trees table.tree)) (map rowid_in found)) (map f found) ≡ [])
         → AllByRecursion (λ r. cast_row table (eval_all project (params ∷ r ∷ [])) ≡ f r) (filter p (old.now.trees table.tree))
         → ((r : Row) → IsRecordIn table.tree r → IsRecordIn table.tree (f r)) → TestsAs params tests p old.now.trees → Executes text params old new (Ok count)
         → IsPermutation (map f (filter p (old.now.trees table.tree)) ++ delete_where p (old.now.trees table.tree)) (new.now.trees table.tree) × Leaves old new
+        × ((found : List Row) × IsPermutation (filter p (old.now.trees table.tree)) found × (new.now.trees table.tree ≡ put_all (delete_where p (old.now.trees table.tree)) (map f found)))
     updates_rows tests project p f compiled none casts keeps same ran =
         let db = old.now.trees in
         let q : Program = plan (from_one table.tree tests (col 1 0 ∷ project) []) in
@@ -201,7 +203,7 @@ module _ (at : ℕ) (table : Table) (is : slice_get index_schema.tables at ≡ S
         let P = IsRecordIn table.tree in
         let records : AreRecordsIn db table.tree → AreRecordsIn new.now.trees table.tree =
         λ before. all_permutation P _ _ rows (all-append P _ _ (all_map P f _ (all_weaker P (λ r. P (f r)) keeps _ (all-filter P p (db table.tree) before))) (all-filter P (λ r. not (p r)) (db table.tree) before)) in
-        (rows, (altered table.tree old.now new.now h index it.tables records, index))
+        (rows, (altered table.tree old.now new.now h index it.tables records, index), (edit.0, edit.1, put.2))
 
     -- ---- INSERT .. ON CONFLICT (key) DO UPDATE of one row
 

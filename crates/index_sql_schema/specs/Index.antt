@@ -1,12 +1,14 @@
 -- When a database is an index, and what a statement makes of it.
-use Rattle.std.specs.Prelude.{◌≡◌, ℕ, ℤ, pos, Bool, false, ◌&&◌, List, IsTrue, Option, option_map, find, codes, bytes_eq}
+use Rattle.std.specs.Prelude.{◌≡◌, ℕ, ℤ, pos, Bool, false, ◌&&◌, List, [], ◌∷◌, IsTrue, Option, option_map, map, filter, find, codes, bytes_eq, refl}
 use Rattle.std.specs.List.{AllByRecursion}
 use Rattle.std.specs.Ordering.{int_eq}
+use Rattle.sqlite_value.specs.declared.value.Value.TheVariants.{Null, Int, Text}
 use Rattle.sqlite_value.specs.Order.{Row, column, bytes}
 use Rattle.sqlite_trees.specs.Tree.{Trees, rowid, IsAscending}
 use Rattle.sqlite_trees.specs.View.{is_int}
 use Rattle.sqlite_schema.specs.declared.schema.Table.{Table}
-use Rattle.sqlite_rules.specs.Edit.{id_in}
+use Rattle.sqlite_rules.specs.Edit.{id_in, put_all}
+use Rattle.sqlite_keyed.specs.Lists.{delete_where}
 use Rattle.sqlite.specs.Effect.{Database, IsDatabase}
 use Rattle.index_rules.specs.Tables.{Tables}
 use Rattle.index_sql_schema.specs.Schema.{index_schema}
@@ -37,26 +39,58 @@ pub record IsIndex (db : Database) : Type 0 where
   pub sound : IsDatabase db
   pub numbered : IsNumbered db.trees
 
+-- the row has id 1
+abbrev pub is_first : Row → Bool
+is_first r = int_eq (rowid_in r) (pos 1)
+
 -- the row of meta that has the version
 abbrev pub is_version : Row → Bool
-is_version r = int_eq (rowid_in r) (pos 1) && bytes_eq (bytes (column r 2)) (codes "python-index")
+is_version r = is_first r && bytes_eq (bytes (column r 2)) (codes "python-index")
+
+-- the rows of meta
+abbrev pub meta_in : Trees → List Row
+meta_in db = db 0
+
+-- the version that these rows of meta tell, if they do
+abbrev pub version_among : List Row → Option ℕ
+version_among rows = option_map (λ r. number_in (column r 3)) (find is_version rows)
 
 -- the version that meta tells, if it does
 abbrev pub version_in : Trees → Option ℕ
-version_in db = option_map (λ r. number_in (column r 3)) (find is_version (db 0))
+version_in db = version_among (meta_in db)
 
--- an index after a statement, which made this of the tables, and tells this for the version that was told
-pub record Rewrites (change : Tables → Tables) (told : Option ℕ → Option ℕ) (old new : Database) : Type 0 where
+-- the row of meta that tells this version; its number is the id, in whose own place it has NULL
+abbrev pub version_row : ℕ → Row
+version_row version = Int (pos 1) ∷ Null ∷ Text (codes "python-index") ∷ Int (pos version) ∷ []
+
+-- these rows of meta, with that of version 2 in its place among them
+abbrev pub with_version_2 : List Row → List Row
+with_version_2 rows = put_all rows (version_row 2 ∷ [])
+
+-- a row of meta, where its version is 2
+abbrev pub as_version_2 : Row → Row
+as_version_2 r = Int (rowid_in r) ∷ Null ∷ Text (bytes (column r 2)) ∷ Int (pos 2) ∷ []
+
+-- these rows of meta, where that with id 1 is put back with version 2, and the others are as they were
+abbrev pub raised : List Row → List Row
+raised rows = put_all (delete_where is_first rows) (map as_version_2 (filter is_first rows))
+
+-- so the one row of version 1 becomes that of version 2
+pub raised_row : raised (version_row 1 ∷ []) ≡ version_row 2 ∷ []
+raised_row = refl
+
+-- an index after a statement, which made this of the tables, and this of the rows of meta
+pub record Rewrites (change : Tables → Tables) (rows : List Row → List Row) (old new : Database) : Type 0 where
   pub tables : tables_in new.trees ≡ change (tables_in old.trees)
   pub index : IsIndex new
-  pub version : version_in new.trees ≡ told (version_in old.trees)
+  pub meta : meta_in new.trees ≡ rows (meta_in old.trees)
   -- its rows are records if they were
   pub records : AreRecords old → AreRecords new
 
--- the version that was told
-abbrev pub same_version : Option ℕ → Option ℕ
-same_version version = version
+-- the rows of meta as they were
+abbrev pub same_meta : List Row → List Row
+same_meta rows = rows
 
--- the same, where the version stays
+-- the same, where the rows of meta stay
 abbrev pub Changes : (Tables → Tables) → Database → Database → Type 0
-Changes change = Rewrites change same_version
+Changes change = Rewrites change same_meta

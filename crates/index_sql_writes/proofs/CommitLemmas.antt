@@ -1,12 +1,13 @@
 -- What a commit leaves.
-use Rattle.std.proofs.Common.{◌≡◌, ◌∙◌, ℕ, Option, IsTrue, true, false, ap, refl, subst, sym}
+use Rattle.std.proofs.Common.{◌≡◌, ◌∙◌, IsTrue, List, true, false, ap, refl, subst, sym}
+use Rattle.sqlite_value.specs.Order.{Row}
 use Rattle.sqlite_trees.specs.declared.store.Store.{Ghosts}
 use Rattle.sqlite_trees.specs.Tree.{Trees}
 use Rattle.sqlite.specs.Effect.{Database}
 use Rattle.sqlite.specs.Held.{Held, state}
 use Rattle.sqlite.specs.State.{Shows}
 use Rattle.index_rules.specs.Tables.{Tables}
-use Rattle.index_sql_schema.specs.Index.{IsIndex, version_in}
+use Rattle.index_sql_schema.specs.Index.{IsIndex, meta_in}
 use Rattle.index_sql_schema.specs.Records.{tables_in}
 use Rattle.index_sql_schema.specs.RecordRows.{AreRecords}
 use Rattle.index_sql_writes.specs.Transaction.{IsInTransaction, MakesInTransaction}
@@ -17,15 +18,15 @@ pub index_held : (d : Database) (db : Trees) → IsIndex d → db ≡ d.trees �
 index_held d db it is = subst HoldsIndex (sym is) (subst (λ s. IsIndex (record { schema = s; trees = d.trees })) it.schema it)
 
 -- a change made inside a transaction is made as a whole by its commit
-pub made_by_commit : {S : Type 0} (g : Ghosts S) (change : Tables → Tables) (told : Option ℕ → Option ℕ) (old start mid new : Held S) → start ≡ record old { in_transaction = true } → IsTrue (state g old).is_open → IsIndex (state g old).now
-    → (IsInTransaction (state g start) → MakesInTransaction change told (state g start) (state g mid)) → Shows (state g mid) (state g new) (state g mid).now (state g mid).now false → IsMade change told (state g old) (state g new)
-made_by_commit g change told old start mid new begun opened index makes shows =
-    let made = (subst (λ h. IsInTransaction (state g h) → MakesInTransaction change told (state g h) (state g mid)) begun makes) (record { is_open = opened; inside = refl; index = index }) in
+pub made_by_commit : {S : Type 0} (g : Ghosts S) (change : Tables → Tables) (rows : List Row → List Row) (old start mid new : Held S) → start ≡ record old { in_transaction = true } → IsTrue (state g old).is_open → IsIndex (state g old).now
+    → (IsInTransaction (state g start) → MakesInTransaction change rows (state g start) (state g mid)) → Shows (state g mid) (state g new) (state g mid).now (state g mid).now false → IsMade change rows (state g old) (state g new)
+made_by_commit g change rows old start mid new begun opened index makes shows =
+    let made = (subst (λ h. IsInTransaction (state g h) → MakesInTransaction change rows (state g h) (state g mid)) begun makes) (record { is_open = opened; inside = refl; index = index }) in
     record {
       is_open = shows.is_open;
       index = subst IsIndex (sym shows.now_is) made.ready.index;
       tables = ap (λ (d : Database). tables_in d.trees) shows.now_is ∙ made.tables;
-      version = ap (λ (d : Database). version_in d.trees) shows.now_is ∙ made.version;
+      meta = ap (λ (d : Database). meta_in d.trees) shows.now_is ∙ made.meta;
       records = λ before. subst AreRecords (sym shows.now_is) (made.records before);
       committed = shows.committed_is ∙ sym shows.now_is;
       ended = shows.mode;

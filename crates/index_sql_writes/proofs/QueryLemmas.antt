@@ -11,7 +11,7 @@ use Rattle.sqlite.proofs.Callers.{IsPlain}
 use Rattle.index_rules.specs.Tables.{Tables}
 use Rattle.index_sql_schema.proofs.PlainLemmas.{plain_anywhere}
 use Rattle.index_sql_schema.specs.Schema.{index_schema}
-use Rattle.index_sql_schema.specs.Index.{IsIndex, same_version, version_in}
+use Rattle.index_sql_schema.specs.Index.{IsIndex, meta_in, same_meta}
 use Rattle.index_sql_schema.specs.Records.{tables_in}
 use Rattle.index_sql_schema.specs.Sure.{IsSure}
 use Rattle.index_sql_schema.proofs.SureLemmas.{fails_for}
@@ -57,22 +57,22 @@ module _ (old new : State) where
         by_returning (Some what) (inr fails) = undone_keeps fails.3
 
   -- what changes nothing makes nothing of the tables
-  pub unchanged_makes : IsUnchanged old new → IsInTransaction old → MakesInTransaction (λ T. T) same_version old new
+  pub unchanged_makes : IsUnchanged old new → IsInTransaction old → MakesInTransaction (λ T. T) same_meta old new
   unchanged_makes same ready = record {
     ready = record { is_open = same.0.is_open; inside = same.0.mode ∙ ready.inside; index = subst IsIndex (sym same.0.now_is) ready.index };
     tables = ap (λ (d : Database). tables_in d.trees) same.0.now_is;
     committed = same.0.committed_is;
-    version = ap (λ (d : Database). version_in d.trees) same.0.now_is;
+    meta = ap (λ (d : Database). meta_in d.trees) same.0.now_is;
     records = λ are. subst AreRecords (sym same.0.now_is) are;
   }
 
 -- another word for what was made of these tables
-pub makes_as : (change other : Tables → Tables) (first last : State) → change (tables_in first.now.trees) ≡ other (tables_in first.now.trees) → MakesInTransaction change same_version first last → MakesInTransaction other same_version first last
+pub makes_as : (change other : Tables → Tables) (first last : State) → change (tables_in first.now.trees) ≡ other (tables_in first.now.trees) → MakesInTransaction change same_meta first last → MakesInTransaction other same_meta first last
 makes_as change other first last same made = record {
   ready = made.ready;
   tables = made.tables ∙ same;
   committed = made.committed;
-  version = made.version;
+  meta = made.meta;
   records = made.records;
 }
 

@@ -1,5 +1,5 @@
 -- Statements inside a transaction.
-use Rattle.std.proofs.Common.{◌≡◌, inl, inr, ℕ, List, Option, Ok, Err, Result, refl, sym, subst, IsTrue, false}
+use Rattle.std.proofs.Common.{◌≡◌, inl, inr, ℕ, List, Ok, Err, Result, refl, sym, subst, IsTrue, false}
 use Rattle.std.proofs.lemmas.Bool.{cases_Bool}
 use Rattle.sqlite_value.specs.Order.{Row}
 use Rattle.sqlite_trees.specs.declared.store.Store.{Ghosts}
@@ -26,9 +26,9 @@ keeps_by g old new sql params r outside inside = elim (cases_Bool old.in_transac
 ]
 
 -- a statement that changes an index so makes a step of it; `cells` are its parameters
-pub makes : (sql : List ℕ) (cells : Row) (change : Tables → Tables) (told : Option ℕ → Option ℕ) (params : Row) (old new : State) (count : ℕ)
-    → (IsIndex old.now → Executes sql cells old new (Ok count) → Rewrites change told old.now new.now)
-    → IsInTransaction old → ExecutesInside 0 sql params old new (Ok count) → params ≡ cells → MakesInTransaction change told old new
-makes sql cells change told params old new count changes ready ran given =
+pub makes : (sql : List ℕ) (cells : Row) (change : Tables → Tables) (rows : List Row → List Row) (params : Row) (old new : State) (count : ℕ)
+    → (IsIndex old.now → Executes sql cells old new (Ok count) → Rewrites change rows old.now new.now)
+    → IsInTransaction old → ExecutesInside 0 sql params old new (Ok count) → params ≡ cells → MakesInTransaction change rows old new
+makes sql cells change rows params old new count changes ready ran given =
     let it = changes ready.index (subst (λ ps. Executes sql ps old new (Ok count)) given ran.0) in
-    record { ready = record { is_open = ran.1.is_open; inside = ran.1.mode; index = it.index }; tables = it.tables; committed = ran.1.committed_is; version = it.version; records = it.records }
+    record { ready = record { is_open = ran.1.is_open; inside = ran.1.mode; index = it.index }; tables = it.tables; committed = ran.1.committed_is; meta = it.meta; records = it.records }

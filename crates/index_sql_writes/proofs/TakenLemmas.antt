@@ -14,7 +14,7 @@ use Rattle.index_rules.specs.declared.records.NameRecord.TheVariants as known
 use Rattle.index_rules.specs.Maps.{Bytes}
 use Rattle.index_rules.specs.Projects.{Project}
 use Rattle.index_rules.specs.Tables.{Tables}
-use Rattle.index_sql_schema.specs.Index.{IsIndex, Changes, same_version}
+use Rattle.index_sql_schema.specs.Index.{IsIndex, Changes, same_meta}
 use Rattle.index_sql_schema.specs.Schema.{index_schema}
 use Rattle.index_sql_schema.specs.StatementTexts.{put_name_text}
 use Rattle.index_sql_writes.specs.Asks.{AnswersAll, Ask, CanAsk, HasTooMuch, Statement, WithNumbers}
@@ -80,7 +80,7 @@ module _ {S : Type 0} (g : Ghosts S) where
     uncommitted = run.uncommitted;
     made = λ clean ready.
         let ran = run.ran clean ready.inside in
-        makes sql cells change same_version params (state g old.now) (state g new.now) ran.0 (changes ran.0) ready ran.1 given;
+        makes sql cells change same_meta params (state g old.now) (state g new.now) ran.0 (changes ran.0) ready ran.1 given;
     opened = run.opened;
     asked = λ clean can.
         let ran = run.ran clean can.ready.inside in
@@ -128,7 +128,7 @@ held_step g name project shown quota charge undeleted last s q c u l old new r s
 
 -- a step is steps
 pub step_alone : {S A : Type 0} (g : Ghosts S) (change : Tables → Tables) (ask : Ask) (old new : MutBor (Held S)) (r : Result A Error) → TakesStep g change ask old new r
-    → TakesSteps g IsInTransaction (MakesInTransaction change same_version) CanAsk (AnswersAll (ask ∷ [])) old new r
+    → TakesSteps g IsInTransaction (MakesInTransaction change same_meta) CanAsk (AnswersAll (ask ∷ [])) old new r
 step_alone g change ask old new r step = record {
   uncommitted = step.uncommitted;
   made = step.made;

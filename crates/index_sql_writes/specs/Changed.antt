@@ -1,5 +1,6 @@
 -- A change of the tables as a list of steps.
-use Rattle.std.specs.Prelude.{◌≡◌, ℕ, Option, List, [], ◌∷◌, false, IsTrue, OnErr, OnOk, Result}
+use Rattle.std.specs.Prelude.{◌≡◌, List, [], ◌∷◌, false, IsTrue, OnErr, OnOk, Result}
+use Rattle.sqlite_value.specs.Order.{Row}
 use Rattle.sqlite_trees.specs.Tree.{Trees}
 use Rattle.sqlite_trees.specs.declared.store.Store.{Ghosts}
 use Rattle.sqlite.specs.Effect.{Database}
@@ -11,7 +12,7 @@ use Rattle.index_rules.specs.Tables.{Tables}
 use Rattle.index_sql_schema.specs.Schema.{index_schema}
 use Rattle.index_sql_schema.specs.Records.{tables_in}
 use Rattle.index_sql_schema.specs.RecordRows.{AreRecords, AreRecordsOf}
-use Rattle.index_sql_schema.specs.Index.{IsIndex, same_version, version_in}
+use Rattle.index_sql_schema.specs.Index.{IsIndex, meta_in, same_meta}
 use Rattle.index_sql_writes.specs.Writes.{puts_user, puts_name, puts_owner, puts_file, puts_body, puts_yank, puts_case, puts_ban, deletes_owners, deletes_owner, deletes_yanks, deletes_yank, deletes_case, deletes_body, deletes_bodies, marks_files}
 use Rattle.index_sql_writes.specs.declared.step.Put.{Put}
 use Rattle.index_sql_writes.specs.declared.step.Put.TheVariants as put
@@ -54,12 +55,12 @@ abbrev pub all_of : List Step → Tables → Tables
 all_of [] T = T
 all_of (it ∷ rest) T = all_of rest (step_by it T)
 
--- the change is made and committed, and the version is what `told` makes of the one before
-pub record IsMade (change : Tables → Tables) (told : Option ℕ → Option ℕ) (old new : State) : Type 0 where
+-- the change is made and committed, and the rows of meta are what `rows` makes of those before
+pub record IsMade (change : Tables → Tables) (rows : List Row → List Row) (old new : State) : Type 0 where
   pub is_open : IsTrue new.is_open
   pub index : IsIndex new.now
   pub tables : tables_in new.now.trees ≡ change (tables_in old.now.trees)
-  pub version : version_in new.now.trees ≡ told (version_in old.now.trees)
+  pub meta : meta_in new.now.trees ≡ rows (meta_in old.now.trees)
   -- its rows are records if they were
   pub records : AreRecords old.now → AreRecords new.now
   pub committed : new.committed ≡ new.now
@@ -73,17 +74,17 @@ IsUndone old new = (new.now ≡ old.committed) × (new.committed ≡ old.committ
 abbrev pub HoldsIndex : Trees → Type 0
 HoldsIndex db = IsIndex (record { schema = index_schema; trees = db })
 
--- a crash leaves what could be left before, or the change as a whole, with its version, in an index; its rows are records if they were
-abbrev pub LeavesWholeChange : (Tables → Tables) → (Option ℕ → Option ℕ) → State → State → Type 0
-LeavesWholeChange change told old new =
+-- a crash leaves what could be left before, or the change as a whole, with its rows of meta, in an index; its rows are records if they were
+abbrev pub LeavesWholeChange : (Tables → Tables) → (List Row → List Row) → State → State → Type 0
+LeavesWholeChange change rows old new =
     Survives old new
     (λ db. (tables_in db ≡ change (tables_in old.now.trees))
-    × (version_in db ≡ told (version_in old.now.trees)) × HoldsIndex db
+    × (meta_in db ≡ rows (meta_in old.now.trees)) × HoldsIndex db
     × (AreRecords old.now → AreRecordsOf index_schema.tables db))
 
--- What a transaction leaves that is to make this change of an open database of such a kind, and to tell this version. What it says of values is of a clean disk.
-pub record MakesAll {S A E : Type 0} (g : Ghosts S) (IsKind : Database → Type 0) (change : Tables → Tables) (told : Option ℕ → Option ℕ) (old new : Connected S) (result : Result A E) : Type 0 where
-  pub made : HasCleanDisk (state g new) → OnOk result (IsTrue (state g old).is_open → IsKind (state g old).now → IsMade change told (state g old) (state g new))
+-- What a transaction leaves that is to make this change of an open database of such a kind, and this of its rows of meta. What it says of values is of a clean disk.
+pub record MakesAll {S A E : Type 0} (g : Ghosts S) (IsKind : Database → Type 0) (change : Tables → Tables) (rows : List Row → List Row) (old new : Connected S) (result : Result A E) : Type 0 where
+  pub made : HasCleanDisk (state g new) → OnOk result (IsTrue (state g old).is_open → IsKind (state g old).now → IsMade change rows (state g old) (state g new))
   pub opened : HasCleanDisk (state g new) → OnOk result (IsTrue (state g new).is_open)
   -- after an error, while the connection is open, the database is as it was committed
   pub unchanged : HasCleanDisk (state g new) → IsTrue (state g new).is_open → IsKind (state g old).now → OnErr result (IsUndone (state g old) (state g new))
@@ -91,8 +92,8 @@ pub record MakesAll {S A E : Type 0} (g : Ghosts S) (IsKind : Database → Type 
   pub was_clean : HasCleanDisk (state g new) → HasCleanDisk (state g old)
   pub was_open : HasCleanDisk (state g new) → IsTrue (state g new).is_open → IsTrue (state g old).is_open
   pub crash : IsTrue (state g old).is_open → IsKind (state g old).now
-      → LeavesWholeChange change told (state g old) (state g new)
+      → LeavesWholeChange change rows (state g old) (state g new)
 
--- so it is where the database is an index, and the version stays
+-- so it is where the database is an index, and its rows of meta stay
 abbrev pub MakesChange : {S A E : Type 0} → Ghosts S → (Tables → Tables) → Connected S → Connected S → Result A E → Type 0
-MakesChange g change = MakesAll g IsIndex change same_version
+MakesChange g change = MakesAll g IsIndex change same_meta

@@ -9,7 +9,7 @@ use Rattle.sqlite.specs.Held.{Held, state}
 use Rattle.sqlite.specs.Rows.{Part}
 use Rattle.sqlite.specs.State.{State, ExecutesInside, HasCleanDisk}
 use Rattle.index_rules.specs.Tables.{Tables}
-use Rattle.index_sql_schema.specs.Index.{same_version}
+use Rattle.index_sql_schema.specs.Index.{same_meta}
 use Rattle.index_sql_writes.specs.Asks.{Ask, GoesAs, GoesByAsk}
 use Rattle.index_sql_writes.specs.Changed.{deletion_by, put_by, step_by}
 use Rattle.index_sql_writes.specs.StepAsks.{deletion_ask, put_ask, step_ask}
@@ -47,7 +47,7 @@ pub record TakesSteps {S A : Type 0} (g : Ghosts S) (CanMake : State → Type 0)
 
 -- any number of them on an index, which make this change of its tables
 abbrev pub ChangesIndex : {S A : Type 0} → Ghosts S → (Tables → Tables) → (State → Type 0) → (Database → Part Database) → MutBor (Held S) → MutBor (Held S) → Result A Error → Type 0
-ChangesIndex g change = TakesSteps g IsInTransaction (MakesInTransaction change same_version)
+ChangesIndex g change = TakesSteps g IsInTransaction (MakesInTransaction change same_meta)
 
 -- one statement with these parameters
 pub record RunsStatement {S : Type 0} (g : Ghosts S) (sql : List ℕ) (params : Row) (old new : MutBor (Held S)) (result : Result (Unit {0}) Error) : Type 0 where

@@ -1,13 +1,14 @@
 -- What a step does inside a transaction.
-use Rattle.std.specs.Prelude.{◌≡◌, ℕ, false, true, IsTrue, OnOk, Option, Result}
+use Rattle.std.specs.Prelude.{◌≡◌, false, true, IsTrue, List, OnOk, Result}
 use Rattle.std.specs.Borrow.{MutBor}
+use Rattle.sqlite_value.specs.Order.{Row}
 use Rattle.sqlite_trees.specs.declared.store.Store.{Ghosts}
 use Rattle.sqlite.specs.Held.{Held, state}
 use Rattle.sqlite.specs.State.{State, HasCleanDisk, KeepsCommit, Survives}
 use Rattle.index_rules.specs.Tables.{Tables}
 use Rattle.index_sql_schema.specs.Records.{tables_in}
 use Rattle.index_sql_schema.specs.RecordRows.{AreRecords}
-use Rattle.index_sql_schema.specs.Index.{IsIndex, same_version, version_in}
+use Rattle.index_sql_schema.specs.Index.{IsIndex, meta_in, same_meta}
 
 -- a transaction on an index is under way
 pub record IsInTransaction (s : State) : Type 0 where
@@ -15,25 +16,25 @@ pub record IsInTransaction (s : State) : Type 0 where
   pub inside : s.in_transaction ≡ true
   pub index : IsIndex s.now
 
--- the transaction sees this made of the tables and told for the version that was told, and nothing was committed
-pub record MakesInTransaction (change : Tables → Tables) (told : Option ℕ → Option ℕ) (old new : State) : Type 0 where
+-- the transaction sees this made of the tables, and this of the rows of meta, and nothing was committed
+pub record MakesInTransaction (change : Tables → Tables) (rows : List Row → List Row) (old new : State) : Type 0 where
   pub ready : IsInTransaction new
   pub tables : tables_in new.now.trees ≡ change (tables_in old.now.trees)
   pub committed : new.committed ≡ old.committed
-  pub version : version_in new.now.trees ≡ told (version_in old.now.trees)
+  pub meta : meta_in new.now.trees ≡ rows (meta_in old.now.trees)
   -- its rows are records if they were
   pub records : AreRecords old.now → AreRecords new.now
 
 -- a step that succeeds does so on a clean disk
-abbrev pub TellsIfOk : {S A E : Type 0} → Ghosts S → (Tables → Tables) → (Option ℕ → Option ℕ) → Held S → Held S → Result A E → Type 0
-TellsIfOk g change told old new result =
+abbrev pub RewritesIfOk : {S A E : Type 0} → Ghosts S → (Tables → Tables) → (List Row → List Row) → Held S → Held S → Result A E → Type 0
+RewritesIfOk g change rows old new result =
     HasCleanDisk (state g new)
     → OnOk result
-    (IsInTransaction (state g old) → MakesInTransaction change told (state g old) (state g new))
+    (IsInTransaction (state g old) → MakesInTransaction change rows (state g old) (state g new))
 
--- the same, where the version stays
+-- the same, where the rows of meta stay
 abbrev pub MakesIfOk : {S A E : Type 0} → Ghosts S → (Tables → Tables) → Held S → Held S → Result A E → Type 0
-MakesIfOk g change = TellsIfOk g change same_version
+MakesIfOk g change = RewritesIfOk g change same_meta
 
 -- what is committed stays, on a clean disk
 abbrev pub KeepsCommitted : {S : Type 0} → Ghosts S → Held S → Held S → Type 0

@@ -1,6 +1,6 @@
 -- What is done after a look at the version.
 use Rattle.std.proofs.lemmas.Bool.{cases_Bool}
-use Rattle.std.proofs.Common.{◌≡◌, ◌≢◌, inl, inr, ◌∙◌, ap, refl, subst, sym, true, true≢false, IsSome, IsTrue, ℕ, Option, Some, Result, Ok, Err, IfErr}
+use Rattle.std.proofs.Common.{◌≡◌, ◌≢◌, inl, inr, ◌∙◌, ap, refl, subst, sym, true, true≢false, IsSome, IsTrue, ℕ, Option, option_map, Some, Result, Ok, Err, IfErr}
 use Rattle.sqlite_trees.specs.declared.store.Store.{Ghosts}
 use Rattle.sqlite.specs.Effect.{Database}
 use Rattle.sqlite.specs.Held.{Held, state}
@@ -18,15 +18,20 @@ use Rattle.index_sql_opening.specs.Versions.{begun}
 use Rattle.index_rules.specs.declared.answer.Fault.{Fault}
 use Rattle.index_rules.specs.declared.answer.Fault.TheVariants as fault
 use Rattle.index_sql_schema.proofs.SelectVersion.{selects}
+use Rattle.index_sql_schema.proofs.VersionLemmas.{raised_tells}
 use Rattle.index_sql_schema.specs.FirstVersion.{IsAnyVersion, IsFirstVersion}
-use Rattle.index_sql_schema.specs.Index.{version_in}
+use Rattle.index_sql_schema.specs.Index.{meta_in, raised, version_among, version_in}
 use Rattle.index_sql_writes.proofs.GoingLemmas.{fault_since}
 use Rattle.index_tables.specs.declared.opening.Unopened.{Unopened}
 use Rattle.index_tables.specs.BooksState.{IsWorking, BooksState}
 use Rattle.index_tables.specs.declared.adopt.Kind.{Kind}
 use Rattle.index_tables.specs.declared.adopt.Kind.TheVariants.{FirstVersion}
-use Rattle.index_tables.specs.Adopted.{FailsToOpen, IsOurs, IsRaised, IsReason, IsReasonOfKind, TellsVersion, refusal_in, version_of}
+use Rattle.index_tables.specs.Adopted.{FailsToOpen, IsOurs, IsRaised, IsReason, IsReasonOfKind, TellsFirst, TellsVersion, refusal_in, version_of}
 use Rattle.index_tables.specs.Opened.{AreOpened, IsFault, IsUnopened, LeavesOr, StoreForRefusal, open_fault_by}
+
+-- one of version 1 tells version 2, where its row of meta is raised
+pub raised_told : (db : Database) → TellsFirst db → version_among (raised (meta_in db.trees)) ≡ Some 2
+raised_told db (first, told) = raised_tells (meta_in db.trees) first.numbered.0 ∙ ap (option_map (λ _. 2)) told
 
 -- the version that such a database tells leaves the store to blame
 store_alone : (db : Database) → IsOurs db → refusal_in db.schema (version_in db.trees) ≡ Store

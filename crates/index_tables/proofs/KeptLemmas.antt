@@ -13,7 +13,7 @@ use Rattle.index_rules.specs.Told.{CountsStore, tells_store, ends_by_store}
 use Rattle.index_rules.specs.Walks.{has_fault}
 use Rattle.index_sql_reads.specs.Finds.{FindsInTables}
 use Rattle.index_sql_reads.specs.WalkReasons.{HandsRows}
-use Rattle.index_sql_schema.specs.Index.{IsIndex, version_in}
+use Rattle.index_sql_schema.specs.Index.{IsIndex, meta_in, version_in}
 use Rattle.index_sql_schema.specs.RecordRows.{AreRecords}
 use Rattle.index_sql_schema.specs.Records.{tables_in}
 use Rattle.index_tables.specs.BooksState.{IsHonest, BooksState, Leaves}
@@ -66,6 +66,10 @@ looks_up g old new did is_store looks counted stores = record {
   };
   records = λ honest records. subst AreRecords (sym (looks.now_is honest.clean honest.is_open)) records;
   limit = λ _. looks.survives.limit;
+  meta = record {
+    stays = λ honest. ap (λ (d : Database). meta_in d.trees) (looks.now_is honest.clean honest.is_open);
+    crash = λ working clean db may. elim (looks.survives.crash clean db may) [ inl before ↦ inl before | inr none ↦ absurd none ];
+  };
 }
 
 pub finds : {S A : Type 0} (g : Ghosts S) (old new : BooksState S) (result : Result A Fault) (Has : Tables → A → Type 0) → FindsInTables g old.conn new.conn result Has

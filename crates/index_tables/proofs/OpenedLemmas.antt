@@ -1,5 +1,6 @@
 -- Books that are opened on a connection, or not.
-use Rattle.std.proofs.Common.{◌≡◌, ◌∙◌, Bool, inl, inr, false, ℕ, IsTrue, List, Option, Some, Result, Ok, Err, refl, subst, sym}
+use Rattle.std.proofs.Common.{◌≡◌, ◌∙◌, ap, Bool, inl, inr, false, IsTrue, List, Some, Result, Ok, Err, refl, subst, sym}
+use Rattle.sqlite_value.specs.Order.{Row}
 use Rattle.sqlite_trees.specs.Tree.{Trees}
 use Rattle.sqlite_trees.specs.declared.store.Store.{Ghosts}
 use Rattle.sqlite.specs.declared.error.Error.{Error}
@@ -8,8 +9,8 @@ use Rattle.sqlite.specs.Held.{Held, state}
 use Rattle.sqlite.specs.State.{HasCleanDisk}
 use Rattle.index_sql_opening.specs.Making.{IsAtRest, MakesIndex}
 use Rattle.index_sql_schema.specs.Faults.{fault_by}
-use Rattle.index_sql_schema.specs.Index.{IsIndex, version_in}
-use Rattle.index_sql_schema.specs.Looks.{QueriesOnly}
+use Rattle.index_sql_schema.specs.Index.{IsIndex, meta_in, version_in, version_among}
+use Rattle.index_sql_schema.specs.Looks.{IsIndexConnection, QueriesOnly}
 use Rattle.index_sql_schema.specs.RecordRows.{AreRecords}
 use Rattle.index_sql_schema.specs.Records.{tables_in}
 use Rattle.index_sql_writes.specs.Asks.{Ask}
@@ -69,24 +70,24 @@ module _ {S : Type 0} (g : Ghosts S) (Made : Database → Trees → Type 0) (old
     }
 
   -- an index is made of a database of a kind, and comes to what is made of it here
-  module _ {A : Type 0} {IsKind : Database → Type 0} {change : Tables → Tables} {told : Option ℕ → Option ℕ} {asks : List Ask}
+  module _ {A : Type 0} {IsKind : Database → Type 0} {change : Tables → Tables} {rows : List Row → List Row} {asks : List Ask}
       (kind : HasCleanDisk (state g old) → IsTrue (state g old).is_open → IsKind (state g old).now)
-      (tells : HasCleanDisk (state g old) → IsTrue (state g old).is_open → told (version_in (state g old).now.trees) ≡ Some 2)
-      (comes : IsWorking (state g old) → (db : Trees) → IsKind (state g old).now → AreCurrent db → tables_in db ≡ change (tables_in (state g old).now.trees) → Made (state g old).now db) where
-    made_crash : (result : Result A Error) → MakesIndex g IsKind change told asks old new result → LeavesOr Made (state g old) (state g new)
+      (tells : HasCleanDisk (state g old) → IsTrue (state g old).is_open → version_among (rows (meta_in (state g old).now.trees)) ≡ Some 2)
+      (comes : IsWorking (state g old) → (db : Trees) → IsKind (state g old).now → AreCurrent db → tables_in db ≡ change (tables_in (state g old).now.trees) → meta_in db ≡ rows (meta_in (state g old).now.trees) → Made (state g old).now db) where
+    made_crash : (result : Result A Error) → MakesIndex g IsKind change rows asks old new result → LeavesOr Made (state g old) (state g new)
     made_crash result it working clean db may =
         let fit = kind working.clean working.is_open in
         elim ((it.crash working.is_open fit).crash clean db may) [
           | inl before ↦ inl before
-          | inr made ↦ inr (comes working db fit (record { index = made.2; version = made.1 ∙ tells working.clean working.is_open }) made.0)
+          | inr made ↦ inr (comes working db fit (record { index = made.2; version = ap version_among made.1 ∙ tells working.clean working.is_open }) made.0 made.1)
         ]
 
-    made_limit : (result : Result A Error) → MakesIndex g IsKind change told asks old new result → IsWorking (state g new) → KeepsLimit (state g old) (state g new)
+    made_limit : (result : Result A Error) → MakesIndex g IsKind change rows asks old new result → IsWorking (state g new) → KeepsLimit (state g old) (state g new)
     made_limit result it working =
         let was = it.was_open working.clean working.is_open in
         (it.crash was (kind (it.was_clean working.clean) was)).limit
 
-    pub made_opened : (done : A) → MakesIndex g IsKind change told asks old new (Ok done) → IsSettled (state g new) → AreOpened g Made old (record { conn = new; failures = 0; stores = 0 })
+    pub made_opened : (done : A) → MakesIndex g IsKind change rows asks old new (Ok done) → IsSettled (state g new) → AreOpened g Made old (record { conn = new; failures = 0; stores = 0 })
     made_opened done it settled = opened_by settled it.was_clean it.was_open honest (made_crash (Ok done) it) (made_limit (Ok done) it) records
       where
         records : AreRecords (state g old).now → IsWorking (state g new) → AreRecords (state g new).now
@@ -97,9 +98,9 @@ module _ {S : Type 0} (g : Ghosts S) (Made : Database → Trees → Type 0) (old
         honest : IsWorking (state g old) → HasCleanDisk (state g new) → IsHonest (state g new)
         honest working clean =
             let made = it.made clean working.is_open (kind working.clean working.is_open) in
-            record { clean = clean; is_open = made.is_open; index = made.index; committed = sym made.committed; version = made.version ∙ tells working.clean working.is_open }
+            record { clean = clean; is_open = made.is_open; index = made.index; committed = sym made.committed; version = ap version_among made.meta ∙ tells working.clean working.is_open }
 
-    pub made_refused : {Reason : Held S → Held S → OpenFault → Type 0} (e : Error) → MakesIndex {A = A} g IsKind change told asks old new (Err e) → IsAtRest g old
+    pub made_refused : {Reason : Held S → Held S → OpenFault → Type 0} (e : Error) → MakesIndex {A = A} g IsKind change rows asks old new (Err e) → IsAtRest g old
         → (why : OpenFault) → why ≡ open_fault_by (fault_by e) → (StoreForRefusal g asks old new why → Reason old new why) → IsUnopened g Made Reason old (record { why = why; conn = new })
     made_refused e it rest why is weaker =
         let fit = λ (clean : HasCleanDisk (state g new)) (o : IsTrue (state g old).is_open). kind (it.was_clean clean) o in
@@ -115,6 +116,21 @@ module _ {S : Type 0} (g : Ghosts S) (Made : Database → Trees → Type 0) (old
           reason = λ clean. weaker (λ store. it.reason clean (fit clean) (store_by (fault_by e) (sym is ∙ store)));
           crash = made_crash (Err e) it;
         }
+
+-- the connection is then one to an index
+pub made_index : {S A : Type 0} (g : Ghosts S) {IsKind : Database → Type 0} {change : Tables → Tables} {rows : List Row → List Row} {asks : List Ask} (old new : Held S)
+    → (HasCleanDisk (state g old) → IsTrue (state g old).is_open → IsKind (state g old).now)
+    → (HasCleanDisk (state g old) → IsTrue (state g old).is_open → version_among (rows (meta_in (state g old).now.trees)) ≡ Some 2)
+    → (done : A) → MakesIndex g IsKind change rows asks old new (Ok done) → IsIndexConnection g new
+made_index g old new kind tells done it =
+    let was = λ (clean : HasCleanDisk (state g new)) (o : IsTrue (state g new).is_open). it.was_open clean o in
+    let made = λ (clean : HasCleanDisk (state g new)) (o : IsTrue (state g new).is_open). it.made clean (was clean o) (kind (it.was_clean clean) (was clean o)) in
+    record {
+      outside = it.outside;
+      index = λ clean o. (made clean o).index;
+      committed = λ clean o. sym (made clean o).committed;
+      version = λ clean o. ap version_among (made clean o).meta ∙ tells (it.was_clean clean) (was clean o);
+    }
 
 -- a connection that is refused at once is as it was
 pub refused_at_once : {S : Type 0} (g : Ghosts S) {Made : Database → Trees → Type 0} {Reason : Held S → Held S → OpenFault → Type 0} (held : Held S) (why : OpenFault) → held.in_transaction ≡ false → (HasCleanDisk (state g held) → Reason held held why)

@@ -1,5 +1,6 @@
 -- What a database that is there is taken for.
-use Rattle.std.specs.Prelude.{◌≡◌, ◌≢◌, ◌⊎◌, ℕ, ◌==◌, Bool, ◌&&◌, false, if◌then◌else◌, Option, Some, None, codes, IsTrue, ⊤}
+use Rattle.std.specs.Prelude.{◌≡◌, ◌≢◌, ◌⊎◌, ℕ, ◌==◌, Bool, ◌&&◌, false, if◌then◌else◌, Option, Some, None, codes, IsTrue, List, ⊤}
+use Rattle.sqlite_value.specs.Order.{Row}
 use Rattle.sqlite_trees.specs.Tree.{Trees}
 use Rattle.sqlite_trees.specs.declared.store.Store.{Ghosts}
 use Rattle.sqlite_schema.specs.declared.schema.Schema.{Schema}
@@ -15,7 +16,7 @@ use Rattle.index_rules.specs.declared.open.OpenFault.{OpenFault}
 use Rattle.index_rules.specs.declared.open.OpenFault.TheVariants.{NotAnIndex, OtherVersion, OutOfMemory, Store}
 use Rattle.index_rules.specs.Tables.{Tables}
 use Rattle.index_sql_schema.specs.FirstVersion.{IsAnyVersion, IsFirstVersion, first_version_schema, without_bans}
-use Rattle.index_sql_schema.specs.Index.{IsIndex, version_in}
+use Rattle.index_sql_schema.specs.Index.{IsIndex, meta_in, raised, version_in}
 use Rattle.index_sql_schema.specs.Records.{tables_in}
 use Rattle.index_sql_schema.specs.Schema.{index_schema}
 use Rattle.index_tables.specs.declared.adopt.Kind.{Kind}
@@ -51,9 +52,16 @@ IsOurs db = (IsIndex db × (version_in db.trees ≡ Some 2)) ⊎ TellsFirst db
 abbrev pub IsFound : Database → Tables → Type 0
 IsFound db T = IsCurrent db T ⊎ IsFirst db T
 
--- of a database of version 1 that tells so the index is made that comes of it, which tells version 2
+-- of a database of version 1 that tells so the index is made that comes of it, which tells version 2; the rows of meta are
+-- those that were there, but for the version
 abbrev pub IsRaised : Database → Trees → Type 0
-IsRaised was db = TellsFirst was × AreCurrent db × (tables_in db ≡ without_bans (tables_in was.trees))
+IsRaised was db =
+    TellsFirst was × AreCurrent db × (tables_in db ≡ without_bans (tables_in was.trees)) × (meta_in db ≡ raised (meta_in was.trees))
+
+-- these rows of meta are those of an index as they were, or those of a database of version 1, but for the version
+abbrev pub AreHandedOn : Database → List Row → Type 0
+AreHandedOn was rows =
+    (IsIndex was × (rows ≡ meta_in was.trees)) ⊎ (TellsFirst was × (rows ≡ raised (meta_in was.trees)))
 
 -- the schema is this one of ours
 abbrev pub HasSchema : Schema → Kind → Type 0

@@ -1,5 +1,6 @@
 -- What the opening of an index answers, and what it leaves of a connection.
-use Rattle.std.specs.Prelude.{◌≡◌, ◌≢◌, ◌⊎◌, List, Result, Ok, Err, IsTrue, false}
+use Rattle.std.specs.Prelude.{◌≡◌, ◌≢◌, ◌⊎◌, List, [], ◌∷◌, Result, Ok, Err, IsTrue, false}
+use Rattle.sqlite_value.specs.Order.{Row}
 use Rattle.sqlite_trees.specs.declared.store.Store.{Ghosts}
 use Rattle.sqlite_trees.specs.Tree.{Trees}
 use Rattle.sqlite_schema.specs.declared.schema.Schema.{Schema}
@@ -16,6 +17,7 @@ use Rattle.index_rules.specs.declared.open.OpenFault.TheVariants as open_fault
 use Rattle.index_rules.specs.FirstTables.{IsBadFirstUser}
 use Rattle.index_rules.specs.Maps.{Bytes}
 use Rattle.index_rules.specs.Tables.{Tables}
+use Rattle.index_sql_schema.specs.Index.{meta_in, version_row}
 use Rattle.index_sql_schema.specs.Records.{tables_in}
 use Rattle.index_sql_schema.specs.Schema.{index_schema, no_schema}
 use Rattle.index_sql_schema.specs.RecordRows.{AreRecords}
@@ -73,9 +75,14 @@ StoreForOthers g asks old new why =
 abbrev pub LeavesOr : (Database → Trees → Type 0) → State → State → Type 0
 LeavesOr Made old new = IsWorking old → HasCleanDisk new → (db : Trees) → new.may_leave db → old.may_leave db ⊎ Made old.now db
 
--- of a database with nothing in it an index is made that tells version 2, with these tables
+-- these are the rows of meta of a new index: the one that tells version 2
+abbrev pub AreNewMeta : List Row → Type 0
+AreNewMeta rows = rows ≡ version_row 2 ∷ []
+
+-- of a database with nothing in it an index is made that tells version 2, with these tables and that one row of meta
 abbrev pub IsCreated : Tables → Database → Trees → Type 0
-IsCreated T was db = (was.schema ≡ no_schema) × AreCurrent db × (tables_in db ≡ T)
+IsCreated T was db =
+    (was.schema ≡ no_schema) × AreCurrent db × (tables_in db ≡ T) × AreNewMeta (meta_in db)
 
 -- while they work, the books have tables of this kind
 abbrev pub HaveTables : {S : Type 0} → Ghosts S → (Tables → Type 0) → BooksState S → Type 0
@@ -84,6 +91,10 @@ HaveTables g Are books = IsWorking (state g books.conn) → Are (tables_of g boo
 -- and their rows are records
 abbrev pub HaveRecords : {S : Type 0} → Ghosts S → BooksState S → Type 0
 HaveRecords g books = IsWorking (state g books.conn) → AreRecords (state g books.conn).now
+
+-- and their rows of meta are of this kind
+abbrev pub HaveMeta : {S : Type 0} → Ghosts S → (List Row → Type 0) → BooksState S → Type 0
+HaveMeta g Are books = IsWorking (state g books.conn) → Are (meta_in (state g books.conn).now.trees)
 
 -- the limit on the steps of its queries, which is none unless somebody sets one, is as it was
 abbrev pub KeepsLimit : State → State → Type 0
@@ -104,10 +115,11 @@ pub record AreOpened {S : Type 0} (g : Ghosts S) (Made : Database → Trees → 
   pub crash : LeavesOr Made (state g old) (state g books.conn)
   pub alone : IsWorking (state g old) → (T : Tables) → Leaves (state g books.conn) T → T ≡ tables_of g books.conn
 
--- books of a new index with these tables were made on a connection, and each of their rows is that of a record
+-- books of a new index with these tables were made on a connection; each of their rows is that of a record, and meta has one
 pub record AreNew {S : Type 0} (g : Ghosts S) (T : Tables) (old : Held S) (books : BooksState S) : Type 0 where
   pub tables : HaveTables g (λ it. it ≡ T) books
   pub records : HaveRecords g books
+  pub meta : HaveMeta g AreNewMeta books
   pub opened : AreOpened g (IsCreated T) old books
 
 -- No books were opened on a connection, for a reason of this kind, and it is given back outside a transaction.

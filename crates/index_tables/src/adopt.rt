@@ -4,12 +4,13 @@ ghost use Rattle.sqlite.specs.Held.{state};
 ghost use Rattle.sqlite.specs.State.{HasCleanDisk};
 ghost use Rattle.index_rules.specs.Facts.{HasOneBearer};
 ghost use Rattle.index_sql_schema.specs.FirstVersion.{first_version_schema, without_bans};
+ghost use Rattle.index_sql_schema.specs.Index.{meta_in, raised};
 ghost use Rattle.index_sql_opening.specs.Making.{IsAtRest};
 ghost use Rattle.index_sql_opening.specs.Migrated.{asks_of_migration};
 ghost use Rattle.index_sql_opening.specs.Names.{has_meta};
 ghost use Rattle.index_sql_reads.specs.ConnectionTables.{tables_of};
-ghost use Rattle.index_tables.specs.Opened.{AreOpened, HaveTables, IsFault, IsRefusedAs, IsUnopened, RefusesFound, StoreForRefusal};
-ghost use Rattle.index_tables.specs.Adopted.{HasSchema, IsFound, IsOfKind, IsOurs, IsRaised, IsReason, IsReasonOfKind, TellsFirst, refusal_by, foreign_tables_fault};
+ghost use Rattle.index_tables.specs.Opened.{AreOpened, HaveMeta, HaveTables, IsFault, IsRefusedAs, IsUnopened, RefusesFound, StoreForRefusal};
+ghost use Rattle.index_tables.specs.Adopted.{AreHandedOn, HasSchema, IsFound, IsOfKind, IsOurs, IsRaised, IsReason, IsReasonOfKind, TellsFirst, refusal_by, foreign_tables_fault};
 
 use crate::opening::{Unopened, open_fault_of};
 use crate::tables::SqlBooks;
@@ -33,7 +34,8 @@ pub(crate) enum Kind {
 
 impl<S: Alter> SqlBooks<S> {
     /// The index in a database that is there. One of version 1 is made one of version 2, in one transaction. A crash
-    /// leaves what was there, or of version 1 the whole index; once it is adopted, the index alone.
+    /// leaves what was there, or of version 1 the whole index; once it is adopted, the index alone. The rows of `meta` are
+    /// those that were there, but for the version.
     ///
     /// # Errors
     ///
@@ -45,6 +47,7 @@ impl<S: Alter> SqlBooks<S> {
         requires outside { conn.in_transaction ≡ false }
         ensures found { IfOk result (HaveTables S.Store (IsFound (state S.Store conn).now)) }
         ensures one_bearer { IfOk result (HaveTables S.Store HasOneBearer) }
+        ensures meta { IfOk result (HaveMeta S.Store (AreHandedOn (state S.Store conn).now)) }
         ensures opened { IfOk result (AreOpened S.Store IsRaised conn) }
         ensures why { IfErr result (λ refused. RefusesFound refused.why) }
         ensures refused { IfErr result (IsUnopened S.Store IsRaised (IsReason S.Store) conn) }
@@ -91,6 +94,7 @@ fn adopt_kind<S: Alter>(conn: Connection<S>, kind: Kind) -> Result<SqlBooks<S>, 
     requires rest { IsAtRest S.Store conn }
     requires kind { IsTrue (state S.Store conn).is_open → IsOfKind (state S.Store conn).now kind }
     ensures found { IfOk result (HaveTables S.Store (IsFound (state S.Store conn).now)) }
+    ensures meta { IfOk result (HaveMeta S.Store (AreHandedOn (state S.Store conn).now)) }
     ensures opened { IfOk result (AreOpened S.Store IsRaised conn) }
     ensures why { IfErr result (λ refused. RefusesFound refused.why) }
     // One that tells the version of its kind is opened, unless the store or SQL fails.
@@ -172,6 +176,8 @@ fn migrate_and_adopt<S: Alter>(conn: Connection<S>) -> Result<SqlBooks<S>, Unope
         → TellsFirst (state S.Store conn).now }
     ensures made { IfOk result (HaveTables S.Store
         (λ T. T ≡ without_bans (tables_of S.Store conn))) }
+    ensures meta { IfOk result (HaveMeta S.Store
+        (λ rows. rows ≡ raised (meta_in (state S.Store conn).now.trees))) }
     ensures why { IfErr result (λ refused. IsFault refused.why) }
     ensures opened { IfOk result (AreOpened S.Store IsRaised conn) }
     ensures refused { let Reason = StoreForRefusal S.Store asks_of_migration in

@@ -10,7 +10,7 @@ ghost use Rattle.index_rules.specs.TableRows.{file_rows_in, held_rows_in, name_r
 ghost use Rattle.index_rules.specs.Tables.{Tables, owners_in};
 ghost use Rattle.index_rules.specs.Told.{ends_by_store, tells_store};
 ghost use Rattle.index_rules.specs.Walks.{has_fault};
-ghost use Rattle.index_tables.specs.LooksUp.{Calls, KeepsLimit, KeepsRecords, LooksFor, LooksUp, WalksBooks};
+ghost use Rattle.index_tables.specs.LooksUp.{Calls, KeepsLimit, KeepsMeta, KeepsRecords, LooksFor, LooksUp, WalksBooks};
 ghost use Rattle.index_tables.specs.Written.{FailsToWrite};
 
 use crate::tables::{SqlBooks, next_count};
@@ -56,7 +56,7 @@ impl<S: Alter> Books for SqlBooks<S> {
         seen
     }
 
-    #[tactic(auto, using(crate::proofs::WriteLemmas::told_reason, crate::proofs::WriteLemmas::limit_kept))]
+    #[tactic(auto, using(crate::proofs::WriteLemmas::told_reason, crate::proofs::WriteLemmas::limit_kept, crate::proofs::WriteLemmas::meta_kept))]
     fn write(&mut self, _alloc: Global, change: Change) -> Result<(), Fault>
         ensures written { IsHonest (state S.Store self.new.conn) → OnOk result
             (tables_of S.Store self.new.conn ≡ means change (tables_of S.Store self.old.conn)) }
@@ -74,6 +74,8 @@ impl<S: Alter> Books for SqlBooks<S> {
         // What is written can be read: its rows are records, where they were.
         ensures records { KeepsRecords S.Store self.old self.new }
         ensures limit { KeepsLimit S.Store self.old self.new }
+        // Nothing is kept in `meta`: its rows are what they were.
+        ensures meta { KeepsMeta S.Store self.old self.new }
         ensures reason { FailsToWrite S.Store change self.old.conn self.new.conn result }
     {
         let made = make_change(&mut self.conn.conn, &change);

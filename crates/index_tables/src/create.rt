@@ -23,8 +23,8 @@ use sqlite::{Alter, Connection};
 use std::alloc::Global;
 
 impl<S: Alter> SqlBooks<S> {
-    /// A new index with one user, who is of the office and whose token has this SHA-256 digest, in one transaction. A
-    /// crash leaves what was there, or the whole index; once it is made, the index alone.
+    /// A new index with one user, who is of the office and whose token has this SHA-256 digest, and with the one row of
+    /// `meta`, in one transaction. A crash leaves what was there, or the whole index; once it is made, the index alone.
     ///
     /// # Errors
     ///

@@ -107,6 +107,7 @@ pub fn ascii(bytes: &[u8]) -> &str
 {
     match str::from_utf8(bytes) {
         Ok(text) => text,
+        // ASCII is UTF-8.
         Err(_) => unreachable!(),
     }
 }

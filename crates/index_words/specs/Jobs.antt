@@ -31,7 +31,8 @@ IsDecimalText n text =
 abbrev pub HasText : Text → List Row → Text → Type 0
 HasText id rows text = first_of id rows ≡ Some text
 
--- the option is given, and has no value: clap reads the text `true`, and `false` where it is not given
+-- the option is given, and has no value: clap reads the text `true`, and
+-- `false` where it is not given
 abbrev pub IsGiven : Text → List Row → Type 0
 IsGiven id rows = HasText id rows (codes "true")
 

@@ -1,6 +1,7 @@
 -- The command line of the program: its subcommands and their options, as clap reads them.
 use Rattle.std.specs.Prelude.{◌≡◌, ℕ, Some, true, false, codes, [], IfOk, Result}
-use Rattle.clap.specs.Words.{App, Rule, Text, app_of, new_app, new_rule, rule_of, with_rule, with_subcommand}
+use Rattle.clap.specs.Words.{App, Rule, Text, app_of, new_app, new_rule, rule_of, with_rule}
+use Rattle.clap.specs.Words.{with_subcommand}
 use Rattle.clap.specs.declared.builder.action.ArgAction.TheVariants.{SetTrue}
 use Rattle.clap.specs.declared.builder.arg.Arg.{Arg}
 use Rattle.clap.specs.declared.builder.command.Command.{Command}
@@ -45,7 +46,8 @@ apply_app = with_rule (new_app (codes "apply")) (option (codes "db"))
 -- the subcommand `serve` with its options
 abbrev pub serve_app : App
 serve_app =
-    with_rule (with_rule (with_rule (with_rule (database_app (codes "serve")) (required (codes "listen")))
+    with_rule (with_rule (with_rule (with_rule
+    (database_app (codes "serve")) (required (codes "listen")))
     (number_between 1 1000000 (required (codes "requests"))))
     (any_number (option (codes "at"))))
     (any_number (option (codes "keep-recent")))

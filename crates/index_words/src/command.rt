@@ -10,7 +10,7 @@ use std::alloc::{AllocError, Global};
 
 /// What `--version` tells behind the program's name: the version, and the kit that proves and builds it, without the
 /// letter of the kit's revision, since a proof rests on the logic.
-const VERSION: &str = "0.1.0 (rattle-kit-13 logic dac8208d650f15bf)";
+const VERSION: &str = "0.2.0 (rattle-kit-13 logic dac8208d650f15bf)";
 
 /// What the option `--db` is.
 const DATABASE: &str = "The file of the index, an SQLite database";
@@ -53,6 +53,7 @@ fn on_database<'a>(alloc: Global, name: &'a str, about: &'a str) -> Result<Comma
         .arg(required_arg(alloc, "db", DATABASE))
 }
 
+/// The subcommand `init` and its options.
 fn init<'a>(alloc: Global) -> Result<Command<'a>, AllocError>
     ensures { MakesApp result init_app }
 {
@@ -68,6 +69,7 @@ fn init<'a>(alloc: Global) -> Result<Command<'a>, AllocError>
     .arg(flag(alloc, "page-sums", sums))
 }
 
+/// The subcommand `apply` and its option.
 fn apply<'a>(alloc: Global) -> Result<Command<'a>, AllocError>
     ensures { MakesApp result apply_app }
 {
@@ -76,6 +78,7 @@ fn apply<'a>(alloc: Global) -> Result<Command<'a>, AllocError>
         .arg(optional_arg(alloc, "db", DATABASE))
 }
 
+/// The option `--requests`.
 fn requests<'a>(alloc: Global) -> Arg<'a>
     ensures { IsArg result (number_between 1 1000000 (required (codes "requests"))) }
 {
@@ -83,6 +86,7 @@ fn requests<'a>(alloc: Global) -> Arg<'a>
     whole_number(required_arg(alloc, "requests", help), 1, 1_000_000)
 }
 
+/// The option `--at`.
 fn at<'a>(alloc: Global) -> Arg<'a>
     ensures { IsArg result (any_number (option (codes "at"))) }
 {
@@ -90,6 +94,7 @@ fn at<'a>(alloc: Global) -> Arg<'a>
     whole_number(optional_arg(alloc, "at", help), 0, u64::MAX)
 }
 
+/// The option `--keep-recent`.
 fn keep_recent<'a>(alloc: Global) -> Arg<'a>
     ensures { IsArg result (any_number (option (codes "keep-recent"))) }
 {
@@ -97,6 +102,7 @@ fn keep_recent<'a>(alloc: Global) -> Arg<'a>
     whole_number(optional_arg(alloc, "keep-recent", help), 0, u64::MAX)
 }
 
+/// The subcommand `serve` and its options.
 fn serve<'a>(alloc: Global) -> Result<Command<'a>, AllocError>
     ensures { MakesApp result serve_app }
 {

@@ -113,6 +113,7 @@ fn job_in<'a>(command: &mut Command<'a>, words: &'a [String]) -> Result<Job<'a>,
     }
 }
 
+/// The job that the subcommand and its options ask for.
 fn job_of<'a>(matches: &ArgMatches<'a>) -> Option<Job<'a>>
     ensures { FindsExactly (IsJob (subcommand_rows_of matches.now)) result }
 {

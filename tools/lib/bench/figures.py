@@ -3,10 +3,13 @@ import os
 import statistics
 
 ROUNDS = 5
+# what was printed, for the page
+PRINTED = []
 
 
 def line(name, *parts):
-    print(f"{name:<13} {'   '.join(parts)}", flush=True)
+    PRINTED.append(f"{name:<13} {'   '.join(parts)}".rstrip())
+    print(PRINTED[-1], flush=True)
 
 
 def goal(value, least=None, most=None):

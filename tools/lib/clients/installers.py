@@ -19,6 +19,13 @@ python = ">=3.8"
 
 """
 PDM = '[project]\nname = "mine"\nversion = "1.0"\nrequires-python = ">=3.8"\ndependencies = []\n\n'
+NOXFILE = """import nox
+
+@nox.session
+def mine(session):
+    session.install("frob")
+    session.run("python", "-c", "import frob; print(frob.VERSION)")
+"""
 CHANGELOG = """frob (0.1-1) unstable; urgency=low
 
   * x
@@ -138,6 +145,20 @@ def tox(person):
     person.writes("tox")
     person.ends("runs", person.does("tox, run"), 0, "1.0")
     person.gets("JSON")
+
+
+def nox(person):
+    """A session in an environment of its own, which nox makes with virtualenv."""
+    person.puts("noxfile.py", NOXFILE)
+    person.ends("runs", person.does("nox"), 0, "1.0", "Session mine was successful")
+    person.gets("JSON")
+
+
+def pipx(person):
+    """A command in an environment of its own. What pipx itself would like to have newer is not there."""
+    person.ends("installs a command", person.does("pipx"), 0, "installed package shout 1.0")
+    person.ends("the command runs", person.run([f"{person.home}/.local/bin/shout"]), 0, "FROB 1.0")
+    person.gets("JSON", besides=[f"/simple/{it}/" for it in ("pip", "setuptools", "wheel")])
 
 
 def build(person):

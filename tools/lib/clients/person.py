@@ -119,12 +119,13 @@ class Person:
     def asked(self):
         return self.gate.asked_at(self.port)
 
-    def gets(self, kind):
-        """The check that the pages that came were `JSON` or `HTML`, and that all that was asked for was there."""
+    def gets(self, kind, besides=()):
+        """The check that the pages that came were `JSON` or `HTML`, and that all was there that was asked for `besides`
+        these paths."""
         pages = [it for it in self.asked() if it[2].startswith("/simple/") and it[0] == "200"]
         wanted = JSON if kind == "JSON" else "text/html"
         self.check(f"gets {kind}", pages and all(it[3] == wanted for it in pages), pages)
-        wrong = [it for it in self.asked() if it[0] not in ("200", "206", "301", "304")]
+        wrong = [it for it in self.asked() if it[0] not in ("200", "206", "301", "304") and it[2] not in besides]
         self.check("asks for nothing that is not there", not wrong, wrong)
 
     def leave(self):

@@ -17,20 +17,29 @@ PORTS = 48
 ASKED = "$server_port $status $request_method $request_uri|$sent_http_content_type|$http_accept"
 ANN = "token-of-ann"
 READER, PASSWORD = "reader", "s3cret"
+# the module of a command
+SHOUT = """import frob
+
+def main():
+    print("FROB", frob.VERSION)
+"""
 
 
 def made_packages(folder):
     """The packages of the other tools, by project and file, each as its path and Requires-Python. And more: a release
-    for later Pythons, one that is not final, a backend, and a source archive whose build asks for that."""
-    made = {**make_packages(folder), "tiny-backend": {}}
+    for later Pythons, one that is not final, a command, a backend, and a source archive whose build asks for that."""
+    made = {**make_packages(folder), "tiny-backend": {}, "shout": {}}
 
-    def add(project, name, version, code, requires=""):
+    def add(project, name, version, code, requires="", needs=(), more=()):
         file = wheel_name(name, version)
-        make_wheel(f"{folder}/{file}", wheel_files(name, version, code, requires=requires))
+        files = wheel_files(name, version, code, needs, requires)
+        make_wheel(f"{folder}/{file}", {**files, **dict(more)})
         made[project][file] = f"{folder}/{file}", requires
 
     add("frob", "frob", "2.0rc1", 'VERSION = "2.0rc1"\n')
     add("frob", "frob", "3.0", 'VERSION = "3.0"\n', requires=">=99")
+    script = "shout-1.0.dist-info/entry_points.txt", "[console_scripts]\nshout = shout:main\n"
+    add("shout", "shout", "1.0", SHOUT, needs=["frob>=1.0"], more=[script])
     backend, archive = make_isolated(folder)
     made["tiny-backend"]["tiny_backend-1.0-py3-none-any.whl"] = backend, ""
     made["frob"]["frob-0.8.tar.gz"] = archive, ""

@@ -22,7 +22,9 @@ function there(kind) {
   return Array.from(document.querySelectorAll(kind)).filter(function (it) { return !it.hidden; });
 }
 function shown() { return there("[data-find]"); }
-var all = shown().length, wide = document.documentElement.scrollWidth > window.innerWidth;
+// no window of a browser without a head is as narrow as a telephone, so the body is
+document.body.style.width = "360px";
+var all = shown().length, wide = document.body.scrollWidth > 360;
 heads[0].click(); heads[0].click();
 var last = document.querySelector("section:nth-of-type(3) tbody tr td").textContent;
 heads[1].click();

@@ -3,22 +3,26 @@ place."""
 import http.server
 import json
 import os
+import re
 import resource
+import shutil
 import signal
 import socket
 import struct
 import subprocess
-
 import threading
 import time
+from concurrent.futures import ThreadPoolExecutor
 from contextlib import contextmanager
 
 from indexctl.control import INDEXCTL, Control, environment
 from operate.checks import check, ends
 from operate.front import Front
-from serving import Index, free_port
+from serving import TOP, Index, free_port
 
 STANDING = {"case": None, "charge": 0, "owners": ["ann"], "quota": 1, "shown": "x", "state": "held"}
+CASE = {"attempts": 0, "author": False, "candidate": "bob", "contact": "a", "first": None, "kind": "reuse",
+        "opened": 10 ** 18, "pages": False, "profile": False, "sent": 0, "why": "b", "work": "c"}
 HTML = "text/html", b"<html><h1>the proxy's own page</h1>"
 
 
@@ -93,9 +97,12 @@ def try_replies(place):
          "no answer of an index"),
         ("a standing with a wrong kind", always(*as_json({**STANDING, "name": "x", "quota": "1"})), ("who", "x"), 3,
          "no answer"),
+        ("a standing of no size", always(*as_json({**STANDING, "name": "x", "quota": 10 ** 400})), ("who", "x"), 3,
+         "no answer"),
         ("a list that is none", always(200, *HTML), ("names",), 3, "Is the address right?"),
         ("a proxy's error page", always(502, *HTML), ("who", "x"), 3, "502 <html>", "again later"),
         ("a proxy that forbids", always(403, *HTML), ("who", "x"), 1, "forbids this"),
+        ("a proxy that takes no such file", always(413, *HTML), ("name", "claim", "x"), 1, "no file of this size"),
         ("a proxy that asks for a password", always(401, *HTML), ("name", "claim", "x"), 1, "~/.netrc"),
         ("a redirect", always(301, *HTML, {"Location": "https://elsewhere"}), ("who", "x"), 2, "https://elsewhere"),
     )
@@ -104,6 +111,9 @@ def try_replies(place):
             ended = Control(place.folder, server.url).run(*words, "--again", "1")
             ends(name, ended, status, *said)
             check(f"no traceback at {name}", "Traceback" not in ended.stdout, ended.stdout[-800:])
+    with scripted(always(*as_json({**STANDING, "name": "x", "case": CASE}))) as server:
+        ended = Control(place.folder, server.url).run("case", "show", "x", INDEX_TOKEN=None)
+        ends("a case of no year", ended, 3, "no answer of an index")
     with scripted(always(403, *HTML)) as proxy:
         ended = Control(place.folder, "https://packages.test", HTTPS_PROXY=proxy.url).run("who", "x", "--again", "0")
         came = [(method, path, headers["X-Index-Token"]) for method, path, _, headers in proxy.asked]
@@ -111,6 +121,35 @@ def try_replies(place):
               (ended.stdout, came))
     nobody = Control(place.folder, f"http://127.0.0.1:{free_port()}")
     ends("an index that is away", nobody.run("who", "x", "--again", "1"), 3, "Again in 0.5 s", "again later")
+    try_refusals(place)
+
+
+def refusals():
+    """The refusals that docs/REQUESTS.md has, by number."""
+    with open(f"{TOP}/docs/REQUESTS.md", encoding="utf-8") as page:
+        return dict(re.findall(r"\b(\d{1,2}) ([A-Z][a-z]+(?:[A-Z][a-z]+)+)\b", page.read()))
+
+
+def try_refusals(place):
+    """Each refusal is told with what to do. What its sentence names, such as the owners, is looked up."""
+    standing = {**STANDING, "name": "x", "case": {**CASE, "opened": 1}}
+    files = {"files": [{"filename": "x-1.0.tar.gz"}], "versions": ["1.0"]}
+
+    def says_what_to_do(number, name):
+        refusal = 409, "application/json", json.dumps({"answer": "refused", "code": number, "name": name}).encode()
+
+        def answer(method, path, *_):
+            return refusal if method == "POST" else as_json(files if path.startswith("/simple/") else standing)
+        with scripted(answer) as server:
+            said = Control(place.folder, server.url).run("owner", "add", "bob", "x").stdout
+        sentence = said.partition(f" {name}. ")[2]
+        return len(sentence) > 20 and ".." not in sentence
+    found = refusals()
+    with ThreadPoolExecutor(4) as pool:
+        told = dict(zip(found.values(), pool.map(says_what_to_do, *zip(*found.items()))))
+    silent = [name for name, is_told in told.items() if not is_told]
+    is_whole = sorted(map(int, found)) == list(range(1, 36))
+    check("each refusal says what to do", is_whole and not silent, (silent, sorted(found)))
 
 
 ONCE = {"case attempt": ("case", "attempt", "x", "profile"), "case close": ("case", "close", "x"),
@@ -138,6 +177,26 @@ def try_once(place):
         ended = Control(place.folder, server.url).run("name", "claim", "x", "--again", "2")
         check("a claim is sent again at a reset", (ended.returncode, len(server.asked)) == (3, 3),
               (len(server.asked), ended.stdout))
+    check("a change whose reply never came", "It may have been done" in ended.stdout, ended.stdout)
+    ended = Control(place.folder, f"http://127.0.0.1:{free_port()}").run("name", "claim", "x", "--again", "0")
+    check("a change that never went out", ended.returncode == 3 and "been done" not in ended.stdout, ended.stdout)
+    with scripted(resets_first()) as server:
+        rows = Control(place.folder, server.url).rows("names")
+    check("a walk whose connections are reset", isinstance(rows, list) and len(rows) == 12, rows)
+
+
+def resets_first():
+    """A list of names, and each standing once the connection that asked for it first was reset."""
+    asked = set()
+
+    def answer(method, path, *_):
+        if path == "/simple/":
+            return as_json({"meta": {"api-version": "1.1"}, "projects": [{"name": f"name-{at}"} for at in range(12)]})
+        if path not in asked:
+            asked.add(path)
+            return None
+        return as_json({**STANDING, "name": path.rsplit("/", 1)[-1]})
+    return answer
 
 
 def try_certificate(place):
@@ -147,6 +206,9 @@ def try_certificate(place):
         ends("a certificate that is not trusted", ended, 2, "is not trusted", "INDEX_CA")
         ended = Control(place.folder, front.url, place.certificate).run("who", "x")
         ends("the same certificate, named", ended, 0, "free")
+        by = Control(place.folder, front.url)
+        shutil.copy(place.certificate, f"{by.home}/ca.pem")
+        ends("the same certificate, in the home", by.run("who", "x", INDEX_CA="~/ca.pem"), 0, "free")
 
 
 def limit_files():
@@ -172,11 +234,28 @@ def try_record(place):
         ended = Control(place.folder, server.url, INDEX_RECORD="/dev/full").run("name", "claim", "another")
         ends("a record that can't be written at all", ended, 2, "No space left", "not asked for")
         ended = Control(place.folder, server.url, INDEX_RECORD=f"{place.folder}/none/record").run("name", "claim", "x")
-        ends("a record in no folder", ended, 2, "can't be written")
+        ends("a record in no folder", ended, 2, "can't be written: No such file", "Nothing was asked for")
     refusal = 409, "application/json", b'{"answer":"refused","code":19,"name":"NameHeld"}'
     with scripted(always(*refusal)) as server:
         Control(place.folder, server.url, INDEX_RECORD=record).run("name", "claim", "another")
     check("a refusal is not recorded", os.path.getsize(record) == before, os.path.getsize(record))
+    try_repeated(place)
+
+
+def try_repeated(place):
+    """A change whose reply is lost is done, and the index answers the repeat by Already."""
+    for name, replies, count in (("a change whose reply was lost", [None, "already"], 1),
+                                 ("a change that was done before", ["already"], 0)):
+        record, left = f"{place.folder}/repeated-{count}.jsonl", list(replies)
+
+        def answer(*_):
+            found = left.pop(0)
+            return found and as_json({"answer": found})
+        with scripted(answer) as server:
+            ended = Control(place.folder, server.url, INDEX_RECORD=record).run("name", "claim", "x")
+        with open(record) as kept:
+            lines = kept.read().split("\n")[:-1]
+        check(f"the record of {name}", (ended.returncode, len(lines)) == (0, count), (ended.stdout, lines))
 
 
 def slow_names(method, path, *_):
@@ -216,5 +295,3 @@ def try_interrupt(place):
             errors = walk.stderr.read()
             status = walk.wait(timeout=30)
     check("a reader that has had enough", status == 141 and errors == "", (status, errors[-800:]))
-
-

@@ -1,10 +1,16 @@
-"""Help, the manual page, and completion in bash."""
+"""Help, the manual page, completion in bash, what pages say to type, and the Python that it needs."""
+import ast
+import glob
 import re
+import shlex
 import shutil
 import subprocess
+from concurrent.futures import ThreadPoolExecutor
 
 from indexctl.control import Control, environment
 from operate.checks import check, ends
+from operate.front import OPERATE
+from serving import TOP
 
 COMPLETES = ((("",), {"token", "user", "case", "upload", "who"}), (("use",), {"user"}),
              (("user", ""), {"add", "rotate", "lock", "leave"}),
@@ -26,12 +32,44 @@ def completed(script, words):
     return set(ended.stdout.split()), ended.stderr
 
 
+def typed():
+    """What the pages say to type, without its first word."""
+    found = set()
+    for path in glob.glob(f"{TOP}/docs/*.md"):
+        with open(path, encoding="utf-8") as page:
+            found.update(it for pair in re.findall(r"`indexctl ([^`\n]+)`|^ *indexctl (.*)$", page.read(), re.M)
+                         for it in pair if it)
+    return sorted(found)
+
+
+def try_pages(by):
+    """What a page says to type is a command, or begins one, and its options are there."""
+    def is_known(text):
+        ended = by.run(*shlex.split(text), "--help")
+        return ended.returncode == 0 and all(it in ended.stdout for it in re.findall(r" (--[a-z-]+)", text))
+    texts = typed()
+    with ThreadPoolExecutor(4) as pool:
+        wrong = [text for text, known in zip(texts, pool.map(is_known, texts)) if not known]
+    check("pages have commands that are there", texts and not wrong, wrong)
+
+
+def try_syntax():
+    """The syntax is that of Python 3.8. Whether its library suffices shows in a run of this tool by that Python."""
+    wrong = None
+    with open(f"{OPERATE}/indexctl", encoding="utf-8") as kept:
+        try:
+            ast.parse(kept.read(), feature_version=(3, 8))
+        except SyntaxError as end:
+            wrong = str(end)
+    check("the syntax of Python 3.8", not wrong, wrong)
+
+
 def try_shell(place):
     """Each command has its help, and stands on the manual page."""
     by = Control(place.folder, None)
     top = by.run("--help")
     groups = commands_of(top)
-    ends("help", top, 0, "INDEX_TOKEN_FILE", "~/.netrc", "130")
+    ends("help", top, 0, "INDEX_TOKEN_FILE", "https_proxy", "~/.netrc", "130", "141", "(office)")
     manual, paths = by.run("man"), []
     for group in groups:
         ended = by.run(group, "--help")
@@ -42,6 +80,7 @@ def try_shell(place):
          "--yes")
     missing = [path for path in paths if f"indexctl {path}".replace("-", "\\-") not in manual.stdout]
     check("the manual page has each command", manual.returncode == 0 and not missing, missing)
+    check("the manual page says what a word may be", "profile, author or pages." in manual.stdout, manual.stdout[-800:])
     if shutil.which("groff"):
         page = subprocess.run(["groff", "-man", "-Tutf8", "-ww"], input=manual.stdout, stdout=subprocess.PIPE,
                               stderr=subprocess.PIPE, text=True, timeout=30)
@@ -54,3 +93,5 @@ def try_shell(place):
         check(f"completion of `{' '.join(words)}`", wanted <= offered and not errors,
               (offered, errors))
     ends("a command that is none", by.run("nmaes"), 2, "invalid choice")
+    try_pages(by)
+    try_syntax()

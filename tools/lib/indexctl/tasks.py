@@ -152,6 +152,8 @@ class Month:
         run = self.by.run
         self.done("who leaves needs an heir", run("user", "leave", "ann", "--yes"),
                   "the only owner of delta, spam-nest", status=2)
+        self.done("an heir who leaves", run("user", "leave", "ann", "--to", "ann", "--yes"), "Name another user",
+                  status=2)
         self.done("an heir that is no user", run("user", "leave", "ann", "--to", "bbo", "--yes"), "no user bbo",
                   status=1)
         self.done("a user leaves", run("user", "leave", "ann", "--to", "bob", "--yes"),

@@ -37,7 +37,8 @@ class Nothing(Exception):
 
 def reply(tables, at, message):
     """The reply to all bytes that a client sends before it ends its side."""
-    method = ""
+    # a head that can't be read tells its method by how it begins
+    method = "HEAD" if message.startswith(b"HEAD ") else ""
     try:
         method, target, headers, rest = read_head(message)
         return reply_to_request(tables, at, method, target, headers, rest)

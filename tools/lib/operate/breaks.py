@@ -1,5 +1,6 @@
 """Breaks of operate/, each made in a copy, and whether a tool sees them there: try-operate those of
-tools/caught/operate.edits, try-indexctl those of tools/caught/indexctl.edits."""
+tools/caught/operate.edits, try-indexctl those of tools/caught/indexctl/."""
+import glob
 import os
 import re
 import shutil
@@ -7,6 +8,7 @@ import sys
 import tempfile
 
 from operate.checks import check
+from releases import COMMAND
 from running import run_command
 from serving import TOP
 
@@ -38,7 +40,9 @@ class Break:
         """Makes the break in a new copy, and returns the program that is tried in it."""
         for top in ("operate", "tools", "docs"):
             shutil.copytree(f"{TOP}/{top}", f"{copy}/{top}")
-        shutil.copy(f"{TOP}/LICENSE", copy)
+        for file in ("LICENSE", "CHANGELOG.md", COMMAND):
+            os.makedirs(os.path.dirname(f"{copy}/{file}"), exist_ok=True)
+            shutil.copy(f"{TOP}/{file}", f"{copy}/{file}")
         for path, old, new in self.changes:
             with open(f"{copy}/{path}") as kept:
                 text = kept.read()
@@ -70,9 +74,13 @@ def same(name):
 
 
 def all_breaks(path):
-    with open(path) as kept:
-        text = re.sub(r"^#.*\n", "", kept.read(), flags=re.M)
-    return [Break(block) for block in re.split(r"\n{2,}", text.strip())]
+    """The breaks of a file, or of each file in a folder."""
+    found = []
+    for file in sorted(glob.glob(f"{path}/*.edits")) if os.path.isdir(path) else [path]:
+        with open(file) as kept:
+            text = re.sub(r"^#.*\n", "", kept.read(), flags=re.M)
+        found += [Break(block) for block in re.split(r"\n{2,}", text.strip())]
+    return found
 
 
 def try_listed(names, path=BREAKS):

@@ -99,7 +99,8 @@ class Nginx(Running):
 
 
 class Front(Nginx, Asking):
-    """nginx in front of the indexes at these ports; with several, as shards.conf has it. A plain one speaks no TLS."""
+    """nginx in front of the indexes at these ports of loopback, or at these addresses; with several, as shards.conf has
+    it. A plain one speaks no TLS."""
 
     def __init__(self, folder, certificate, *behind, pypi=None, is_plain=False):
         super().__init__(folder)
@@ -115,7 +116,8 @@ class Front(Nginx, Asking):
             "/var/log/nginx/": f"{folder}/", "min_free=2g": "min_free=16m",
             "/etc/ssl/packages.example.key": f"{os.path.dirname(certificate)}/key"})
         self.put("index/pages.conf", kept("pages.conf"))
-        ports = {f"127.0.0.1:{8080 + at}": f"127.0.0.1:{port}" for at, port in enumerate(behind)}
+        ports = {f"127.0.0.1:{8080 + at}": it if isinstance(it, str) else f"127.0.0.1:{it}"
+                 for at, it in enumerate(behind)}
         self.put("index/indexes.conf", kept("one-index.conf" if len(behind) == 1 else "shards.conf"), **ports)
         if pypi:
             self.put("index/server.d/with-pypi.conf", kept("with-pypi.conf"),

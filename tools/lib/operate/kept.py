@@ -14,10 +14,12 @@ MOST_REQUESTS = 1_000_000
 
 
 class Kept(Asking):
-    """The index on one port. It ends by itself after so many connections, and is then started anew."""
+    """The index on one port. It ends by itself after so many connections, and is then started anew. `where` says of
+    one that is not on loopback where it is."""
 
-    def __init__(self, program, path, requests=MOST_REQUESTS):
-        self.program, self.path, self.requests, self.port = program, path, requests, free_port()
+    def __init__(self, program, path, requests=MOST_REQUESTS, port=None, **where):
+        self.program, self.path, self.requests, self.port = program, path, requests, port or free_port()
+        self.where = where
         self.is_wanted, self.is_over = threading.Event(), threading.Event()
         self.listens = threading.Event()
         self.starts, self.index, self.faults = 0, None, []
@@ -28,7 +30,7 @@ class Kept(Asking):
             if not self.is_wanted.wait(timeout=0.05):
                 continue
             try:
-                with Index(self.program, self.requests, self.path, 60, port=self.port) as self.index:
+                with Index(self.program, self.requests, self.path, 60, port=self.port, **self.where) as self.index:
                     self.starts += 1
                     self.listens.set()
                     while self.is_wanted.is_set() and self.index.process.poll() is None:
@@ -78,11 +80,11 @@ class Kept(Asking):
 
 class Uploader(threading.Thread):
     """Uploads files of a project of its own to an index, or to what stands in front of one, until it is stopped or a
-    moment has come. `files` has what was acknowledged. What is to come again later does."""
+    moment has come, with a pause after each. `files` has what was acknowledged. What is to come again later does."""
 
-    def __init__(self, index, project, until):
+    def __init__(self, index, project, until, pause=0):
         super().__init__(daemon=True)
-        self.index, self.project, self.until, self.files = index, project, until, {}
+        self.index, self.project, self.until, self.pause, self.files = index, project, until, pause, {}
         while index.claim(project)[0] == 503:
             time.sleep(0.5)
 
@@ -98,6 +100,7 @@ class Uploader(threading.Thread):
             if reply[0] in (200, 201):
                 self.files[file] = body
                 number += 1
+                time.sleep(self.pause)
 
     def stop(self):
         self.until = 0

@@ -167,16 +167,17 @@ def try_installed(place, root, package):
     ends("the index is made", ended, 0, "created")
     root.put("/etc/ssl/packages.example.pem", open(place.certificate).read())
     root.put("/etc/ssl/packages.example.key", open(f"{place.folder}/key").read())
-    ended = root.sh("nginx -v && " + block("host=packages.example"))
-    ends("nginx takes its files", ended, 0, "syntax is ok", "test is successful")
+    ended = root.sh("nginx -v && " + block("host=packages.example") + "nginx -T | grep 'server_name packages'")
+    ends("nginx takes its files", ended, 0, "syntax is ok", "test is successful", "server_name packages.example;")
     if shutil.which("systemd-analyze"):
         units = "/lib/systemd/system/index*"
         instances = f"$(ls {units} | grep @ | grep -v alarm | sed s/@/@8081/)"
         ended = root.sh(f"systemd-analyze verify $(ls {units} | grep -v @) {instances}")
         check("systemd-analyze verify", (ended.returncode, ended.stdout) == (0, ""), ended.stdout)
-        ended = root.sh("systemd-analyze security --offline=true --threshold=9 /lib/systemd/system/index.service "
-                        "/lib/systemd/system/index@.service")
-        check("the unit reaches little", ended.returncode == 0, ended.stdout[-400:])
+        ended = root.sh(f"for it in {units}.service; do echo $it; "
+                        "systemd-analyze security --offline=true --threshold=9 $it || echo FAR; done")
+        check("each unit reaches little", ended.stdout.count("SAFE") > 10 and "FAR" not in ended.stdout,
+              re.findall(r"^/.*|^→.*", ended.stdout, re.M))
 
 
 def try_commands(root, program):
@@ -232,14 +233,21 @@ def try_upgrade(root, first, newer):
     check("it has what the new one wrote", "before" in held(root) and "after" in held(root), held(root))
 
 
+def size_of_database(root):
+    """Its bytes, or 0 where there is none."""
+    said = root.sh("stat -c %s /var/lib/index/index.db").stdout.strip()
+    return int(said) if said.isdigit() else 0
+
+
 def try_several(root):
     """A database is shrunk, and three indexes take the place of one, by the blocks of the page."""
     root.sh("runuser -u index -- sqlite3 /var/lib/index/index.db 'CREATE TABLE x (y)' 'INSERT INTO x VALUES "
             "(zeroblob(1000000))' 'DROP TABLE x'")
-    before = root.sh("stat -c %s /var/lib/index/index.db").stdout
-    ends("a database is shrunk", root.sh(block("systemctl stop index-health.timer index.service\nrunuser")), 0)
-    after = root.sh("stat -c %s /var/lib/index/index.db").stdout
-    check("and has what it had", int(after) + 900_000 < int(before) and "before" in held(root), (before, after))
+    before = size_of_database(root)
+    shrinks = block("systemctl stop index-health.timer index.service\nrunuser")
+    ends("a database is shrunk", root.sh("set -e\n" + shrinks), 0)
+    after = size_of_database(root)
+    check("and has what it had", after + 900_000 < before and "before" in held(root), (before, after))
     ended = root.sh(block("office=$(openssl rand -hex 32); echo \"$office\"\nfor"))
     ends("three indexes are made", ended, 0, "created\ncreated\ncreated\n", "test is successful")
     made = root.sh("stat -c '%U %a' /var/lib/index/808[012] /var/lib/index/808[012]/index.db").stdout

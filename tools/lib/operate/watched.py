@@ -49,32 +49,46 @@ def stand_ins(folder, **scripts):
     return f"{folder}:{os.environ['PATH']}"
 
 
-def called(folder):
+def written(path):
+    """The text of a file, or nothing where there is none."""
     try:
-        with open(f"{folder}/called") as kept:
+        with open(path) as kept:
             return kept.read()
     except FileNotFoundError:
         return ""
 
 
+def called(folder):
+    return written(f"{folder}/called")
+
+
+def looked(path, *words, under=()):
+    """A run of index-health, and what index-health.service does after it: some systemctl of this path."""
+    with open(f"{OPERATE}/systemd/index-health.service") as kept:
+        after = re.search(r"^ExecStopPost=\+/bin/sh -c '(.*)'$", kept.read(), re.M)
+    ended = run_command([*under, sys.executable, f"{OPERATE}/index-health", *words])
+    if after:
+        run_command(["sh", "-c", after[1].replace("$$", "$")], PATH=path, EXIT_STATUS=str(ended.returncode))
+    return ended
+
+
 def try_health(place):
-    """index-health restarts an index that fails or is silent, and tells of one that is not there."""
+    """An index that fails or is silent is restarted, and one that is not there is told of."""
     folder = f"{place.folder}/health"
     path = stand_ins(folder, systemctl="")
-    words = [sys.executable, f"{OPERATE}/index-health", "--restart", "it.service"]
     with Kept(place.program, f"{place.folder}/health.db") as index:
-        ends("an index that answers", run_command([*words, f"http://127.0.0.1:{index.port}"], PATH=path), 0)
+        ends("an index that answers", looked(path, f"http://127.0.0.1:{index.port}"), 0)
     begun = time.monotonic()
-    ended = run_command([*words, "--patience", "3", f"http://127.0.0.1:{index.port}"], PATH=path)
+    ended = looked(path, "--patience", "3", f"http://127.0.0.1:{index.port}")
     ends("an index that is away", ended, 3, "nobody listens")
     check("it was waited for", time.monotonic() - begun > 3, time.monotonic() - begun)
     check("neither is restarted", not called(folder), called(folder))
     with Failed() as failed:
-        ends("an index that fails", run_command([*words, failed], PATH=path), 1, "500", "Store")
+        ends("an index that fails", looked(path, failed), 8, "500", "Store")
     with socket.create_server(("127.0.0.1", 0)) as silent:
-        ended = run_command([*words, "--patience", "1", f"http://127.0.0.1:{silent.getsockname()[1]}"], PATH=path)
-        ends("a silent index", ended, 1, "no answer")
-    check("both are restarted", called(folder) == "systemctl try-restart it.service\n" * 2, called(folder))
+        ends("a silent index", looked(path, "--patience", "1", f"http://127.0.0.1:{silent.getsockname()[1]}"), 8,
+             "no answer")
+    check("both are restarted", called(folder) == "systemctl try-restart index.service\n" * 2, called(folder))
     try_starts(place)
 
 
@@ -98,7 +112,7 @@ def try_starts(place):
                 said = b"it waits on"
             check("a start that ended is told", (waits.process.returncode, b"ended before" in said) == (3, True), said)
     with Failed() as failed:
-        ends("a start that fails", run_command([*words[:-2], str(os.getpid()), failed], 20), 1, "500")
+        ends("a start that fails", run_command([*words[:-2], str(os.getpid()), failed], 20), 8, "500")
     with open(f"{OPERATE}/systemd/index.service") as kept:
         unit = kept.read()
     bound = re.search(r"^TimeoutStartSec=(\d+)min$", unit, re.M)
@@ -111,6 +125,18 @@ def measured(words, **more):
     ended = run_command([sys.executable, f"{OPERATE}/index-metrics", *words], **more)
     lines = re.findall(r'^([a-z_]+)\{port="\d+"(,of="[a-z]+")?\} (\S+)$', ended.stdout, re.M)
     return {name + of: float(value) for name, of, value in lines} if ended.returncode == 0 else {}
+
+
+def try_last_look(folder, words):
+    """What index-metrics takes over from the check of health: how it ended, unless that is long ago."""
+    seen, now = [], time.clock_gettime(time.CLOCK_MONOTONIC)
+    for number, (status, begun, ended) in enumerate(((0, 10, 9.5), (8, 70, 10), (0, 40, None), (0, 400, 399))):
+        moments = [0 if it is None else int(1e6 * (now - it)) for it in (begun, ended)]
+        shown = "ExecMainStatus={}\\nExecMainStartTimestampMonotonic={}\\nExecMainExitTimestampMonotonic={}\\n"
+        path = stand_ins(f"{folder}/health{number}", systemctl=f"printf '{shown.format(status, *moments)}'")
+        found = measured([*words, "--health", "it.service"], PATH=path)
+        seen.append((found.get("index_up"), round(found.get("index_look_seconds", 0), 1) if ended else None))
+    check("what the check of health saw", seen == [(1, 0.5), (0, 60), (0, None), (None, 0)], seen)
 
 
 def try_metrics(place):
@@ -132,6 +158,7 @@ def try_metrics(place):
         sizes = [os.path.getsize(f"{folder}/index.db{end}") for end in ("", "-wal")]
     check("an index that is up", seen.get("index_up") == 1 and 0 < seen["index_look_seconds"] < 30, seen)
     check("its sizes", [seen.get("index_database_bytes"), seen.get("index_log_bytes")] == sizes, (sizes, seen))
+    try_last_look(folder, words)
     disk = os.statvfs(folder)
     free = disk.f_bavail * disk.f_frsize
     check("its rooms", abs(seen.get('index_room_bytes,of="database"', 0) - free) < 1 << 30, (free, seen))
@@ -146,18 +173,15 @@ def try_metrics(place):
     words = [*words, "--url", f"http://127.0.0.1:{index.port}", "--out", out]
     ended = run_command([sys.executable, f"{OPERATE}/index-metrics", *words], PATH=path)
     ends("an index that is down", ended, 0)
-    text = ""
-    if os.path.exists(out):
-        with open(out) as kept:
-            text = kept.read()
+    text = written(out)
     is_written = f'\nindex_up{{port="{index.port}"}} 0\n' in text and os.stat(out).st_mode & 0o777 == 0o644
     check("that is written", is_written, text)
     is_counted = re.search(r"^index_damaged_logs\S* 1$", text, re.M)
     check("a damaged log is counted", is_counted and seen.get("index_damaged_logs") == 0, text)
     with open(f"{OPERATE}/index-alarms.yml") as kept:
         asked = set(re.findall(r"\bindex_[a-z_]+", kept.read()))
-    written = {name.partition(",")[0] for name in seen}
-    check("alarms ask for what is written", len(asked) > 5 and asked <= written, asked - written)
+    names = {name.partition(",")[0] for name in seen}
+    check("alarms ask for what is written", len(asked) > 5 and asked <= names, asked - names)
 
 
 def try_alarm(place):
@@ -169,16 +193,17 @@ def try_alarm(place):
     said = called(folder)
     is_well = said.startswith("logger --priority daemon.alert") and "index-backup.service failed" in said
     check("it is in the journal", is_well, said)
-    check("no mail goes to nobody", "sendmail" not in said, said)
+    words.insert(1, "--mail")
+    run_command(words, **setting)
+    check("no mail goes to nobody", "sendmail" not in called(folder), called(folder))
     for _ in range(2):
         ends("an alarm by mail", run_command(words, ALARM_MAIL="you@example.org", **setting), 0)
-    with open(f"{folder}/mail") as kept:
-        mail = kept.read()
+    mail = written(f"{folder}/mail")
     is_well = mail.startswith("To: you@example.org\nSubject: index-backup.service failed") and "the last lines" in mail
     check("one mail went out", is_well and mail.count("To:") == 1, mail)
     stand_ins(f"{folder}/broken", sendmail="exit 1")
     setting = {"ALARM_MAIL": "you@example.org", "PATH": f"{folder}/broken:{path}", "RUNTIME_DIRECTORY": folder}
-    ends("a mail that did not go out", run_command([words[0], "index.service"], **setting), 1)
+    ends("a mail that did not go out", run_command([*words[:2], "index.service"], **setting), 1)
     units = {}
     for name in sorted(os.listdir(f"{OPERATE}/systemd")):
         if name.endswith(".service") and not name.startswith("index-alarm"):

@@ -24,6 +24,7 @@ impl PlainBooks {
                 self.end_case(&name);
                 Ok(())
             }
+            // `make` sends no other change here. One match over all of them would cost the prover more.
             _ => unreachable!(),
         }
     }

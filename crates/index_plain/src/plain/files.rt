@@ -73,6 +73,7 @@ impl PlainBooks {
         }
     }
 
+    /// Bans an undeleted file, which leaves the charge of its name. The name is put back if memory runs out.
     fn ban_charged(
         &mut self,
         name: &NormalName,
@@ -96,6 +97,7 @@ impl PlainBooks {
         }
     }
 
+    /// Bans a file that no name is charged for.
     fn ban_alone(&mut self, file: &FileName, known: FileRecord) -> Result<(), AllocError>
         ensures made { (name : Bytes)
             → Makes (BanFile name None file.now known) self.old self.new result }

@@ -80,6 +80,7 @@ impl PlainBooks {
         })
     }
 
+    /// The caller, the user whom the call names and the bearer of the token that it brings.
     fn users_at(&self, keys: &Keys) -> Result<UsersSeen, AllocError>
         ensures { IfOk result (SeesUsers (plain_tables self.now) keys.now) }
     {
@@ -93,6 +94,7 @@ impl PlainBooks {
         })
     }
 
+    /// What the tables have of the file and of the release that the call names.
     fn files_at(&self, keys: &Keys) -> Result<FilesSeen, AllocError>
         ensures { IfOk result (SeesFiles (plain_tables self.now) keys.now) }
     {
@@ -108,6 +110,7 @@ impl PlainBooks {
         })
     }
 
+    /// The record, the owners and the case of the name that the call speaks of.
     fn name_at(&self, alloc: Global, name: &Option<NormalName>) -> Result<NameSeen, AllocError>
         ensures { IfOk result (SeesName (plain_tables self.now) name.now) }
     {
@@ -135,6 +138,7 @@ impl PlainBooks {
         }
     }
 
+    /// The owners of the name, or none if the call speaks of no name.
     fn owners_by_key(&self, alloc: Global, name: &Option<NormalName>) -> Result<Owners, AllocError>
         ensures { IfOk result (AreOwners (plain_tables self.now) name.now) }
     {
@@ -186,10 +190,12 @@ impl PlainBooks {
         let user = pairs::first_at(&self.accounts.bearers, &token)?;
         match table::find(&self.accounts.users, user) {
             Some(known) => Some((user, known)),
+            // An invariant of the accounts: each bearer of a token is a user.
             None => unreachable!(),
         }
     }
 
+    /// A copy of the user who bears the token with this digest.
     fn caller(&self, token: Option<Digest256>) -> Result<Option<Caller>, AllocError>
         ensures { IfOk result (IsBearerAs caller_of (plain_tables self.now) token) }
     {
@@ -205,6 +211,7 @@ impl PlainBooks {
         }
     }
 
+    /// A copy of the id of the user who bears the token with this digest.
     fn bearer_id(&self, token: Option<Digest256>) -> Result<Option<UserId>, AllocError>
         ensures { IfOk result (IsBearerAs (λ user. user.0) (plain_tables self.now) token) }
     {

@@ -27,6 +27,7 @@ impl PlainBooks {
                 Ok(())
             }
             Change::Prohibit { name } => self.prohibit(&name),
+            // `make` sends no other change here. One match over all of them would cost the prover more.
             _ => unreachable!(),
         }
     }

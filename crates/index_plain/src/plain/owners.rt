@@ -21,6 +21,7 @@ impl PlainBooks {
                 self.remove_owner(&name, &user);
                 Ok(())
             }
+            // `make` sends no other change here. One match over all of them would cost the prover more.
             _ => unreachable!(),
         }
     }

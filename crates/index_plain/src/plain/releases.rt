@@ -50,6 +50,7 @@ impl PlainBooks {
                 self.remove_yank(&name, &release);
                 Ok(())
             }
+            // `make` sends no other change here. One match over all of them would cost the prover more.
             _ => unreachable!(),
         }
     }

@@ -112,6 +112,7 @@ impl PlainBooks {
     }
 }
 
+/// A copy of a name and of its record.
 fn name_row(name: &NormalName, known: &NameRecord) -> Result<NameRow, AllocError>
     ensures { Returns result (name_row_lem (name.now, known.now)) }
 {

@@ -38,30 +38,32 @@ impl<'a> Context<'a> {
     pub fn owns(&self) -> bool
         ensures { result ≡ is_one_of self.now.view.now.owners (Some self.now.caller.now.user) }
     {
-        self.is_owner(&self.caller.user.text().as_bytes())
+        self.is_owner(self.caller.user.text().as_bytes())
     }
 
     /// Whether the user with this id owns that name.
     pub fn is_owner(&self, user: &[u8]) -> bool
         ensures { result ≡ is_one_of self.now.view.now.owners (Some user.now) }
     {
-        is_one(&self.view.owners.as_slice(), user)
+        is_one(self.view.owners.as_slice(), user)
     }
 
     /// Whether the user with this id owns that name, and nobody else does.
     pub fn is_sole_owner(&self, user: &[u8]) -> bool
         ensures { result ≡ is_only_one_of self.now.view.now.owners (Some user.now) }
     {
-        self.is_owner(user) && is_each(&self.view.owners.as_slice(), user)
+        self.is_owner(user) && is_each(self.view.owners.as_slice(), user)
     }
 }
 
+/// Whether one of the users has this id.
 fn is_one(users: &[UserId], user: &[u8]) -> bool
     ensures { result ≡ list_any (same user.now) users.now }
 {
     users.iter().any(|one| user == one.text().as_bytes())
 }
 
+/// Whether each of the users has this id.
 fn is_each(users: &[UserId], user: &[u8]) -> bool
     ensures { result ≡ list_all (same user.now) users.now }
 {

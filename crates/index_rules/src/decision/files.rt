@@ -180,6 +180,7 @@ fn record_of(
     })
 }
 
+/// Whether the known file has another digest or another size.
 fn is_other(known: &FileRecord, digest: &Digest256, size: u64) -> bool
     ensures { result ≡ is_other_file (Some digest.now) size (Some known.now) }
 {

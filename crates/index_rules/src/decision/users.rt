@@ -82,6 +82,7 @@ pub fn set_token(context: &Context<'_>, user: &Bytes, token: &Bytes) -> Result<D
     Ok(Decision::Change(Change::SetToken { user, record }))
 }
 
+/// Whether the user has this office flag and this digest of a token.
 fn is_user_with(user: &UserRecord, office: bool, token: &Digest256) -> bool
     ensures { result ≡ is_user_with_lem office (Some token.now) user.now }
 {

@@ -9,11 +9,12 @@ use Rattle.index.specs.declared.database.Left.TheVariants.{Shut}
 use Rattle.index.specs.Openings.{LeavesShut, IsUnmade, IsWhyUnmade, IsWhyUnused, LeavesUnused}
 use Rattle.index.specs.Chains.{InitLeadsOn}
 use Rattle.index.proofs.ChainLemmas.{created_leads, unclosed_leads, unmade_leads}
+use Rattle.index.proofs.OpeningLemmas.{never_bad_first_user}
 use Rattle.index.proofs.database.create.Goals as goal
 
 pub returns-in-Ok-open-clause-bad_first_user : goal.returns-in-Ok-open-clause-bad_first_user
 returns-in-Ok-open-clause-bad_first_user g c = (
-  (λ refused. absurd (true≢false (sym ((rw refused at c.create_and_close.ensures.why) _ c.in-Ok-open.ensures.ends.opened)))),
+  (λ refused. absurd (never_bad_first_user ((rw refused at c.create_and_close.ensures.why) _ c.in-Ok-open.ensures.ends.opened))),
   (λ bad. absurd (true≢false (ap is_ok (c.in-Ok.ensures.bad_first_user.1 bad)))),
 )
 

@@ -1,9 +1,13 @@
-use Rattle.std.proofs.Common.{ℕ, Bool, true, false, List, IfSome, cond, ap₂, rules}
+use Rattle.std.proofs.Common.{ℕ, ◌+◌, Bool, true, false, List, IfSome, cond, ap₂, rules}
 use Rattle.std.proofs.lemmas.Option.{IfSome_then}
 use Rattle.sqlite.specs.Recovery.{Image}
 use Rattle.sqlite.specs.WalFiles.{image_at}
+use Rattle.sqlite.specs.Files.{IsCleanLeft}
+use Rattle.sqlite_disk.specs.declared.tally.Tally.{Tally}
 use Rattle.sqlite_disk.specs.Events.{Event, replay}
-use Rattle.index.specs.Openings.{LeavesShut}
+use Rattle.sqlite_disk.specs.Tally.{both_counts}
+use Rattle.index.specs.Openings.{IsWhyNoDatabase, LeavesShut}
+use Rattle.index.proofs.OpeningLemmas.{no_database, shut_for}
 use Rattle.index.proofs.RunLemmas.{settled_leaves, shut_by}
 use Rattle.index.proofs.opening.open.Goals as goal
 
@@ -12,6 +16,12 @@ image log db = record { log = log; db = db }
 
 abbrev seen : List ℕ → List ℕ → Bool → List Event → List ℕ
 seen log db is_log history = (replay (cond is_log log db) history).seen
+
+abbrev tally : List ℕ → List ℕ → Bool → List Event → Tally
+tally log db is_log history = let m = replay (cond is_log log db) history in record { caught = m.caught; refused = m.refused }
+
+abbrev faults : List ℕ → List ℕ → Bool → List Event → ℕ
+faults log db is_log history = (replay (cond is_log log db) history).faults
 
 pub returns-in-Err : goal.returns-in-Err
 returns-in-Err g c =
@@ -25,7 +35,17 @@ returns-in-Err g c =
     (settled_leaves start.is_mixing start.log start.db files.log.is_log true files.log.key files.log.calls.log.events now.log log.0 log.1 may.0)
     (settled_leaves start.is_mixing start.log start.db files.db.is_log false files.db.key files.db.calls.log.events now.db db.0 db.1 may.1))
     (cause.3 clean).1) in
-    record { ends = record { outside = tt; opened = tt; shut = shut; fault = search rules }; sums = tt }
+    let opened : IfSome c.in-Err.left (λ left. IsCleanLeft left → IsWhyNoDatabase (image_at start) left c.unopened.result) = IfSome_then c.in-Err.left c.in-Err.ensures.cause (λ left cause clean.
+    let files = cause.0 in
+    let log = cause.1 in
+    let db = cause.2 in
+    no_database (image_at start) files left c.in-Err.error c.unopened.result c.unopened.ensures.told
+    (ap₂ image (ap₂ (seen start.log start.db) log.0 log.1) (ap₂ (seen start.log start.db) db.0 db.1))
+    (ap₂ both_counts (ap₂ (tally start.log start.db) log.0 log.1) (ap₂ (tally start.log start.db) db.0 db.1))
+    (ap₂ (λ a b. a + b) (ap₂ (faults start.log start.db) log.0 log.1) (ap₂ (faults start.log start.db) db.0 db.1))
+    (cause.3 clean).0) in
+    let why = shut_for (image_at start) c.in-Err.left c.in-Err.error c.unopened.result c.unopened.ensures.told c.unopened.ensures.found c.in-Err.ensures.unopened opened in
+    record { ends = record { outside = tt; opened = tt; shut = shut; fault = search rules; why = why }; sums = tt }
 
 pub returns-in-Ok : goal.returns-in-Ok
-returns-in-Ok g c = record { ends = record { outside = search rules; opened = λ clean. (search rules, search rules); shut = tt; fault = tt }; sums = c.in-Ok.ensures.sums }
+returns-in-Ok g c = record { ends = record { outside = search rules; opened = λ clean. (search rules, search rules); shut = tt; fault = tt; why = tt }; sums = c.in-Ok.ensures.sums }

@@ -24,6 +24,26 @@ fn most_fields(rt: HostRuntime) {
     assert_message(&rt, &site, more.as_slice(), "BadHead");
 }
 
+/// A reply to `HEAD` has no body, whatever it says (RFC 9110, section 9.3.2).
+#[test]
+fn heads_that_cannot_be_read_name_head(rt: HostRuntime) {
+    let site = site(&rt);
+    let mut fields = Vec::from_slice(rt.alloc(), b"HEAD /simple/ HTTP/1.1\r\n").expect(
+        &rt, "a line",
+    );
+    for _ in 0..65 {
+        fields
+            .extend_from_slice(b"Name: value\r\n")
+            .expect(&rt, "a field");
+    }
+    fields.extend_from_slice(b"\r\n").expect(&rt, "an end");
+    assert_message(&rt, &site, fields.as_slice(), "BadHead Head");
+    assert_message(&rt, &site, b"HEAD /simple/ HTTP/1.1\r\n", "BadHead Head");
+    assert_message(&rt, &site, b"HEAD \0", "BadHead Head");
+    assert_message(&rt, &site, b"HEAD", "BadHead");
+    assert_message(&rt, &site, b"HEADER /simple/ HTTP/1.1\r\n", "BadHead");
+}
+
 /// So many bytes of a head that has not ended.
 fn open_head(rt: &(impl Abort + AllocGlobal), size: usize) -> Vec<u8> {
     let front = b"GET /simple/ HTTP/1.1\r\nName: ";

@@ -26,15 +26,15 @@ returns-in_default g c =
       tables = λ honest clean one.
           sent_ends _ _ _ _ _ _ (
             g.B.Books.tables c.args.desk.now,
-            (reply_of c.message_reply.result, ap (λ h. reply_text h (reply_of c.message_reply.result)) to_head, rw none (c.message_reply.ensures, refl)),
+            (reply_of c.message_reply.result, ap (λ h. reply_text h (reply_of c.message_reply.result)) to_head, rw (c.requires, none) (c.message_reply.ensures, refl)),
             λ _. refl,
           )
           c.send_reply.ensures.sent;
-      asks = rw none (record { unchanged = λ _. refl; honest = λ h. h; clean = λ h. h; crash = λ _ left. left });
+      asks = rw (c.requires, none) (record { unchanged = λ _. refl; honest = λ h. h; clean = λ h. h; crash = λ _ left. left });
       memory = λ none. absurd (sent_memory _ _ _ _ c.send_reply.ensures.sent none);
       stores = λ none. refl;
       cut = search rules;
-      sends = search rules;
+      sends = rw c.requires c.send_reply.ensures.sends;
       keeps = search rules;
     }
 
@@ -51,14 +51,14 @@ returns g c =
           let answers = answered _ c.apply-answer.result _ _ (took.settles.lasts clean) honest (λ then. took.verdict then one) in
           sent_ends _ _ _ _ _ _ (
             tables_after (g.B.Books.tables c.args.desk.now) c.in-Some.call c.apply-answer.result,
-            (reply_of c.answer_reply.result, text, rw call (c.apply-answer.result, reply, answers, refl, took.settles.store)),
+            (reply_of c.answer_reply.result, text, rw (c.requires, call) (c.apply-answer.result, reply, answers, refl, took.settles.store)),
             λ then. took.next then one,
           )
           c.send_reply-2.ensures.sent;
-      asks = rw call (sent_ends _ _ _ _ _ _ (c.apply-answer.result, text ∙ ap (reply_text (is_head c.args.request.now.method)) reply, took) c.send_reply-2.ensures.sent);
+      asks = rw (c.requires, call) (sent_ends _ _ _ _ _ _ (c.apply-answer.result, text ∙ ap (reply_text (is_head c.args.request.now.method)) reply, took) c.send_reply-2.ensures.sent);
       memory = λ none. absurd (sent_memory _ _ _ _ c.send_reply-2.ensures.sent none);
       stores = λ none. absurd (sent_memory _ _ _ _ c.send_reply-2.ensures.sent none);
       cut = search rules;
-      sends = search rules;
+      sends = rw c.requires c.send_reply-2.ensures.sends;
       keeps = search rules;
     }

@@ -1,8 +1,8 @@
-use Rattle.std.proofs.Common.{◌≡◌, ◌∙◌, ap, refl, rules, sym, true, false}
+use Rattle.std.proofs.Common.{◌≡◌, ◌∙◌, ap, refl, rules, sym, true}
 use Rattle.index_message.specs.Resources.{is_reading}
 use Rattle.index_http.specs.Ends.{Stands}
 use Rattle.index_http.specs.Replies.{reply_text}
-use Rattle.index_http.proofs.AnswerLemmas.{call_ends, look_ends}
+use Rattle.index_http.proofs.AnswerLemmas.{look_ends}
 use Rattle.index_http.proofs.EndLemmas.{sent_ends}
 use Rattle.index_http.proofs.connection.answer.Goals as goal
 
@@ -30,22 +30,9 @@ returns-then-is_reading g c =
       memory = search rules;
       stores = c.show.ensures.stores;
       cut = search rules;
-      sends = search rules;
+      sends = rw (c.in-Whole.is, reads) c.show.ensures.sends;
       keeps = search rules;
     }
 
 pub returns : goal.returns
-returns g c =
-    let changes : is_reading c.in-Whole.request.method ≡ false = sym (c.is_reading.ensures ∙ ap is_reading c.method.ensures) ∙ c.if-is_reading.false in
-    let acted = c.act.ensures in
-    record {
-      tables = λ honest clean one.
-          rw c.in-Whole.is
-          (call_ends _ _ _ (Stands g.B.Books.IsHonest g.B.Books.tables c.act.new.desk) _ _ _ _ _ changes (acted.tables honest clean one));
-      asks = rw (c.in-Whole.is, changes) acted.asks;
-      memory = search rules;
-      stores = acted.stores;
-      cut = search rules;
-      sends = search rules;
-      keeps = search rules;
-    }
+returns g c = rw c.in-Whole.is c.act.ensures

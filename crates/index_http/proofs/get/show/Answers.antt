@@ -1,7 +1,10 @@
 use Rattle.std.proofs.Common.{◌≡◌, ◌∙◌, ap, sym, refl, rules}
 use Rattle.index_message.specs.Resources.{is_head}
 use Rattle.index_message.specs.declared.resource.Resource.TheVariants as resource
-use Rattle.index_http.proofs.EndLemmas.{ends_shown_map, sent_memory, shown_ends}
+use Rattle.index_names.specs.Project.{read_name}
+use Rattle.index_desk.specs.Rules.{by_tables}
+use Rattle.index_http.specs.Exchanges.{ShowsName}
+use Rattle.index_http.proofs.EndLemmas.{ends_shown_map, found_ends, found_stores, sent_memory, shown_ends}
 use Rattle.index_http.proofs.get.show.Goals as goal
 
 pub returns-in-Simple : goal.returns-in-Simple
@@ -36,6 +39,17 @@ returns-in_ok-name-in-Project g c = record {
   leaves = search rules;
   sends = search rules;
   stores = λ is. absurd (sent_memory _ _ _ _ c.send_reply-in-Project.ensures.sent is);
+}
+
+pub returns-in-Name : goal.returns-in-Name
+returns-in-Name g c = record {
+  shown = λ honest clean.
+      let to_head : c.is_head-to_head.result ≡ is_head c.args.request.now.method = c.is_head-to_head.ensures ∙ ap is_head c.method.ensures in
+      let is : c.args.request.now.resource ≡ resource.Name c.in-Name.given = sym c.resource.ensures ∙ c.in-Name.is in
+      rw (sym to_head, is) (found_ends g.B.Books _ _ _ (λ T. ShowsName by_tables T (read_name c.in-Name.given)) _ _ _ _ c.standing_of.ensures c.send_found.ensures.found honest clean);
+  leaves = search rules;
+  sends = search rules;
+  stores = found_stores _ _ _ _ _ _ _ c.send_found.ensures.found c.standing_of.ensures.look.stores;
 }
 
 pub returns-in-Requests : goal.returns-in-Requests

@@ -1,6 +1,6 @@
 use Rattle.std.proofs.Common.{arith, ap, length, ◌∙◌, ◌≡◌, vec_len, ◌++◌, refl, rules, length-append}
 use Rattle.std.proofs.KnownBytes.{Consumes-nil, Consumes-trans}
-use Rattle.index_message.proofs.HeadLemmas.{may_nothing, none_in_nothing, none_by_limit}
+use Rattle.index_message.proofs.HeadLemmas.{may_nothing, method_when_never, none_in_nothing, none_by_limit}
 use Rattle.index_message.proofs.head.read_head.Goals as goal
 
 pub loop-source-init : goal.loop-source-init
@@ -38,3 +38,6 @@ returns-in-Whole-clause-reads g c =
 
 pub returns-clause-none : goal.returns-clause-none
 returns-clause-none g c _ = none_by_limit _ _ (omega (arith, c.loop-source.invariant.short, c.loop-source.held.ok.0)) c.loop-source.invariant.none
+
+pub returns-in-Never-clause-method : goal.returns-in-Never-clause-method
+returns-in-Never-clause-method g c _ = method_when_never _ _ (rw (c.in-Never.is, c.as_slice.ensures.value) at c.try_head.ensures.tries)

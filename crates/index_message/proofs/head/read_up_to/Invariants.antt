@@ -1,4 +1,4 @@
-use Rattle.std.proofs.Common.{ℕ, ◌-◌, ◌+◌, ◌≡◌, ◌++◌, ◌⊎◌, List, length, vec_len, ◌≤◌}
+use Rattle.std.proofs.Common.{ℕ, ◌-◌, ◌≡◌, ◌++◌, List, length, vec_len, ◌≤◌}
 use Rattle.std.specs.Io.KnownBytes.{Consumes}
 use Rattle.index_message.proofs.head.read_up_to.Given as goal
 

@@ -1,8 +1,11 @@
-use Rattle.std.proofs.Common.{arith, inl, refl, ap, Ok, ◌++◌, [], length, ◌≤◌, length-append}
+use Rattle.std.proofs.Common.{arith, inl, ap, sym, ◌∙◌, Ok, ◌++◌, [], length, ◌≤◌, length-append}
 use Rattle.std.specs.Prelude.{unwrap_or}
 use Rattle.std.proofs.KnownBytes.{Consumes-trans}
 use Rattle.std.proofs.lemmas.Result.{IfOk-weaker}
 use Rattle.index_message.specs.Heads.{IsHeadAt}
+use Rattle.index_message.specs.Messages.{begins_with_head}
+use Rattle.index_message.specs.declared.fault.MessageFault.TheVariants.{BadHead}
+use Rattle.index_message.specs.declared.message.Message.TheVariants.{Faulty}
 use Rattle.index_message.proofs.MessageLemmas.{input_is, message_read, unfinished}
 use Rattle.index_message.proofs.read.read_message.Goals as goal
 
@@ -10,7 +13,7 @@ pub returns-in_default-clause-message : goal.returns-in_default-clause-message
 returns-in_default-clause-message g c = (
   c.read_head.new.held.items ++ unwrap_or (g.S.Source.remaining c.read_head.new.source) [],
   input_is _ _ _ c.in_ok-spans.ensures.consumed,
-  inl (c.in_ok-spans.ensures.none (ap Ok c.in_default.is), refl),
+  inl (c.in_ok-spans.ensures.none (ap Ok c.in_default.is), ap (Faulty BadHead) (c.starts_with.ensures.value ∙ ap begins_with_head c.as_slice.ensures.value ∙ sym (c.in_ok-spans.ensures.method (ap Ok c.in_default.is)))),
 )
 
 pub returns-clause-message : goal.returns-clause-message

@@ -1,4 +1,4 @@
-use Rattle.std.proofs.Common.{rules, refl}
+use Rattle.std.proofs.Common.{refl}
 use Rattle.matchit.proofs.OnLiterals.{matchit_on_literals}
 use Rattle.index_message.specs.Routes.{site_rows}
 use Rattle.index_message.proofs.site.add_patterns.Goals as goal

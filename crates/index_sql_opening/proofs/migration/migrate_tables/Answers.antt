@@ -1,12 +1,11 @@
 use Rattle.std.proofs.Common.{[], ◌∷◌, ◌∙◌}
 use Rattle.index_sql_schema.specs.FirstVersion.{without_bans}
-use Rattle.index_sql_schema.specs.Index.{same_version}
+use Rattle.index_sql_schema.specs.Index.{raised, same_meta}
 use Rattle.index_sql_schema.specs.StatementTexts.{update_version_text}
 use Rattle.index_sql_schema.specs.TableTexts.{bans_text}
 use Rattle.index_sql_writes.specs.Transaction.{MakesInTransaction}
 use Rattle.index_sql_writes.proofs.InTurn.{makes_then}
 use Rattle.index_sql_writes.proofs.TakenLemmas.{exits, steps_then}
-use Rattle.index_sql_opening.specs.Migrated.{version_2_if_any}
 use Rattle.index_sql_opening.specs.NewAsks.{text_ask}
 use Rattle.index_sql_opening.proofs.migration.migrate_tables.Goals as goal
 
@@ -15,5 +14,5 @@ returns-in_err-make_bans g c = exits g.S.Store (text_ask bans_text ∷ []) (text
 
 pub returns : goal.returns
 returns g c =
-    steps_then g.S.Store (text_ask bans_text ∷ []) (MakesInTransaction without_bans version_2_if_any) (text_ask update_version_text ∷ []) (λ can. can.0) (λ did. did.ready) (λ can did limit. (did.ready, limit ∙ can.1))
-    (λ did more. makes_then without_bans (λ T. T) same_version version_2_if_any _ _ _ did more) c.in_ok-make_bans.ensures _ c.raise_version.ensures
+    steps_then g.S.Store (text_ask bans_text ∷ []) (MakesInTransaction without_bans raised) (text_ask update_version_text ∷ []) (λ can. can.0) (λ did. did.ready) (λ can did limit. (did.ready, limit ∙ can.1))
+    (λ did more. makes_then without_bans (λ T. T) same_meta raised _ _ _ did more) c.in_ok-make_bans.ensures _ c.raise_version.ensures

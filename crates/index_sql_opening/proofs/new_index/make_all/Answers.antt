@@ -1,10 +1,11 @@
-use Rattle.std.proofs.Common.{[], ◌∷◌, ◌++◌, ◌∙◌, None, Ok, Err}
+use Rattle.std.proofs.Common.{[], ◌∷◌, ◌++◌, ◌∙◌, Ok, Err}
+use Rattle.index_sql_schema.specs.Index.{with_version_2}
 use Rattle.index_sql_writes.specs.Transaction.{MakesInTransaction}
 use Rattle.index_sql_writes.specs.Statements.{put_user_ask}
 use Rattle.index_sql_writes.proofs.InTurn.{makes_then}
 use Rattle.index_sql_writes.proofs.TakenLemmas.{exits, steps_then}
 use Rattle.index_sql_opening.specs.NewAsks.{put_version_ask, table_asks}
-use Rattle.index_sql_opening.specs.Created.{version_2, one_user}
+use Rattle.index_sql_opening.specs.Created.{one_user, one_version_row}
 use Rattle.index_sql_opening.proofs.NewAskLemmas.{first_user}
 use Rattle.index_sql_opening.proofs.new_index.make_all.Goals as goal
 
@@ -23,6 +24,6 @@ pub returns : goal.returns
 returns g c =
     let user = c.args.user.now in
     let account = c.args.account.now in
-    steps_then g.S.Store (table_asks 0 9 ++ (put_user_ask user account ∷ [])) (MakesInTransaction (λ _. one_user user account) version_2) (put_version_ask ∷ []) (λ can. can.0) (λ did. did.ready) (λ can did limit. (did.ready, limit ∙ can.1))
-    (λ did more. makes_then (λ _. one_user user account) (λ T. T) (λ _. None) version_2 _ _ _ did more)
+    steps_then g.S.Store (table_asks 0 9 ++ (put_user_ask user account ∷ [])) (MakesInTransaction (λ _. one_user user account) one_version_row) (put_version_ask ∷ []) (λ can. can.0) (λ did. did.ready) (λ can did limit. (did.ready, limit ∙ can.1))
+    (λ did more. makes_then (λ _. one_user user account) (λ T. T) (λ _. []) with_version_2 _ _ _ did more)
     (first_user g.S.Store user account c.in_ok-make_tables.ensures (Ok c.in_ok-put_user.field-0) c.in_ok-put_user.ensures) _ c.put_version.ensures

@@ -1,7 +1,7 @@
 use Rattle.std.proofs.Common.{arith, rules, sym, subst}
 use Rattle.sqlite.specs.Held.{state}
 use Rattle.sqlite.specs.State.{HasCleanDisk}
-use Rattle.index_sql_schema.specs.Index.{same_version}
+use Rattle.index_sql_schema.specs.Index.{same_meta}
 use Rattle.index_sql_schema.specs.Records.{tables_in}
 use Rattle.index_sql_writes.specs.Writes.{AreFilesOf, deletes_bodies, deletes_shown}
 use Rattle.index_sql_writes.specs.Statements.{delete_bodies_ask}
@@ -27,7 +27,7 @@ returns g c =
           let asked = c.in_ok-rows.ensures.looked.made before ready in
           let files = subst (AreFilesOf name (tables_in first.now.trees)) (sym c.as_slice.ensures.value) ((c.in_ok-rows.ensures.files before).files ready) in
           let gone = c.in_ok-delete_each.ensures.made clean asked.ready in
-          makes_as (deletes_shown rows) (deletes_bodies name) first last (bodies_gone name (tables_in first.now.trees) rows files) (makes_then (λ T. T) (deletes_shown rows) same_version same_version first mid last asked gone);
+          makes_as (deletes_shown rows) (deletes_bodies name) first last (bodies_gone name (tables_in first.now.trees) rows files) (makes_then (λ T. T) (deletes_shown rows) same_meta same_meta first mid last asked gone);
       opened = search rules;
       asked = search rules;
     }

@@ -2,13 +2,13 @@ use Rattle.std.proofs.Common.{◌≡◌, inl, inr, Err, refl, sym, ◌∷◌, dr
 use Rattle.std.proofs.Math.Seq.{drop-cons}
 use Rattle.sqlite.specs.Held.{state}
 use Rattle.sqlite_value.specs.Order.{Row}
-use Rattle.index_sql_schema.specs.Index.{version_in}
+use Rattle.index_sql_schema.specs.Index.{meta_in}
 use Rattle.index_sql_schema.specs.Records.{tables_in}
 use Rattle.index_sql_schema.specs.RecordRows.{AreRecords}
 use Rattle.index_sql_schema.specs.ShownRows.{file_shown}
 use Rattle.index_sql_writes.specs.Transaction.{IsInTransaction}
 use Rattle.index_sql_writes.specs.Writes.{deletes_body, deletes_shown}
-use Rattle.index_sql_schema.specs.Index.{same_version}
+use Rattle.index_sql_schema.specs.Index.{same_meta}
 use Rattle.index_sql_writes.specs.Asks.{CanAskFor}
 use Rattle.index_sql_writes.specs.Transaction.{MakesInTransaction}
 use Rattle.index_sql_writes.specs.Steps.{TakesSteps}
@@ -41,7 +41,7 @@ loop-row-preserved g c =
       uncommitted = uncommitted_then g.S.Store c.args.tx.now.conn c.loop-row.tx.conn c.delete_shown.new.tx.conn before.uncommitted did.uncommitted;
       made = λ clean ready.
           let was = before.made (omega (arith, did.uncommitted.survives.clean)) ready in
-          one_more (λ (r : Row). deletes_body (file_shown r)) deletes_shown first mid last c.row-item.result rest c.args.rows.now (subst (λ rest. IsInTransaction mid × (deletes_shown rest (tables_in mid.now.trees) ≡ deletes_shown c.args.rows.now (tables_in first.now.trees)) × (mid.committed ≡ first.committed) × (version_in mid.now.trees ≡ version_in first.now.trees) × (AreRecords first.now → AreRecords mid.now)) split was) (c.in_ok-delete_shown.ensures.made clean was.0);
+          one_more (λ (r : Row). deletes_body (file_shown r)) deletes_shown first mid last c.row-item.result rest c.args.rows.now (subst (λ rest. IsInTransaction mid × (deletes_shown rest (tables_in mid.now.trees) ≡ deletes_shown c.args.rows.now (tables_in first.now.trees)) × (mid.committed ≡ first.committed) × (meta_in mid.now.trees ≡ meta_in first.now.trees) × (AreRecords first.now → AreRecords mid.now)) split was) (c.in_ok-delete_shown.ensures.made clean was.0);
       asked = λ clean can out more.
           let earlier : HasCleanDisk mid = omega (arith, did.uncommitted.survives.clean) in
           let was = before.made earlier can.can.ready in
@@ -62,7 +62,7 @@ returns-in_err-delete_shown g c =
     let split : drop c.loop-row.row-index rows ≡ c.row-item.result ∷ rest = search (rules, drop-cons) in
     let before = c.loop-row.invariant in
     let did = c.delete_shown.ensures in
-    at_exit c.from_residual.result c.in_err-delete_shown.field-0.0 (TakesSteps g.S.Store IsInTransaction (MakesInTransaction (deletes_shown rows) same_version) (CanAskFor rows) (AnswersBodyDeletions rows) c.args.tx.now.conn c.delete_shown.new.tx.conn) c.from_residual.ensures.1 (record {
+    at_exit c.from_residual.result c.in_err-delete_shown.field-0.0 (TakesSteps g.S.Store IsInTransaction (MakesInTransaction (deletes_shown rows) same_meta) (CanAskFor rows) (AnswersBodyDeletions rows) c.args.tx.now.conn c.delete_shown.new.tx.conn) c.from_residual.ensures.1 (record {
       uncommitted = uncommitted_then g.S.Store c.args.tx.now.conn c.loop-row.tx.conn c.delete_shown.new.tx.conn before.uncommitted did.uncommitted;
       made = λ clean. tt;
       asked = λ clean can store.

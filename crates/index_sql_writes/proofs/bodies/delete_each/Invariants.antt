@@ -4,7 +4,7 @@ use Rattle.sqlite.specs.Effect.{Database}
 use Rattle.sqlite.specs.Held.{state}
 use Rattle.sqlite.specs.Rows.{Outcome}
 use Rattle.sqlite.specs.State.{HasCleanDisk}
-use Rattle.index_sql_schema.specs.Index.{version_in}
+use Rattle.index_sql_schema.specs.Index.{meta_in}
 use Rattle.index_sql_schema.specs.Records.{tables_in}
 use Rattle.index_sql_schema.specs.RecordRows.{AreRecords}
 use Rattle.index_sql_writes.specs.Transaction.{IsInTransaction, IsUncommitted}
@@ -18,7 +18,7 @@ invariant-loop-row g l =
     let now = state g.S.Store l.tx.conn.now in
     record {
       uncommitted : IsUncommitted g.S.Store l.fn.tx.conn l.tx.conn;
-      made : HasCleanDisk now → IsInTransaction first → IsInTransaction now × (deletes_shown (drop l.row-index l.rows) (tables_in now.now.trees) ≡ deletes_shown l.rows (tables_in first.now.trees)) × (now.committed ≡ first.committed) × (version_in now.now.trees ≡ version_in first.now.trees) × (AreRecords first.now → AreRecords now.now);
+      made : HasCleanDisk now → IsInTransaction first → IsInTransaction now × (deletes_shown (drop l.row-index l.rows) (tables_in now.now.trees) ≡ deletes_shown l.rows (tables_in first.now.trees)) × (now.committed ≡ first.committed) × (meta_in now.now.trees ≡ meta_in first.now.trees) × (AreRecords first.now → AreRecords now.now);
       asked : HasCleanDisk now → CanAskFor l.rows first → (out : Outcome Database) → AnswersBodyDeletions (drop l.row-index l.rows) now.now out → AnswersBodyDeletions l.rows first.now out;
       shows : AllByRecursion ShowsFileName l.rows → AllByRecursion ShowsFileName (drop l.row-index l.rows);
     }

@@ -1,5 +1,5 @@
 use Rattle.std.proofs.Common.{◌≡◌, [], ◌∷◌, subst, rules}
-use Rattle.index_sql_schema.specs.Index.{same_version}
+use Rattle.index_sql_schema.specs.Index.{same_meta}
 use Rattle.index_sql_schema.specs.ShownRows.{file_shown}
 use Rattle.index_sql_writes.specs.Asks.{AnswersAsk, CanAskFor}
 use Rattle.index_sql_writes.specs.Transaction.{IsInTransaction, MakesInTransaction}
@@ -14,7 +14,7 @@ pub returns-in_err-file : goal.returns-in_err-file
 returns-in_err-file g c =
     let conn = c.args.tx.now.conn in
     let file = file_shown c.args.row.now in
-    at_exit c.from_residual.result c.in_err-file.field-0.0 (TakesSteps g.S.Store IsInTransaction (MakesInTransaction (deletes_body file) same_version) (CanAskFor (c.args.row.now ∷ [])) (AnswersAsk (delete_body_ask file)) conn conn) c.from_residual.ensures.1 (record {
+    at_exit c.from_residual.result c.in_err-file.field-0.0 (TakesSteps g.S.Store IsInTransaction (MakesInTransaction (deletes_body file) same_meta) (CanAskFor (c.args.row.now ∷ [])) (AnswersAsk (delete_body_ask file)) conn conn) c.from_residual.ensures.1 (record {
       uncommitted = uncommitted_none g.S.Store conn;
       made = λ clean. tt;
       asked = λ clean can store. absurd (never_unread c.args.row.now can.shown.0 c.in_err-file.field-0.0 store c.in_err-file.ensures.kind);

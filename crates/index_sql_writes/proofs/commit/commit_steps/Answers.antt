@@ -2,7 +2,7 @@ use Rattle.std.proofs.Common.{arith, rules}
 use Rattle.index_sql_writes.specs.Asks.{CanAsk}
 use Rattle.sqlite.specs.Held.{state}
 use Rattle.sqlite.specs.State.{HasCleanDisk}
-use Rattle.index_sql_schema.specs.Index.{same_version}
+use Rattle.index_sql_schema.specs.Index.{same_meta}
 use Rattle.index_sql_writes.specs.Changed.{all_of}
 use Rattle.index_sql_writes.proofs.CommitLemmas.{made_by_commit}
 use Rattle.index_sql_writes.specs.StepAsks.{FailsForRefusal, asks_by}
@@ -45,7 +45,7 @@ returns-clause-made g c = record {
       let mid = c.take_steps.new.tx.conn.now in
       let ended : HasCleanDisk (state g.S.Store c.commit.new.self.0) = search rules in
       let before : HasCleanDisk (state g.S.Store mid) = omega (arith, ended, c.commit.ensures.survives.clean) in
-      let made = made_by_commit g.S.Store (all_of c.args.steps.now) same_version c.args.conn.now _ mid c.commit.new.self.0 c.transaction-tx.ensures.begun opened index
+      let made = made_by_commit g.S.Store (all_of c.args.steps.now) same_meta c.args.conn.now _ mid c.commit.new.self.0 c.transaction-tx.ensures.begun opened index
       (c.in_ok-take_steps.ensures.taken.made before) (c.in_ok-commit.ensures.ok ended).1 in search rules;
   opened = search rules;
   unchanged = search rules;

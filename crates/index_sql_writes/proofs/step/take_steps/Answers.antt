@@ -2,11 +2,11 @@ use Rattle.std.proofs.Common.{◌≡◌, inl, inr, Err, refl, sym, ◌∷◌, dr
 use Rattle.std.proofs.Math.Seq.{drop-cons}
 use Rattle.sqlite.specs.Held.{state}
 use Rattle.index_sql_writes.specs.Changed.{step_by, all_of}
-use Rattle.index_sql_schema.specs.Index.{version_in}
+use Rattle.index_sql_schema.specs.Index.{meta_in}
 use Rattle.index_sql_schema.specs.Records.{tables_in}
 use Rattle.index_sql_schema.specs.RecordRows.{AreRecords}
 use Rattle.index_sql_writes.specs.Transaction.{IsInTransaction}
-use Rattle.index_sql_schema.specs.Index.{same_version}
+use Rattle.index_sql_schema.specs.Index.{same_meta}
 use Rattle.index_sql_writes.specs.Asks.{CanAsk}
 use Rattle.index_sql_writes.specs.Transaction.{MakesInTransaction}
 use Rattle.index_sql_writes.specs.Steps.{TakesSteps}
@@ -39,7 +39,7 @@ loop-step-preserved g c =
       uncommitted = uncommitted_then g.S.Store c.args.tx.now.conn c.loop-step.tx.conn c.take_step.new.tx.conn before.uncommitted did.uncommitted;
       made = λ clean ready.
           let was = before.made (omega (arith, did.uncommitted.survives.clean)) ready in
-          one_more step_by all_of first mid last c.step-item.result rest c.args.steps.now (subst (λ rest. IsInTransaction mid × (all_of rest (tables_in mid.now.trees) ≡ all_of c.args.steps.now (tables_in first.now.trees)) × (mid.committed ≡ first.committed) × (version_in mid.now.trees ≡ version_in first.now.trees) × (AreRecords first.now → AreRecords mid.now)) split was) (c.in_ok-take_step.ensures.made clean was.0);
+          one_more step_by all_of first mid last c.step-item.result rest c.args.steps.now (subst (λ rest. IsInTransaction mid × (all_of rest (tables_in mid.now.trees) ≡ all_of c.args.steps.now (tables_in first.now.trees)) × (mid.committed ≡ first.committed) × (meta_in mid.now.trees ≡ meta_in first.now.trees) × (AreRecords first.now → AreRecords mid.now)) split was) (c.in_ok-take_step.ensures.made clean was.0);
       opened = λ some clean. (before.uncommitted.kept (omega (arith, did.uncommitted.survives.clean))).was_open (c.in_ok-take_step.ensures.opened clean);
       asked = λ clean can out more.
           let earlier : HasCleanDisk mid = omega (arith, did.uncommitted.survives.clean) in
@@ -58,7 +58,7 @@ returns-in_err-take_step-clause-taken g c =
     let split : drop c.loop-step.step-index steps ≡ c.step-item.result ∷ rest = search (rules, drop-cons) in
     let before = c.loop-step.invariant in
     let did = c.take_step.ensures in
-    at_exit c.from_residual.result c.in_err-take_step.field-0.0 (TakesSteps g.S.Store IsInTransaction (MakesInTransaction (all_of steps) same_version) CanAsk (AnswersAll (asks_by steps)) c.args.tx.now.conn c.take_step.new.tx.conn) c.from_residual.ensures.1 (record {
+    at_exit c.from_residual.result c.in_err-take_step.field-0.0 (TakesSteps g.S.Store IsInTransaction (MakesInTransaction (all_of steps) same_meta) CanAsk (AnswersAll (asks_by steps)) c.args.tx.now.conn c.take_step.new.tx.conn) c.from_residual.ensures.1 (record {
       uncommitted = uncommitted_then g.S.Store c.args.tx.now.conn c.loop-step.tx.conn c.take_step.new.tx.conn before.uncommitted did.uncommitted;
       made = λ clean. tt;
       asked = λ clean can store.

@@ -1,0 +1,61 @@
+"""What makes contracts hard to read aloud: words of clauses with many arguments by place, and long lines of specs."""
+import glob
+import re
+
+CLAUSE = re.compile(r"^\s*(?:ensures|requires)\*?\s*\w*\s*\{", re.M)
+TOKEN = re.compile(r"\s*(λ|[()\[\]{}⟦⟧⟨⟩]|\"[^\"]*\"|[^\s()\[\]{}⟦⟧⟨⟩,;\"λ]+|[,;])")
+OPENING, CLOSING = "([{⟦⟨", ")]}⟧⟩"
+# what stands between two applications
+BETWEEN = frozenset("≡ ≢ × → ↔ ⊎ ¬ + - * ≤ < ∷ ++ && || , ; . : = let in if then else".split())
+
+
+def clauses(text):
+    """Yields the clauses of a source file, each with the number of its first line."""
+    for head in CLAUSE.finditer(text):
+        depth, at = 1, head.end()
+        while depth and at < len(text):
+            depth += (text[at] == "{") - (text[at] == "}")
+            at += 1
+        yield text.count("\n", 0, head.end()) + 1, text[head.end():at - 1]
+
+
+def applications(tokens):
+    """Yields each word that is applied in a group, with the number of its arguments. An argument is a name, a number, a
+    text, a group in brackets, or a lambda, which goes on to the end of its group. `tokens` is left behind that end."""
+    word, count = "", 0
+    for token in tokens:
+        if token in CLOSING:
+            break
+        if token in OPENING:
+            yield from applications(tokens)
+            word, count = (word, count + 1) if word else (token, 0)
+        elif token == "λ" or token in BETWEEN:
+            yield word, count + (token == "λ")
+            word, count = "", 0
+            while token == "λ" and not next(tokens, ".").endswith("."):
+                pass
+        elif word:
+            count += 1
+        else:
+            word = token
+    yield word, count
+
+
+def wide_words(top, most):
+    """Yields where a word of a clause in a crate's sources takes more than `most` arguments by place."""
+    for path in sorted(glob.glob("crates/*/src/**/*.rt", root_dir=top, recursive=True)):
+        with open(f"{top}/{path}", encoding="utf-8") as file:
+            text = file.read()
+        for line, clause in clauses(text):
+            for word, count in applications(iter(TOKEN.findall(clause))):
+                if count > most and word[0].isalpha() and word != "Some":
+                    yield f"{path}:{line} {word} takes {count}"
+
+
+def long_spec_lines(top, columns):
+    """Yields where a line of a crate's specs has more than so many columns."""
+    for path in sorted(glob.glob("crates/*/specs/**/*.antt", root_dir=top, recursive=True)):
+        with open(f"{top}/{path}", encoding="utf-8") as file:
+            for number, line in enumerate(file, 1):
+                if len(line.rstrip("\n")) > columns:
+                    yield f"{path}:{number}"
