@@ -17,7 +17,8 @@ use Rattle.index_json.specs.Line.{line_of}
 use Rattle.index_json.specs.declared.line.Line.{Line}
 use Rattle.index_json.specs.declared.line.Line.TheVariants as line
 use Rattle.index_cli.specs.Lines.{line_feed, longest_line}
-use Rattle.index_cli.specs.Serving.{AsksEach, AsksOne, ServesCalls}
+use Rattle.index_cli.specs.Connections.{Exchange}
+use Rattle.index_cli.specs.Serving.{AsksEach, AsksOne, ServesCallsOn}
 use Rattle.index_cli.specs.TellsCalls.{AsksKept, AsksLine, AsksOf, TellsCalls}
 
 -- what calls and answers, or these and tables, may have to do with one another
@@ -120,30 +121,27 @@ TellsCalls-push Left Left' T U line first step (before ∷ done) text (earlier, 
 
 -- ---- connections
 
-asks_one_map : (at : ℕ) (L L' : Type 0) (K K' : Call → Answer → Type 0) → (L → L') → ((call : Call) (answer : Answer) → K call answer → K' call answer) → AsksOne at L K → AsksOne at L' K'
-asks_one_map at L L' K K' f k it = record {
-  given = it.given;
-  had = it.had;
-  has = it.has;
+asks_one_map : (exchange : Exchange) (L L' : Type 0) (K K' : Call → Answer → Type 0) → (L → L') → ((call : Call) (answer : Answer) → K call answer → K' call answer) → AsksOne exchange L K → AsksOne exchange L' K'
+asks_one_map exchange L L' K K' f k it = record {
   ended = it.ended;
-  asks = asks_map L L' K K' it.had it.has it.ended f k at it.given it.asks;
+  asks = asks_map L L' K K' exchange.had exchange.has it.ended f k exchange.at exchange.given it.asks;
 }
 
-asks_each_map : (moments : List ℕ) (Holds Holds' : List Call → List Answer → Type 0) → ((calls : List Call) (answers : List Answer) → Holds calls answers → Holds' calls answers)
-    → AsksEach moments Holds → AsksEach moments Holds'
+asks_each_map : (exchanges : List Exchange) (Holds Holds' : List Call → List Answer → Type 0) → ((calls : List Call) (answers : List Answer) → Holds calls answers → Holds' calls answers)
+    → AsksEach exchanges Holds → AsksEach exchanges Holds'
 asks_each_map [] Holds Holds' f asked = f [] [] asked
-asks_each_map (at ∷ earlier) Holds Holds' f asked =
-    asks_each_map earlier _ _ (λ calls answers it. asks_one_map at _ _ _ _ (f calls answers) (λ call answer. f (calls ++ call ∷ []) (answers ++ answer ∷ [])) it) asked
+asks_each_map (exchange ∷ earlier) Holds Holds' f asked =
+    asks_each_map earlier _ _ (λ calls answers it. asks_one_map exchange _ _ _ _ (f calls answers) (λ call answer. f (calls ++ call ∷ []) (answers ++ answer ∷ [])) it) asked
 
-pub ServesCalls-map : (Left Left' : Leaving) (given : Option ℕ) (count : ℕ) (T T' : Tables) → ((calls : List Call) (answers : List Answer) → Left calls answers T → Left' calls answers T')
-    → ServesCalls Left given count T → ServesCalls Left' given count T'
-ServesCalls-map Left Left' given count T T' f it =
-    record { moments = it.moments; asked = asks_each_map it.moments _ _ f it.asked; counted = it.counted; are_given = it.are_given }
+pub ServesCalls-map : (Are : List Exchange → Type 0) (Left Left' : Leaving) (given : Option ℕ) (count : ℕ) (T T' : Tables) → ((calls : List Call) (answers : List Answer) → Left calls answers T → Left' calls answers T')
+    → ServesCallsOn Are Left given count T → ServesCallsOn Are Left' given count T'
+ServesCalls-map Are Left Left' given count T T' f it =
+    record { exchanges = it.exchanges; are = it.are; asked = asks_each_map it.exchanges _ _ f it.asked; counted = it.counted; are_given = it.are_given }
 
 -- one more connection
-pub asks_push : (at : ℕ) (earlier : List ℕ) (Holds Holds' : List Call → List Answer → Type 0) (L : Type 0) (K : Call → Answer → Type 0)
+pub asks_push : (exchange : Exchange) (earlier : List Exchange) (Holds Holds' : List Call → List Answer → Type 0) (L : Type 0) (K : Call → Answer → Type 0)
     → ((calls : List Call) (answers : List Answer) → Holds calls answers → L → Holds' calls answers)
     → ((calls : List Call) (answers : List Answer) → Holds calls answers → (call : Call) (answer : Answer) → K call answer → Holds' (calls ++ call ∷ []) (answers ++ answer ∷ []))
-    → AsksEach earlier Holds → AsksOne at L K → AsksEach (at ∷ earlier) Holds'
-asks_push at earlier Holds Holds' L K f k asked one =
-    asks_each_map earlier _ _ (λ calls answers it. asks_one_map at _ _ _ _ (f calls answers it) (k calls answers it) one) asked
+    → AsksEach earlier Holds → AsksOne exchange L K → AsksEach (exchange ∷ earlier) Holds'
+asks_push exchange earlier Holds Holds' L K f k asked one =
+    asks_each_map earlier _ _ (λ calls answers it. asks_one_map exchange _ _ _ _ (f calls answers it) (k calls answers it) one) asked

@@ -1,5 +1,5 @@
 -- Where each fact that is told of calls gives a value, one value serves for all of a run.
-use Rattle.std.proofs.Common.{◌≡◌, ◌≤◌, ◌<◌, ℕ, List, [], ◌∷◌, ◌++◌, length, Option, Some, None, Result, Ok, Err, inl, inr, arith}
+use Rattle.std.proofs.Common.{ℕ, List, [], ◌∷◌, ◌++◌, length, Option, Some, None, Result, Ok, Err, inl, inr, arith}
 use Rattle.std.proofs.lemmas.Bool.{cases_lt}
 use Rattle.index_rules.specs.declared.answer.Answer.{Answer}
 use Rattle.index_rules.specs.declared.call.Call.{Call}
@@ -15,6 +15,7 @@ use Rattle.index_cli.specs.declared.end.LineEnd.{LineEnd}
 use Rattle.index_cli.specs.declared.end.LineEnd.TheVariants.{ReadFault, WriteFault, OutOfMemory}
 use Rattle.index_cli.specs.Ends.{EndsRun, Telling}
 use Rattle.index_cli.specs.Lines.{longest_line}
+use Rattle.index_cli.specs.Connections.{Exchange}
 use Rattle.index_cli.specs.Serving.{AsksEach, AsksOne, ServesCalls}
 use Rattle.index_cli.specs.TellsCalls.{AsksLine, AsksOf, TellsCalls}
 
@@ -61,9 +62,9 @@ module _ (A Looked : Type 0) (LookedBy : A → Type 0) (Took : Call → Answer �
   Asks-choice before after result at given (inl it) = let chosen = of_look it.0 in (chosen.0, inl (chosen.1, it.1))
   Asks-choice before after result at given (inr it) = let chosen = AsksFor-choice before after result _ _ it.4 in (chosen.0, inr (it.0, it.1, it.2, it.3, chosen.1))
 
-  AsksOne-choice : (at : ℕ) → AsksOne at Looked Took → (a : A) × AsksOne at (LookedBy a) (TookBy a)
-  AsksOne-choice at it = let chosen = Asks-choice it.had it.has it.ended at it.given it.asks in
-      (chosen.0, record { given = it.given; had = it.had; has = it.has; ended = it.ended; asks = chosen.1 })
+  AsksOne-choice : (exchange : Exchange) → AsksOne exchange Looked Took → (a : A) × AsksOne exchange (LookedBy a) (TookBy a)
+  AsksOne-choice exchange it = let chosen = Asks-choice exchange.had exchange.has it.ended exchange.at exchange.given it.asks in
+      (chosen.0, record { ended = it.ended; asks = chosen.1 })
 
 pub TellsCalls-choice : (A : Type 0) (T : Tables) (Left : List Call → List Answer → Tables → Type 0) (LeftBy : A → List Call → List Answer → Tables → Type 0)
     → ((calls : List Call) (answers : List Answer) → Left calls answers T → (a : A) × LeftBy a calls answers T)
@@ -79,18 +80,18 @@ TellsCalls-choice A T Left LeftBy choose (asked ∷ lines) text it =
 
 AsksEach-choice : (A : Type 0) (Left : List Call → List Answer → Type 0) (LeftBy : A → List Call → List Answer → Type 0)
     → ((calls : List Call) (answers : List Answer) → Left calls answers → (a : A) × LeftBy a calls answers)
-    → (moments : List ℕ) → AsksEach moments Left → (a : A) × AsksEach moments (LeftBy a)
+    → (exchanges : List Exchange) → AsksEach exchanges Left → (a : A) × AsksEach exchanges (LeftBy a)
 AsksEach-choice A Left LeftBy choose [] it = choose [] [] it
-AsksEach-choice A Left LeftBy choose (at ∷ earlier) it =
-    AsksEach-choice A (λ calls answers. AsksOne at (Left calls answers) (λ call answer. Left (calls ++ call ∷ []) (answers ++ answer ∷ [])))
-    (λ a calls answers. AsksOne at (LeftBy a calls answers) (λ call answer. LeftBy a (calls ++ call ∷ []) (answers ++ answer ∷ [])))
+AsksEach-choice A Left LeftBy choose (exchange ∷ earlier) it =
+    AsksEach-choice A (λ calls answers. AsksOne exchange (Left calls answers) (λ call answer. Left (calls ++ call ∷ []) (answers ++ answer ∷ [])))
+    (λ a calls answers. AsksOne exchange (LeftBy a calls answers) (λ call answer. LeftBy a (calls ++ call ∷ []) (answers ++ answer ∷ [])))
     (λ calls answers. AsksOne-choice A _ (λ a. LeftBy a calls answers) _ (λ a call answer. LeftBy a (calls ++ call ∷ []) (answers ++ answer ∷ []))
-    (choose calls answers) (λ call answer. choose (calls ++ call ∷ []) (answers ++ answer ∷ [])) at)
+    (choose calls answers) (λ call answer. choose (calls ++ call ∷ []) (answers ++ answer ∷ [])) exchange)
     earlier it
 
 pub ServesCalls-choice : (A : Type 0) (T : Tables) (Left : List Call → List Answer → Tables → Type 0) (LeftBy : A → List Call → List Answer → Tables → Type 0)
     → ((calls : List Call) (answers : List Answer) → Left calls answers T → (a : A) × LeftBy a calls answers T)
     → (given : Option ℕ) (count : ℕ) → ServesCalls Left given count T → (a : A) × ServesCalls (LeftBy a) given count T
 ServesCalls-choice A T Left LeftBy choose given count it =
-    let chosen = AsksEach-choice A (λ calls answers. Left calls answers T) (λ a calls answers. LeftBy a calls answers T) choose it.moments it.asked in
-    (chosen.0, record { moments = it.moments; asked = chosen.1; counted = it.counted; are_given = it.are_given })
+    let chosen = AsksEach-choice A (λ calls answers. Left calls answers T) (λ a calls answers. LeftBy a calls answers T) choose it.exchanges it.asked in
+    (chosen.0, record { exchanges = it.exchanges; are = tt; asked = chosen.1; counted = it.counted; are_given = it.are_given })

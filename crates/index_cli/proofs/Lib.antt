@@ -6,3 +6,4 @@ pub mod CauseLemmas
 pub mod Histories
 pub mod Crashes
 pub mod Choices
+pub mod Served

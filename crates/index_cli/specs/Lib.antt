@@ -6,5 +6,6 @@ pub mod TellsCalls
 pub mod Replies
 pub mod Ends
 pub mod Causes
+pub mod Connections
 pub mod Serving
 pub mod Printed

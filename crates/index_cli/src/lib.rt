@@ -2,12 +2,16 @@
 #![tactic(auto)]
 
 mod apply;
+mod connections;
 mod end;
 mod input;
+mod listening;
 mod output;
 mod reply;
 mod serve;
 
 pub use apply::apply_lines;
+pub use connections::{Connection, Connections};
 pub use end::{LineEnd, ServeEnd};
-pub use serve::serve_connections;
+pub use listening::serve_connections;
+pub use serve::answer_connections;

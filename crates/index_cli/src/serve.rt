@@ -1,70 +1,66 @@
-//! Connections from a listener, one after the other.
-ghost use Rattle.std.specs.Prelude.{◌≡◌, ◌<◌, true, ℕ, Err, None, IfErr, IfOk, IfSome};
+//! Connections, one after the other.
+ghost use Rattle.std.specs.Prelude.{◌≡◌, ◌≢◌, ◌<◌, true, ℕ, Err, None, IfErr, IfOk, IfSome, OnErr, OnOk};
 ghost use Rattle.index_desk.specs.Crashes.{LeavesAll, LeavesAllOf};
 ghost use Rattle.index_desk.specs.Invariants.{KeepsInvariants};
 ghost use Rattle.index_desk.specs.Looks.{LeavesTables};
 ghost use Rattle.index_desk.specs.Rules.{by_tables};
 ghost use Rattle.index_desk.specs.Takes.{ByHistory, ByTables, CrashByHistory, CrashByTables};
-ghost use Rattle.index_cli.specs.Serving.{AnswersMessage, IsCount, Serves, ServesCalls, ServesHistory};
+ghost use Rattle.index_cli.specs.Connections.{AddsReply, AreOn, IsRest};
+ghost use Rattle.index_cli.specs.Serving.{AnswersMessage, AnswersNext, IsCount, ServesCallsOn, ServesHistoryOn, ServesOn};
 
+use crate::connections::{Connection, Connections};
 use crate::end::ServeEnd;
 use index_desk::{Desk, Keeper};
 use index_http::{IoEnd, answer_one};
-use index_io::{Input, Output, Sink, Source};
+use index_io::{Sink, Source};
 use index_message::Site;
 use index_names::normal;
 use index_rules::Fault;
 use std::alloc::Global;
-use std::collections::VecDeque;
 use std::fmt::Display;
-use std::io::{BufWriter, Write};
-use std::net::{TcpListener, TcpStream};
-use std::time::{Duration, SystemTime};
-use std::{io, thread};
-
-/// How many bytes of a reply are gathered before they are sent: room for most pages.
-const GATHERED_BYTES: usize = 65_536;
-
-/// How often it is tried to accept a connection, and how many milliseconds are waited after each try.
-const ACCEPT_TRIES: u32 = 100;
-
-const ACCEPT_PAUSE: u64 = 10;
-
-/// The most connections that are accepted and wait: each takes a descriptor, and a process mostly has 1,024.
-const MOST_WAITING: usize = 512;
+use std::time::SystemTime;
 
 /// Answers one message of each of so many connections, one connection after the other, at a moment in Unix seconds or
 /// at that of the clock. Why one of them ended early is named on standard error, and the next is served.
 ///
 /// # Errors
 ///
-/// `ReadFault` where no connection can be accepted for a second, `Clock` where the clock can't be read or stands before
-/// 1970, and `Store` where a fault has shut the store and more connections are to come: no further request of them
-/// could be answered, and a new opening goes on from what was committed.
-pub fn serve_connections<B: Keeper>(
+/// `ReadFault` where no connection can be accepted, `Clock` where the clock can't be read or stands before 1970, and
+/// `Store` where a fault has shut the store and more connections are to come: no further request of them could be
+/// answered, and a new opening goes on from what was committed.
+pub fn answer_connections<C: Connections, B: Keeper>(
     rt: &HostRuntime,
-    listener: &TcpListener,
+    connections: &mut C,
     requests: u32,
     at: Option<u64>,
     site: &Site,
     desk: &mut Desk<B>,
 ) -> Result<(), ServeEnd>
-    // By the tables: what was told of how many connections, and the tables after them.
+    // By the tables: what was told of how many connections, and the tables after them. Where it is known what their clients
+    // send and what went out, these are the messages that were answered and the replies.
     ensures tables { ByTables B.Books desk.old desk.new (λ T T'. (count : ℕ)
-        × IsCount requests result count × Serves by_tables at count T T') }
+        × IsCount requests result count
+        × ServesOn (AreOn C.coming C.replies connections.old connections.new)
+        by_tables at count T T') }
 
     // By a legal history for which the tables stood: the same, and they stand for the history with what was accepted.
     ensures history { ByHistory B.Books desk.old desk.new (λ h T. (count : ℕ)
-        × IsCount requests result count × ServesHistory h at count T) }
+        × IsCount requests result count
+        × ServesHistoryOn (AreOn C.coming C.replies connections.old connections.new)
+        h at count T) }
 
     // A crash leaves the tables after the accepted calls, or these with one call to which a fault was answered since the
     // last of them; also where a fault has shut the store.
     ensures crash { CrashByTables B.Books desk.old desk.new (λ T T'. (count : ℕ)
-        × IsCount requests result count × ServesCalls (LeavesAll T) at count T') }
+        × IsCount requests result count
+        × ServesCallsOn (AreOn C.coming C.replies connections.old connections.new)
+        (LeavesAll T) at count T') }
 
     // The former stand for the legal history with these calls, for which the tables stood without them.
     ensures crash_history { CrashByHistory B.Books desk.old desk.new (λ h T. (count : ℕ)
-        × IsCount requests result count × ServesCalls (LeavesAllOf h) at count T) }
+        × IsCount requests result count
+        × ServesCallsOn (AreOn C.coming C.replies connections.old connections.new)
+        (LeavesAllOf h) at count T) }
 
     // However it ends: one user at most bears a digest, and accounts that add up keep adding up.
     ensures keeps { KeepsInvariants B.Books desk.old desk.new }
@@ -75,65 +71,85 @@ pub fn serve_connections<B: Keeper>(
 {
     let mut was_shut = false;
     let mut left = requests;
-    let mut waiting = VecDeque::new(rt.alloc());
     for _count in 0..requests {
         if was_shut {
             return Err(ServeEnd::Store);
         }
-        let Ok(stream) = next_waiting(rt, listener, &mut waiting, left) else {
-            return Err(ServeEnd::ReadFault);
-        };
-        left = left.saturating_sub(1);
-        let moment = moment_of(rt, at)?;
         let failures = desk.failure_count();
-        if let Err(end) = answer_stream(rt, site, &stream, desk, moment) {
-            tell(rt, end);
-        }
+        answer_next(rt, connections, left, at, site, desk)?;
+        left = left.saturating_sub(1);
         was_shut = is_shut(rt.alloc(), desk, failures);
     }
     Ok(())
 }
 
-/// The next connection of those that wait. As many as can be accepted without a wait are, up to those that are left to
-/// answer: the system's queue has room for 128, and a client that finds it full tries again after a second.
-fn next_waiting(
+/// Answers the message of the next connection, where so many are left. Why that ended early is named on standard error.
+fn answer_next<C: Connections, B: Keeper>(
     rt: &HostRuntime,
-    listener: &TcpListener,
-    waiting: &mut VecDeque<TcpStream>,
+    connections: &mut C,
     left: u32,
-) -> io::Result<TcpStream> {
-    let most = MOST_WAITING.min(left as usize);
-    if listener.set_nonblocking(true).is_ok() {
-        for _try in 0..most {
-            if waiting.len() >= most {
-                break;
+    at: Option<u64>,
+    site: &Site,
+    desk: &mut Desk<B>,
+) -> Result<(), ServeEnd>
+    ensures answers { OnOk result (AnswersNext B.Books desk.old desk.new
+        C.coming C.replies connections.old connections.new at) }
+    ensures unasked { OnErr result (desk.new ≡ desk.old) }
+    ensures rest { OnErr result (IsRest (C.coming connections.old) (C.coming connections.new)) }
+    ensures unsent { OnErr result (C.replies connections.new ≡ C.replies connections.old) }
+    ensures clock { result ≡ Err ServeEnd.Clock → at ≡ None }
+    ensures no_store { result ≢ Err ServeEnd.Store }
+{
+    match connections.accept(rt, left) {
+        Ok(Some(connection)) => {
+            let moment = moment_of(rt, at)?;
+            let ended = answer_accepted(rt.alloc(), connections, connection, site, desk, moment);
+            if let Err(end) = ended {
+                tell(rt, end);
             }
-            let Ok((stream, _)) = listener.accept() else {
-                break;
-            };
-            if waiting.push_back(stream).is_err() {
-                break;
-            }
+            Ok(())
         }
-        listener.set_nonblocking(false)?;
-    }
-    match waiting.pop_front() {
-        Some(stream) => Ok(stream),
-        None => next_connection(rt, listener),
+        Ok(None) => {
+            tell(rt, IoEnd::OutOfMemory);
+            Ok(())
+        }
+        Err(_) => Err(ServeEnd::ReadFault),
     }
 }
 
-/// The next connection. Where none can be accepted it is tried again for a while, since the reason may pass: a client who
-/// is gone already, or as many open files as the system gives.
-fn next_connection(rt: &HostRuntime, listener: &TcpListener) -> io::Result<TcpStream> {
-    for _try in 1..ACCEPT_TRIES {
-        if let Ok((stream, _)) = listener.accept() {
-            return Ok(stream);
-        }
-        thread::sleep(rt, Duration::from_millis(ACCEPT_PAUSE));
+/// Answers the message of a connection, and closes it.
+fn answer_accepted<C: Connections, B: Keeper>(
+    alloc: Global,
+    connections: &mut C,
+    mut connection: Connection<C::ReadHalf, C::WriteHalf>,
+    site: &Site,
+    desk: &mut Desk<B>,
+    at: u64,
+) -> Result<(), IoEnd>
+    requires open { C.IsOpen connections.old }
+    ensures answered { (has : _) × AddsReply (C.replies connections.old) (C.replies connections.new) has
+        × AnswersMessage B.Books desk.old desk.new (record {
+          at = at;
+          given = C.ReadHalf.remaining connection.source;
+          had = C.WriteHalf.contents connection.sink;
+          has = has;
+        }) }
+    ensures kept { C.coming connections.new ≡ C.coming connections.old }
+{
+    let ended = answer_message(
+        alloc,
+        site,
+        &mut connection.source,
+        &mut connection.sink,
+        desk,
+        at,
+    );
+    let closed = connections.close(connection);
+    ended?;
+    match closed {
+        Ok(()) => Ok(()),
+        Err(_) => Err(IoEnd::WriteFault(0)),
     }
-    let (stream, _) = listener.accept()?;
-    Ok(stream)
 }
 
 /// Whether a fault has shut the store: one was answered since there were so many, and looks at two names are answered by
@@ -184,28 +200,6 @@ fn now(rt: &HostRuntime) -> Result<u64, ServeEnd>
     }
 }
 
-/// Answers the message of a connection. The reply is gathered, so that a page does not go out row by row.
-fn answer_stream<B: Keeper>(
-    rt: &HostRuntime,
-    site: &Site,
-    stream: &TcpStream,
-    desk: &mut Desk<B>,
-    at: u64,
-) -> Result<(), IoEnd>
-    ensures { AnswersMessage B.Books desk.old desk.new at }
-{
-    let Ok(writer) = BufWriter::with_capacity(rt.alloc(), GATHERED_BYTES, stream) else {
-        return Err(IoEnd::OutOfMemory);
-    };
-    let mut source = Input::new(stream);
-    let mut sink = Output::new(writer);
-    answer_message(rt.alloc(), site, &mut source, &mut sink, desk, at)?;
-    match sink.writer.flush() {
-        Ok(()) => Ok(()),
-        Err(_) => Err(IoEnd::WriteFault(0)),
-    }
-}
-
 /// Answers the message of a source to a sink.
 fn answer_message<S: Source, K: Sink, B: Keeper>(
     alloc: Global,
@@ -215,7 +209,12 @@ fn answer_message<S: Source, K: Sink, B: Keeper>(
     desk: &mut Desk<B>,
     at: u64,
 ) -> Result<(), IoEnd>
-    ensures { AnswersMessage B.Books desk.old desk.new at }
+    ensures { AnswersMessage B.Books desk.old desk.new (record {
+      at = at;
+      given = S.remaining source.old;
+      had = K.contents sink.old;
+      has = K.contents sink.new;
+    }) }
 {
     answer_one(alloc, site, source, sink, desk, at)
 }

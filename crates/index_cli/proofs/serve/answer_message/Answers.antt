@@ -7,9 +7,6 @@ returns g c =
     let one = c.answer_one.ensures in
     record {
       tables = λ honest bearer. record {
-        given = g.S.Source.remaining c.args.source.now;
-        had = g.K.Sink.contents c.args.sink.now;
-        has = g.K.Sink.contents c.answer_one.new.sink;
         failures = B.failures c.args.desk.now;
         later_failures = B.failures c.answer_one.new.desk;
         ended = c.answer_one.result;
@@ -20,9 +17,6 @@ returns g c =
           record {
             later = it.later;
             answers = record {
-              given = g.S.Source.remaining c.args.source.now;
-              had = g.K.Sink.contents c.args.sink.now;
-              has = g.K.Sink.contents c.answer_one.new.sink;
               failures = B.failures c.args.desk.now;
               later_failures = B.failures c.answer_one.new.desk;
               ended = c.answer_one.result;
@@ -31,12 +25,6 @@ returns g c =
             legal = it.legal;
             stands = it.stands;
           };
-      asks = record {
-        given = g.S.Source.remaining c.args.source.now;
-        had = g.K.Sink.contents c.args.sink.now;
-        has = g.K.Sink.contents c.answer_one.new.sink;
-        ended = c.answer_one.result;
-        asks = one.asks;
-      };
+      asks = record { ended = c.answer_one.result; asks = one.asks };
       keeps = one.keeps;
     }

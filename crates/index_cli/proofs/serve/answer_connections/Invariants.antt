@@ -5,9 +5,10 @@ use Rattle.index_rules.specs.Legal.{IsLegal}
 use Rattle.index_rules.specs.StandsFor.{StandsFor}
 use Rattle.index_desk.specs.Invariants.{KeepsInvariants}
 use Rattle.index_desk.specs.Rules.{by_tables}
-use Rattle.index_cli.specs.Serving.{Serves, ServesCalls, ServesHistory}
+use Rattle.index_cli.specs.Serving.{ServesCallsOn, ServesHistoryOn, ServesOn}
 use Rattle.index_cli.proofs.Calls.{by_taken}
-use Rattle.index_cli.proofs.serve.serve_connections.Given as goal
+use Rattle.index_cli.proofs.Served.{AreSoFar}
+use Rattle.index_cli.proofs.serve.answer_connections.Given as goal
 
 -- what was true of the tables is, and they are those after the connections so far
 abbrev pub invariant-loop-count : goal.invariant-loop-count
@@ -15,10 +16,11 @@ invariant-loop-count g l =
     let before = g.B.Books.tables l.fn.desk in
     let now = g.B.Books.tables l.desk in
     let honest = g.B.Books.IsHonest l.desk in
+    let are = AreSoFar g.C.Connections.coming g.C.Connections.replies l.fn.connections l.connections in
     record {
-      tables : honest → HasOneBearer before → Serves by_tables l.fn.at l._count before now;
-      history : honest → (h : History) → IsLegal h → StandsFor before h → ServesHistory h l.fn.at l._count now;
-      called : ServesCalls (by_taken g.B.Books l.fn.desk l.desk) l.fn.at l._count now;
+      tables : honest → HasOneBearer before → ServesOn are by_tables l.fn.at l._count before now;
+      history : honest → (h : History) → IsLegal h → StandsFor before h → ServesHistoryOn are h l.fn.at l._count now;
+      called : ServesCallsOn are (by_taken g.B.Books l.fn.desk l.desk) l.fn.at l._count now;
       keeps : KeepsInvariants g.B.Books l.fn.desk l.desk;
       shut : l.was_shut ≡ true → 0 < g.B.Books.failures l.desk;
     }

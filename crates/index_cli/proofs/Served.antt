@@ -1,0 +1,79 @@
+-- Connections that were answered, and what came and went on them.
+use Rattle.std.proofs.Common.{◌≡◌, ℕ, List, [], ◌∷◌, Option, Some, None, Err, inl, refl, subst, sym}
+use Rattle.std.specs.Prelude.{IfSome, unwrap_or}
+use Rattle.index_rules.specs.declared.answer.Answer.{Answer}
+use Rattle.index_rules.specs.declared.books.Books.{Ghosts}
+use Rattle.index_rules.specs.declared.call.Call.{Call}
+use Rattle.index_rules.specs.History.{History}
+use Rattle.index_rules.specs.Tables.{Tables}
+use Rattle.index_desk.specs.Rules.{Rules}
+use Rattle.index_http.specs.declared.end.IoEnd.TheVariants.{OutOfMemory}
+use Rattle.index_cli.specs.Connections.{AreOn, Came, Closed, Exchange, IsRest, KnownList, Loses}
+use Rattle.index_cli.specs.Serving.{AnswersMessage, AnswersNext, ServesCallsOn, ServesHistoryOn, ServesOn}
+
+-- ---- connections of one kind are of another
+
+module _ (Are Are' : List Exchange → Type 0) (f : (exchanges : List Exchange) → Are exchanges → Are' exchanges) where
+  pub serves_are : {S : Type 0} (rules : Rules S) (given : Option ℕ) (count : ℕ) (s s' : S) → ServesOn Are rules given count s s' → ServesOn Are' rules given count s s'
+  serves_are rules given count s s' it = record { exchanges = it.exchanges; are = f it.exchanges it.are; answered = it.answered; counted = it.counted; are_given = it.are_given }
+
+  pub history_are : (h : History) (given : Option ℕ) (count : ℕ) (T : Tables) → ServesHistoryOn Are h given count T → ServesHistoryOn Are' h given count T
+  history_are h given count T it = record { later = it.later; serves = serves_are _ given count h it.later it.serves; legal = it.legal; stands = it.stands }
+
+  pub calls_are : (Left : List Call → List Answer → Tables → Type 0) (given : Option ℕ) (count : ℕ) (T : Tables) → ServesCallsOn Are Left given count T → ServesCallsOn Are' Left given count T
+  calls_are Left given count T it = record { exchanges = it.exchanges; are = f it.exchanges it.are; asked = it.asked; counted = it.counted; are_given = it.are_given }
+
+-- ---- connections so far
+
+module _ {C : Type 0} (coming replies : C → KnownList) where
+  -- these came and were closed since it was as it was first
+  abbrev pub AreSoFar : (first now : C) → List Exchange → Type 0
+  AreSoFar first now exchanges = Came (coming first) (coming now) exchanges × Closed (replies first) (replies now) exchanges
+
+  -- no more was answered
+  pub are_on : (first now new : C) → IsRest (coming now) (coming new) → replies new ≡ replies now
+      → (exchanges : List Exchange) → AreSoFar first now exchanges → AreOn coming replies first new exchanges
+  are_on first now new rest same exchanges it =
+      record { later = coming now; came = it.0; rest = rest; closed = subst (λ r. Closed (replies first) r exchanges) (sym same) it.1 }
+
+  -- one more was
+  pub are_push : {S : Type 0} (g : Ghosts S) (old new : S) (first now after : C) (given : Option ℕ)
+      → (next : AnswersNext g old new coming replies now after given)
+      → (earlier : List Exchange) → AreSoFar first now earlier → AreSoFar first after (next.exchange ∷ earlier)
+  are_push g old new first now after given next earlier it =
+      ((coming now, it.0, next.came, next.unsent), (replies now, it.1, next.closed))
+
+-- ---- one that was closed at once
+
+its_moment : (given : Option ℕ) → IfSome given (λ it. unwrap_or given 0 ≡ it)
+its_moment None = tt
+its_moment (Some at) = refl
+
+unasked : {S : Type 0} (g : Ghosts S) (s : S) (at : ℕ) (given : Option (List ℕ))
+    → AnswersMessage g s s (record { at = at; given = given; had = Some []; has = Some [] })
+unasked g s at given = record {
+  tables = λ honest one. record { failures = 0; later_failures = 0; ended = Err OutOfMemory; ends = (refl, refl) };
+  history = λ honest h legal stands. record {
+    later = h;
+    answers = record { failures = 0; later_failures = 0; ended = Err OutOfMemory; ends = (refl, refl) };
+    legal = legal;
+    stands = stands;
+  };
+  asks = record {
+    ended = Err OutOfMemory;
+    asks = inl (record { unchanged = λ _. refl; honest = λ it. it; clean = λ it. it; crash = λ _ left. left }, refl);
+  };
+  keeps = record { one_bearer = λ _ it. it; sound = λ _ it. it; honest = λ it. it; clean = λ it. it };
+}
+
+pub closed_at_once : {S C : Type 0} (g : Ghosts S) (s : S) (coming replies : C → KnownList) (before after : C) (given : Option ℕ)
+    → Loses (coming before) (coming after) (replies before) (replies after)
+    → AnswersNext g s s coming replies before after given
+closed_at_once g s coming replies before after given lost = record {
+  exchange = record { at = unwrap_or given 0; given = lost.0; had = Some []; has = Some [] };
+  is_given = its_moment given;
+  came = lost.1;
+  unsent = refl;
+  closed = lost.2;
+  answers = unasked g s (unwrap_or given 0) lost.0;
+}

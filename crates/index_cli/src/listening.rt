@@ -1,0 +1,216 @@
+//! Connections from a listener.
+ghost use Rattle.std.specs.Prelude.{◌≡◌, ◌<◌, ⊤, ℕ, Err, None};
+ghost use Rattle.index_desk.specs.Crashes.{LeavesAll, LeavesAllOf};
+ghost use Rattle.index_desk.specs.Invariants.{KeepsInvariants};
+ghost use Rattle.index_desk.specs.Rules.{by_tables};
+ghost use Rattle.index_desk.specs.Takes.{ByHistory, ByTables, CrashByHistory, CrashByTables};
+ghost use Rattle.index_cli.specs.Connections.{AddsReply, unknown};
+ghost use Rattle.index_cli.specs.Serving.{IsCount, Serves, ServesCalls, ServesHistory};
+
+use crate::connections::{Connection, Connections};
+use crate::end::ServeEnd;
+use crate::serve::answer_connections;
+use index_desk::{Desk, Keeper};
+use index_io::{Failed, Input, Output};
+use index_message::Site;
+use std::alloc::Global;
+use std::collections::VecDeque;
+use std::io::{BufWriter, Read, Write};
+use std::net::{TcpListener, TcpStream};
+use std::rc::Rc;
+use std::time::Duration;
+use std::{io, thread};
+
+/// How many bytes of a reply are gathered before they are sent: room for most pages.
+const GATHERED_BYTES: usize = 65_536;
+
+/// How often it is tried to accept a connection, and how many milliseconds are waited after each try.
+const ACCEPT_TRIES: u32 = 100;
+
+const ACCEPT_PAUSE: u64 = 10;
+
+/// The most connections that are accepted and wait: each takes a descriptor, and a process mostly has 1,024.
+const MOST_WAITING: usize = 512;
+
+/// Answers one message of each of so many connections of a listener, one connection after the other, as
+/// `answer_connections` does.
+///
+/// # Errors
+///
+/// Those of `answer_connections`. No connection can be accepted where that failed for a second.
+pub fn serve_connections<B: Keeper>(
+    rt: &HostRuntime,
+    listener: &TcpListener,
+    requests: u32,
+    at: Option<u64>,
+    site: &Site,
+    desk: &mut Desk<B>,
+) -> Result<(), ServeEnd>
+    // By the tables: what was told of how many connections, and the tables after them.
+    ensures tables { ByTables B.Books desk.old desk.new (λ T T'. (count : ℕ)
+        × IsCount requests result count × Serves by_tables at count T T') }
+
+    // By a legal history for which the tables stood: the same, and they stand for the history with what was accepted.
+    ensures history { ByHistory B.Books desk.old desk.new (λ h T. (count : ℕ)
+        × IsCount requests result count × ServesHistory h at count T) }
+
+    // A crash leaves the tables after the accepted calls, or these with one call to which a fault was answered since the
+    // last of them; also where a fault has shut the store.
+    ensures crash { CrashByTables B.Books desk.old desk.new (λ T T'. (count : ℕ)
+        × IsCount requests result count × ServesCalls (LeavesAll T) at count T') }
+
+    // The former stand for the legal history with these calls, for which the tables stood without them.
+    ensures crash_history { CrashByHistory B.Books desk.old desk.new (λ h T. (count : ℕ)
+        × IsCount requests result count × ServesCalls (LeavesAllOf h) at count T) }
+
+    // However it ends: one user at most bears a digest, and accounts that add up keep adding up.
+    ensures keeps { KeepsInvariants B.Books desk.old desk.new }
+
+    // It ends by the clock only where no moment is given, and as `Store` only where the store answered a fault.
+    ensures clock { result ≡ Err ServeEnd.Clock → at ≡ None }
+    ensures store { result ≡ Err ServeEnd.Store → 0 < B.failures desk.new }
+{
+    let mut listening = Listening {
+        listener,
+        waiting: VecDeque::new(rt.alloc()),
+    };
+    answer_connections(rt, &mut listening, requests, at, site, desk)
+}
+
+/// The connections of a listener. Those that wait are accepted. Nothing is known of what clients send and are sent.
+struct Listening<'a> {
+    listener: &'a TcpListener,
+    waiting: VecDeque<TcpStream>,
+}
+
+impl Drop for Listening<'_> {
+    fn drop(self) {
+        let Listening {
+            listener: _listener,
+            waiting: _waiting,
+        } = self;
+    }
+}
+
+impl Connections for Listening<'_> {
+    type ReadHalf = Input<Half>;
+
+    type WriteHalf = Output<BufWriter<Half>>;
+
+    ghost coming = { λ _. unknown };
+
+    ghost replies = { λ _. unknown };
+
+    ghost IsOpen = { λ _. ⊤ };
+
+    fn accept(
+        &mut self,
+        rt: &HostRuntime,
+        left: u32,
+    ) -> Result<Option<Connection<Input<Half>, Output<BufWriter<Half>>>>, Failed> {
+        match next_waiting(rt, self.listener, &mut self.waiting, left) {
+            Ok(stream) => Ok(connection_over(rt.alloc(), stream)),
+            Err(_) => Err(Failed),
+        }
+    }
+
+    fn close(
+        &mut self,
+        mut connection: Connection<Input<Half>, Output<BufWriter<Half>>>,
+    ) -> Result<(), Failed>
+        ensures closed { AddsReply unknown unknown None }
+        ensures kept { unknown ≡ unknown }
+    {
+        match connection.sink.writer.flush() {
+            Ok(()) => Ok(()),
+            Err(_) => Err(Failed),
+        }
+    }
+}
+
+/// One of two owners of a stream.
+#[derive(Drop)]
+struct Half {
+    stream: Rc<TcpStream>,
+}
+
+impl Read for Half {
+    fn read(&mut self, buf: &mut [u8]) -> io::Result<usize> {
+        let mut stream = self.stream.as_ref();
+        stream.read(buf)
+    }
+}
+
+impl Write for Half {
+    fn write(&mut self, buf: &[u8]) -> io::Result<usize> {
+        let mut stream = self.stream.as_ref();
+        stream.write(buf)
+    }
+
+    fn flush(&mut self) -> io::Result<()> {
+        Ok(())
+    }
+}
+
+/// A connection over a stream, where there is memory for it. The reply is gathered, so that a page does not go out row by
+/// row.
+fn connection_over(
+    alloc: Global,
+    stream: TcpStream,
+) -> Option<Connection<Input<Half>, Output<BufWriter<Half>>>> {
+    let Ok(stream) = Rc::new(alloc, stream) else {
+        return None;
+    };
+    let Ok(other) = stream.clone() else {
+        return None;
+    };
+    let Ok(writer) = BufWriter::with_capacity(alloc, GATHERED_BYTES, Half { stream: other }) else {
+        return None;
+    };
+    Some(Connection {
+        source: Input::new(Half { stream }),
+        sink: Output::new(writer),
+    })
+}
+
+/// The next connection of those that wait. As many as can be accepted without a wait are, up to those that are left to
+/// answer: the system's queue has room for 128, and a client that finds it full tries again after a second.
+fn next_waiting(
+    rt: &HostRuntime,
+    listener: &TcpListener,
+    waiting: &mut VecDeque<TcpStream>,
+    left: u32,
+) -> io::Result<TcpStream> {
+    let most = MOST_WAITING.min(left as usize);
+    if listener.set_nonblocking(true).is_ok() {
+        for _try in 0..most {
+            if waiting.len() >= most {
+                break;
+            }
+            let Ok((stream, _)) = listener.accept() else {
+                break;
+            };
+            if waiting.push_back(stream).is_err() {
+                break;
+            }
+        }
+        listener.set_nonblocking(false)?;
+    }
+    match waiting.pop_front() {
+        Some(stream) => Ok(stream),
+        None => next_connection(rt, listener),
+    }
+}
+
+/// The next connection. Where none can be accepted it is tried again for a while, since the reason may pass: a client who
+/// is gone already, or as many open files as the system gives.
+fn next_connection(rt: &HostRuntime, listener: &TcpListener) -> io::Result<TcpStream> {
+    for _try in 1..ACCEPT_TRIES {
+        if let Ok((stream, _)) = listener.accept() {
+            return Ok(stream);
+        }
+        thread::sleep(rt, Duration::from_millis(ACCEPT_PAUSE));
+    }
+    let (stream, _) = listener.accept()?;
+    Ok(stream)
+}
