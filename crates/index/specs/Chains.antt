@@ -36,7 +36,8 @@ use Rattle.index.specs.declared.end.End.{End}
 use Rattle.index.specs.Ends.{end_of}
 use Rattle.index.specs.Openings.{OpensAgain}
 use Rattle.index.specs.Runs.{FindsOnly, Holds, HoldsCurrent, HoldsNone}
-use Rattle.index.specs.Tasks.{AnswerConnections, AnswerLines, CountWrong, Does, IsUpTo, MayLeaveBy, Task, WriteReport}
+use Rattle.index.specs.Tasks.{AnswerConnections, AnswerLines, CountWrong, Does, IsUpTo, MayLeaveBy}
+use Rattle.index.specs.Tasks.{Task, WriteReport}
 
 -- ---- one run, from the files that it finds to those that the next one finds
 

@@ -1,5 +1,6 @@
 -- The ends of the program with the status 1: which of them tell a fault, and the ends that faults of other layers are.
-use Rattle.std.specs.Prelude.{ℕ, ◌&&◌, Bool, true, false, Option, None, Result, Ok, Err, if◌then◌else◌}
+use Rattle.std.specs.Prelude.{ℕ, ◌&&◌, Bool, true, false, Option, None, Result, Ok, Err}
+use Rattle.std.specs.Prelude.{if◌then◌else◌}
 use Rattle.sqlite.specs.declared.error.Error.{Error}
 use Rattle.sqlite.specs.declared.error.Error.TheVariants.{SqliteFailure}
 use Rattle.sqlite.specs.declared.error.ErrorCode.TheVariants as code

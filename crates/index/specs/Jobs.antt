@@ -1,5 +1,6 @@
 -- How a subcommand ends, by the run that it made.
-use Rattle.std.specs.Prelude.{◌≡◌, ◌⊎◌, ◌↔◌, ℕ, List, codes, Option, Some, None, option_map, Result, Ok, Err, IfErr, IfOk, IsErr, IsErrAnd}
+use Rattle.std.specs.Prelude.{◌≡◌, ◌⊎◌, ◌↔◌, ℕ, List, codes, Option, Some, None, option_map, Result}
+use Rattle.std.specs.Prelude.{Ok, Err, IfErr, IfOk, IsErr, IsErrAnd}
 use Rattle.std.specs.Process.{exit_status}
 use Rattle.std.specs.declared.process.ExitCode.{ExitCode}
 use Rattle.clap.specs.Words.{kind_of}

@@ -1,6 +1,7 @@
 -- A run of the program: what it finds in a database file and its log, and what is left in the files, at the end of the run
 -- and by a crash.
-use Rattle.std.specs.Prelude.{◌≡◌, ◌⊎◌, ◌↔◌, ℕ, false, IsTrue, Result, IfOk, IfErr, IfSome, IsErrOf, Option, None, Some}
+use Rattle.std.specs.Prelude.{◌≡◌, ◌⊎◌, ◌↔◌, ℕ, false, IsTrue, Result, IfOk, IfErr, IfSome, IsErrOf}
+use Rattle.std.specs.Prelude.{Option, None, Some}
 use Rattle.sqlite.specs.Closing.{HoldsAlone}
 use Rattle.sqlite.specs.Effect.{Database}
 use Rattle.sqlite.specs.declared.FileStore.{FileStore}
@@ -28,7 +29,8 @@ use Rattle.index_tables.specs.Reopened.{MayLeave}
 use Rattle.index.specs.declared.database.Left.{Left}
 use Rattle.index.specs.declared.end.End.{End}
 use Rattle.index.specs.declared.end.End.TheVariants as end
-use Rattle.index.specs.Openings.{HoldsOnly, IsBadFirstUserByHex, IsUnfound, IsUnmade, IsWhyUnfound, IsWhyUnmade, IsWhyUnused, LeavesUnused}
+use Rattle.index.specs.Openings.{HoldsOnly, IsBadFirstUserByHex, IsUnfound, IsUnmade, IsWhyUnfound}
+use Rattle.index.specs.Openings.{IsWhyUnmade, IsWhyUnused, LeavesUnused}
 use Rattle.index.specs.Tasks.{Does, MayLeaveBy, Task}
 
 -- ---- two files

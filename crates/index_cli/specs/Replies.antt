@@ -1,5 +1,6 @@
 -- The reply to a line.
-use Rattle.std.specs.Prelude.{◌≡◌, ℕ, List, length, take, string_bytes, Option, Result, IfErr, IfOk, OnErr}
+use Rattle.std.specs.Prelude.{◌≡◌, ℕ, List, length, take, string_bytes, Option, Result, IfErr, IfOk}
+use Rattle.std.specs.Prelude.{OnErr}
 use Rattle.index_rules.specs.declared.answer.Answer.{Answer}
 use Rattle.index_rules.specs.declared.books.Books.{Ghosts}
 use Rattle.index_rules.specs.declared.call.Call.{Call}

@@ -8,7 +8,8 @@ use Rattle.index_rules.specs.declared.rows.NameRow.{NameRow}
 use Rattle.index_rules.specs.Maps.{Bytes}
 use Rattle.index_rules.specs.History.{History}
 use Rattle.index_rules.specs.PastNames.{is_held_now, state_after, yank_after}
-use Rattle.index_rules.specs.PastFiles.{first_upload_after, is_charged_after, requires_after, size_after}
+use Rattle.index_rules.specs.PastFiles.{first_upload_after, is_charged_after, requires_after}
+use Rattle.index_rules.specs.PastFiles.{size_after}
 use Rattle.index_rules.specs.StandsFor.{project_after}
 use Rattle.index_desk.specs.Lists.{AreThose}
 

@@ -1,5 +1,6 @@
 -- The report: a line for each held or prohibited name.
-use Rattle.std.specs.Prelude.{◌≡◌, ℕ, ◌-◌, ◌<◌, Bool, true, false, List, [], ◌∷◌, ◌++◌, length, take, replicate, Option, Result, Ok, Err, IfErr, OnOk, codes}
+use Rattle.std.specs.Prelude.{◌≡◌, ℕ, ◌-◌, ◌<◌, Bool, true, false, List, [], ◌∷◌, ◌++◌, length}
+use Rattle.std.specs.Prelude.{take, replicate, Option, Result, Ok, Err, IfErr, OnOk, codes}
 use Rattle.std.specs.Fmt.{decimal}
 use Rattle.std.specs.Io.KnownBytes.{Appends, Keeps}
 use Rattle.index_io.specs.Counts.{FailsAtMostOnce, HasFailed}
@@ -16,7 +17,8 @@ use Rattle.index_desk.specs.Checks.{charge_of}
 use Rattle.index_rules.specs.declared.answer.Fault.{Fault}
 use Rattle.index_rules.specs.declared.answer.Fault.TheVariants as fault
 use Rattle.index_desk.specs.declared.desk.report.ReportFault.{ReportFault}
-use Rattle.index_desk.specs.declared.desk.report.ReportFault.TheVariants.{OutOfMemory, Store, WriteFault}
+use Rattle.index_desk.specs.declared.desk.report.ReportFault.TheVariants.{OutOfMemory, Store}
+use Rattle.index_desk.specs.declared.desk.report.ReportFault.TheVariants.{WriteFault}
 
 -- a text at the left of so many places: a longer one is not cut
 abbrev pub at_left : ℕ → Bytes → Bytes

@@ -16,7 +16,8 @@ use Rattle.index_rules.specs.StandsFor.{StandsFor}
 use Rattle.index_rules.specs.Tables.{Tables}
 use Rattle.index_rules.specs.Told.{CountsStore, answers_store}
 use Rattle.index_rules.specs.Verdict.{Accept, Verdict, verdict_now}
-use Rattle.index_desk.specs.Crashes.{IsWithCall, Lasts, LastsAll, LeavesByAnswer, LeavesAll, LeavesAllOf}
+use Rattle.index_desk.specs.Crashes.{IsWithCall, Lasts, LastsAll, LeavesByAnswer, LeavesAll}
+use Rattle.index_desk.specs.Crashes.{LeavesAllOf}
 
 -- ---- where something is said of tables
 

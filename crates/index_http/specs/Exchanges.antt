@@ -1,5 +1,6 @@
 -- The reply to a message, by rules over any state: the tables, or a history.
-use Rattle.std.specs.Prelude.{◌≡◌, ◌⊎◌, ℕ, ◌<◌, Bool, true, false, List, length, map, Option, Some, None, is_some, option_map, bytes_eq, codes}
+use Rattle.std.specs.Prelude.{◌≡◌, ◌⊎◌, ℕ, ◌<◌, Bool, true, false, List, length, map, Option, Some}
+use Rattle.std.specs.Prelude.{None, is_some, option_map, bytes_eq, codes}
 use Rattle.std.specs.Borrow.{Bor}
 use Rattle.index_digest.specs.Digest.{sha256}
 use Rattle.index_names.specs.FileName.{read_file_name}
@@ -26,7 +27,8 @@ use Rattle.index_message.specs.Messages.{IsMessage}
 use Rattle.index_message.specs.Requests.{Request}
 use Rattle.index_message.specs.Resources.{is_head, is_put, is_reading}
 use Rattle.index_message.specs.declared.fault.Allowed.TheVariants as allowed
-use Rattle.index_message.specs.declared.fault.MessageFault.TheVariants.{BadBody, BadMethod, NotAcceptable}
+use Rattle.index_message.specs.declared.fault.MessageFault.TheVariants.{BadBody, BadMethod}
+use Rattle.index_message.specs.declared.fault.MessageFault.TheVariants.{NotAcceptable}
 use Rattle.index_message.specs.declared.message.Message.{Message}
 use Rattle.index_message.specs.declared.message.Message.TheVariants.{Faulty, Whole}
 use Rattle.index_message.specs.declared.resource.Method.{Method}
@@ -37,7 +39,8 @@ use Rattle.index_pages.specs.Accept.{IsChosen}
 use Rattle.index_pages.specs.Ends.{most_bytes}
 use Rattle.index_pages.specs.Pages.{project_page_of, root_page_of}
 use Rattle.index_pages.specs.declared.served.Served.{Served}
-use Rattle.index_http.specs.Replies.{Reply, answer_reply, file_reply, json_reply, message_reply, page_reply, reply_text, redirect_to_project, redirect_to_root}
+use Rattle.index_http.specs.Replies.{Reply, answer_reply, file_reply, json_reply, message_reply}
+use Rattle.index_http.specs.Replies.{page_reply, reply_text, redirect_to_project, redirect_to_root}
 
 -- ---- what is shown
 

@@ -1,5 +1,6 @@
 -- The two passes over the rows of a page: the first counts its bytes, the second sends them.
-use Rattle.std.specs.Prelude.{◌≡◌, ◌⊎◌, ℕ, ◌<◌, ◌≤◌, Bool, true, false, length, Option, Some, None, Result, Ok, Err, IfOk, IfSome, is_err, ⊤}
+use Rattle.std.specs.Prelude.{◌≡◌, ◌⊎◌, ℕ, ◌<◌, ◌≤◌, Bool, true, false, length, Option, Some, None}
+use Rattle.std.specs.Prelude.{Result, Ok, Err, IfOk, IfSome, is_err, ⊤}
 use Rattle.std.specs.Global.{Vec}
 use Rattle.std.specs.Io.KnownBytes.{Keeps}
 use Rattle.index_io.specs.Counts.{FailsAtMostOnce, HasFailed}

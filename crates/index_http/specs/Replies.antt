@@ -1,5 +1,6 @@
 -- The replies of the index, and their bytes (RFC 9112).
-use Rattle.std.specs.Prelude.{◌≡◌, ℕ, ◌==◌, ◌≤◌, ◌++◌, Bool, [], ◌∷◌, length, decimal, codes, if◌then◌else◌, unwrap_or, ⊤}
+use Rattle.std.specs.Prelude.{◌≡◌, ℕ, ◌==◌, ◌≤◌, ◌++◌, Bool, [], ◌∷◌, length, decimal, codes}
+use Rattle.std.specs.Prelude.{if◌then◌else◌, unwrap_or, ⊤}
 use Rattle.std.specs.List.{concat}
 use Rattle.http.specs.StatusCode.{code_digits, reason_phrase}
 use Rattle.index_rules.specs.Maps.{Bytes}
@@ -11,9 +12,13 @@ use Rattle.index_http.specs.Statuses.{status_of_answer, status_of_fault}
 use Rattle.index_message.specs.declared.fault.Allowed.{Allowed}
 use Rattle.index_message.specs.declared.fault.Allowed.TheVariants as allowed
 use Rattle.index_message.specs.declared.fault.MessageFault.{MessageFault}
-use Rattle.index_message.specs.declared.fault.MessageFault.TheVariants.{BadHead, NoRoute, BadMethod, BadLength, NoLength, BodyTooLarge, ShortBody, BadBody, NotAcceptable}
+use Rattle.index_message.specs.declared.fault.MessageFault.TheVariants.{BadHead, NoRoute, BadMethod}
+use Rattle.index_message.specs.declared.fault.MessageFault.TheVariants.{BadLength, NoLength}
+use Rattle.index_message.specs.declared.fault.MessageFault.TheVariants.{BodyTooLarge, ShortBody}
+use Rattle.index_message.specs.declared.fault.MessageFault.TheVariants.{BadBody, NotAcceptable}
 use Rattle.index_http.specs.declared.reply.Fields.{Fields}
-use Rattle.index_http.specs.declared.reply.Fields.TheVariants.{Page, File, Json, Challenge, Allow, ToRoot, ToProject}
+use Rattle.index_http.specs.declared.reply.Fields.TheVariants.{Page, File, Json, Challenge, Allow}
+use Rattle.index_http.specs.declared.reply.Fields.TheVariants.{ToRoot, ToProject}
 use Rattle.index_http.specs.declared.reply.Reply.{Reply as Parts}
 
 -- a reply: its status, its header lines between the status line and the length, and its body

@@ -9,7 +9,9 @@ use Rattle.index_message.specs.Resources.{is_head, is_reading}
 use Rattle.index_message.specs.declared.message.Message.{Message}
 use Rattle.index_message.specs.declared.message.Message.TheVariants.{Faulty, Whole}
 use Rattle.index_message.specs.declared.resource.Resource.{Resource}
-use Rattle.index_message.specs.declared.resource.Resource.TheVariants.{Simple, Root, Project, ProjectPage, File, Name, Requests}
+use Rattle.index_message.specs.declared.resource.Resource.TheVariants.{Simple, Root, Project}
+use Rattle.index_message.specs.declared.resource.Resource.TheVariants.{ProjectPage, File, Name}
+use Rattle.index_message.specs.declared.resource.Resource.TheVariants.{Requests}
 use Rattle.index_rules.specs.Maps.{Bytes}
 use Rattle.index_rules.specs.Tables.{Tables}
 use Rattle.index_rules.specs.declared.answer.Fault.{Fault}

@@ -4,9 +4,26 @@ use Rattle.index_rules.specs.declared.answer.Answer.{Answer}
 use Rattle.index_rules.specs.declared.answer.Answer.TheVariants as answer
 use Rattle.index_rules.specs.declared.answer.Fault.TheVariants.{OutOfMemory, Store}
 use Rattle.index_rules.specs.declared.answer.Refusal.{Refusal}
-use Rattle.index_rules.specs.declared.answer.Refusal.TheVariants.{BadMoment, BadToken, NotOffice, BadUser, BadName, BadFileName, BadRelease, BadText, BadDigest, TooLarge, DigestMismatch, QuotaTooLarge, NoUser, UserExists, TokenTaken, NameProhibited, NoProject, NotOwner, NameHeld, LastOwner, FilesRemain, NoFile, NoRelease, FileNameTaken, FileBanned, OverQuota, QuotaBelowCharge, CaseOpen, OwnerCandidate, NoCase, AttemptsFull, TooFewAttempts, TooEarly, RecentRelease, HomePageActive}
+use Rattle.index_rules.specs.declared.answer.Refusal.TheVariants.{BadMoment, BadToken, NotOffice}
+use Rattle.index_rules.specs.declared.answer.Refusal.TheVariants.{BadUser, BadName, BadFileName}
+use Rattle.index_rules.specs.declared.answer.Refusal.TheVariants.{BadRelease, BadText, BadDigest}
+use Rattle.index_rules.specs.declared.answer.Refusal.TheVariants.{TooLarge, DigestMismatch}
+use Rattle.index_rules.specs.declared.answer.Refusal.TheVariants.{QuotaTooLarge, NoUser, UserExists}
+use Rattle.index_rules.specs.declared.answer.Refusal.TheVariants.{TokenTaken, NameProhibited}
+use Rattle.index_rules.specs.declared.answer.Refusal.TheVariants.{NoProject, NotOwner, NameHeld}
+use Rattle.index_rules.specs.declared.answer.Refusal.TheVariants.{LastOwner, FilesRemain, NoFile}
+use Rattle.index_rules.specs.declared.answer.Refusal.TheVariants.{NoRelease, FileNameTaken}
+use Rattle.index_rules.specs.declared.answer.Refusal.TheVariants.{FileBanned, OverQuota}
+use Rattle.index_rules.specs.declared.answer.Refusal.TheVariants.{QuotaBelowCharge, CaseOpen}
+use Rattle.index_rules.specs.declared.answer.Refusal.TheVariants.{OwnerCandidate, NoCase}
+use Rattle.index_rules.specs.declared.answer.Refusal.TheVariants.{AttemptsFull, TooFewAttempts}
+use Rattle.index_rules.specs.declared.answer.Refusal.TheVariants.{TooEarly, RecentRelease}
+use Rattle.index_rules.specs.declared.answer.Refusal.TheVariants.{HomePageActive}
 use Rattle.index_message.specs.declared.fault.MessageFault.{MessageFault}
-use Rattle.index_message.specs.declared.fault.MessageFault.TheVariants.{BadHead, NoRoute, BadMethod, BadLength, NoLength, BodyTooLarge, ShortBody, BadBody, NotAcceptable}
+use Rattle.index_message.specs.declared.fault.MessageFault.TheVariants.{BadHead, NoRoute, BadMethod}
+use Rattle.index_message.specs.declared.fault.MessageFault.TheVariants.{BadLength, NoLength}
+use Rattle.index_message.specs.declared.fault.MessageFault.TheVariants.{BodyTooLarge, ShortBody}
+use Rattle.index_message.specs.declared.fault.MessageFault.TheVariants.{BadBody, NotAcceptable}
 
 -- the status of a refusal, in the order of the refusals' numbers
 abbrev pub status_of_refusal : Refusal → ℕ

@@ -1,12 +1,14 @@
 -- The length of a request's body (RFC 9112, section 6).
-use Rattle.std.specs.Prelude.{ℕ, ◌&&◌, Bool, true, false, List, [], ◌∷◌, length, codes, if◌then◌else◌, nat_le, nat_lt, Option, Some, None, Result, Ok, Err}
+use Rattle.std.specs.Prelude.{ℕ, ◌&&◌, Bool, true, false, List, [], ◌∷◌, length, codes}
+use Rattle.std.specs.Prelude.{if◌then◌else◌, nat_le, nat_lt, Option, Some, None, Result, Ok, Err}
 use Rattle.std.specs.List.{list_all}
 use Rattle.std.specs.Char.{is_ascii_digit}
 use Rattle.std.specs.Str.Parse.{digits_value}
 use Rattle.index_rules.specs.Maps.{Bytes}
 use Rattle.index_message.specs.Fields.{Field, values_of}
 use Rattle.index_message.specs.declared.fault.MessageFault.{MessageFault}
-use Rattle.index_message.specs.declared.fault.MessageFault.TheVariants.{BadLength, NoLength, BodyTooLarge}
+use Rattle.index_message.specs.declared.fault.MessageFault.TheVariants.{BadLength, NoLength}
+use Rattle.index_message.specs.declared.fault.MessageFault.TheVariants.{BodyTooLarge}
 use Rattle.index_message.specs.declared.resource.Method.{Method}
 use Rattle.index_message.specs.declared.resource.Method.TheVariants.{Delete, Get, Head, Post, Put}
 

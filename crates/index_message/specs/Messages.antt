@@ -1,5 +1,7 @@
 -- The message that a connection begins with.
-use Rattle.std.specs.Prelude.{◌≡◌, ◌⊎◌, ℕ, ◌<◌, ◌≤◌, Bool, List, ◌++◌, drop, take, length, if◌then◌else◌, nat_eq, nat_le, bytes_eq, codes, Option, Some, None, Result, Ok, Err}
+use Rattle.std.specs.Prelude.{◌≡◌, ◌⊎◌, ℕ, ◌<◌, ◌≤◌, Bool, List, ◌++◌, drop, take, length}
+use Rattle.std.specs.Prelude.{if◌then◌else◌, nat_eq, nat_le, bytes_eq, codes, Option, Some, None}
+use Rattle.std.specs.Prelude.{Result, Ok, Err}
 use Rattle.std.specs.List.{starts_with}
 use Rattle.std.specs.Global.{Vec}
 use Rattle.std.specs.Io.KnownBytes.{Consumes, IsAtEnd}
@@ -17,7 +19,8 @@ use Rattle.index_message.specs.Reads.{GivesBytes, and_left}
 use Rattle.index_message.specs.Requests.{Request}
 use Rattle.index_message.specs.Resources.{allowed_of, allows, method_of, resource_of}
 use Rattle.index_message.specs.declared.fault.MessageFault.{MessageFault}
-use Rattle.index_message.specs.declared.fault.MessageFault.TheVariants.{BadHead, BadMethod, NoRoute, ShortBody}
+use Rattle.index_message.specs.declared.fault.MessageFault.TheVariants.{BadHead, BadMethod, NoRoute}
+use Rattle.index_message.specs.declared.fault.MessageFault.TheVariants.{ShortBody}
 use Rattle.index_message.specs.declared.head.ReadEnd.{ReadEnd}
 use Rattle.index_message.specs.declared.head.ReadEnd.TheVariants.{ReadFault}
 use Rattle.index_message.specs.declared.request.Asked.{Asked}

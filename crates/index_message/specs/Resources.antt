@@ -1,5 +1,6 @@
 -- What a request is about, and what it does there.
-use Rattle.std.specs.Prelude.{◌==◌, Bool, true, false, not, Option, Some, None, option_and_then, if◌then◌else◌, bytes_eq, codes}
+use Rattle.std.specs.Prelude.{◌==◌, Bool, true, false, not, Option, Some, None, option_and_then}
+use Rattle.std.specs.Prelude.{if◌then◌else◌, bytes_eq, codes}
 use Rattle.std.specs.List.{after_first, before_first}
 use Rattle.std.specs.Option.{option_map_or}
 use Rattle.std.specs.Str.{byte, is_utf8}

@@ -8,7 +8,8 @@ use Rattle.matchit.specs.Router.{RouteOf, route_from}
 use Rattle.matchit.specs.declared.error.InsertError.{InsertError}
 use Rattle.index_rules.specs.Maps.{Bytes}
 use Rattle.index_message.specs.declared.site.Route.{Route}
-use Rattle.index_message.specs.declared.site.Route.TheVariants.{Simple, Root, Project, ProjectPage, File, Name, Requests}
+use Rattle.index_message.specs.declared.site.Route.TheVariants.{Simple, Root, Project, ProjectPage}
+use Rattle.index_message.specs.declared.site.Route.TheVariants.{File, Name, Requests}
 
 -- each pattern with its route
 abbrev pub patterns : List (Bytes × Route)

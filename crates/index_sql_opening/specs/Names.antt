@@ -1,5 +1,6 @@
 -- Whether a schema has tables by the names of ours.
-use Rattle.std.specs.Prelude.{ℕ, Bool, false, ◌&&◌, ◌||◌, List, codes, is_some, option_map, unwrap_or}
+use Rattle.std.specs.Prelude.{ℕ, Bool, false, ◌&&◌, ◌||◌, List, codes, is_some, option_map}
+use Rattle.std.specs.Prelude.{unwrap_or}
 use Rattle.std.specs.List.{list_all, list_any}
 use Rattle.sqlite_schema.specs.Names.{column_named, same_name, table_named}
 use Rattle.sqlite_schema.specs.declared.schema.Schema.{Schema}

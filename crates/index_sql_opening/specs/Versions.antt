@@ -1,5 +1,6 @@
 -- The version that a database tells.
-use Rattle.std.specs.Prelude.{◌≡◌, ℕ, true, List, [], IfErr, IfOk, Option, Result, option_map, slice_get}
+use Rattle.std.specs.Prelude.{◌≡◌, ℕ, true, List, [], IfErr, IfOk, Option, Result, option_map}
+use Rattle.std.specs.Prelude.{slice_get}
 use Rattle.sqlite_value.specs.Order.{Row, column}
 use Rattle.sqlite_trees.specs.declared.store.Store.{Ghosts}
 use Rattle.sqlite.specs.declared.error.Error.{Error}

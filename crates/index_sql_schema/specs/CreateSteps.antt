@@ -8,8 +8,11 @@ use Rattle.sqlite_catalog.specs.Change.{created}
 use Rattle.sqlite.specs.Effect.{IsDatabase}
 use Rattle.sqlite.specs.State.{State}
 use Rattle.index_rules.specs.Tables.{Tables}
-use Rattle.index_sql_schema.specs.TableTexts.{meta_text, users_text, names_text, owners_text, files_text, blobs_text, yanks_text, cases_text, bans_text}
-use Rattle.index_sql_schema.specs.Schema.{meta_at, users_at, names_at, owners_at, files_at, blobs_at, yanks_at, cases_at, bans_at, no_schema}
+use Rattle.index_sql_schema.specs.TableTexts.{meta_text, users_text, names_text, owners_text}
+use Rattle.index_sql_schema.specs.TableTexts.{files_text, blobs_text, yanks_text, cases_text}
+use Rattle.index_sql_schema.specs.TableTexts.{bans_text}
+use Rattle.index_sql_schema.specs.Schema.{meta_at, users_at, names_at, owners_at, files_at}
+use Rattle.index_sql_schema.specs.Schema.{blobs_at, yanks_at, cases_at, bans_at, no_schema}
 
 -- the texts in their order
 abbrev pub all_texts : List (List ℕ)

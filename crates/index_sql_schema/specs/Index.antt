@@ -1,5 +1,6 @@
 -- When a database is an index, and what a statement makes of it.
-use Rattle.std.specs.Prelude.{◌≡◌, ℕ, ℤ, pos, Bool, false, ◌&&◌, List, [], ◌∷◌, IsTrue, Option, option_map, map, filter, find, codes, bytes_eq, refl}
+use Rattle.std.specs.Prelude.{◌≡◌, ℕ, ℤ, pos, Bool, false, ◌&&◌, List, [], ◌∷◌, IsTrue, Option}
+use Rattle.std.specs.Prelude.{option_map, map, filter, find, codes, bytes_eq, refl}
 use Rattle.std.specs.List.{AllByRecursion}
 use Rattle.std.specs.Ordering.{int_eq}
 use Rattle.sqlite_value.specs.declared.value.Value.TheVariants.{Null, Int, Text}

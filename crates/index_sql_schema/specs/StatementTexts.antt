@@ -1,6 +1,25 @@
 -- The statements on the tables.
 use Rattle.std.specs.Prelude.{ℕ, List}
-use Rattle.index_sql_schema.specs.declared.statement_texts.TheConstants.{PUT_USER, PUT_NAME, PUT_OWNER, PUT_FILE, PUT_BODY, PUT_YANK, PUT_CASE, PUT_BAN, PUT_VERSION, DELETE_NAME, DELETE_OWNERS, DELETE_OWNER, DELETE_YANKS, DELETE_YANK, DELETE_CASE, DELETE_BODY, UPDATE_FILES, UPDATE_VERSION, SELECT_VERSION, SELECT_USER, SELECT_BEARER, SELECT_NAME, SELECT_FILE, SELECT_NAMED, SELECT_RELEASE, SELECT_BODY, SELECT_YANK, SELECT_CASE, SELECT_BAN, SELECT_OWNERS, SELECT_NAMES, SELECT_HELD, SELECT_FILES}
+use Rattle.index_sql_schema.specs.declared.statement_texts.TheConstants.{PUT_USER, PUT_NAME}
+use Rattle.index_sql_schema.specs.declared.statement_texts.TheConstants.{PUT_OWNER, PUT_FILE}
+use Rattle.index_sql_schema.specs.declared.statement_texts.TheConstants.{PUT_BODY, PUT_YANK}
+use Rattle.index_sql_schema.specs.declared.statement_texts.TheConstants.{PUT_CASE, PUT_BAN}
+use Rattle.index_sql_schema.specs.declared.statement_texts.TheConstants.{PUT_VERSION, DELETE_NAME}
+use Rattle.index_sql_schema.specs.declared.statement_texts.TheConstants.{DELETE_OWNERS}
+use Rattle.index_sql_schema.specs.declared.statement_texts.TheConstants.{DELETE_OWNER, DELETE_YANKS}
+use Rattle.index_sql_schema.specs.declared.statement_texts.TheConstants.{DELETE_YANK, DELETE_CASE}
+use Rattle.index_sql_schema.specs.declared.statement_texts.TheConstants.{DELETE_BODY, UPDATE_FILES}
+use Rattle.index_sql_schema.specs.declared.statement_texts.TheConstants.{UPDATE_VERSION}
+use Rattle.index_sql_schema.specs.declared.statement_texts.TheConstants.{SELECT_VERSION}
+use Rattle.index_sql_schema.specs.declared.statement_texts.TheConstants.{SELECT_USER, SELECT_BEARER}
+use Rattle.index_sql_schema.specs.declared.statement_texts.TheConstants.{SELECT_NAME, SELECT_FILE}
+use Rattle.index_sql_schema.specs.declared.statement_texts.TheConstants.{SELECT_NAMED}
+use Rattle.index_sql_schema.specs.declared.statement_texts.TheConstants.{SELECT_RELEASE}
+use Rattle.index_sql_schema.specs.declared.statement_texts.TheConstants.{SELECT_BODY, SELECT_YANK}
+use Rattle.index_sql_schema.specs.declared.statement_texts.TheConstants.{SELECT_CASE, SELECT_BAN}
+use Rattle.index_sql_schema.specs.declared.statement_texts.TheConstants.{SELECT_OWNERS}
+use Rattle.index_sql_schema.specs.declared.statement_texts.TheConstants.{SELECT_NAMES, SELECT_HELD}
+use Rattle.index_sql_schema.specs.declared.statement_texts.TheConstants.{SELECT_FILES}
 
 -- ---- a row in place of the one with its key, if there is one
 

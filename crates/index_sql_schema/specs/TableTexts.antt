@@ -1,6 +1,8 @@
 -- The statements that make the tables, version 2.
 use Rattle.std.specs.Prelude.{ℕ, List}
-use Rattle.index_sql_schema.specs.declared.table_texts.TheConstants.{META, USERS, NAMES, OWNERS, FILES, BLOBS, YANKS, CASES, BANS}
+use Rattle.index_sql_schema.specs.declared.table_texts.TheConstants.{META, USERS, NAMES, OWNERS}
+use Rattle.index_sql_schema.specs.declared.table_texts.TheConstants.{FILES, BLOBS, YANKS, CASES}
+use Rattle.index_sql_schema.specs.declared.table_texts.TheConstants.{BANS}
 
 -- the kind of the file and the version of its tables
 abbrev pub meta_text : List ℕ

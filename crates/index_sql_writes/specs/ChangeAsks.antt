@@ -9,7 +9,12 @@ use Rattle.index_rules.specs.Effect.{means}
 use Rattle.index_rules.specs.Maps.{Bytes}
 use Rattle.index_rules.specs.Projects.{Project}
 use Rattle.index_sql_writes.specs.Asks.{Ask}
-use Rattle.index_sql_writes.specs.Statements.{put_user_ask, hold_name_ask, prohibit_name_ask, put_owner_ask, put_file_ask, put_body_ask, put_case_ask, put_ban_ask, put_yank_ask, delete_name_ask, delete_owners_ask, delete_owner_ask, delete_yanks_ask, delete_yank_ask, delete_case_ask, delete_body_ask, delete_bodies_ask, mark_files_ask}
+use Rattle.index_sql_writes.specs.Statements.{put_user_ask, hold_name_ask, prohibit_name_ask}
+use Rattle.index_sql_writes.specs.Statements.{put_owner_ask, put_file_ask, put_body_ask}
+use Rattle.index_sql_writes.specs.Statements.{put_case_ask, put_ban_ask, put_yank_ask}
+use Rattle.index_sql_writes.specs.Statements.{delete_name_ask, delete_owners_ask, delete_owner_ask}
+use Rattle.index_sql_writes.specs.Statements.{delete_yanks_ask, delete_yank_ask, delete_case_ask}
+use Rattle.index_sql_writes.specs.Statements.{delete_body_ask, delete_bodies_ask, mark_files_ask}
 
 -- the name is held with this record, if there is one, and then the rest
 abbrev hold_if_any : Bytes → Option Project → List Ask → List Ask

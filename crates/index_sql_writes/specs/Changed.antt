@@ -13,7 +13,10 @@ use Rattle.index_sql_schema.specs.Schema.{index_schema}
 use Rattle.index_sql_schema.specs.Records.{tables_in}
 use Rattle.index_sql_schema.specs.RecordRows.{AreRecords, AreRecordsOf}
 use Rattle.index_sql_schema.specs.Index.{IsIndex, meta_in, same_meta}
-use Rattle.index_sql_writes.specs.Writes.{puts_user, puts_name, puts_owner, puts_file, puts_body, puts_yank, puts_case, puts_ban, deletes_owners, deletes_owner, deletes_yanks, deletes_yank, deletes_case, deletes_body, deletes_bodies, marks_files}
+use Rattle.index_sql_writes.specs.Writes.{puts_user, puts_name, puts_owner, puts_file, puts_body}
+use Rattle.index_sql_writes.specs.Writes.{puts_yank, puts_case, puts_ban, deletes_owners}
+use Rattle.index_sql_writes.specs.Writes.{deletes_owner, deletes_yanks, deletes_yank, deletes_case}
+use Rattle.index_sql_writes.specs.Writes.{deletes_body, deletes_bodies, marks_files}
 use Rattle.index_sql_writes.specs.declared.step.Put.{Put}
 use Rattle.index_sql_writes.specs.declared.step.Put.TheVariants as put
 use Rattle.index_sql_writes.specs.declared.step.Deletion.{Deletion}

@@ -9,7 +9,13 @@ use Rattle.index_rules.specs.declared.records.FileRecord.{FileRecord}
 use Rattle.index_rules.specs.declared.records.CaseRecord.{CaseRecord}
 use Rattle.index_rules.specs.Maps.{Bytes}
 use Rattle.index_rules.specs.Projects.{Project}
-use Rattle.index_sql_schema.specs.StatementTexts.{put_user_text, put_name_text, put_owner_text, put_file_text, put_body_text, put_yank_text, put_case_text, put_ban_text, delete_name_text, delete_owners_text, delete_owner_text, delete_yanks_text, delete_yank_text, delete_case_text, delete_body_text, update_files_text}
+use Rattle.index_sql_schema.specs.StatementTexts.{put_user_text, put_name_text, put_owner_text}
+use Rattle.index_sql_schema.specs.StatementTexts.{put_file_text, put_body_text, put_yank_text}
+use Rattle.index_sql_schema.specs.StatementTexts.{put_case_text, put_ban_text, delete_name_text}
+use Rattle.index_sql_schema.specs.StatementTexts.{delete_owners_text, delete_owner_text}
+use Rattle.index_sql_schema.specs.StatementTexts.{delete_yanks_text, delete_yank_text}
+use Rattle.index_sql_schema.specs.StatementTexts.{delete_case_text, delete_body_text}
+use Rattle.index_sql_schema.specs.StatementTexts.{update_files_text}
 use Rattle.index_sql_writes.specs.declared.put_case.CaseNumbers.{CaseNumbers}
 use Rattle.index_sql_writes.specs.Asks.{Ask, Statement, WithNumbers, BodiesOf}
 use Rattle.index_sql_writes.specs.Writes.{flag_number, kind_number}

@@ -16,7 +16,8 @@ use Rattle.index_sql_writes.specs.StepAsks.{deletion_ask, put_ask, step_ask}
 use Rattle.index_sql_writes.specs.declared.step.Deletion.{Deletion}
 use Rattle.index_sql_writes.specs.declared.step.Put.{Put}
 use Rattle.index_sql_writes.specs.declared.step.Step.{Step}
-use Rattle.index_sql_writes.specs.Transaction.{IsInTransaction, IsUncommitted, MakesInTransaction, MakesIfOk, WasOpenIfOk}
+use Rattle.index_sql_writes.specs.Transaction.{IsInTransaction, IsUncommitted, MakesInTransaction}
+use Rattle.index_sql_writes.specs.Transaction.{MakesIfOk, WasOpenIfOk}
 
 -- a step that makes this change of the tables, and asks this of SQL
 pub record TakesStep {S A : Type 0} (g : Ghosts S) (change : Tables → Tables) (ask : Ask) (old new : MutBor (Held S)) (result : Result A Error) : Type 0 where

@@ -1,5 +1,6 @@
 -- What a database that is there is taken for.
-use Rattle.std.specs.Prelude.{◌≡◌, ◌≢◌, ◌⊎◌, ℕ, ◌==◌, Bool, ◌&&◌, false, if◌then◌else◌, Option, Some, None, codes, IsTrue, List, ⊤}
+use Rattle.std.specs.Prelude.{◌≡◌, ◌≢◌, ◌⊎◌, ℕ, ◌==◌, Bool, ◌&&◌, false, if◌then◌else◌, Option}
+use Rattle.std.specs.Prelude.{Some, None, codes, IsTrue, List, ⊤}
 use Rattle.sqlite_value.specs.Order.{Row}
 use Rattle.sqlite_trees.specs.Tree.{Trees}
 use Rattle.sqlite_trees.specs.declared.store.Store.{Ghosts}
@@ -13,9 +14,11 @@ use Rattle.index_sql_opening.specs.Versions.{FailsToTell, Tells, begun}
 use Rattle.index_sql_writes.specs.StepAsks.{AreRefused}
 use Rattle.index_sql_schema.specs.Reasons.{HasReason}
 use Rattle.index_rules.specs.declared.open.OpenFault.{OpenFault}
-use Rattle.index_rules.specs.declared.open.OpenFault.TheVariants.{NotAnIndex, OtherVersion, OutOfMemory, Store}
+use Rattle.index_rules.specs.declared.open.OpenFault.TheVariants.{NotAnIndex, OtherVersion}
+use Rattle.index_rules.specs.declared.open.OpenFault.TheVariants.{OutOfMemory, Store}
 use Rattle.index_rules.specs.Tables.{Tables}
-use Rattle.index_sql_schema.specs.FirstVersion.{IsAnyVersion, IsFirstVersion, first_version_schema, without_bans}
+use Rattle.index_sql_schema.specs.FirstVersion.{IsAnyVersion, IsFirstVersion, first_version_schema}
+use Rattle.index_sql_schema.specs.FirstVersion.{without_bans}
 use Rattle.index_sql_schema.specs.Index.{IsIndex, meta_in, raised, version_in}
 use Rattle.index_sql_schema.specs.Records.{tables_in}
 use Rattle.index_sql_schema.specs.Schema.{index_schema}
