@@ -30,15 +30,8 @@ class Handler(BaseHTTPRequestHandler):
         pass
 
 
-class Proxy:
-    """Runs as long as the block does, and keeps of each request its path, its status, and the types asked for and
-    got."""
-
-    def __init__(self, behind, accept=None):
-        self.server = ThreadingHTTPServer(("127.0.0.1", 0), Handler)
-        self.server.daemon_threads = True
-        self.server.behind, self.server.accept, self.server.seen = behind, accept, []
-        self.port = self.server.server_port
+class InThread:
+    """Has a server of Python's library, `server`, serve in a thread as long as a block runs."""
 
     def __enter__(self):
         threading.Thread(target=self.server.serve_forever, kwargs={"poll_interval": 0.05}, daemon=True).start()
@@ -47,6 +40,17 @@ class Proxy:
     def __exit__(self, *_):
         self.server.shutdown()
         self.server.server_close()
+
+
+class Proxy(InThread):
+    """Runs as long as the block does, and keeps of each request its path, its status, and the types asked for and
+    got."""
+
+    def __init__(self, behind, accept=None):
+        self.server = ThreadingHTTPServer(("127.0.0.1", 0), Handler)
+        self.server.daemon_threads = True
+        self.server.behind, self.server.accept, self.server.seen = behind, accept, []
+        self.port = self.server.server_port
 
     def pages(self):
         """The types that were asked for and got, of each page that came."""

@@ -112,32 +112,31 @@ def pip_trust(person):
     person.ends("trusts no certificate by itself", ended, 1, "CERTIFICATE_VERIFY_FAILED")
 
 
+def locks(person, recipe, command, file, pin):
+    """The recipe locks 1.0 in this file, with this text and its digest, and installs it."""
+    person.ends("locks and installs", person.does(recipe), 0)
+    lock = person.reads(file)
+    person.check("locks 1.0 with its digest", pin in lock and person.world.digest(WHEEL) in lock, lock)
+    person.prints("installs 1.0", "1.0", words=(command, "run", "python"))
+
+
 def poetry(person):
     person.puts("pyproject.toml", POETRY)
     person.writes("Poetry")
-    person.ends("locks and installs", person.does("Poetry, a dependency"), 0)
-    lock = person.reads("poetry.lock")
-    person.check("locks 1.0 with its digest", 'version = "1.0"' in lock and person.world.digest(WHEEL) in lock, lock)
-    person.prints("installs 1.0", "1.0", words=("poetry", "run", "python"))
+    locks(person, "Poetry, a dependency", "poetry", "poetry.lock", 'version = "1.0"')
     person.gets("HTML")
 
 
 def pdm(person):
     person.puts("pyproject.toml", PDM)
     person.writes("PDM")
-    person.ends("locks and installs", person.does("PDM, a dependency"), 0)
-    lock = person.reads("pdm.lock")
-    person.check("locks 1.0 with its digest", 'version = "1.0"' in lock and person.world.digest(WHEEL) in lock, lock)
-    person.prints("installs 1.0", "1.0", words=("pdm", "run", "python"))
+    locks(person, "PDM, a dependency", "pdm", "pdm.lock", 'version = "1.0"')
     person.gets("JSON")
 
 
 def pipenv(person):
     person.writes("pipenv")
-    person.ends("locks and installs", person.does("pipenv, lock and install"), 0)
-    lock = person.reads("Pipfile.lock")
-    person.check("locks 1.0 with its digest", '"==1.0"' in lock and person.world.digest(WHEEL) in lock, lock)
-    person.prints("installs 1.0", "1.0", words=("pipenv", "run", "python"))
+    locks(person, "pipenv, lock and install", "pipenv", "Pipfile.lock", '"==1.0"')
     person.gets("JSON")
 
 

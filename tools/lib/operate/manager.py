@@ -3,12 +3,13 @@ asked."""
 import http.server
 import os
 import signal
-import threading
 import time
 from urllib.parse import unquote
 
+from proxy import InThread
 
-class Manager:
+
+class Manager(InThread):
     """Stands for systemctl, in a folder for PATH: it stops and starts an index that is kept, and has nginx read its
     files again. `asked` is what it was asked."""
 
@@ -42,11 +43,3 @@ class Manager:
         if self.front and "nginx.service" in units:
             self.front.process.send_signal(signal.SIGHUP)
             time.sleep(1)
-
-    def __enter__(self):
-        threading.Thread(target=self.server.serve_forever, kwargs={"poll_interval": 0.05}, daemon=True).start()
-        return self
-
-    def __exit__(self, *_):
-        self.server.shutdown()
-        self.server.server_close()
