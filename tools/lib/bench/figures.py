@@ -15,8 +15,8 @@ def line(name, *parts):
 def goal(value, least=None, most=None):
     """A goal, and whether this value meets it."""
     is_met = value >= least if most is None else value <= most
-    wanted = f"at least {least:,}" if most is None else f"at most {most:,}"
-    return f"goal: {wanted}, {'met' if is_met else 'MISSED'}"
+    wanted = f"≥{least:,}" if most is None else f"≤{most:,}"
+    return f"goal {wanted}, {'met' if is_met else 'missed'}"
 
 
 def load():

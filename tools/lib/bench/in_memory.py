@@ -51,9 +51,7 @@ def bench_claims(program):
         without = median(applied, program, f"{folder}/users", USERS)
         took = median(applied, program, f"{folder}/claims", USERS + CLAIMS)
     figure = CLAIMS / max(took - without, 1e-6)
-    line("claims",
-         f"{CLAIMS:,} in memory by {USERS:,} users, in {took - without:.3f} s beside {without:.3f} s for the users",
-         f"{figure:,.0f} claims a second", goal(figure, least=100_000), load())
+    line("claims", f"{CLAIMS:,} in memory: {figure:,.0f} a second", goal(figure, least=100_000), load())
 
 
 def reset_peak(process):
@@ -82,9 +80,8 @@ def peaks(program):
 def bench_page_memory(program):
     small, big, length = peaks(program)
     above = (big - small) / 1024
-    line("memory", f"peak after a page of {FILES:,} files and releases in JSON, {length:,} bytes: {big:,} KiB")
-    line("", f"peak after a page of 1 file, beside the same files: {small:,} KiB", f"above it {above:.2f} MiB",
-         goal(above, most=8))
+    line("memory", f"a page of {FILES:,} files, {length:,} bytes: at most {big / 1024:.1f} MiB",
+         f"{above:.1f} above a page of 1 file", goal(above, most=8))
 
 
 def bench_file_memory(program):
@@ -98,7 +95,5 @@ def bench_file_memory(program):
             if bytes_of(index, "/files/big/big-1.0.tar.gz") != body:
                 raise SystemExit("bench: the file came back as another")
             after, peak = (memory_of(index.process, row) for row in ("VmRSS", "VmHWM"))
-        line(
-            "memory" if keep == 0 else "",
-            f"a file of 16 MiB, in and out, with --keep-recent {keep}: {before / 1024:.0f} MiB before,"
-            f" {after / 1024:.0f} MiB after, at most {peak / 1024:.0f} MiB")
+        line("memory" if keep == 0 else "", f"16 MiB in and out, keeping {keep // MEBIBYTE} MiB: "
+             f"{before / 1024:.0f} MiB before, {after / 1024:.0f} after, at most {peak / 1024:.0f}")

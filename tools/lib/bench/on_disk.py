@@ -91,9 +91,8 @@ def bench_uploads(program):
         ours = median(upload_time, program, folder)
         theirs = median(statement_time, program, folder)
         where = "in memory" if folder.startswith("/dev/shm") else "on a disk"
-    line("uploads", f"{UPLOADS:,} of 3 bytes by apply --db on a file system {where}: {ours:.0f} us of a processor each",
-         f"the statements that write, by the C library: {theirs:.0f} us", f"ratio {ours / theirs:.2f}",
-         goal(ours / theirs, most=3), load())
+    line("uploads", f"of 3 bytes by apply --db {where}: {ours:.0f} us of a processor, by the C library {theirs:.0f}",
+         f"ratio {ours / theirs:.2f}", goal(ours / theirs, most=3), load())
 
 
 def filled(program, folder):
@@ -161,15 +160,15 @@ def bench_costs(program):
         begun = time.monotonic()
         with Index(program, path=path, patience=60) as index:
             opened = time.monotonic() - begun
-            line("costs", f"the median of {ROUNDS} requests over HTTP, beside {OTHERS + OWN:,} files", load())
+            line("costs", f"over HTTP, beside {OTHERS + OWN:,} files", load())
             for name, request_of, most in CHANGES:
                 took = median(changed, index, request_of)
                 line("", f"{name}: {took:.2f} ms", *([] if most is None else [goal(took, most=most)]))
-            line("", f"page of 100 files, asked first: {median(page_time, index):.2f} ms")
-            line("", f"upload: {median(upload_time_beside, index):.2f} ms")
+            line("", f"page of 100 files, asked first: {median(page_time, index):.2f} ms",
+                 f"upload: {median(upload_time_beside, index):.2f} ms")
         rows = row_count(path)
     each = 1e6 * opened / rows
-    line("open", f"serve listens after {opened:.2f} s with {rows:,} rows", f"{each:.1f} us a row", goal(each, most=15))
+    line("open", f"{rows:,} rows after {opened:.2f} s", f"{each:.1f} us a row", goal(each, most=15))
 
 
 def bench_large(program, mebibytes=256):
@@ -185,6 +184,5 @@ def bench_large(program, mebibytes=256):
         with Index(program, path=path, patience=120) as index:
             opened = time.monotonic() - begun
             peak, after = (1024 * memory_of(index.process, row) for row in ("VmHWM", "VmRSS"))
-    line("large", f"serve listens after {opened:.1f} s with {length / MEBIBYTE:,.0f} MiB",
-         f"at most {peak / MEBIBYTE:.0f} MiB of memory, and {after / MEBIBYTE:.0f} MiB from then on",
-         f"{peak / length:.2f} of the file", goal(peak / length, most=1.1))
+    line("large", f"{length / MEBIBYTE:,.0f} MiB after {opened:.1f} s, at most {peak / MEBIBYTE:.0f} MiB of memory, "
+         f"then {after / MEBIBYTE:.0f}", f"{peak / length:.2f} of the file", goal(peak / length, most=1.1))

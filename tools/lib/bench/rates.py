@@ -16,7 +16,7 @@ from serving import JSON_PAGE, Index, Running, accepted, free_port, listens
 
 SECONDS = 1
 PATHS = {"page": "/simple/page/", "file": "/files/file/file-1.0.tar.gz"}
-WHAT = {"page": "a page of 100 files in JSON", "file": "a file"}
+WHAT = {"page": "100 files, ", "file": ""}
 NGINX = """worker_processes 1;
 daemon off;
 pid {folder}/nginx.pid;
@@ -107,7 +107,7 @@ def rates(client, addresses, length):
 
 
 def tell_rates(name, what, seen, goals):
-    line(name, f"{what}: requests a second, the median of {ROUNDS} runs of {SECONDS} s (least to most)", load())
+    line(name, f"{what}: requests a second,", load())
     middle = {server: statistics.median(figures) for server, figures in seen.items()}
     for server, figures in seen.items():
         figure = f"{server} {middle[server]:,.0f} ({min(figures):,.0f} to {max(figures):,.0f})"
@@ -116,7 +116,7 @@ def tell_rates(name, what, seen, goals):
             continue
         ratio = middle["index"] / middle[server]
         more = [goal(ratio, least=goals[server])] if server in goals else []
-        line("", figure, f"index / {server} {ratio:.2f}", *more)
+        line("", figure, f"ratio {ratio:.2f}", *more)
 
 
 # the file or page, which asking of it is measured, and the goals
@@ -135,7 +135,7 @@ def measure(client, index, servers, lengths, measured):
         check_same(addresses, fetched(addresses["index"]))
         with claims_between(index) if "between" in asking else nullcontext():
             seen = rates(client, addresses, lengths[name])
-        tell_rates(name, f"{WHAT[name]}, {lengths[name]:,} bytes, {asking}", seen, goals)
+        tell_rates(name, f"{WHAT[name]}{lengths[name]:,} bytes, {asking}", seen, goals)
 
 
 def bench_rates(program, client):

@@ -42,10 +42,10 @@ def tell(name, what, measure):
     of_unit = setting()
     if not of_unit:
         raise SystemExit("operate/systemd/index.service sets nothing for the allocator")
-    same = f"the same with {' '.join(map('='.join, of_unit.items()))}"
+    same = "by " + " ".join(map("=".join, of_unit.items()))
     for begins, said, given in ((name, what, {}), ("", same, of_unit)):
         stays, most = measure(given)
-        line(begins, f"{said}: {stays / 1024:,.0f} MiB stay, at most {most / 1024:,.0f} MiB")
+        line(begins, f"{said}: {stays / 1024:,.0f} MiB stay, at most {most / 1024:,.0f}")
 
 
 def taken(index):
@@ -76,9 +76,9 @@ def bench_opened(program, files=FILES, length=LENGTH):
     with tempfile.TemporaryDirectory() as folder:
         path = filled(program, folder, files, length)
         size = os.path.getsize(path) / (1 << 20)
-        tell("opened", f"{files:,} files of {length:,} bytes, {size:,.0f} MiB", lambda it: opened(program, path, it))
+        tell("opened", f"{files:,} files, {size:,.0f} MiB", lambda it: opened(program, path, it))
 
 
 def bench_uploaded(program, rounds=ROUNDS, length=LARGE):
-    tell("uploaded", f"{rounds} files of {length >> 20} MiB, each in, out and deleted",
+    tell("uploaded", f"{rounds} of {length >> 20} MiB, each in, out, deleted",
          lambda it: uploaded(program, rounds, length, it))
