@@ -32,3 +32,9 @@ def memory_of(process, row):
     """A row of the memory that a process takes, as VmHWM for the most that was resident, in KiB."""
     with open(f"/proc/{process.pid}/status") as kept:
         return next(int(line.split()[1]) for line in kept if line.startswith(f"{row}:"))
+
+
+def processor_time(process):
+    """The seconds of a processor that a process of one thread has taken."""
+    with open(f"/proc/{process.pid}/schedstat") as kept:
+        return int(kept.read().split()[0]) / 1e9
