@@ -78,7 +78,8 @@ def ask_for(address, message, length, until, answered):
 
 class Processes:
     def version(self):
-        return f"{CONNECTIONS} processes of Python as the client, which may bound the figures"
+        return (f"{CONNECTIONS} processes of Python as the client, which may bound the figures: neither wrk nor ab "
+                "(Debian's apache2-utils) is installed")
 
     def rate(self, url, seconds, length):
         parts = urlsplit(url)
