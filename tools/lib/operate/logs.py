@@ -153,6 +153,9 @@ def try_accepts(by):
     empty = make_index(by.program, f"{by.folder}/empty.db")
     os.remove(f"{empty}-wal")
     ends("index-log without a log", by.log(empty), 0, "no commit")
+    none = f"{by.folder}/none.db"
+    ends("index-log where no database is", by.log(none), 1, "none.db: No such file")
+    ends("a loss that is accepted where no database is", by.log("--accept", none), 1, "none.db: No such file")
 
 
 def try_log(place):
