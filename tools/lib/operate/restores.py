@@ -68,11 +68,11 @@ class Restores:
         accepted(self.index.claim("later"))
         self.front.ask("GET", "/files/frob/frob-2.0.tar.gz")
 
-    def run(self, copy, *more, shell=":", front=(), unit="index.service", db=None, pypi=None):
+    def run(self, copy, *more, shell=":", front=(), unit="index.service", db=None, pypi=None, port=None):
         """The end of a restore, behind this line of a shell or this command, and of other places if they are given."""
         nginx, folder = self.front.folder, self.place.folder
         words = [*front, f"{OPERATE}/index-restore", copy, *more, "--db", db or self.index.path, "--unit", unit,
-                 "--url", f"http://127.0.0.1:{self.index.port}", "--changes", f"{folder}/changes.log",
+                 "--url", f"http://127.0.0.1:{port or self.index.port}", "--changes", f"{folder}/changes.log",
                  "--cache", f"{nginx}/cache/index-pages", "--cache", f"{nginx}/cache/index-files",
                  "--with-pypi", pypi or f"{nginx}/index/server.d/with-pypi.conf"]
         if shell != ":":
@@ -115,12 +115,19 @@ def wrong_copies(by):
             older: "is newer", by.index.path: "the database itself"}
 
 
+def other_index(by):
+    """An index that nobody serves."""
+    os.mkdir(f"{by.place.folder}/other")
+    return make_index(by.place.program, f"{by.place.folder}/other/index.db")
+
+
 def try_refused_restores(by):
     """What can't be restored is refused before the index is stopped, and nothing is lost."""
     for copy, said in wrong_copies(by).items():
         # (more than any copy here is; without a look at the room it would be filled with the long one)
         ends(f"a restore of {os.path.basename(copy)}", by.run(copy, shell="ulimit -f 100000"), 1, said)
     ends("a restore that fills the disk", by.run(by.copy, shell="ulimit -f 40"), 1, "cp")
+    ends("a restore of another index than answers", by.run(by.copy, db=other_index(by)), 1, "no program has")
     check("the index was not stopped for them", not by.manager.asked, by.manager.asked)
     ends("a restore of an index that goes on", by.run(by.copy, unit="other.service"), 1, "still has it open")
     check("nothing is left of them", not by.left(), by.left())
@@ -143,7 +150,7 @@ def try_killed_restores(by):
         for end in ("", "-wal"):
             shutil.copy(whole + end, f"{at}/index.db{end}")
         killed = [sys.executable, "-c", KILLED, str(number)]
-        ended = by.run(by.copy, front=killed, unit="none.service", db=f"{at}/index.db", pypi=f"{folder}/none")
+        ended = by.run(by.copy, front=killed, unit="none.service", db=f"{at}/index.db", pypi=f"{folder}/none", port=1)
         names = {it: names_of(it, folder) for it in (f"{at}/index.db", *glob.glob(f"{at}/*/index.db"))}
         is_whole = ["killed"] in names.values() and names[f"{at}/index.db"] in (None, ["killed"], ["frob"])
         if ended.returncode != -signal.SIGKILL or not is_whole:
