@@ -126,6 +126,7 @@ def try_refused_restores(by):
     for copy, said in wrong_copies(by).items():
         # (more than any copy here is; without a look at the room it would be filled with the long one)
         ends(f"a restore of {os.path.basename(copy)}", by.run(copy, shell="ulimit -f 100000"), 1, said)
+    ends("a restore of no copy", by.run(""), 1, "give the path")
     ends("a restore that fills the disk", by.run(by.copy, shell="ulimit -f 40"), 1, "cp")
     ends("a restore of another index than answers", by.run(by.copy, db=other_index(by)), 1, "no program has")
     check("the index was not stopped for them", not by.manager.asked, by.manager.asked)
