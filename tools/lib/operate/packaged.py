@@ -279,7 +279,15 @@ def try_several(root):
 def try_removed(root):
     """Removed and purged it leaves the database, the copies and the user."""
     there = "ls /usr/bin/index /lib/systemd/system/index.service /etc/nginx/index/indexes.conf 2> /dev/null"
+    listed = "cd /lib/systemd/system; grep -l '^\\[Install' index*.service index*.timer | grep -v @"
+    units = root.sh(listed).stdout.split()
+    # (apt looks for commands in fewer places)
+    root.sh("mkdir -p /run/systemd/system; rm /systemctl.log; cp $(command -v systemctl) /usr/bin/systemctl")
     ends("remove", root.sh("apt-get remove --yes package-index"), 0, "Removing package-index")
+    log = root.sh("cat /systemctl.log").stdout
+    for what in ("stop", "disable"):
+        left = set(units) - set(" ".join(re.findall(rf"^systemctl (?:--quiet )?{what} (.*)", log, re.M)).split())
+        check(f"nothing is left to {what}", len(units) > 5 and not left, (units, left))
     check("what was changed stays", root.sh(there).stdout == "/etc/nginx/index/indexes.conf\n", root.sh(there).stdout)
     ends("purge", root.sh("apt-get purge --yes package-index"), 0, "/var/lib/index with the database")
     stays = "ls /var/lib/index/index.db; ls /var/backups/index | grep -c [.]db; getent passwd index | cut -d: -f1"
