@@ -1,0 +1,41 @@
+"""Writes what the gate took into docs/PROOF-COSTS.md: `python3 costs.py` reads the lines that `.ci/run` prints at its
+end, of each part by the clock and of the processors."""
+import datetime
+import os
+import re
+import subprocess
+import sys
+
+sys.dont_write_bytecode = True
+sys.path.insert(0, os.path.join(os.path.dirname(os.path.realpath(__file__)), ".."))
+from pages.files import read, write
+from serving import TOP
+
+PAGE = "docs/PROOF-COSTS.md"
+TABLE = re.compile(r"(<!-- written by \.ci/run --write -->\n).*?\n\n", re.S)
+PART = re.compile(r"(\S+) +([\d.]+) min, +([\d.]+) of processors")
+
+
+def table_of(lines):
+    """The table of these parts; the tools that run one after the other beside the wrong bodies are one row."""
+    parts = [(name, float(clock), float(taken)) for name, clock, taken in PART.findall(lines)]
+    if not parts:
+        raise SystemExit("costs: no line tells what a part took")
+    own = [part for part in parts if part[0] in ("rt-ci", "try-edits", "try-twins")]
+    tools = [part for part in parts if part not in own]
+    rows = [*own, ("the other tools", sum(it[1] for it in tools), sum(it[2] for it in tools))]
+    commit = subprocess.run(["git", "-C", TOP, "rev-parse", "--short", "HEAD"], stdout=subprocess.PIPE, text=True,
+                            check=True).stdout.strip()
+    head = [f"| {commit}, {datetime.date.today()}, {os.cpu_count()} processors | Minutes | Of processors |",
+            "|---|---|---|"]
+    return "\n".join([*head, *(f"| {name} | {clock:.1f} | {taken:.1f} |" for name, clock, taken in rows)])
+
+
+def main():
+    page = read(PAGE)
+    if not TABLE.search(page):
+        raise SystemExit(f"costs: {PAGE} has no place for the table")
+    write(PAGE, TABLE.sub(lambda found: f"{found[1]}{table_of(sys.stdin.read())}\n\n", page))
+
+
+main()
