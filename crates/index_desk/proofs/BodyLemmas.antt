@@ -1,5 +1,5 @@
 -- In sound tables the bytes of a file are those that it is bound to.
-use Rattle.std.proofs.Common.{◌≡◌, refl, Option, Some, None, is_some}
+use Rattle.std.proofs.Common.{◌≡◌, refl, Option, Some, None}
 use Rattle.std.specs.FinMap.{get}
 use Rattle.index_rules.specs.declared.records.FileRecord.{FileRecord}
 use Rattle.index_rules.specs.Maps.{Bytes}

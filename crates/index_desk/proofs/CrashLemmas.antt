@@ -1,12 +1,11 @@
 -- What a crash may leave after a call.
-use Rattle.std.proofs.Common.{◌≡◌, ◌≢◌, ◌⊎◌, ◌∙◌, inl, inr, ap, refl, subst, sym, List, [], ◌∷◌, ◌++◌, Contains, arith}
+use Rattle.std.proofs.Common.{◌≢◌, ◌⊎◌, inl, inr, refl, subst, sym, List, [], ◌∷◌, ◌++◌, arith}
 use Rattle.std.proofs.lemmas.List.Elements.{Contains-push_cases}
 use Rattle.index_rules.specs.declared.answer.Answer.{Answer}
 use Rattle.index_rules.specs.declared.answer.Answer.TheVariants.{Accepted, Already, Refused, Fault}
 use Rattle.index_rules.specs.declared.answer.Fault.{Fault as FaultData}
 use Rattle.index_rules.specs.declared.call.Call.{Call}
 use Rattle.index_rules.specs.Tables.{Tables}
-use Rattle.index_rules.specs.Verdict.{Accept, verdict_now}
 use Rattle.index_rules.specs.Runs.{Runs, tables_after}
 use Rattle.index_rules.specs.History.{History}
 use Rattle.index_rules.specs.StandsFor.{StandsFor}

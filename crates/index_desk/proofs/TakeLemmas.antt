@@ -16,7 +16,7 @@ use Rattle.index_rules.specs.Facts.{HasOneBearer, facts_in}
 use Rattle.index_rules.specs.Runs.{Answers, Runs, tables_after, tables_after_change}
 use Rattle.index_rules.specs.Sound.{IsSound}
 use Rattle.index_rules.specs.Tables.{Tables}
-use Rattle.index_rules.specs.Told.{CountsStore, answers_store}
+use Rattle.index_rules.specs.StoreFaults.{CountsStoreFault, answers_store_fault}
 use Rattle.index_rules.specs.Verdict.{Verdict, verdict_now}
 use Rattle.index_rules.proofs.StandsOn.{CarriesOn-answer, CarriesOnBy-Runs, sound_when_legal}
 use Rattle.index_rules.proofs.OneBearer.{HasOneBearer-Runs, HasOneBearer-tables_after}
@@ -81,7 +81,7 @@ module _ {S : Type 0} (g : Ghosts S) (old now new : S) (call : Call) (answer : A
         nothing_new = λ T left. elim (settles.nothing_new T left) [ inl was ↦ inl (look.crash T was) | inr honest ↦ inr (look.honest honest) ];
         store = λ is. subst (λ n. HasFailed n (g.failures new)) look.kept (settles.store is);
         failures = subst (λ n. FailsAtMostOnce n (g.failures new)) look.kept settles.failures;
-        stores = subst (λ n. CountsStore n (g.stores new) (answers_store answer)) look.stores settles.stores;
+        stores = subst (λ n. CountsStoreFault n (g.stores new) (answers_store_fault answer)) look.stores settles.stores;
         honest = λ honest. look.honest (settles.honest honest);
         clean = λ clean. look.clean (settles.clean clean);
       })
@@ -102,7 +102,7 @@ takes_keep g old new call answer took = record {
 
 -- one more answer: no fault of the store was told to the books, or one is among the answers
 pub stores_push : (answers : List Answer) (answer : Answer) (first before after : ℕ) → (before ≡ first) ⊎ Contains answers (Fault Store)
-    → CountsStore before after (answers_store answer) → (after ≡ first) ⊎ Contains (answers ++ answer ∷ []) (Fault Store)
+    → CountsStoreFault before after (answers_store_fault answer) → (after ≡ first) ⊎ Contains (answers ++ answer ∷ []) (Fault Store)
 stores_push answers answer first before after (inr there) next = inr (Contains-append_left answers _ _ there)
 stores_push answers (Fault Store) first before after (inl none) next = inr (Contains-push answers (Fault Store))
 stores_push answers (Fault OutOfMemory) first before after (inl none) next = inl (next ∙ none)

@@ -9,4 +9,5 @@ use Rattle.index_rules.specs.Tables.{Tables}
 -- bytes, if there are some, have the size and the digest that the file is bound to
 abbrev pub AreBytesOf : Tables → Bytes → Option Bytes → Type 0
 AreBytesOf T file None = ⊤
-AreBytesOf T file (Some body) = (known : FileRecord) × (get T.files file ≡ Some known) × IsBodyOf known body
+AreBytesOf T file (Some body) =
+    (known : FileRecord) × (get T.files file ≡ Some known) × IsBodyOf known body

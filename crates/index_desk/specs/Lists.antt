@@ -6,4 +6,6 @@ use Rattle.index_rules.specs.Maps.{Bytes, same, bytes_cmp}
 
 -- these are the texts that pass, each once, in byte order
 abbrev pub AreThose : (Bytes → Bool) → List Bytes → Type 0
-AreThose test texts = IsStrictlySortedBy bytes_cmp texts × ((text : Bytes) → list_any (same text) texts ≡ test text)
+AreThose test texts =
+    IsStrictlySortedBy bytes_cmp texts
+    × ((text : Bytes) → list_any (same text) texts ≡ test text)

@@ -22,7 +22,8 @@ held_row_after h n = record { name = n; «record» = Held (project_after h n) }
 -- the rows of the held names
 abbrev pub AreHeldRowsAfter : History → List NameRow → Type 0
 AreHeldRowsAfter h rows =
-    (names : List Bytes) × AreThose (λ n. is_held_now (state_after h n)) names × (rows ≡ map (held_row_after h) names)
+    (names : List Bytes) × AreThose (λ n. is_held_now (state_after h n)) names
+    × (rows ≡ map (held_row_after h) names)
 
 -- ---- files
 
@@ -30,7 +31,8 @@ AreHeldRowsAfter h rows =
 abbrev pub digest_after : History → Bytes → Bytes
 digest_after h f = option_map_or (λ digest_and_size. digest_and_size.0) (first_upload_after h f) []
 
--- a file with the digest and the size of its first upload, the text of its last, and the yank of its release (PEP 592)
+-- a file with the digest and the size of its first upload, the text of its last, and the yank of
+-- its release (PEP 592)
 abbrev pub file_row_after : History → Bytes → FileRow
 file_row_after h f = record {
   file = f;
@@ -44,9 +46,11 @@ file_row_after h f = record {
 -- the rows of the undeleted files of a name
 abbrev pub AreFileRowsAfter : History → Bytes → List FileRow → Type 0
 AreFileRowsAfter h n rows =
-    (files : List Bytes) × AreThose (is_charged_after h n) files × (rows ≡ map (file_row_after h) files)
+    (files : List Bytes) × AreThose (is_charged_after h n) files
+    × (rows ≡ map (file_row_after h) files)
 
 -- the same of a name that is held; of any other there are none
 abbrev pub AreProjectRowsAfter : History → Bytes → Option (List FileRow) → Type 0
 AreProjectRowsAfter h n None = is_held_now (state_after h n) ≡ false
-AreProjectRowsAfter h n (Some rows) = (is_held_now (state_after h n) ≡ true) × AreFileRowsAfter h n rows
+AreProjectRowsAfter h n (Some rows) =
+    (is_held_now (state_after h n) ≡ true) × AreFileRowsAfter h n rows

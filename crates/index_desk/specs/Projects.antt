@@ -19,7 +19,10 @@ abbrev pub TellsNone : Result Bool WalkEnd → Type 0
 TellsNone (Ok found) = found ≡ false
 TellsNone (Err end) = is_fault end ≡ true
 
--- a walk over the rows of a project, which tells whether there is one; where there is none nothing is taken
-abbrev pub WalksProject : {K : Type 0} → (K → FileRow → K → Type 0) → (K → FileRow → K → Type 0) → Option (List FileRow) → K → K → Result Bool WalkEnd → Type 0
+-- a walk over the rows of a project, which tells whether there is one; where there is none
+-- nothing is taken
+abbrev pub WalksProject : {K : Type 0} → (K → FileRow → K → Type 0) → (K → FileRow → K → Type 0)
+    → Option (List FileRow) → K → K → Result Bool WalkEnd → Type 0
 WalksProject takes stops None before after result = (after ≡ before) × TellsNone result
-WalksProject takes stops (Some rows) before after result = Walks takes stops rows before after result × IfOk result (λ found. found ≡ true)
+WalksProject takes stops (Some rows) before after result =
+    Walks takes stops rows before after result × IfOk result (λ found. found ≡ true)

@@ -12,7 +12,7 @@ use Rattle.index_rules.specs.declared.rows.NameRow.{NameRow}
 use Rattle.index_rules.specs.Maps.{Bytes}
 use Rattle.index_rules.specs.Tables.{Tables}
 use Rattle.index_rules.specs.TableRows.{name_rows_in}
-use Rattle.index_rules.specs.Told.{CountsStore}
+use Rattle.index_rules.specs.StoreFaults.{CountsStoreFault}
 use Rattle.index_desk.specs.Checks.{charge_of}
 use Rattle.index_rules.specs.declared.answer.Fault.{Fault}
 use Rattle.index_rules.specs.declared.answer.Fault.TheVariants as fault
@@ -50,7 +50,8 @@ name_columns row = at_left 24 row.name ++ 32 ∷ at_left 10 (state_text row.reco
 -- the number of undeleted files, the charge and the quota, with a space between them
 abbrev pub number_columns : NameRecord → Bytes
 number_columns known =
-    at_right 8 (undeleted_of known) ++ 32 ∷ at_right 14 (charge_of known) ++ 32 ∷ at_right 14 (quota_of known)
+    at_right 8 (undeleted_of known) ++ 32 ∷ at_right 14 (charge_of known)
+    ++ 32 ∷ at_right 14 (quota_of known)
 
 -- a line with its line feed
 abbrev pub report_line : NameRow → Bytes
@@ -75,7 +76,8 @@ abbrev pub Reports : Bytes → Option Bytes → Option Bytes → Result (Unit {0
 Reports text before after (Ok done) = Appends before after text
 Reports text before after (Err OutOfMemory) = Keeps before after
 Reports text before after (Err Store) = Keeps before after
-Reports text before after (Err (WriteFault count)) = (count < length text) × Appends before after (take count text)
+Reports text before after (Err (WriteFault count)) =
+    (count < length text) × Appends before after (take count text)
 
 -- a report ended by a fault of the store
 abbrev pub reports_store : Result (Unit {0}) ReportFault → Bool
@@ -91,12 +93,15 @@ fails_to_write (Err OutOfMemory) = false
 fails_to_write (Err Store) = false
 fails_to_write (Err (WriteFault count)) = true
 
--- a write failed, or took no byte, just where the result says so; the books failed where it does; one call of them fails at
--- most, and none where it succeeds; a fault of their store is told as `Store`
-pub record ReportFailsOnly {S K : Type 0} (g : Ghosts S) (out : Outs K) (old new : S) (before after : K) (result : Result (Unit {0}) ReportFault) : Type 0 where
-  pub write_fault : IfErr result (λ fault. (count : ℕ) → fault ≡ WriteFault count → HasFailed (out.failures before) (out.failures after))
+-- a write failed, or took no byte, just where the result says so; the books failed where it does;
+-- one call of them fails at most, and none where it succeeds; a fault of their store is told as
+-- `Store`
+pub record ReportFailsOnly {S K : Type 0} (g : Ghosts S) (out : Outs K) (old new : S)
+    (before after : K) (result : Result (Unit {0}) ReportFault) : Type 0 where
+  pub write_fault : IfErr result (λ fault. (count : ℕ) → fault ≡ WriteFault count
+      → HasFailed (out.failures before) (out.failures after))
   pub writes : fails_to_write result ≡ false → out.failures after ≡ out.failures before
   pub store : IfErr result (λ fault. fault ≡ Store → HasFailed (g.failures old) (g.failures new))
-  pub stores : CountsStore (g.stores old) (g.stores new) (reports_store result)
+  pub stores : CountsStoreFault (g.stores old) (g.stores new) (reports_store result)
   pub kept : OnOk result (g.failures new ≡ g.failures old)
   pub failures : FailsAtMostOnce (g.failures old) (g.failures new)

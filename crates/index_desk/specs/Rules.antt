@@ -18,8 +18,8 @@ use Rattle.index_desk.specs.Standings.{standing_in, IsStandingAfter}
 use Rattle.index_desk.specs.Projects.{project_rows_in}
 use Rattle.index_desk.specs.PastRows.{AreHeldRowsAfter, AreProjectRowsAfter}
 
--- the verdict on a call in a state and the state after its answer, what stands of a name, the rows of the held names
--- and of a project, where its name is held, and the bytes that are kept of a file
+-- the verdict on a call in a state and the state after its answer, what stands of a name, the rows
+-- of the held names and of a project, where its name is held, and the bytes that are kept of a file
 pub record Rules (S : Type 0) : Type 1 where
   pub verdict : S → Call → Verdict
   pub next : S → Call → Answer → S

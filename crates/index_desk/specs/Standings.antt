@@ -17,13 +17,15 @@ use Rattle.index_desk.specs.declared.standing.Standing.TheVariants as standing
 
 -- a held name with its record, its owners and its open case
 abbrev pub held_with : Bytes → Project → List Bytes → Option CaseRecord → Standing
-held_with name project owners case = standing.Held (record { name = name; project = project; owners = owners; case = case })
+held_with name project owners case =
+    standing.Held (record { name = name; project = project; owners = owners; case = case })
 
 -- what stands of a name with this record
 abbrev pub standing_of_record : Tables → Bytes → Option NameRecord → Standing
 standing_of_record T name None = standing.Free name
 standing_of_record T name (Some Prohibited) = standing.Prohibited name
-standing_of_record T name (Some (Held project)) = held_with name project (owners_in T name) (get T.cases name)
+standing_of_record T name (Some (Held project)) =
+    held_with name project (owners_in T name) (get T.cases name)
 
 -- what stands of a name in the tables
 abbrev pub standing_in : Tables → Bytes → Standing
@@ -38,5 +40,9 @@ AreOwnersAfter h name users = AreThose (owns_after h name) users
 -- what stands of a name after a history
 abbrev pub IsStandingAfter : History → Bytes → Standing → Type 0
 IsStandingAfter h name (standing.Free of) = (of ≡ name) × (state_after h name ≡ past.Free)
-IsStandingAfter h name (standing.Prohibited of) = (of ≡ name) × (state_after h name ≡ past.Prohibited)
-IsStandingAfter h name (standing.Held held) = (held.name ≡ name) × (state_after h name ≡ past.Held) × (held.project ≡ project_after h name) × AreOwnersAfter h name held.owners × (held.case ≡ case_record_after h name)
+IsStandingAfter h name (standing.Prohibited of) =
+    (of ≡ name) × (state_after h name ≡ past.Prohibited)
+IsStandingAfter h name (standing.Held held) =
+    (held.name ≡ name) × (state_after h name ≡ past.Held)
+    × (held.project ≡ project_after h name) × AreOwnersAfter h name held.owners
+    × (held.case ≡ case_record_after h name)

@@ -1,12 +1,12 @@
 //! Calls in order, over any books.
-ghost use Rattle.std.specs.Prelude.{◌≡◌, [], IfOk, IfErr, OnErr, length, vec_capacity};
+ghost use Rattle.std.specs.Prelude.{◌≡◌, [], IfOk, IfErr, OnErr, Some, length, vec_capacity};
 ghost use Rattle.std.specs.FinMap.{get};
 ghost use Rattle.index_rules.specs.Decided.{Decides};
 ghost use Rattle.index_rules.specs.Effect.{effect};
-ghost use Rattle.index_rules.specs.Tables.{owners_in};
 ghost use Rattle.index_rules.specs.Verdict.{Verdict, verdict_now};
 ghost use Rattle.index_rules.specs.Facts.{HasOneBearer, Sees, facts_in};
 ghost use Rattle.index_rules.specs.Requests.{keys_of};
+ghost use Rattle.index_rules.specs.Seen.{SeesName};
 ghost use Rattle.index_rules.specs.Sound.{IsSound};
 ghost use Rattle.index_rules.specs.StandsFor.{body_after};
 ghost use Rattle.index_desk.specs.Bodies.{AreBytesOf};
@@ -19,8 +19,8 @@ use crate::standing::{HeldName, Standing};
 use index_digest::Sealed;
 use index_names::{FileName, NormalName};
 use index_rules::{
-    Answer, Books, Call, CaseRecord, Change, Decision, Fault, Keys, NameRecord, Project, Stop,
-    View, decide,
+    Answer, Books, Call, CaseRecord, Change, Decision, Fault, Keys, NameRecord, NameSeen, Owners,
+    Project, Stop, View, decide,
 };
 use std::alloc::Global;
 use std::marker::Model;
@@ -125,15 +125,15 @@ impl<B: Books> Desk<B> {
         ensures { LooksAtBoth B.Books self.old self.new result
             (λ T standing. standing ≡ standing_in T name.now) (λ h. IsStandingAfter h name.now) }
     {
-        let mut view = seen_name(&mut self.books, alloc, name)?;
-        match view.name.take() {
+        let NameSeen {
+            name: record,
+            owners,
+            case,
+        } = seen_name(&mut self.books, alloc, name)?;
+        match record {
             None => free_name(name),
             Some(NameRecord::Prohibited) => prohibited_name(name),
-            Some(NameRecord::Held(project)) => {
-                let case = view.case.take();
-                drop(view);
-                held_name(&mut self.books, alloc, name, project, case)
-            }
+            Some(NameRecord::Held(project)) => held_name(name, project, owners, case),
         }
     }
 
@@ -201,15 +201,16 @@ fn settle<B: Books>(books: &mut B, alloc: Global, decision: Result<Decision, Sto
     }
 }
 
-/// The records at a name. It changes no table.
-fn seen_name<B: Books>(books: &mut B, alloc: Global, name: &NormalName) -> Result<View, Fault>
-    ensures { LooksAt B.Books books.old books.new result (λ T view.
-        (view.name ≡ get T.names name.now) × (view.case ≡ get T.cases name.now)) }
+/// The record, the owners and the case of a name. It changes no table.
+fn seen_name<B: Books>(books: &mut B, alloc: Global, name: &NormalName) -> Result<NameSeen, Fault>
+    ensures { LooksAt B.Books books.old books.new result (λ T. SeesName T (Some name.now)) }
 {
     let keys = Keys::of_name(name)?;
-    books.view(alloc, &keys)
+    let view = books.view(alloc, &keys)?;
+    Ok(view.into_name())
 }
 
+/// The standing of a name that nobody holds.
 fn free_name(name: &NormalName) -> Result<Standing, Fault>
     ensures free { IfOk result (λ standing. standing ≡ Standing.Free name.now) }
     ensures memory { IfErr result (λ fault. fault ≡ Fault.OutOfMemory) }
@@ -218,6 +219,7 @@ fn free_name(name: &NormalName) -> Result<Standing, Fault>
     Ok(Standing::Free { name })
 }
 
+/// The standing of a prohibited name.
 fn prohibited_name(name: &NormalName) -> Result<Standing, Fault>
     ensures prohibited { IfOk result (λ standing. standing ≡ Standing.Prohibited name.now) }
     ensures memory { IfErr result (λ fault. fault ≡ Fault.OutOfMemory) }
@@ -226,18 +228,16 @@ fn prohibited_name(name: &NormalName) -> Result<Standing, Fault>
     Ok(Standing::Prohibited { name })
 }
 
-/// The standing of a held name with its owners. It changes no table.
-fn held_name<B: Books>(
-    books: &mut B,
-    alloc: Global,
+/// The standing of a held name.
+fn held_name(
     name: &NormalName,
     project: Project,
+    owners: Owners,
     case: Option<CaseRecord>,
 ) -> Result<Standing, Fault>
-    ensures { LooksAt B.Books books.old books.new result (λ T standing.
-        standing ≡ held_with name.now project (owners_in T name.now) case) }
+    ensures held { IfOk result (λ standing. standing ≡ held_with name.now project owners case) }
+    ensures memory { IfErr result (λ fault. fault ≡ Fault.OutOfMemory) }
 {
-    let owners = books.owners_of(alloc, name)?;
     let name = name.clone()?;
     Ok(Standing::Held(HeldName {
         name,

@@ -11,7 +11,7 @@ use index_rules::Books;
 
 /// Which page.
 #[derive(Clone, Copy)]
-pub enum Page<'a> {
+pub enum PageKey<'a> {
     /// That of the held names.
     Root,
     /// That of a project.
@@ -32,12 +32,12 @@ pub trait Keeper: Books {
         ensures { ReadsNothing Self.Books self.old self.new };
 
     /// The text of a page in a type, where it is kept at hand.
-    fn kept_page(&self, page: Page<'_>, served: Served) -> Option<&[u8]>
+    fn kept_page(&self, page: PageKey<'_>, served: Served) -> Option<&[u8]>
         ensures { Self.IsHonest self.now → IfSome result (λ text.
             page_in (Self.tables self.now) served page.entry ≡ Some text.now) };
 
     /// Keeps the text of a page in a type at hand, where there is room for it. It changes no table.
-    fn keep_page(&mut self, page: Page<'_>, served: Served, text: Vec<u8>)
+    fn keep_page(&mut self, page: PageKey<'_>, served: Served, text: Vec<u8>)
         requires { Self.IsHonest self.old →
             page_in (Self.tables self.old) served page ≡ Some text.items }
         ensures { ReadsNothing Self.Books self.old self.new };

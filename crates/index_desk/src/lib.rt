@@ -6,5 +6,5 @@ mod keeper;
 mod standing;
 
 pub use desk::{Desk, ReportFault};
-pub use keeper::{Keeper, Page};
+pub use keeper::{Keeper, PageKey};
 pub use standing::{HeldName, Standing};

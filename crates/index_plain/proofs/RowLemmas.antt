@@ -9,7 +9,7 @@ use Rattle.index_rules.specs.Tables.{Tables}
 use Rattle.index_rules.specs.Sound.{is_undeleted_of}
 use Rattle.index_rules.specs.Rows.{StoppedAmong}
 use Rattle.index_rules.specs.TableRows.{name_row, is_held_row, file_row_in}
-use Rattle.index_plain.specs.Seen.{rows_of_file}
+use Rattle.index_plain.specs.RowsOf.{rows_of_file}
 
 -- the rows of the held names among these
 abbrev pub held_rows_of : List (Bytes × NameRecord) → List NameRow

@@ -2,6 +2,6 @@ pub mod Trees
 pub mod Pairs
 pub mod Bearers
 pub mod Plain
-pub mod Seen
+pub mod RowsOf
 pub mod Picked
 pub mod NameFiles

@@ -79,8 +79,9 @@ pub record MakesOrCounts (change : Change) (old new : PlainBooks)
 -- them, and none answers `Store`
 abbrev pub LooksUp : (old new : PlainBooks) (succeeds : Bool) → Type 0
 LooksUp old new succeeds =
-    calls.LooksUp plain_tables (λ books. ⊤) (λ books. ⊤) (λ books T. ⊥) failures_of (λ books. 0) old
-    new succeeds false
+    let plain = calls.model plain_tables (λ books. ⊤) (λ books. ⊤) (λ books T. ⊥)
+    (calls.counts failures_of (λ books. 0)) in
+    calls.LooksUp plain old new succeeds false
 
 -- a look that fails for want of memory alone
 pub record LooksInMemory {A : Type 0} (old new : PlainBooks)

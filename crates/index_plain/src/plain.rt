@@ -8,7 +8,7 @@ use index_digest::{Digest256, Sealed};
 use index_names::{FileName, NormalName, Release};
 use index_rules::{
     Books, CaseRecord, Change, Fault, FileRecord, FileRow, FileTaker, Keys, NameRecord, NameRow,
-    NameTaker, OpenFault, Owners, UserId, View, WalkEnd, first_user,
+    NameTaker, OpenFault, UserId, View, WalkEnd, first_user,
 };
 use index_text::Text;
 use std::alloc::Global;
@@ -125,10 +125,10 @@ impl PlainBooks {
 impl Books for PlainBooks {
     ghost use Rattle.std.specs.Prelude.{⊤};
     ghost use Rattle.std.specs.FinMap.{get};
-    ghost use Rattle.index_rules.specs.Tables.{owners_in};
     ghost use Rattle.index_rules.specs.Facts.{Sees};
     ghost use Rattle.index_rules.specs.Results.{Returns, ReturnsItems};
     ghost use Rattle.index_rules.specs.TableRows.{file_rows_in, name_rows_in};
+    ghost use Rattle.index_rules.specs.Verdict.{is_held as is_held_lem};
     ghost use Rattle.index_plain.specs.Plain.{HandsFiles, HandsNames, LooksInMemory, LooksUp, MakesOrCounts, failures_of, plain_tables};
 
     ghost tables = { plain_tables };
@@ -166,14 +166,12 @@ impl Books for PlainBooks {
         }
     }
 
-    fn owners_of(&mut self, alloc: Global, name: &NormalName) -> Result<Owners, Fault>
-        ensures found { Returns result (owners_in (plain_tables self.old) name.now) }
+    fn is_held(&mut self, _alloc: Global, name: &NormalName) -> Result<bool, Fault>
+        ensures found { Returns result (is_held_lem (get (plain_tables self.old).names name.now)) }
         ensures looks { LooksInMemory self.old self.new result }
     {
-        match self.owners_by_name(alloc, name) {
-            Ok(owners) => Ok(owners),
-            Err(_) => Err(self.failed()),
-        }
+        let record = table::find(&self.names, name);
+        Ok(matches!(record, Some(NameRecord::Held(_))))
     }
 
     fn bytes_of(&mut self, _alloc: Global, file: &FileName) -> Result<Option<Sealed>, Fault>

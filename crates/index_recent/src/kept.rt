@@ -6,7 +6,7 @@ ghost use Rattle.index_rules.specs.Tables.{Tables};
 ghost use Rattle.index_recent.specs.Kept.{IsKeptBody, body_bytes};
 ghost use Rattle.index_recent.specs.Spared.{spares_file, spares_body};
 
-use index_desk::Page;
+use index_desk::PageKey;
 use index_digest::Sealed;
 use index_names::{FileName, NormalName};
 use index_pages::Served;
@@ -63,16 +63,10 @@ pub(crate) fn body_bytes(bodies: &[KeptBody]) -> usize
     bodies.iter().map(|kept| kept.body.bytes().len()).sum()
 }
 
-/// Keeps the newest of bodies that have at most `used` bytes: fewer than `most_kept`, with at most `room` bytes. Returns
-/// how many bytes they have.
-pub(crate) fn keep_newest(
-    bodies: &mut Vec<KeptBody>,
-    most_kept: usize,
-    room: usize,
-    used: usize,
-) -> usize
+/// Keeps the newest bodies: fewer than `most_kept`, with at most `room` bytes. Returns how many bytes they have.
+pub(crate) fn keep_newest(bodies: &mut Vec<KeptBody>, most_kept: usize, room: usize) -> usize
     requires some { 0 < most_kept }
-    requires counted { body_bytes bodies.old.items ≤ used }
+    requires counted { body_bytes bodies.old.items < 18446744073709551616 }
     ensures kept { (T : Tables) →
         All (IsKeptBody T) bodies.old.items → All (IsKeptBody T) bodies.new.items }
     ensures bytes { (result ≡ body_bytes bodies.new.items) × (result ≤ room) }
@@ -118,19 +112,19 @@ pub(crate) struct KeptPage {
 }
 
 /// The project that a page is of.
-pub(crate) fn project_of_page(page: Page<'_>) -> Result<Option<NormalName>, AllocError>
+pub(crate) fn project_of_page(page: PageKey<'_>) -> Result<Option<NormalName>, AllocError>
     ensures { IfOk result (λ project. project ≡ project_of_page page.entry) }
 {
     match page {
-        Page::Root => Ok(None),
-        Page::Project(name) => Ok(Some(name.clone()?)),
+        PageKey::Root => Ok(None),
+        PageKey::Project(name) => Ok(Some(name.clone()?)),
     }
 }
 
 /// What is kept of a page.
 pub(crate) fn page_of<'a>(
     pages: &'a [KeptPage],
-    page: Page<'_>,
+    page: PageKey<'_>,
     served: Served,
 ) -> Option<&'a KeptPage>
     ensures { IfSome result (λ kept. (kept.now.project ≡ project_of_page page.entry)
@@ -145,12 +139,12 @@ pub(crate) fn page_of<'a>(
 }
 
 /// Whether a page is of this project.
-fn is_of(project: &Option<NormalName>, page: Page<'_>) -> bool
+fn is_of(project: &Option<NormalName>, page: PageKey<'_>) -> bool
     ensures { result ≡ true → project.now ≡ project_of_page page.entry }
 {
     match (project, page) {
-        (None, Page::Root) => true,
-        (Some(project), Page::Project(name)) => project == name,
+        (None, PageKey::Root) => true,
+        (Some(project), PageKey::Project(name)) => project == name,
         _ => false,
     }
 }

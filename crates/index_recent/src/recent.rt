@@ -9,12 +9,12 @@ use crate::kept::{
     KeptBody, KeptPage, body_bytes, body_of, is_out_of_memory, is_walk_out_of_memory, keep_newest,
     keep_spared, page_of, project_of_page,
 };
-use index_desk::{Keeper, Page};
+use index_desk::{Keeper, PageKey};
 use index_digest::Sealed;
 use index_names::{FileName, NormalName};
 use index_pages::Served;
 use index_rules::{
-    Books, Change, Fault, FileRow, FileTaker, Keys, NameRow, NameTaker, Owners, View, WalkEnd,
+    Books, Change, Fault, FileRow, FileTaker, Keys, NameRow, NameTaker, View, WalkEnd,
 };
 use std::alloc::Global;
 
@@ -36,14 +36,17 @@ pub struct Recent<B: Books> {
     ghost kept_bodies: { B.IsHonest books → All (IsKeptBody (B.tables books)) bodies.items },
     ghost kept_pages: { B.IsHonest books → All (IsKeptPage (B.tables books)) pages.items },
     ghost counted: { body_bytes bodies.items + page_bytes pages.items ≤ used },
-    ghost within: { used ≤ most },
+    ghost within: { (used ≤ most) × (most < 18446744073709551616) },
     ghost few: { (length bodies.items ≤ MOST_BODIES) × (length pages.items ≤ MOST_PAGES) },
 }
 
 impl<B: Books> Recent<B> {
+    ghost use Rattle.index_recent.specs.Shown.{books_of, most_bytes};
+
     /// These books, of which nothing is kept yet. Later up to so many bytes are.
     pub fn new(alloc: Global, books: B, most: usize) -> Recent<B>
-        ensures { result.books ≡ books }
+        ensures books { books_of result ≡ books }
+        ensures most { most_bytes result ≡ most }
     {
         Recent {
             books,
@@ -56,7 +59,7 @@ impl<B: Books> Recent<B> {
 
     /// The books.
     pub fn into_books(self) -> B
-        ensures { result ≡ self.books }
+        ensures { result ≡ books_of self }
     {
         let Recent {
             books,
@@ -78,6 +81,17 @@ impl<B: Books> Recent<B> {
         self.used = 0;
     }
 
+    /// Lets go of all that is kept if a look ran out of memory, so that the next one has it.
+    fn forget_if(&mut self, is_out_of_memory: bool)
+        ensures books { self.new.books ≡ self.old.books }
+        ensures none { is_out_of_memory ≡ true →
+            (self.new.bodies.items ≡ []) × (self.new.pages.items ≡ []) }
+    {
+        if is_out_of_memory {
+            self.forget();
+        }
+    }
+
     /// Lets go of all pages, and of the bodies that a change may write.
     fn forget_touched(&mut self, change: &Change)
         ensures { (self.new.books ≡ self.old.books) × ((self.new.pages.items ≡ [])
@@ -85,7 +99,7 @@ impl<B: Books> Recent<B> {
     {
         self.pages.clear();
         keep_spared(&mut self.bodies, change);
-        self.used = self.used.min(body_bytes(self.bodies.as_slice()));
+        self.used = body_bytes(self.bodies.as_slice());
     }
 
     /// Makes room for so many bytes more, and for a body and a page. False: so many may never be kept.
@@ -115,7 +129,7 @@ impl<B: Books> Recent<B> {
         ensures room { self.new.used ≤ room }
     {
         self.pages.clear();
-        self.used = keep_newest(&mut self.bodies, MOST_BODIES, room, self.used);
+        self.used = keep_newest(&mut self.bodies, MOST_BODIES, room);
     }
 }
 
@@ -138,9 +152,7 @@ impl<B: Books> Books for Recent<B> {
 
     fn view(&mut self, alloc: Global, keys: &Keys) -> Result<View, Fault> {
         let found = self.books.view(alloc, keys);
-        if is_out_of_memory(&found) {
-            self.forget();
-        }
+        self.forget_if(is_out_of_memory(&found));
         found
     }
 
@@ -149,43 +161,33 @@ impl<B: Books> Books for Recent<B> {
         self.books.write(alloc, change)
     }
 
-    fn owners_of(&mut self, alloc: Global, name: &NormalName) -> Result<Owners, Fault> {
-        let found = self.books.owners_of(alloc, name);
-        if is_out_of_memory(&found) {
-            self.forget();
-        }
+    fn is_held(&mut self, alloc: Global, name: &NormalName) -> Result<bool, Fault> {
+        let found = self.books.is_held(alloc, name);
+        self.forget_if(is_out_of_memory(&found));
         found
     }
 
     fn bytes_of(&mut self, alloc: Global, file: &FileName) -> Result<Option<Sealed>, Fault> {
         let found = self.books.bytes_of(alloc, file);
-        if is_out_of_memory(&found) {
-            self.forget();
-        }
+        self.forget_if(is_out_of_memory(&found));
         found
     }
 
     fn names(&mut self, alloc: Global) -> Result<Vec<NameRow>, Fault> {
         let found = self.books.names(alloc);
-        if is_out_of_memory(&found) {
-            self.forget();
-        }
+        self.forget_if(is_out_of_memory(&found));
         found
     }
 
     fn files_of(&mut self, alloc: Global, name: &NormalName) -> Result<Vec<FileRow>, Fault> {
         let found = self.books.files_of(alloc, name);
-        if is_out_of_memory(&found) {
-            self.forget();
-        }
+        self.forget_if(is_out_of_memory(&found));
         found
     }
 
     fn walk_held<K: NameTaker>(&mut self, alloc: Global, taker: &mut K) -> Result<(), WalkEnd> {
         let end = self.books.walk_held(alloc, taker);
-        if is_walk_out_of_memory(&end) {
-            self.forget();
-        }
+        self.forget_if(is_walk_out_of_memory(&end));
         end
     }
 
@@ -196,9 +198,7 @@ impl<B: Books> Books for Recent<B> {
         taker: &mut K,
     ) -> Result<(), WalkEnd> {
         let end = self.books.walk_files(alloc, name, taker);
-        if is_walk_out_of_memory(&end) {
-            self.forget();
-        }
+        self.forget_if(is_walk_out_of_memory(&end));
         end
     }
 
@@ -224,14 +224,14 @@ impl<B: Books> Keeper for Recent<B> {
         let _ = self.bodies.push(KeptBody { file, body });
     }
 
-    fn kept_page(&self, page: Page<'_>, served: Served) -> Option<&[u8]> {
+    fn kept_page(&self, page: PageKey<'_>, served: Served) -> Option<&[u8]> {
         match page_of(self.pages.as_slice(), page, served) {
             Some(kept) => Some(kept.text.as_slice()),
             None => None,
         }
     }
 
-    fn keep_page(&mut self, page: Page<'_>, served: Served, text: Vec<u8>) {
+    fn keep_page(&mut self, page: PageKey<'_>, served: Served, text: Vec<u8>) {
         if !self.makes_room(text.capacity()) {
             drop(text);
             return;

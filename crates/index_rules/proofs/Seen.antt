@@ -10,10 +10,10 @@ use Rattle.index_rules.specs.declared.view.View.{View}
 use Rattle.index_rules.specs.Maps.{Bytes, same}
 use Rattle.index_rules.specs.Tables.{Tables}
 use Rattle.index_rules.specs.Requests.{user_key, token_key, name_key, keys_of}
-use Rattle.index_rules.specs.Facts.{Sees, IsBearer, IsBearerAs, AreOwners, HasOneBearer, bearer_in, caller_of, facts_seen, facts_in, is_one_of, is_only_one_of, of_both, owns_in, owns_alone_in}
+use Rattle.index_rules.specs.Facts.{Sees, IsBearer, IsBearerAs, HasOneBearer, bearer_in, caller_of, facts_seen, facts_in, is_one_of, is_only_one_of, of_both, owners_at, owns_in, owns_alone_in}
 use Rattle.index_rules.specs.Verdict.{verdict_now, verdict_on}
 use Rattle.index_rules.specs.Effect.{effect, means, tables_with_call}
-use Rattle.index_rules.proofs.OwnerLists.{same-is}
+use Rattle.index_rules.proofs.OwnerLists.{list_any-owners_in, same-is}
 use Rattle.index_rules.proofs.KeyLemmas.{same_truth}
 use Rattle.index_rules.proofs.EntryLemmas.{get-found, get-missed, find-passes, list_all-at, list_all-from, each_owner, each_pair}
 
@@ -40,19 +40,23 @@ module _ (T : Tables) (one : HasOneBearer T) where
   the_part part None found is = is
   the_part part (Some token) found is = is.2 ∙ ap (option_map part) (sym (the_bearer token is.0 is.1))
 
-  one_seen : (name user : Option Bytes) (users : List Bytes) → AreOwners T name users → is_one_of users user ≡ of_both (owns_in T) name user
+  -- each owner is among them, and nobody else
+  among : (n : Bytes) (users : List Bytes) → users ≡ owners_at T (Some n) → (user : Bytes) → list_any (same user) users ≡ owns_in T n user
+  among n users is user = ap (list_any (same user)) is ∙ list_any-owners_in T n user
+
+  one_seen : (name user : Option Bytes) (users : List Bytes) → users ≡ owners_at T name → is_one_of users user ≡ of_both (owns_in T) name user
   one_seen None None users is = refl
   one_seen None (Some u) users is = ap (list_any (same u)) is
   one_seen (Some n) None users is = refl
-  one_seen (Some n) (Some u) users is = is u
+  one_seen (Some n) (Some u) users is = among n users is u
 
-  sole_seen : (name user : Option Bytes) (users : List Bytes) → AreOwners T name users → is_only_one_of users user ≡ of_both (owns_alone_in T) name user
+  sole_seen : (name user : Option Bytes) (users : List Bytes) → users ≡ owners_at T name → is_only_one_of users user ≡ of_both (owns_alone_in T) name user
   sole_seen None None users is = refl
   sole_seen None (Some u) users is = ap (λ us. list_any (same u) us && list_all (same u) us) is
   sole_seen (Some n) None users is = refl
-  sole_seen (Some n) (Some u) users is = λ i. is u i && same_truth (list_all (same u) users) (list_all (λ pair. not (same n pair.0) || same u pair.1) (keys T.owners))
-      (λ all. each_pair T n u (λ v there. list_all-at (same u) users v all (is v ∙ there)))
-      (λ all. list_all-from (same u) users (λ v there. each_owner T n u all v (sym (is v) ∙ there))) i
+  sole_seen (Some n) (Some u) users is = λ i. among n users is u i && same_truth (list_all (same u) users) (list_all (λ pair. not (same n pair.0) || same u pair.1) (keys T.owners))
+      (λ all. each_pair T n u (λ v there. list_all-at (same u) users v all (among n users is v ∙ there)))
+      (λ all. list_all-from (same u) users (λ v there. each_owner T n u all v (sym (among n users is v) ∙ there))) i
 
   user_of : (found : Option (Bytes × UserRecord)) → option_map (λ caller. caller.user) (option_map caller_of found) ≡ option_map (λ user. user.0) found
   user_of None = refl

@@ -4,40 +4,61 @@ use Rattle.index_io.specs.Counts.{next_count}
 use Rattle.index_rules.specs.declared.answer.Fault.{Fault}
 use Rattle.index_rules.specs.declared.rows.WalkEnd.{WalkEnd}
 use Rattle.index_rules.specs.Tables.{Tables}
-use Rattle.index_rules.specs.Told.{CountsStore, tells_store, ends_by_store}
+use Rattle.index_rules.specs.StoreFaults.{CountsStoreFault, fails_by_store, ends_by_store}
 use Rattle.index_rules.specs.Walks.{has_fault}
+
+-- how many calls failed, and how many of them by a fault of the store
+pub record FaultCounts (S : Type 0) : Type 0 where
+  pub failures : S → ℕ
+  pub stores : S → ℕ
+
+abbrev pub counts : {S : Type 0} → (failures stores : S → ℕ) → FaultCounts S
+counts failures stores = record { failures = failures; stores = stores }
+
+-- the ghosts of `Books` as one value, for its own clauses: elsewhere that is `Ghosts`
+pub record Model (S : Type 0) : Type 1 where
+  pub tables : S → Tables
+  pub IsHonest : S → Type 0
+  pub IsClean : S → Type 0
+  pub may_leave : S → Tables → Type 0
+  pub faults : FaultCounts S
+
+abbrev pub model : {S : Type 0} → (tables : S → Tables) → (IsHonest IsClean : S → Type 0)
+    → (may_leave : S → Tables → Type 0) → FaultCounts S → Model S
+model tables IsHonest IsClean may_leave faults = record {
+  tables = tables;
+  IsHonest = IsHonest;
+  IsClean = IsClean;
+  may_leave = may_leave;
+  faults = faults;
+}
 
 -- a store that is honest or clean as a call ends was so as it began, and a failure is counted just
 -- where it is told, and as one of the store where it is told as `Store`
-pub record Calls {S : Type 0} (IsHonest IsClean : S → Type 0) (count of_store : S → ℕ) (old new : S)
-    (succeeds is_store : Bool) : Type 0 where
-  pub honest : IsHonest new → IsHonest old
-  pub clean : IsClean new → IsClean old
-  pub failures : count new ≡ next_count (count old) succeeds
-  pub stores : CountsStore (of_store old) (of_store new) is_store
+pub record Calls {S : Type 0} (books : Model S) (old new : S)
+    (succeeds is_store_fault : Bool) : Type 0 where
+  pub honest : books.IsHonest new → books.IsHonest old
+  pub clean : books.IsClean new → books.IsClean old
+  pub failures : books.faults.failures new ≡ next_count (books.faults.failures old) succeeds
+  pub stores : CountsStoreFault (books.faults.stores old) (books.faults.stores new) is_store_fault
 
 -- a look is a call that changes no table, and a crash leaves what it could have left before
-pub record LooksUp {S : Type 0} (tables : S → Tables) (IsHonest IsClean : S → Type 0)
-    (may_leave : S → Tables → Type 0) (count of_store : S → ℕ) (old new : S)
-    (succeeds is_store : Bool) : Type 0 where
-  pub call : Calls IsHonest IsClean count of_store old new succeeds is_store
-  pub unchanged : IsHonest new → tables new ≡ tables old
+pub record LooksUp {S : Type 0} (books : Model S) (old new : S)
+    (succeeds is_store_fault : Bool) : Type 0 where
+  pub call : Calls books old new succeeds is_store_fault
+  pub unchanged : books.IsHonest new → books.tables new ≡ books.tables old
   -- one that succeeds leaves an honest store honest, while it is clean
-  pub lasts : IsTrue succeeds → IsHonest old → IsClean new → IsHonest new
-  pub crash : (T : Tables) → may_leave new T → may_leave old T
+  pub lasts : IsTrue succeeds → books.IsHonest old → books.IsClean new → books.IsHonest new
+  pub crash : (T : Tables) → books.may_leave new T → books.may_leave old T
 
--- a look that returned this: it fails where that is an error
-abbrev pub Looks : {S A : Type 0} (tables : S → Tables) (IsHonest IsClean : S → Type 0)
-    (may_leave : S → Tables → Type 0) (count of_store : S → ℕ) (old new : S)
-    → Result A Fault → Type 0
-Looks tables IsHonest IsClean may_leave count of_store old new result =
-    LooksUp tables IsHonest IsClean may_leave count of_store old new (is_ok result)
-    (tells_store result)
+-- a write that returned this: it fails where that is an error
+abbrev pub WritesOrFails : {S A : Type 0} → Model S → S → S → Result A Fault → Type 0
+WritesOrFails books old new result = Calls books old new (is_ok result) (fails_by_store result)
+
+-- a look that returned this
+abbrev pub Looks : {S A : Type 0} → Model S → S → S → Result A Fault → Type 0
+Looks books old new result = LooksUp books old new (is_ok result) (fails_by_store result)
 
 -- the same of a walk: it fails where a fault ended it
-abbrev pub Scans : {S A : Type 0} (tables : S → Tables) (IsHonest IsClean : S → Type 0)
-    (may_leave : S → Tables → Type 0) (count of_store : S → ℕ) (old new : S)
-    → Result A WalkEnd → Type 0
-Scans tables IsHonest IsClean may_leave count of_store old new result =
-    LooksUp tables IsHonest IsClean may_leave count of_store old new (not (has_fault result))
-    (ends_by_store result)
+abbrev pub Scans : {S A : Type 0} → Model S → S → S → Result A WalkEnd → Type 0
+Scans books old new result = LooksUp books old new (not (has_fault result)) (ends_by_store result)

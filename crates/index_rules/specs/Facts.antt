@@ -14,7 +14,7 @@ use Rattle.index_rules.specs.declared.records.CaseRecord.{CaseRecord}
 use Rattle.index_rules.specs.declared.view.Caller.{Caller}
 use Rattle.index_rules.specs.declared.view.View.{View}
 use Rattle.index_rules.specs.Maps.{Bytes, same}
-use Rattle.index_rules.specs.Tables.{Tables}
+use Rattle.index_rules.specs.Tables.{Tables, owners_in}
 use Rattle.index_rules.specs.Requests.{user_key, token_key, name_key, file_key, release_key}
 
 -- the records that a verdict rests on, and nothing else of the tables
@@ -132,10 +132,10 @@ IsBearerAs part T None found = found ≡ None
 IsBearerAs part T (Some token) found =
     (user : Option (Bytes × UserRecord)) × IsBearer T token user × (found ≡ option_map part user)
 
--- the owners of a name, each of them, in any order
-abbrev pub AreOwners : Tables → Option Bytes → List Bytes → Type 0
-AreOwners T None users = users ≡ []
-AreOwners T (Some name) users = (user : Bytes) → list_any (same user) users ≡ owns_in T name user
+-- the owners of a name in byte order, where there is a name
+abbrev pub owners_at : Tables → Option Bytes → List Bytes
+owners_at T None = []
+owners_at T (Some name) = owners_in T name
 
 -- the view has the records of the tables that the keys name
 pub record Sees (T : Tables) (k : Keys) (v : View) : Type 0 where
@@ -143,7 +143,7 @@ pub record Sees (T : Tables) (k : Keys) (v : View) : Type 0 where
   pub user : v.user ≡ option_and_then (get T.users) k.user
   pub bearer : IsBearerAs (λ user. user.0) T k.token v.bearer
   pub name : v.name ≡ option_and_then (get T.names) k.name
-  pub owners : AreOwners T k.name v.owners
+  pub owners : v.owners ≡ owners_at T k.name
   pub file : v.file ≡ option_and_then (get T.files) k.file
   pub is_banned : v.is_banned ≡ option_map_or (is_banned_in T) k.file false
   pub yank : v.yank ≡ at_both (yank_in T) k.name k.release

@@ -8,12 +8,13 @@ pub mod Tables
 pub mod FirstTables
 pub mod Requests
 pub mod Facts
+pub mod Seen
 pub mod Verdict
 pub mod Effect
 pub mod Decided
 pub mod Rows
 pub mod Walks
-pub mod Told
+pub mod StoreFaults
 pub mod Calls
 pub mod Runs
 pub mod Sound

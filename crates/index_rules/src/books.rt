@@ -1,12 +1,12 @@
 //! The tables behind a trait.
-ghost use Rattle.std.specs.Prelude.{◌≡◌, ◌⊎◌, ℕ, IfOk, OnOk, OnErr, is_ok};
+ghost use Rattle.std.specs.Prelude.{◌≡◌, ◌⊎◌, ℕ, IfOk, OnOk, OnErr};
 ghost use Rattle.std.specs.FinMap.{get};
-ghost use Rattle.index_rules.specs.Tables.{Tables, owners_in};
+ghost use Rattle.index_rules.specs.Tables.{Tables};
 ghost use Rattle.index_rules.specs.Facts.{Sees};
+ghost use Rattle.index_rules.specs.Verdict.{is_held as is_held_lem};
 ghost use Rattle.index_rules.specs.Effect.{means};
 ghost use Rattle.index_rules.specs.TableRows.{file_rows_in, held_rows_in, name_rows_in};
-ghost use Rattle.index_rules.specs.Calls.{Calls, Looks, Scans};
-ghost use Rattle.index_rules.specs.Told.{tells_store};
+ghost use Rattle.index_rules.specs.Calls.{Looks, Scans, WritesOrFails, counts, model};
 ghost use Rattle.index_rules.specs.Results.{Returns, ReturnsItems};
 ghost use Rattle.index_rules.specs.Walks.{Walks, WalksSome};
 
@@ -14,7 +14,7 @@ use crate::answer::Fault;
 use crate::change::Change;
 use crate::keys::Keys;
 use crate::rows::{FileRow, FileTaker, NameRow, NameTaker, WalkEnd};
-use crate::view::{Owners, View};
+use crate::view::View;
 use index_digest::Sealed;
 use index_names::{FileName, NormalName};
 use std::alloc::Global;
@@ -48,7 +48,8 @@ pub trait Books {
     /// The records that the keys name. It changes no table.
     fn view(&mut self, alloc: Global, keys: &Keys) -> Result<View, Fault>
         ensures found { IsHonest self.new → IfOk result (Sees (tables self.old) keys.now) }
-        ensures looks { Looks tables IsHonest IsClean may_leave failures stores self.old self.new result };
+        ensures looks { Looks (model tables IsHonest IsClean may_leave (counts failures stores))
+            self.old self.new result };
 
     /// Writes a change. After a fault the tables are what they were, and a crash may leave them as they were or with
     /// the change.
@@ -61,30 +62,35 @@ pub trait Books {
             may_leave self.old T ⊎ (IsHonest self.old × (T ≡ means change (tables self.old))) }
         ensures alone { IsHonest self.old → OnOk result ((T : Tables) → may_leave self.new T →
             T ≡ means change (tables self.old)) }
-        ensures call { Calls IsHonest IsClean failures stores self.old self.new
-            (is_ok result) (tells_store result) };
+        ensures call { WritesOrFails (model tables IsHonest IsClean may_leave (counts failures stores))
+            self.old self.new result };
 
-    /// The owners of a name in byte order. It changes no table.
-    fn owners_of(&mut self, alloc: Global, name: &NormalName) -> Result<Owners, Fault>
-        ensures found { IsHonest self.new → Returns result (owners_in (tables self.old) name.now) }
-        ensures looks { Looks tables IsHonest IsClean may_leave failures stores self.old self.new result };
+    /// Whether a name is held. It changes no table.
+    fn is_held(&mut self, alloc: Global, name: &NormalName) -> Result<bool, Fault>
+        ensures found { IsHonest self.new
+            → Returns result (is_held_lem (get (tables self.old).names name.now)) }
+        ensures looks { Looks (model tables IsHonest IsClean may_leave (counts failures stores))
+            self.old self.new result };
 
     /// The bytes that are kept of a file, or `None` where none are: in sound tables, where it is not undeleted. It changes
     /// no table.
     fn bytes_of(&mut self, alloc: Global, file: &FileName) -> Result<Option<Sealed>, Fault>
         ensures found { IsHonest self.new → Returns result (get (tables self.old).bodies file.now) }
-        ensures looks { Looks tables IsHonest IsClean may_leave failures stores self.old self.new result };
+        ensures looks { Looks (model tables IsHonest IsClean may_leave (counts failures stores))
+            self.old self.new result };
 
     /// The held names and the prohibited ones with their records, in byte order. It changes no table.
     fn names(&mut self, alloc: Global) -> Result<Vec<NameRow>, Fault>
         ensures found { IsHonest self.new → ReturnsItems result (name_rows_in (tables self.old)) }
-        ensures looks { Looks tables IsHonest IsClean may_leave failures stores self.old self.new result };
+        ensures looks { Looks (model tables IsHonest IsClean may_leave (counts failures stores))
+            self.old self.new result };
 
     /// The undeleted files of a name, in byte order. It changes no table.
     fn files_of(&mut self, alloc: Global, name: &NormalName) -> Result<Vec<FileRow>, Fault>
         ensures found { IsHonest self.new
             → ReturnsItems result (file_rows_in (tables self.old) name.now) }
-        ensures looks { Looks tables IsHonest IsClean may_leave failures stores self.old self.new result };
+        ensures looks { Looks (model tables IsHonest IsClean may_leave (counts failures stores))
+            self.old self.new result };
 
     /// Hands the held names to a taker one at a time, in byte order, until it wants no more. It changes no table.
     ///
@@ -94,7 +100,8 @@ pub trait Books {
         ensures walked { IsHonest self.old → IsClean self.new →
             Walks K.takes K.stops (held_rows_in (tables self.old)) taker.old taker.new result }
         ensures given { WalksSome K.takes K.stops taker.old taker.new result }
-        ensures looks { Scans tables IsHonest IsClean may_leave failures stores self.old self.new result };
+        ensures looks { Scans (model tables IsHonest IsClean may_leave (counts failures stores))
+            self.old self.new result };
 
     /// Hands the undeleted files of a name to a taker one at a time, in byte order, until it wants no more. It changes
     /// no table.
@@ -111,7 +118,8 @@ pub trait Books {
             let rows = file_rows_in (tables self.old) name.now in
             Walks K.takes K.stops rows taker.old taker.new result }
         ensures given { WalksSome K.takes K.stops taker.old taker.new result }
-        ensures looks { Scans tables IsHonest IsClean may_leave failures stores self.old self.new result };
+        ensures looks { Scans (model tables IsHonest IsClean may_leave (counts failures stores))
+            self.old self.new result };
 
     /// An honest store is clean.
     ghost honest_is_clean: { (books : Self) → IsHonest books → IsClean books };

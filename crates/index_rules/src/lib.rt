@@ -30,4 +30,4 @@ pub use reading::read_token;
 pub use records::{CaseRecord, FileRecord, NameRecord, UserRecord};
 pub use rows::{FileRow, FileTaker, NameRow, NameTaker, WalkEnd};
 pub use user::{UserFault, UserId};
-pub use view::{Caller, Owners, View};
+pub use view::{Caller, FilesSeen, NameSeen, Owners, UsersSeen, View};

@@ -67,7 +67,7 @@ pub struct View {
     /// Who bears the token that the call brings for a user.
     pub bearer: Option<UserId>,
     pub name: Option<NameRecord>,
-    /// The owners of the name, in any order.
+    /// The owners of the name, in byte order.
     pub owners: Owners,
     pub file: Option<FileRecord>,
     /// Whether the file is banned.
@@ -94,5 +94,89 @@ impl Drop for View {
             has_release: _has_release,
             case: _case,
         } = self;
+    }
+}
+
+/// What a view has of users.
+#[derive(Drop)]
+pub struct UsersSeen {
+    pub caller: Option<Caller>,
+    pub user: Option<UserRecord>,
+    pub bearer: Option<UserId>,
+}
+
+/// What it has of the name.
+#[derive(Drop)]
+pub struct NameSeen {
+    pub name: Option<NameRecord>,
+    pub owners: Owners,
+    pub case: Option<CaseRecord>,
+}
+
+/// What it has of the file and the release.
+#[derive(Drop)]
+pub struct FilesSeen {
+    pub file: Option<FileRecord>,
+    pub is_banned: bool,
+    pub yank: Option<Text>,
+    pub has_release: bool,
+}
+
+impl View {
+    ghost use Rattle.index_rules.specs.declared.keys.Keys.{Keys};
+    ghost use Rattle.index_rules.specs.Facts.{Sees};
+    ghost use Rattle.index_rules.specs.Seen.{SeesFiles, SeesName, SeesUsers};
+    ghost use Rattle.index_rules.specs.Tables.{Tables};
+
+    /// The parts as one.
+    pub fn from_parts(users: UsersSeen, name: NameSeen, files: FilesSeen) -> View
+        ensures { (T : Tables) (k : Keys) → SeesUsers T k users → SeesName T k.name name →
+            SeesFiles T k files → Sees T k result }
+    {
+        let UsersSeen {
+            caller,
+            user,
+            bearer,
+        } = users;
+        let NameSeen { name, owners, case } = name;
+        let FilesSeen {
+            file,
+            is_banned,
+            yank,
+            has_release,
+        } = files;
+        View {
+            caller,
+            user,
+            bearer,
+            name,
+            owners,
+            file,
+            is_banned,
+            yank,
+            has_release,
+            case,
+        }
+    }
+
+    /// What it has of the name.
+    pub fn into_name(self) -> NameSeen
+        ensures name { result.name ≡ self.name }
+        ensures owners { result.owners ≡ self.owners }
+        ensures case { result.case ≡ self.case }
+    {
+        let View {
+            caller: _caller,
+            user: _user,
+            bearer: _bearer,
+            name,
+            owners,
+            file: _file,
+            is_banned: _,
+            yank: _yank,
+            has_release: _,
+            case,
+        } = self;
+        NameSeen { name, owners, case }
     }
 }

@@ -16,7 +16,8 @@ pub record IsBlank (db : Database) : Type 0 where
   pub schema : db.schema ≡ no_schema
   pub sound : IsDatabase db
 
--- one user with this record, and nothing else; of the office, these are the tables of a new index (`first_tables`)
+-- one user with this record, and nothing else; of the office, these are the tables of a new index
+-- (`first_tables`)
 abbrev pub one_user : Bytes → UserRecord → Tables
 one_user user account = puts_user user account no_tables
 

@@ -13,7 +13,8 @@ is_of view name = unwrap_or (option_map (λ table. same_name table name) view.fo
 
 -- a table of that name is there; the case of ASCII letters does not count
 abbrev pub has_table : Schema → List ℕ → Bool
-has_table schema name = is_some (table_named schema name) || list_any (λ view. is_of view name) schema.views
+has_table schema name =
+    is_some (table_named schema name) || list_any (λ view. is_of view name) schema.views
 
 -- one by the name of any of these
 abbrev pub has_any_of : Schema → List Table → Bool
@@ -25,7 +26,11 @@ has_all_of schema = list_all (λ (t : Table). has_table schema t.name)
 
 -- a table `meta` with the columns of the version, which can be read
 abbrev pub is_meta : Table → Bool
-is_meta table = same_name table.name (codes "meta") && is_some (column_named table (codes "id")) && is_some (column_named table (codes "kind")) && is_some (column_named table (codes "version"))
+is_meta table =
+    same_name table.name (codes "meta")
+    && is_some (column_named table (codes "id"))
+    && is_some (column_named table (codes "kind"))
+    && is_some (column_named table (codes "version"))
 
 -- such a table is there
 abbrev pub has_meta : Schema → Bool

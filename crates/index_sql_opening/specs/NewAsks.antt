@@ -35,9 +35,14 @@ abbrev pub Unlimited : (State → Type 0) → State → Type 0
 Unlimited Is s = Is s × (s.step_limit ≡ None)
 
 -- steps on a transaction that is such, which make this of it and ask these of SQL
-abbrev pub StepsFrom : {S A : Type 0} → Ghosts S → (State → Type 0) → (State → State → Type 0) → List Ask → MutBor (Held S) → MutBor (Held S) → Result A Error → Type 0
+abbrev pub StepsFrom : {S A : Type 0} → Ghosts S
+    → (State → Type 0)
+    → (State → State → Type 0)
+    → List Ask
+    → MutBor (Held S) → MutBor (Held S) → Result A Error → Type 0
 StepsFrom g Begins Makes asks = TakesSteps g Begins Makes (Unlimited Begins) (AnswersAll asks)
 
 -- so many tables are made where so many were
-abbrev pub CreatesTables : {S A : Type 0} → Ghosts S → ℕ → ℕ → MutBor (Held S) → MutBor (Held S) → Result A Error → Type 0
+abbrev pub CreatesTables : {S A : Type 0} → Ghosts S
+    → ℕ → ℕ → MutBor (Held S) → MutBor (Held S) → Result A Error → Type 0
 CreatesTables g from to = StepsFrom g (IsStage from) (Advances to) (table_asks from to)

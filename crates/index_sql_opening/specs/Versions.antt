@@ -16,8 +16,8 @@ use Rattle.index_sql_schema.specs.StatementTexts.{select_version_text}
 abbrev pub first_number : List Row → Option ℕ
 first_number rows = option_map (λ r. number_in (column r 0)) (slice_get rows 0)
 
--- inside a transaction, the query of the version shows rows of which the first has this number: all that is known where
--- the tables are not ours
+-- inside a transaction, the query of the version shows rows of which the first has this number: all
+-- that is known where the tables are not ours
 pub record Tells {S : Type 0} (g : Ghosts S) (inside : Held S) (version : Option ℕ) : Type 0 where
   pub after : Held S
   pub rows : List Row
@@ -32,9 +32,12 @@ pub record FailsToTell {S : Type 0} (g : Ghosts S) (inside : Held S) : Type 0 wh
   pub fault : fault_by error ≡ Store
 
 -- on a clean disk the answer is what that query tells, and `Store` only where it is refused so
-pub record AnswersVersion {S : Type 0} (g : Ghosts S) (inside new : Held S) (result : Result (Option ℕ) Fault) : Type 0 where
+pub record AnswersVersion {S : Type 0} (g : Ghosts S)
+    (inside new : Held S)
+    (result : Result (Option ℕ) Fault) : Type 0 where
   pub told : HasCleanDisk (state g new) → IfOk result (Tells g inside)
-  pub fails : HasCleanDisk (state g new) → IfErr result (λ fault. fault ≡ Store → FailsToTell g inside)
+  pub fails : HasCleanDisk (state g new)
+      → IfErr result (λ fault. fault ≡ Store → FailsToTell g inside)
 
 -- a transaction is begun on the connection
 abbrev pub begun : {S : Type 0} → Held S → Held S

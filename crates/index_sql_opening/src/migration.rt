@@ -2,8 +2,8 @@
 ghost use Rattle.std.specs.Prelude.{◌≡◌, [], ◌∷◌, false};
 ghost use Rattle.index_sql_opening.specs.Migrated.{asks_of_migration, IsMigrating};
 ghost use Rattle.index_sql_opening.specs.NewAsks.{text_ask, StepsFrom};
-ghost use Rattle.index_sql_opening.specs.Making.{MakesIndex};
-ghost use Rattle.index_sql_schema.specs.FirstVersion.{IsFirstVersion, without_bans};
+ghost use Rattle.index_sql_opening.specs.Making.{MakesOfFirstVersion};
+ghost use Rattle.index_sql_schema.specs.FirstVersion.{without_bans};
 ghost use Rattle.index_sql_schema.specs.Index.{raised, same_meta};
 ghost use Rattle.index_sql_schema.specs.StatementTexts.{update_version_text};
 ghost use Rattle.index_sql_schema.specs.TableTexts.{bans_text};
@@ -47,8 +47,7 @@ fn migrate_tables<S: Alter>(tx: &mut Transaction<'_, S>) -> Result<(), Error>
 /// The error of the statement that failed, or of the commit. After it the database is as it was.
 pub fn migrate<S: Alter>(conn: &mut Connection<S>) -> Result<(), Error>
     requires { conn.old.in_transaction ≡ false }
-    ensures made { MakesIndex S.Store IsFirstVersion without_bans raised asks_of_migration
-        conn.old conn.new result }
+    ensures made { MakesOfFirstVersion S.Store conn.old conn.new result }
 {
     let mut tx = conn.transaction();
     migrate_tables(&mut tx)?;

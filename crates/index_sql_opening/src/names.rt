@@ -1,7 +1,8 @@
 //! Which of the tables of an index a schema has, by their names alone.
 ghost use Rattle.std.specs.Prelude.{◌≡◌};
 ghost use Rattle.std.specs.List.{list_any};
-ghost use Rattle.index_sql_opening.specs.Names.{is_meta, is_of, has_meta, has_table, has_any_of, has_all_of};
+ghost use Rattle.index_sql_opening.specs.Names.{is_meta, is_of, has_meta, has_table};
+ghost use Rattle.index_sql_opening.specs.Names.{has_any_of, has_all_of};
 ghost use Rattle.index_sql_schema.specs.Schema.{index_schema};
 ghost use Rattle.index_sql_schema.specs.FirstVersion.{first_version_schema};
 

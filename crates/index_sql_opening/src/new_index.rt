@@ -4,8 +4,8 @@ ghost use Rattle.index_sql_schema.specs.CreateSteps.{IsStage};
 ghost use Rattle.index_sql_schema.specs.Index.{with_version_2};
 ghost use Rattle.index_sql_writes.specs.Transaction.{IsInTransaction, MakesInTransaction};
 ghost use Rattle.index_sql_opening.specs.NewAsks.{StepsFrom, asks_of_new, put_version_ask};
-ghost use Rattle.index_sql_opening.specs.Created.{one_user, one_version_row, IsBlank};
-ghost use Rattle.index_sql_opening.specs.Making.{MakesIndex};
+ghost use Rattle.index_sql_opening.specs.Created.{one_user, one_version_row};
+ghost use Rattle.index_sql_opening.specs.Making.{MakesNewIndex};
 
 use crate::tables::make_tables;
 use index_rules::{UserId, UserRecord};
@@ -48,8 +48,7 @@ pub fn fill_new<S: Alter>(
     account: &UserRecord,
 ) -> Result<(), Error>
     requires { conn.old.in_transaction ≡ false }
-    ensures made { MakesIndex S.Store IsBlank (λ _. one_user user.now account.now) one_version_row
-        (asks_of_new user.now account.now) conn.old conn.new result }
+    ensures made { MakesNewIndex S.Store user.now account.now conn.old conn.new result }
 {
     let mut tx = conn.transaction();
     make_all(&mut tx, user, account)?;

@@ -16,6 +16,7 @@ use Rattle.index_rules.specs.declared.answer.Fault.TheVariants as fault
 use Rattle.index_rules.specs.declared.rows.WalkEnd.{WalkEnd}
 use Rattle.index_rules.specs.declared.rows.WalkEnd.TheVariants.{Store}
 use Rattle.index_rules.specs.Walks.{Walks, has_fault}
+use Rattle.index_sql_reads.specs.Steps.{ConnectionStep, TakerStep}
 
 -- not each of these rows can be read, or there are more than a walk counts
 abbrev pub IsUnread : (Row → Type 0) → List Row → Type 0
@@ -60,19 +61,6 @@ module _ {S : Type 0} (g : Ghosts S) where
       × (fault_by error ≡ fault.Store))
       ⊎ IsUnread IsRow rows
 
-  -- what is left of the rows of a query was handed over
-  pub record HasHanded {K : Type 0} (IsRow : Row → Type 0) (takes stops : K → Row → K → Type 0)
-      (old new : Held S) (before after : K) (result : Result (Unit {0}) WalkEnd) : Type 0 where
-    pub rows : List Row
-    pub walks : Walks takes stops rows before after result
-    -- the connection as it was when the last of them had been given
-    pub last : Held S
-    pub gives : Gives old last rows
-    pub looks : IsLastLook last new result
-    pub reason : HasCleanDisk (state g new) → (sql : List ℕ) (params : Row)
-        → HasGiven g sql params last rows
-        → IfErr result (λ end. end ≡ Store → FailsAfter IsRow sql params last new rows)
-
   -- ---- what the rows have to do with the tables
 
   -- these rows are the answer of the query, or those that it had given where the walk ended early
@@ -90,10 +78,27 @@ module _ {S : Type 0} (g : Ghosts S) where
       (rows : List Row) × (at : Held S) × IsUnchanged (state g held) (state g at)
       × HasGiven g sql params at rows × IsUnread IsRow rows
 
-  -- on a clean disk a query and its walk ended by a fault of the store only for a reason of a look,
-  -- or since the first rows of its answer are not read
-  pub record QueryEndsForReason (IsRow : Row → Type 0) (sql : List ℕ) (params : Row)
-      (old new : Held S) (result : Result (Unit {0}) WalkEnd) : Type 0 where
-    pub reason : HasCleanDisk (state g new)
-        → IfErr result (λ end.
-        end ≡ Store → HasReason (state g old) (state g new) ⊎ GivesUnread IsRow sql params old)
+-- ---- what is said of a query and of a walk over its rows
+
+-- what is left of the rows of a query was handed over
+pub record HasHanded {S K : Type 0} (IsRow : Row → Type 0) (conn : ConnectionStep S)
+    (taker : TakerStep K Row) (result : Result (Unit {0}) WalkEnd) : Type 0 where
+  pub rows : List Row
+  pub walks : Walks taker.takes taker.stops rows taker.old taker.new result
+  -- the connection as it was when the last of them had been given
+  pub last : Held S
+  pub gives : Gives conn.store conn.old last rows
+  pub looks : IsLastLook conn.store last conn.new result
+  pub reason : HasCleanDisk (state conn.store conn.new) → (sql : List ℕ) (params : Row)
+      → HasGiven conn.store sql params last rows
+      → IfErr result (λ end. end ≡ Store
+      → FailsAfter conn.store IsRow sql params last conn.new rows)
+
+-- on a clean disk a query and its walk ended by a fault of the store only for a reason of a look,
+-- or since the first rows of its answer are not read
+pub record QueryEndsForReason {S : Type 0} (IsRow : Row → Type 0) (sql : List ℕ) (params : Row)
+    (conn : ConnectionStep S) (result : Result (Unit {0}) WalkEnd) : Type 0 where
+  pub reason : HasCleanDisk (state conn.store conn.new)
+      → IfErr result (λ end. end ≡ Store
+      → HasReason (state conn.store conn.old) (state conn.store conn.new)
+      ⊎ GivesUnread conn.store IsRow sql params conn.old)

@@ -2,6 +2,8 @@ pub mod ConnectionTables
 pub mod Finds
 pub mod Sealed
 pub mod UsualNames
-pub mod Seen
+pub mod Reads
+pub mod ProhibitedRow
+pub mod Steps
 pub mod Handed
 pub mod WalkReasons

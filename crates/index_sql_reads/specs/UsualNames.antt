@@ -2,7 +2,8 @@
 use Rattle.std.specs.Prelude.{ℕ, ◌∷◌, [], ◌++◌, if◌then◌else◌, map, nat_eq}
 use Rattle.index_rules.specs.Maps.{Bytes}
 
--- a byte of a project's normal name as a file name has it: an underscore stands for a hyphen (PEP 427, PEP 625)
+-- a byte of a project's normal name as a file name has it: an underscore stands for a hyphen (PEP
+-- 427, PEP 625)
 abbrev pub in_file_name : ℕ → ℕ
 in_file_name b = if nat_eq b 45 then 95 else b
 

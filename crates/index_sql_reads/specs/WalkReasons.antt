@@ -11,6 +11,7 @@ use Rattle.index_rules.specs.Walks.{Walks, has_fault}
 use Rattle.index_sql_schema.specs.Looks.{QueriesOnly}
 use Rattle.index_sql_schema.specs.RecordRows.{AreRecords}
 use Rattle.index_sql_reads.specs.ConnectionTables.{tables_of}
+use Rattle.index_sql_reads.specs.Steps.{ConnectionStep, TakerStep}
 
 -- on a clean disk, where all rows are those of records, a walk over these rows ends by `Store` only
 -- for a reason of a look, or since they are more than it counts
@@ -22,11 +23,12 @@ EndsForReason g old new rows result =
     (λ end. end ≡ Store → HasReason (state g old) (state g new) ⊎ (2 ^ 64 - 1 ≤ length rows))
 
 -- any walk hands over some rows, and on a clean disk those of the tables; these stay as they are
-pub record HandsRows {S K R A : Type 0} (g : Ghosts S) (takes stops : K → R → K → Type 0)
-    (rows_in : Tables → List R) (old new : Held S) (before after : K)
-    (result : Result A WalkEnd) : Type 0 where
-  pub walked : HasCleanDisk (state g new)
-      → Walks takes stops (rows_in (tables_of g old)) before after result
-  pub given : (rows : List R) × Walks takes stops rows before after result
-  pub looks : QueriesOnly g old new (not (has_fault result))
-  pub reason : EndsForReason g old new (rows_in (tables_of g old)) result
+pub record HandsRows {S K R A : Type 0} (rows_in : Tables → List R) (conn : ConnectionStep S)
+    (taker : TakerStep K R) (result : Result A WalkEnd) : Type 0 where
+  pub walked : let rows = rows_in (tables_of conn.store conn.old) in
+      HasCleanDisk (state conn.store conn.new)
+      → Walks taker.takes taker.stops rows taker.old taker.new result
+  pub given : (rows : List R) × Walks taker.takes taker.stops rows taker.old taker.new result
+  pub looks : QueriesOnly conn.store conn.old conn.new (not (has_fault result))
+  pub reason : let rows = rows_in (tables_of conn.store conn.old) in
+      EndsForReason conn.store conn.old conn.new rows result

@@ -8,16 +8,16 @@ ghost use Rattle.index_sql_schema.specs.Records.{body_in};
 ghost use Rattle.index_sql_schema.specs.Looks.{QueriesOnly};
 ghost use Rattle.index_sql_schema.specs.Reasons.{FailsForReason};
 ghost use Rattle.index_sql_schema.specs.RecordRows.{IsBodyRow};
-ghost use Rattle.index_sql_records.specs.Reads.{ReadsOwned};
+ghost use Rattle.index_sql_reads.specs.Reads.{ReadsOwned};
 ghost use Rattle.index_sql_reads.specs.Finds.{FindsInTables, Gets};
 ghost use Rattle.index_sql_reads.specs.ConnectionTables.{tables_of};
 ghost use Rattle.index_sql_reads.specs.Sealed.{digest_in, IsBoundTo};
 
-use crate::files::find_file;
+use crate::columns::blob;
+use crate::lookups::find_file;
 use index_digest::{Digest256, Sealed};
 use index_names::FileName;
 use index_rules::Fault;
-use index_sql_records::body;
 use index_sql_schema::statement_texts::SELECT_BODY;
 use index_sql_schema::{IndexConnection, look};
 use sqlite::{Alter, Row, params};
@@ -84,6 +84,13 @@ fn first_body(alloc: Global, rows: &[Row]) -> Result<Option<Vec<u8>>, Fault>
         Some(row) => Ok(Some(body(alloc, row)?)),
         None => Ok(None),
     }
+}
+
+/// The bytes in a row of blobs. `Store` if the column holds no blob.
+fn body(alloc: Global, row: &Row) -> Result<Vec<u8>, Fault>
+    ensures { ReadsOwned result (IsBodyRow row.now) (λ it. it.items ≡ body_in row.now) }
+{
+    Ok(Vec::from_slice(alloc, blob(row, 2)?)?)
 }
 
 /// The bytes under their digest. `Store` where they have another, or none is declared.

@@ -1,13 +1,20 @@
-//! Rows of an answer, read as values.
-ghost use Rattle.std.specs.Prelude.{◌≡◌, is_some, map, option_map, slice_get};
+//! Rows of an answer, read as records. A row is `Fault::Store` if it is no record, and `Fault::OutOfMemory` if there is no
+//! memory for what the record owns. Each column stands in the place that it has in its table, behind the rowid.
+ghost use Rattle.std.specs.Prelude.{◌≡◌, is_some, map, option_map, slice_get, IfOk, IsTrue};
 ghost use Rattle.std.specs.List.{AllByRecursion};
-ghost use Rattle.index_sql_records.specs.Reads.{ReadsOwned};
+ghost use Rattle.sqlite_value.specs.Order.{column};
+ghost use Rattle.index_sql_schema.specs.Records.{kind_by, name_in, number_in, project_in, tally_in, user_in};
+ghost use Rattle.index_sql_schema.specs.RecordRows.{IsBareRow, IsKind, IsNameRow, IsProjectRow, IsTallyRow, IsUserRow};
+ghost use Rattle.index_sql_reads.specs.ProhibitedRow.{empty_project};
+ghost use Rattle.index_sql_reads.specs.Reads.{ReadsRow, ReadsOwned};
 
-use index_rules::{
-    CaseRecord, Fault, FileRecord, FileRow, NameRecord, NameRow, UserId, UserRecord,
+use crate::columns::{
+    digest, file_name, flag, is_empty_text, is_null, is_zero, name, number, number_if_any, release,
+    text, text_if_any, user,
 };
-use index_sql_records::{
-    bearer, case_record, file_record, file_row, name_record, name_row, owner, reason, user_record,
+use index_retention::{CaseKind, CaseState};
+use index_rules::{
+    CaseRecord, Fault, FileRecord, FileRow, NameRecord, NameRow, Project, UserId, UserRecord,
 };
 use index_text::Text;
 use sqlite::Row;
@@ -62,9 +69,6 @@ pub fn has_row(rows: &[Row]) -> bool
 }
 
 impl FromRow for UserRecord {
-    ghost use Rattle.index_sql_schema.specs.Records.{user_in};
-    ghost use Rattle.index_sql_schema.specs.RecordRows.{IsUserRow};
-
     ghost stands_for = { user_in };
 
     ghost is_row = { IsUserRow };
@@ -74,7 +78,17 @@ impl FromRow for UserRecord {
     }
 }
 
-/// A user with its record.
+/// A row of users, which takes no memory. `Store` if the office's column isn't 0 or 1, or the token's is no blob of 32
+/// bytes.
+fn user_record(row: &Row) -> Result<UserRecord, Fault>
+    ensures { ReadsRow result (IsUserRow row.now) (λ it. it ≡ user_in row.now) }
+{
+    let office = flag(row, 2)?;
+    let token = digest(row, 3)?;
+    Ok(UserRecord { office, token })
+}
+
+/// A row of users, with its user.
 impl FromRow for (UserId, UserRecord) {
     ghost use Rattle.index_sql_schema.specs.ShownRows.{account_in};
     ghost use Rattle.index_sql_schema.specs.RecordRows.{IsAccountRow};
@@ -84,11 +98,13 @@ impl FromRow for (UserId, UserRecord) {
     ghost is_row = { IsAccountRow };
 
     fn from_row(alloc: Global, row: &Row) -> Result<(UserId, UserRecord), Fault> {
-        bearer(alloc, row)
+        let account = user_record(row)?;
+        let user = user(alloc, row, 1)?;
+        Ok((user, account))
     }
 }
 
-/// A user alone.
+/// The one column that is shown of a row of owners.
 impl FromRow for UserId {
     ghost use Rattle.index_sql_schema.specs.ShownRows.{user_shown};
     ghost use Rattle.index_sql_schema.specs.RecordRows.{IsOwnerRow};
@@ -98,14 +114,11 @@ impl FromRow for UserId {
     ghost is_row = { IsOwnerRow };
 
     fn from_row(alloc: Global, row: &Row) -> Result<UserId, Fault> {
-        owner(alloc, row)
+        user(alloc, row, 0)
     }
 }
 
 impl FromRow for NameRecord {
-    ghost use Rattle.index_sql_schema.specs.Records.{name_in};
-    ghost use Rattle.index_sql_schema.specs.RecordRows.{IsNameRow};
-
     ghost stands_for = { name_in };
 
     ghost is_row = { IsNameRow };
@@ -115,7 +128,48 @@ impl FromRow for NameRecord {
     }
 }
 
-/// A name with its record.
+/// A row of names. `Store` if the state is neither 1 (held) nor 2 (prohibited), if the numbers of a held name don't fit
+/// together, or if a prohibited one has any.
+fn name_record(alloc: Global, row: &Row) -> Result<NameRecord, Fault>
+    ensures read { ReadsOwned result (IsNameRow row.now) (λ it. it ≡ name_in row.now) }
+    ensures bare { IfOk result (λ it. it ≡ NameRecord.Prohibited
+        → project_in row.now ≡ empty_project) }
+{
+    match number(row, 2)? {
+        1 => Ok(NameRecord::Held(project(alloc, row)?)),
+        2 if is_empty_project(row) => Ok(NameRecord::Prohibited),
+        _ => Err(Fault::Store),
+    }
+}
+
+/// The row of a held name. `Store` where its numbers don't fit together.
+fn project(alloc: Global, row: &Row) -> Result<Project, Fault>
+    ensures { ReadsOwned result (IsProjectRow row.now) (λ it. it ≡ project_in row.now) }
+{
+    let quota = number(row, 4)?;
+    let charge = number(row, 5)?;
+    let undeleted = number(row, 6)?;
+    let last_upload = number_if_any(row, 7)?;
+    let shown = text(alloc, row, 3)?;
+    match Project::from_parts(shown, quota, charge, undeleted, last_upload) {
+        Some(project) => Ok(project),
+        None => Err(Fault::Store),
+    }
+}
+
+/// Whether the row of a name has nothing of a held one.
+fn is_empty_project(row: &Row) -> bool
+    ensures bare { IsTrue result → project_in row.now ≡ empty_project }
+    ensures complete { IsBareRow row.now → IsTrue result }
+{
+    is_empty_text(row, 3)
+        && is_zero(row, 4)
+        && is_zero(row, 5)
+        && is_zero(row, 6)
+        && is_null(row, 7)
+}
+
+/// A row of names, with its name.
 impl FromRow for NameRow {
     ghost use Rattle.index_sql_schema.specs.ShownRows.{name_row_in};
     ghost use Rattle.index_sql_schema.specs.RecordRows.{IsNamedRow};
@@ -125,7 +179,9 @@ impl FromRow for NameRow {
     ghost is_row = { IsNamedRow };
 
     fn from_row(alloc: Global, row: &Row) -> Result<NameRow, Fault> {
-        name_row(alloc, row)
+        let name = name(alloc, row, 1)?;
+        let record = name_record(alloc, row)?;
+        Ok(NameRow { name, record })
     }
 }
 
@@ -138,7 +194,51 @@ impl FromRow for CaseRecord {
     ghost is_row = { IsCaseRow };
 
     fn from_row(alloc: Global, row: &Row) -> Result<CaseRecord, Fault> {
-        case_record(alloc, row)
+        let kind = case_kind(row)?;
+        let opened = number(row, 7)?;
+        let state = case_state(row)?;
+        let candidate = user(alloc, row, 3)?;
+        let contact = text(alloc, row, 4)?;
+        let work = text(alloc, row, 5)?;
+        let why = text(alloc, row, 6)?;
+        Ok(CaseRecord {
+            kind,
+            candidate,
+            contact,
+            work,
+            why,
+            opened,
+            state,
+        })
+    }
+}
+
+/// The kind of a case by the number in its row; any other number is a fault of the store.
+fn case_kind(row: &Row) -> Result<CaseKind, Fault>
+    ensures { ReadsRow result (IsKind (column row.now 2))
+        (λ it. it ≡ kind_by (number_in (column row.now 2))) }
+{
+    match number(row, 2)? {
+        1 => Ok(CaseKind::Continue),
+        2 => Ok(CaseKind::Reuse),
+        _ => Err(Fault::Store),
+    }
+}
+
+/// The attempts of a row of cases. `Store` where more than 1,000 are recorded, where more are sent than recorded, or where
+/// there is a first moment and none was sent, or none and one was.
+fn case_state(row: &Row) -> Result<CaseState, Fault>
+    ensures { ReadsRow result (IsTallyRow row.now) (λ it. it ≡ tally_in row.now) }
+{
+    let attempts = number(row, 8)?;
+    let sent = number(row, 9)?;
+    let profile = flag(row, 10)?;
+    let author = flag(row, 11)?;
+    let pages = flag(row, 12)?;
+    let first = number_if_any(row, 13)?;
+    match CaseState::from_parts(attempts, sent, profile, author, pages, first) {
+        Some(state) => Ok(state),
+        None => Err(Fault::Store),
     }
 }
 
@@ -151,11 +251,24 @@ impl FromRow for FileRecord {
     ghost is_row = { IsFileRow };
 
     fn from_row(alloc: Global, row: &Row) -> Result<FileRecord, Fault> {
-        file_record(alloc, row)
+        let digest = digest(row, 4)?;
+        let size = number(row, 5)?;
+        let is_undeleted = flag(row, 7)?;
+        let project = name(alloc, row, 2)?;
+        let release = release(alloc, row, 3)?;
+        let requires_python = text(alloc, row, 6)?;
+        Ok(FileRecord {
+            project,
+            release,
+            digest,
+            size,
+            requires_python,
+            is_undeleted,
+        })
     }
 }
 
-/// A file with its record, and the reason of its yank.
+/// A row of files with its name, and behind it the reason of its yank, or NULL.
 impl FromRow for FileRow {
     ghost use Rattle.index_sql_schema.specs.ShownRows.{file_row_shown};
     ghost use Rattle.index_sql_schema.specs.RecordRows.{IsListedRow};
@@ -165,11 +278,24 @@ impl FromRow for FileRow {
     ghost is_row = { IsListedRow };
 
     fn from_row(alloc: Global, row: &Row) -> Result<FileRow, Fault> {
-        file_row(alloc, row)
+        let digest = digest(row, 4)?;
+        let size = number(row, 5)?;
+        let file = file_name(alloc, row, 1)?;
+        let release = release(alloc, row, 3)?;
+        let requires_python = text(alloc, row, 6)?;
+        let yanked = text_if_any(alloc, row, 8)?;
+        Ok(FileRow {
+            file,
+            release,
+            digest,
+            size,
+            requires_python,
+            yanked,
+        })
     }
 }
 
-/// The reason of a yank.
+/// The reason in a row of yanks. It may be empty.
 impl FromRow for Text {
     ghost use Rattle.index_sql_schema.specs.Records.{reason_in};
     ghost use Rattle.index_sql_schema.specs.RecordRows.{IsYankRow};
@@ -179,6 +305,6 @@ impl FromRow for Text {
     ghost is_row = { IsYankRow };
 
     fn from_row(alloc: Global, row: &Row) -> Result<Text, Fault> {
-        reason(alloc, row)
+        text(alloc, row, 3)
     }
 }

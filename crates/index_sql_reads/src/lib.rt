@@ -2,18 +2,13 @@
 #![tactic(auto)]
 
 mod body;
-mod by_optional_key;
-mod files;
+mod columns;
 mod from_row;
-mod hand;
-mod lists;
-mod projects;
-mod rows;
-mod users;
+mod lookups;
 mod views;
 mod walk;
 
 pub use body::find_body;
-pub use lists::{files_of, names, owners_of};
+pub use lookups::{files_of, is_held, names};
 pub use views::view;
 pub use walk::{walk_files, walk_held};

@@ -1,46 +1,25 @@
-//! What the tables have at the keys of a call.
-ghost use Rattle.index_rules.specs.declared.keys.Keys.{Keys as KeysData};
-ghost use Rattle.index_rules.specs.Tables.{Tables};
-ghost use Rattle.index_rules.specs.Facts.{Sees};
-ghost use Rattle.index_sql_reads.specs.Finds.{FindsInTables};
-ghost use Rattle.index_sql_reads.specs.Seen.{SeesFiles, SeesName, SeesUsers};
+//! What the tables have at the keys of a call. A call may lack a key, and then nothing is looked up for it.
+ghost use Rattle.std.specs.Prelude.{false, option_and_then, Some};
+ghost use Rattle.std.specs.Option.{option_map_or};
+ghost use Rattle.std.specs.FinMap.{get};
+ghost use Rattle.index_rules.specs.Facts.{IsBearerAs, Sees, at_both, caller_of, has_release_in, is_banned_in, of_both, yank_in};
+ghost use Rattle.index_rules.specs.Seen.{SeesFiles, SeesName, SeesUsers};
+ghost use Rattle.index_sql_reads.specs.Finds.{FindsInTables, Gets};
 
-use crate::by_optional_key::{
-    ban_at, bearer_at, caller_at, case_at, file_at, name_at, owners_at, release_at, user_at,
-    yank_at,
+use crate::lookups::{
+    find_bearer, find_case, find_file, find_name, find_user, find_yank, has_release, is_banned,
+    owners_of,
 };
+use index_digest::Digest256;
+use index_names::{FileName, NormalName, Release};
 use index_rules::{
-    Caller, CaseRecord, Fault, FileRecord, Keys, NameRecord, Owners, UserId, UserRecord, View,
+    Caller, Fault, FileRecord, FilesSeen, Keys, NameSeen, Owners, UserId, UserRecord, UsersSeen,
+    View,
 };
 use index_sql_schema::IndexConnection;
 use index_text::Text;
 use sqlite::Alter;
 use std::alloc::Global;
-
-/// What the tables have of users.
-#[derive(Drop)]
-pub struct UsersSeen {
-    caller: Option<Caller>,
-    user: Option<UserRecord>,
-    bearer: Option<UserId>,
-}
-
-/// What they have of the name.
-#[derive(Drop)]
-pub struct NameSeen {
-    name: Option<NameRecord>,
-    owners: Owners,
-    case: Option<CaseRecord>,
-}
-
-/// What they have of the file and the release.
-#[derive(Drop)]
-pub struct FilesSeen {
-    file: Option<FileRecord>,
-    is_banned: bool,
-    yank: Option<Text>,
-    has_release: bool,
-}
 
 /// The records that the keys name.
 ///
@@ -56,7 +35,7 @@ pub fn view<S: Alter>(
 {
     let users = see_users(alloc, conn, keys)?;
     let (files, name) = see_project(alloc, conn, keys)?;
-    Ok(view_of(users, files, name))
+    Ok(View::from_parts(users, name, files))
 }
 
 /// The caller, the user whom the call names and the bearer of the token that it brings.
@@ -84,10 +63,10 @@ fn see_project<S: Alter>(
     keys: &Keys,
 ) -> Result<(FilesSeen, NameSeen), Fault>
     ensures { FindsInTables S.Store conn.old conn.new result
-        (λ T seen. SeesFiles T keys.now seen.0 × SeesName T keys.now seen.1) }
+        (λ T seen. SeesFiles T keys.now seen.0 × SeesName T keys.now.name seen.1) }
 {
     let files = see_files(alloc, conn, keys)?;
-    let name = see_name(alloc, conn, keys)?;
+    let name = see_name(alloc, conn, &keys.name)?;
     Ok((files, name))
 }
 
@@ -111,47 +90,149 @@ fn see_files<S: Alter>(
     })
 }
 
-/// The record, the owners and the case of the name that the call speaks of.
+/// The record, the owners and the case of the name, if the call speaks of one.
 fn see_name<S: Alter>(
     alloc: Global,
     conn: &mut IndexConnection<S>,
-    keys: &Keys,
+    name: &Option<NormalName>,
 ) -> Result<NameSeen, Fault>
-    ensures { FindsInTables S.Store conn.old conn.new result (λ T. SeesName T keys.now) }
+    ensures { FindsInTables S.Store conn.old conn.new result (λ T. SeesName T name.now) }
 {
-    let owners = owners_at(alloc, conn, &keys.name)?;
-    let name = name_at(alloc, conn, &keys.name)?;
-    let case = case_at(alloc, conn, &keys.name)?;
-    Ok(NameSeen { name, owners, case })
+    match name {
+        Some(name) => see_one_name(alloc, conn, name),
+        None => Ok(NameSeen {
+            name: None,
+            owners: Owners::new(Vec::new(alloc)),
+            case: None,
+        }),
+    }
 }
 
-/// The parts as one.
-fn view_of(users: UsersSeen, files: FilesSeen, name: NameSeen) -> View
-    ensures { (T : Tables) (k : KeysData) → SeesUsers T k users → SeesFiles T k files →
-        SeesName T k name → Sees T k result }
+/// The record, the owners and the case of a name.
+fn see_one_name<S: Alter>(
+    alloc: Global,
+    conn: &mut IndexConnection<S>,
+    name: &NormalName,
+) -> Result<NameSeen, Fault>
+    ensures { FindsInTables S.Store conn.old conn.new result (λ T. SeesName T (Some name.now)) }
 {
-    let UsersSeen {
-        caller,
-        user,
-        bearer,
-    } = users;
-    let FilesSeen {
-        file,
-        is_banned,
-        yank,
-        has_release,
-    } = files;
-    let NameSeen { name, owners, case } = name;
-    View {
-        caller,
-        user,
-        bearer,
-        name,
+    let owners = owners_of(alloc, conn, name)?;
+    let record = find_name(alloc, conn, name)?;
+    let case = find_case(alloc, conn, name)?;
+    Ok(NameSeen {
+        name: record,
         owners,
-        file,
-        is_banned,
-        yank,
-        has_release,
         case,
+    })
+}
+
+// ---- one part each
+
+/// Who bears the token, as the caller of a call.
+fn caller_at<S: Alter>(
+    alloc: Global,
+    conn: &mut IndexConnection<S>,
+    token: Option<Digest256>,
+) -> Result<Option<Caller>, Fault>
+    ensures { FindsInTables S.Store conn.old conn.new result (λ T. IsBearerAs caller_of T token) }
+{
+    let Some(token) = token else {
+        return Ok(None);
+    };
+    match find_bearer(alloc, conn, token)? {
+        Some((user, account)) => Ok(Some(Caller {
+            user,
+            office: account.office,
+        })),
+        None => Ok(None),
+    }
+}
+
+/// Who bears the token.
+fn bearer_at<S: Alter>(
+    alloc: Global,
+    conn: &mut IndexConnection<S>,
+    token: Option<Digest256>,
+) -> Result<Option<UserId>, Fault>
+    ensures { FindsInTables S.Store conn.old conn.new result
+        (λ T. IsBearerAs (λ user. user.0) T token) }
+{
+    let Some(token) = token else {
+        return Ok(None);
+    };
+    match find_bearer(alloc, conn, token)? {
+        Some((user, _)) => Ok(Some(user)),
+        None => Ok(None),
+    }
+}
+
+/// The record of the user.
+fn user_at<S: Alter>(
+    alloc: Global,
+    conn: &mut IndexConnection<S>,
+    user: &Option<UserId>,
+) -> Result<Option<UserRecord>, Fault>
+    ensures { Gets S.Store conn.old conn.new result (λ T. option_and_then (get T.users) user.now) }
+{
+    match user {
+        Some(user) => find_user(alloc, conn, user),
+        None => Ok(None),
+    }
+}
+
+/// The record of the file.
+fn file_at<S: Alter>(
+    alloc: Global,
+    conn: &mut IndexConnection<S>,
+    file: &Option<FileName>,
+) -> Result<Option<FileRecord>, Fault>
+    ensures { Gets S.Store conn.old conn.new result (λ T. option_and_then (get T.files) file.now) }
+{
+    match file {
+        Some(file) => find_file(alloc, conn, file),
+        None => Ok(None),
+    }
+}
+
+/// Whether the file is banned.
+fn ban_at<S: Alter>(conn: &mut IndexConnection<S>, file: &Option<FileName>) -> Result<bool, Fault>
+    ensures { Gets S.Store conn.old conn.new result
+        (λ T. option_map_or (is_banned_in T) file.now false) }
+{
+    match file {
+        Some(file) => is_banned(conn, file),
+        None => Ok(false),
+    }
+}
+
+/// Why the release of the name is yanked, where it is.
+fn yank_at<S: Alter>(
+    alloc: Global,
+    conn: &mut IndexConnection<S>,
+    name: &Option<NormalName>,
+    release: &Option<Release>,
+) -> Result<Option<Text>, Fault>
+    ensures { Gets S.Store conn.old conn.new result
+        (λ T. at_both (yank_in T) name.now release.now) }
+{
+    match (name, release) {
+        (Some(name), Some(release)) => find_yank(alloc, conn, name, release),
+        _ => Ok(None),
+    }
+}
+
+/// Whether the name has an undeleted file of the release.
+fn release_at<S: Alter>(
+    alloc: Global,
+    conn: &mut IndexConnection<S>,
+    name: &Option<NormalName>,
+    release: &Option<Release>,
+) -> Result<bool, Fault>
+    ensures { Gets S.Store conn.old conn.new result
+        (λ T. of_both (has_release_in T) name.now release.now) }
+{
+    match (name, release) {
+        (Some(name), Some(release)) => has_release(alloc, conn, name, release),
+        _ => Ok(false),
     }
 }

@@ -16,11 +16,15 @@ use Rattle.index_sql_schema.specs.Schema.{blobs_at, yanks_at, cases_at, bans_at,
 
 -- the texts in their order
 abbrev pub all_texts : List (List ℕ)
-all_texts = meta_text ∷ users_text ∷ names_text ∷ owners_text ∷ files_text ∷ blobs_text ∷ yanks_text ∷ cases_text ∷ bans_text ∷ []
+all_texts =
+    meta_text ∷ users_text ∷ names_text ∷ owners_text ∷ files_text
+    ∷ blobs_text ∷ yanks_text ∷ cases_text ∷ bans_text ∷ []
 
 -- the tables in the same order, where none has its tree yet
 abbrev pub all_tables : List Table
-all_tables = meta_at 0 ∷ users_at 0 ∷ names_at 0 ∷ owners_at 0 ∷ files_at 0 ∷ blobs_at 0 ∷ yanks_at 0 ∷ cases_at 0 ∷ bans_at 0 ∷ []
+all_tables =
+    meta_at 0 ∷ users_at 0 ∷ names_at 0 ∷ owners_at 0 ∷ files_at 0
+    ∷ blobs_at 0 ∷ yanks_at 0 ∷ cases_at 0 ∷ bans_at 0 ∷ []
 
 -- a schema with the first so many of the tables made
 abbrev pub made : Schema → List Table → ℕ → Schema
@@ -42,4 +46,13 @@ pub record IsStage (n : ℕ) (s : State) : Type 0 where
 
 -- tables with nothing in them
 abbrev pub no_tables : Tables
-no_tables = record { users = empty; names = empty; owners = empty; files = empty; bodies = empty; yanks = empty; cases = empty; bans = empty }
+no_tables = record {
+  users = empty;
+  names = empty;
+  owners = empty;
+  files = empty;
+  bodies = empty;
+  yanks = empty;
+  cases = empty;
+  bans = empty;
+}

@@ -11,13 +11,18 @@ use Rattle.index_sql_schema.specs.Index.{AreRows, IsIndex}
 
 -- the schema without its last table and the key of that
 abbrev pub first_version_schema : Schema
-first_version_schema = record { tables = take 8 index_schema.tables; indexes = take 9 index_schema.indexes; views = index_schema.views }
+first_version_schema = record {
+  tables = take 8 index_schema.tables;
+  indexes = take 9 index_schema.indexes;
+  views = index_schema.views;
+}
 
 -- a database that keeps the rules of that schema
 pub record IsFirstVersion (db : Database) : Type 0 where
   pub schema : db.schema ≡ first_version_schema
   pub sound : IsDatabase db
-  pub numbered : AllByRecursion (λ (t : Table). AreRows (db.trees t.tree)) first_version_schema.tables
+  pub numbered :
+      AllByRecursion (λ (t : Table). AreRows (db.trees t.tree)) first_version_schema.tables
 
 -- an index of either version
 abbrev pub IsAnyVersion : Database → Type 0

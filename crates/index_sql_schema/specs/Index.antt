@@ -72,7 +72,7 @@ with_version_2 rows = put_all rows (version_row 2 ∷ [])
 abbrev pub as_version_2 : Row → Row
 as_version_2 r = Int (rowid_in r) ∷ Null ∷ Text (bytes (column r 2)) ∷ Int (pos 2) ∷ []
 
--- these rows of meta, where that with id 1 is put back with version 2, and the others are as they were
+-- these rows of meta, where that with id 1 is put back with version 2, and the others stay
 abbrev pub raised : List Row → List Row
 raised rows = put_all (delete_where is_first rows) (map as_version_2 (filter is_first rows))
 
@@ -81,7 +81,10 @@ pub raised_row : raised (version_row 1 ∷ []) ≡ version_row 2 ∷ []
 raised_row = refl
 
 -- an index after a statement, which made this of the tables, and this of the rows of meta
-pub record Rewrites (change : Tables → Tables) (rows : List Row → List Row) (old new : Database) : Type 0 where
+pub record Rewrites
+    (change : Tables → Tables)
+    (rows : List Row → List Row)
+    (old new : Database) : Type 0 where
   pub tables : tables_in new.trees ≡ change (tables_in old.trees)
   pub index : IsIndex new
   pub meta : meta_in new.trees ≡ rows (meta_in old.trees)

@@ -5,23 +5,40 @@ use Rattle.sqlite.specs.Held.{Held, state}
 use Rattle.sqlite.specs.State.{HasCleanDisk, Survives}
 use Rattle.index_sql_schema.specs.Index.{IsIndex, version_in}
 
--- it is in no transaction; on a clean disk, where it is open, it is an index that tells version 2, and all of it is committed
+-- it is in no transaction; on a clean disk, where it is open, it is an index that tells version 2,
+-- and all of it is committed
 pub record IsIndexConnection {S : Type 0} (g : Ghosts S) (held : Held S) : Type 0 where
   pub outside : held.in_transaction ≡ false
-  pub index : HasCleanDisk (state g held) → IsTrue (state g held).is_open → IsIndex (state g held).now
-  pub committed : HasCleanDisk (state g held) → IsTrue (state g held).is_open → (state g held).now ≡ (state g held).committed
-  pub version : HasCleanDisk (state g held) → IsTrue (state g held).is_open → version_in (state g held).now.trees ≡ Some 2
+  pub index : HasCleanDisk (state g held)
+      → IsTrue (state g held).is_open
+      → IsIndex (state g held).now
+  pub committed : HasCleanDisk (state g held)
+      → IsTrue (state g held).is_open
+      → (state g held).now ≡ (state g held).committed
+  pub version : HasCleanDisk (state g held)
+      → IsTrue (state g held).is_open
+      → version_in (state g held).now.trees ≡ Some 2
 
--- A look, or several, of which `did` says that they succeeded. Each fact but the first two is one of a clean disk.
+-- A look, or several, of which `did` says that they succeeded. Each fact but the first two is one
+-- of a clean disk.
 pub record QueriesOnly {S : Type 0} (g : Ghosts S) (old new : Held S) (did : Bool) : Type 0 where
   pub outside : old.in_transaction ≡ false → new.in_transaction ≡ false
   pub was_clean : HasCleanDisk (state g new) → HasCleanDisk (state g old)
   -- it is open only if it was, and then it holds what it held
-  pub was_open : HasCleanDisk (state g new) → IsTrue (state g new).is_open → IsTrue (state g old).is_open
-  pub now_is : HasCleanDisk (state g new) → IsTrue (state g new).is_open → (state g new).now ≡ (state g old).now
-  pub committed_is : HasCleanDisk (state g new) → IsTrue (state g new).is_open → (state g new).committed ≡ (state g old).committed
+  pub was_open : HasCleanDisk (state g new)
+      → IsTrue (state g new).is_open
+      → IsTrue (state g old).is_open
+  pub now_is : HasCleanDisk (state g new)
+      → IsTrue (state g new).is_open
+      → (state g new).now ≡ (state g old).now
+  pub committed_is : HasCleanDisk (state g new)
+      → IsTrue (state g new).is_open
+      → (state g new).committed ≡ (state g old).committed
   -- a look that succeeds leaves it open if it was, and what it holds, open or not
-  pub lasts : IsTrue did → HasCleanDisk (state g new) → IsTrue (state g old).is_open → IsTrue (state g new).is_open
+  pub lasts : IsTrue did
+      → HasCleanDisk (state g new)
+      → IsTrue (state g old).is_open
+      → IsTrue (state g new).is_open
   pub same : IsTrue did → HasCleanDisk (state g new) → (state g new).now ≡ (state g old).now
   -- a crash leaves nothing that it did not leave before, open or not
   pub survives : Survives (state g old) (state g new) (λ _. ⊥)

@@ -8,14 +8,19 @@ use Rattle.index_rules.specs.declared.answer.Fault.{Fault}
 use Rattle.index_rules.specs.declared.answer.Fault.TheVariants.{Store}
 use Rattle.index_sql_schema.specs.RecordRows.{AreRecords}
 
--- the disk had a fault since, the connection was shut before, or the steps of its queries are limited
+-- the disk had a fault since, the connection was shut before, or its queries' steps are limited
 abbrev pub HasReason : State → State → Type 0
-HasReason old new = MoreFaults old.faults new.faults ⊎ ((old.is_open ≡ false) ⊎ IsSome old.step_limit)
+HasReason old new =
+    MoreFaults old.faults new.faults ⊎ ((old.is_open ≡ false) ⊎ IsSome old.step_limit)
 
 -- it answers `Store` only for such a reason
 abbrev pub StoreForReason : {S A : Type 0} → Ghosts S → Held S → Held S → Result A Fault → Type 0
-StoreForReason g old new result = IfErr result (λ fault. fault ≡ Store → HasReason (state g old) (state g new))
+StoreForReason g old new result =
+    IfErr result (λ fault. fault ≡ Store → HasReason (state g old) (state g new))
 
 -- so it does on a clean disk, where all rows are those of records
 abbrev pub FailsForReason : {S A : Type 0} → Ghosts S → Held S → Held S → Result A Fault → Type 0
-FailsForReason g old new result = HasCleanDisk (state g new) → AreRecords (state g old).now → StoreForReason g old new result
+FailsForReason g old new result =
+    HasCleanDisk (state g new)
+    → AreRecords (state g old).now
+    → StoreForReason g old new result

@@ -91,7 +91,8 @@ pub record IsBareRow (r : Row) : Type 0 where
 
 -- a row of names: 1 is held, and 2 is prohibited
 abbrev pub IsNameRow : Row → Type 0
-IsNameRow r = ((column r 2 ≡ Int (pos 1)) × IsProjectRow r) ⊎ ((column r 2 ≡ Int (pos 2)) × IsBareRow r)
+IsNameRow r =
+    ((column r 2 ≡ Int (pos 1)) × IsProjectRow r) ⊎ ((column r 2 ≡ Int (pos 2)) × IsBareRow r)
 
 -- a row of files
 pub record IsFileRow (r : Row) : Type 0 where
@@ -191,7 +192,8 @@ pub record IsOpenedRow (r : Row) : Type 0 where
 abbrev pub IsBannedRow : Row → Type 0
 IsBannedRow r = IsFileText (column r 1)
 
--- the row of a table with this tree is that of a record with its key; of meta, whose rows are none, nothing is asked
+-- the row of a table with this tree is that of a record with its key; of meta, whose rows are none,
+-- nothing is asked
 abbrev pub IsRecordIn : ℕ → Row → Type 0
 IsRecordIn tree r =
     MatchBool (tree == 1) (IsAccountRow r)

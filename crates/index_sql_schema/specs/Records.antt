@@ -1,4 +1,5 @@
--- What the rows of the tables stand for, column by column. A row that is no record stands for one all the same.
+-- What the rows of the tables stand for, column by column. A row that is no record stands for one
+-- all the same.
 use Rattle.std.specs.Prelude.{ℕ, pos, ◌==◌, if◌then◌else◌, Option, Some, None}
 use Rattle.sqlite_value.specs.declared.value.Value.{Value}
 use Rattle.sqlite_value.specs.declared.value.Value.TheVariants.{Null, Int}

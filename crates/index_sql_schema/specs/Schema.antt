@@ -18,11 +18,25 @@ use Rattle.sqlite_sql.specs.declared.ops.CompareOp.TheVariants.{Ge, Le}
 
 -- a column that takes values of its type alone and no NULL
 abbrev pub needed : List ℕ → Kind → Column
-needed name kind = record { name = name; kind = kind; is_strict = true; not_null = true; default = Null; collation = Binary }
+needed name kind = record {
+  name = name;
+  kind = kind;
+  is_strict = true;
+  not_null = true;
+  default = Null;
+  collation = Binary;
+}
 
 -- a column of one type that also takes NULL
 abbrev pub optional : List ℕ → Kind → Column
-optional name kind = record { name = name; kind = kind; is_strict = true; not_null = false; default = Null; collation = Binary }
+optional name kind = record {
+  name = name;
+  kind = kind;
+  is_strict = true;
+  not_null = false;
+  default = Null;
+  collation = Binary;
+}
 
 -- no value is computed from the time
 abbrev pub no_stamps : Stamps
@@ -30,11 +44,25 @@ no_stamps = record { places = []; terms = []; formats = [] }
 
 -- the column at a place refers to a table, and its row goes with the row that it refers to
 abbrev pub cascades_to : ℕ → List ℕ → List ℕ → Reference
-cascades_to place parent column = record { columns = place ∷ []; parent = parent; parent_columns = column ∷ []; on_delete = Cascade; on_update = NoAction; is_deferred = false }
+cascades_to place parent column = record {
+  columns = place ∷ [];
+  parent = parent;
+  parent_columns = column ∷ [];
+  on_delete = Cascade;
+  on_update = NoAction;
+  is_deferred = false;
+}
 
 -- the column at a place refers to a table, whose row can't go as long as this one is there
 abbrev pub refers_to : ℕ → List ℕ → List ℕ → Reference
-refers_to place parent column = record { columns = place ∷ []; parent = parent; parent_columns = column ∷ []; on_delete = NoAction; on_update = NoAction; is_deferred = false }
+refers_to place parent column = record {
+  columns = place ∷ [];
+  parent = parent;
+  parent_columns = column ∷ [];
+  on_delete = NoAction;
+  on_update = NoAction;
+  is_deferred = false;
+}
 
 -- a table whose primary key has these places and an index of its own
 abbrev pub keyed : List ℕ → ℕ → List Column → List ℕ → List Reference → Table
@@ -58,7 +86,11 @@ abbrev pub meta_at : ℕ → Table
 meta_at tree = record {
   name = codes "meta";
   tree = tree;
-  columns = optional (codes "id") Integer ∷ needed (codes "kind") Text ∷ needed (codes "version") Integer ∷ [];
+  columns =
+      optional (codes "id") Integer
+      ∷ needed (codes "kind") Text
+      ∷ needed (codes "version") Integer
+      ∷ [];
   key = Some 0;
   primary = 0 ∷ [];
   uniques = [];
@@ -75,7 +107,11 @@ abbrev pub users_at : ℕ → Table
 users_at tree = record {
   name = codes "users";
   tree = tree;
-  columns = needed (codes "user") Text ∷ needed (codes "office") Integer ∷ needed (codes "token") Blob ∷ [];
+  columns =
+      needed (codes "user") Text
+      ∷ needed (codes "office") Integer
+      ∷ needed (codes "token") Blob
+      ∷ [];
   key = None;
   primary = 1 ∷ [];
   uniques = (1 ∷ []) ∷ (3 ∷ []) ∷ [];
@@ -89,49 +125,93 @@ users_at tree = record {
 
 -- the charge is from 0 to the quota
 abbrev pub charge_check : Term
-charge_check = op2 And (op2 (Compare Ge Binary) (col 1 5) (lit (Int (pos 0)))) (op2 (Compare Le Binary) (col 1 5) (col 1 4))
+charge_check =
+    op2 And
+    (op2 (Compare Ge Binary) (col 1 5) (lit (Int (pos 0))))
+    (op2 (Compare Le Binary) (col 1 5) (col 1 4))
 
 -- found by the name
 abbrev pub names_at : ℕ → Table
 names_at tree =
     record (keyed (codes "names") tree
-    (needed (codes "name") Text ∷ needed (codes "state") Integer ∷ needed (codes "shown") Text ∷ needed (codes "quota") Integer ∷ needed (codes "charged") Integer ∷ needed (codes "live") Integer ∷ optional (codes "last_upload") Integer ∷ [])
+    (needed (codes "name") Text
+    ∷ needed (codes "state") Integer
+    ∷ needed (codes "shown") Text
+    ∷ needed (codes "quota") Integer
+    ∷ needed (codes "charged") Integer
+    ∷ needed (codes "live") Integer
+    ∷ optional (codes "last_upload") Integer
+    ∷ [])
     (1 ∷ []) []) { checks = charge_check ∷ [] }
 
 -- found by the name and the user
 abbrev pub owners_at : ℕ → Table
 owners_at tree =
-    keyed (codes "owners") tree (needed (codes "name") Text ∷ needed (codes "user") Text ∷ []) (1 ∷ 2 ∷ [])
+    keyed (codes "owners") tree
+    (needed (codes "name") Text ∷ needed (codes "user") Text ∷ [])
+    (1 ∷ 2 ∷ [])
     (cascades_to 1 (codes "names") (codes "name") ∷ refers_to 2 (codes "users") (codes "user") ∷ [])
 
 -- found by the file, and by the name and the file
 abbrev pub files_at : ℕ → Table
 files_at tree =
     record (keyed (codes "files") tree
-    (needed (codes "file") Text ∷ needed (codes "name") Text ∷ needed (codes "rel") Text ∷ needed (codes "digest") Blob ∷ needed (codes "size") Integer ∷ needed (codes "requires") Text ∷ needed (codes "live") Integer ∷ [])
+    (needed (codes "file") Text
+    ∷ needed (codes "name") Text
+    ∷ needed (codes "rel") Text
+    ∷ needed (codes "digest") Blob
+    ∷ needed (codes "size") Integer
+    ∷ needed (codes "requires") Text
+    ∷ needed (codes "live") Integer
+    ∷ [])
     (1 ∷ []) []) { uniques = (1 ∷ []) ∷ (2 ∷ 1 ∷ []) ∷ []; orders = plain ∷ plain ∷ [] }
 
 -- found by the file
 abbrev pub blobs_at : ℕ → Table
-blobs_at tree = keyed (codes "blobs") tree (needed (codes "file") Text ∷ needed (codes "body") Blob ∷ []) (1 ∷ []) (refers_to 1 (codes "files") (codes "file") ∷ [])
+blobs_at tree =
+    keyed (codes "blobs") tree
+    (needed (codes "file") Text ∷ needed (codes "body") Blob ∷ [])
+    (1 ∷ [])
+    (refers_to 1 (codes "files") (codes "file") ∷ [])
 
 -- found by the name and the release
 abbrev pub yanks_at : ℕ → Table
 yanks_at tree =
-    keyed (codes "yanks") tree (needed (codes "name") Text ∷ needed (codes "rel") Text ∷ needed (codes "reason") Text ∷ []) (1 ∷ 2 ∷ [])
+    keyed (codes "yanks") tree
+    (needed (codes "name") Text ∷ needed (codes "rel") Text ∷ needed (codes "reason") Text ∷ [])
+    (1 ∷ 2 ∷ [])
     (cascades_to 1 (codes "names") (codes "name") ∷ [])
 
 -- found by the name
 abbrev pub cases_at : ℕ → Table
 cases_at tree =
     keyed (codes "cases") tree
-    (needed (codes "name") Text ∷ needed (codes "kind") Integer ∷ needed (codes "candidate") Text ∷ needed (codes "contact") Text ∷ needed (codes "work") Text ∷ needed (codes "why") Text ∷ needed (codes "opened") Integer
-    ∷ needed (codes "attempts") Integer ∷ needed (codes "sent") Integer ∷ needed (codes "profile") Integer ∷ needed (codes "author") Integer ∷ needed (codes "pages") Integer ∷ optional (codes "first_sent") Integer ∷ [])
-    (1 ∷ []) (cascades_to 1 (codes "names") (codes "name") ∷ refers_to 3 (codes "users") (codes "user") ∷ [])
+    (needed (codes "name") Text
+    ∷ needed (codes "kind") Integer
+    ∷ needed (codes "candidate") Text
+    ∷ needed (codes "contact") Text
+    ∷ needed (codes "work") Text
+    ∷ needed (codes "why") Text
+    ∷ needed (codes "opened") Integer
+    ∷ needed (codes "attempts") Integer
+    ∷ needed (codes "sent") Integer
+    ∷ needed (codes "profile") Integer
+    ∷ needed (codes "author") Integer
+    ∷ needed (codes "pages") Integer
+    ∷ optional (codes "first_sent") Integer
+    ∷ [])
+    (1 ∷ [])
+    (cascades_to 1 (codes "names") (codes "name")
+    ∷ refers_to 3 (codes "users") (codes "user")
+    ∷ [])
 
 -- found by the file
 abbrev pub bans_at : ℕ → Table
-bans_at tree = keyed (codes "bans") tree (needed (codes "file") Text ∷ []) (1 ∷ []) (refers_to 1 (codes "files") (codes "file") ∷ [])
+bans_at tree =
+    keyed (codes "bans") tree
+    (needed (codes "file") Text ∷ [])
+    (1 ∷ [])
+    (refers_to 1 (codes "files") (codes "file") ∷ [])
 
 -- the schema of a new database
 abbrev pub no_schema : Schema
@@ -139,12 +219,21 @@ no_schema = record { tables = []; indexes = []; views = [] }
 
 -- the index of a key; `table` is the tree of the table
 abbrev pub index_for : List ℕ → ℕ → ℕ → List ℕ → Index
-index_for name tree table columns = record { name = name; tree = tree; table = table; columns = columns; order = plain; is_unique = true }
+index_for name tree table columns = record {
+  name = name;
+  tree = tree;
+  table = table;
+  columns = columns;
+  order = plain;
+  is_unique = true;
+}
 
 -- each table, and each key of a table, has a tree of its own
 abbrev pub index_schema : Schema
 index_schema = record {
-  tables = meta_at 0 ∷ users_at 1 ∷ names_at 4 ∷ owners_at 6 ∷ files_at 8 ∷ blobs_at 11 ∷ yanks_at 13 ∷ cases_at 15 ∷ bans_at 17 ∷ [];
+  tables =
+      meta_at 0 ∷ users_at 1 ∷ names_at 4 ∷ owners_at 6 ∷ files_at 8
+      ∷ blobs_at 11 ∷ yanks_at 13 ∷ cases_at 15 ∷ bans_at 17 ∷ [];
   indexes =
       index_for (codes "sqlite_autoindex_users_1") 2 1 (1 ∷ [])
       ∷ index_for (codes "sqlite_autoindex_users_2") 3 1 (3 ∷ [])

@@ -99,7 +99,8 @@ update_files_text = UPDATE_FILES.now
 abbrev pub update_version_text : List ℕ
 update_version_text = UPDATE_VERSION.now
 
--- ---- rows that are looked up; where a row is shown whole, each column is in the place that it has in the table
+-- ---- rows that are looked up; where a row is shown whole, each column is in the place that it has
+-- in the table
 
 -- the version of the tables
 abbrev pub select_version_text : List ℕ

@@ -10,15 +10,27 @@ use Rattle.sqlite.specs.Effect.{Database, RefusesToRead}
 use Rattle.sqlite.specs.Listing.{understood, reads_listing}
 use Rattle.index_sql_schema.specs.Schema.{index_schema}
 
--- over the tables of an index, whatever their rows are, it is refused only where its steps are limited
+-- over the tables of an index, whatever their rows are, it is refused only if its steps are limited
 abbrev pub IsReadable : Command → Row → Type 0
-IsReadable command params = (db : Database) → db.schema ≡ index_schema → (limit : Option ℕ) (e : Error) → RefusesToRead limit command db params e → IsSome limit
+IsReadable command params =
+    (db : Database)
+    → db.schema ≡ index_schema
+    → (limit : Option ℕ) (e : Error)
+    → RefusesToRead limit command db params e
+    → IsSome limit
 
 -- one statement for so many parameters, which is such a query
 abbrev pub IsSureAs : List ℕ → Row → Result Compiled CompileError → Type 0
-IsSureAs sql params (Ok c) = (length sql ≤ c.tail) × (length params ≡ length c.names) × (c.formats ≡ []) × (c.returning ≡ None) × IsReadable c.command params
+IsSureAs sql params (Ok c) =
+    (length sql ≤ c.tail)
+    × (length params ≡ length c.names)
+    × (c.formats ≡ [])
+    × (c.returning ≡ None)
+    × IsReadable c.command params
 IsSureAs sql params (Err e) = ⊥
 
 -- the text is one, and reads no list of the tables
 unfoldable pub IsSure : List ℕ → Row → Type 0
-IsSure sql params = IsSureAs sql params (understood index_schema sql) × (reads_listing index_schema sql ≡ false)
+IsSure sql params =
+    IsSureAs sql params (understood index_schema sql)
+    × (reads_listing index_schema sql ≡ false)

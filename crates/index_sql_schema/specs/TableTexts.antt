@@ -20,8 +20,8 @@ names_text = NAMES.now
 abbrev pub owners_text : List ℕ
 owners_text = OWNERS.now
 
--- each file that was ever accepted; `live` is 1 where it is undeleted, else 0. The second key is there so that the files
--- of a name are found in their order without a look at those of other names
+-- each file that was ever accepted; `live` is 1 where it is undeleted, else 0. The second key is
+-- there so that the files of a name are found in their order without a look at those of other names
 abbrev pub files_text : List ℕ
 files_text = FILES.now
 
@@ -33,7 +33,7 @@ blobs_text = BLOBS.now
 abbrev pub yanks_text : List ℕ
 yanks_text = YANKS.now
 
--- each open case; `kind` is 1 for continued maintenance and 2 for reuse, and the three means are 0 or 1
+-- each open case; `kind` is 1 for continued maintenance and 2 for reuse, the three means are 0 or 1
 abbrev pub cases_text : List ℕ
 cases_text = CASES.now
 

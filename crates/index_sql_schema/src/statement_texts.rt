@@ -16,9 +16,8 @@ pub const PUT_OWNER: &str =
 pub const PUT_FILE: &str =
     "INSERT INTO files (file, name, rel, digest, size, requires, live) VALUES (?1, ?2, ?3, ?4, ?5, ?6, ?7) ON CONFLICT (file) DO UPDATE SET name = excluded.name, rel = excluded.rel, digest = excluded.digest, size = excluded.size, requires = excluded.requires, live = excluded.live";
 
-/// A file with its bytes.
-pub const PUT_BODY: &str =
-    "INSERT INTO blobs (file, body) VALUES (?1, ?2) ON CONFLICT (file) DO UPDATE SET body = excluded.body";
+/// A file with its bytes, where it has none.
+pub const PUT_BODY: &str = "INSERT INTO blobs (file, body) VALUES (?1, ?2)";
 
 /// A release of a name with the reason of its yank.
 pub const PUT_YANK: &str =

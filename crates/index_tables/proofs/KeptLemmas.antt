@@ -9,15 +9,16 @@ use Rattle.index_sql_schema.specs.Looks.{QueriesOnly}
 use Rattle.index_rules.specs.declared.answer.Fault.{Fault}
 use Rattle.index_rules.specs.declared.rows.WalkEnd.{WalkEnd}
 use Rattle.index_rules.specs.Tables.{Tables}
-use Rattle.index_rules.specs.Told.{CountsStore, tells_store, ends_by_store}
+use Rattle.index_rules.specs.StoreFaults.{CountsStoreFault, fails_by_store, ends_by_store}
 use Rattle.index_rules.specs.Walks.{has_fault}
 use Rattle.index_sql_reads.specs.Finds.{FindsInTables}
+use Rattle.index_sql_reads.specs.Steps.{TakerStep, on_store}
 use Rattle.index_sql_reads.specs.WalkReasons.{HandsRows}
 use Rattle.index_sql_schema.specs.Index.{IsIndex, meta_in, version_in}
 use Rattle.index_sql_schema.specs.RecordRows.{AreRecords}
 use Rattle.index_sql_schema.specs.Records.{tables_in}
 use Rattle.index_tables.specs.BooksState.{IsHonest, BooksState, Leaves}
-use Rattle.index_tables.specs.LooksUp.{LooksFor, LooksUp, WalksBooks}
+use Rattle.index_tables.specs.LooksUp.{BooksStep, LooksFor, LooksUp, WalksBooks}
 
 pub keeps : {S : Type 0} (g : Ghosts S) (old new : Held S) (did : Bool) → IsTrue did → QueriesOnly g old new did → IsHonest (state g old) → HasCleanDisk (state g new) → IsHonest (state g new)
 keeps g old new did right looks honest clean =
@@ -50,9 +51,9 @@ looks_leave g old new did looks T (clean, (db, may, is)) = (looks.was_clean clea
     before (inr none) = absurd none
 
 -- so a look at the connection, counted, is a look at the books
-pub looks_up : {S : Type 0} (g : Ghosts S) (old new : BooksState S) (did is_store : Bool) → QueriesOnly g old.conn new.conn did → new.failures ≡ next_count old.failures did
-    → CountsStore old.stores new.stores is_store → LooksUp g old new did is_store
-looks_up g old new did is_store looks counted stores = record {
+pub looks_up : {S : Type 0} (g : Ghosts S) (old new : BooksState S) (did is_store_fault : Bool) → QueriesOnly g old.conn new.conn did → new.failures ≡ next_count old.failures did
+    → CountsStoreFault old.stores new.stores is_store_fault → LooksUp g old new did is_store_fault
+looks_up g old new did is_store_fault looks counted stores = record {
   looks = record {
     call = record {
       honest = looks_back g old.conn new.conn _ looks;
@@ -73,18 +74,19 @@ looks_up g old new did is_store looks counted stores = record {
 }
 
 pub finds : {S A : Type 0} (g : Ghosts S) (old new : BooksState S) (result : Result A Fault) (Has : Tables → A → Type 0) → FindsInTables g old.conn new.conn result Has
-    → new.failures ≡ next_count old.failures (is_ok result) → CountsStore old.stores new.stores (tells_store result) → LooksFor g old new result Has
+    → new.failures ≡ next_count old.failures (is_ok result) → CountsStoreFault old.stores new.stores (fails_by_store result) → LooksFor g old new result Has
 finds g old new result Has it counted stores = record {
   found = λ honest. it.found honest.clean;
-  looks = looks_up g old new (is_ok result) (tells_store result) it.looks counted stores;
+  looks = looks_up g old new (is_ok result) (fails_by_store result) it.looks counted stores;
   reason = it.reason;
 }
 
-pub walks : {S K R A : Type 0} (g : Ghosts S) (takes stops : K → R → K → Type 0) (rows_in : Tables → List R) (old new : BooksState S) (before after : K) (result : Result A WalkEnd)
-    → HandsRows g takes stops rows_in old.conn new.conn before after result → new.failures ≡ next_count old.failures (not (has_fault result)) → CountsStore old.stores new.stores (ends_by_store result) → WalksBooks g takes stops rows_in old new before after result
-walks g takes stops rows_in old new before after result it counted stores = record {
+pub walks : {S K R A : Type 0} (rows_in : Tables → List R) (books : BooksStep S) (taker : TakerStep K R) (result : Result A WalkEnd)
+    → HandsRows rows_in (on_store books.store books.old.conn books.new.conn) taker result → books.new.failures ≡ next_count books.old.failures (not (has_fault result))
+    → CountsStoreFault books.old.stores books.new.stores (ends_by_store result) → WalksBooks rows_in books taker result
+walks rows_in books taker result it counted stores = record {
   walked = λ honest. it.walked;
   given = it.given;
-  looks = looks_up g old new (not (has_fault result)) (ends_by_store result) it.looks counted stores;
+  looks = looks_up books.store books.old books.new (not (has_fault result)) (ends_by_store result) it.looks counted stores;
   reason = it.reason;
 }

@@ -55,16 +55,19 @@ IsOurs db = (IsIndex db × (version_in db.trees ≡ Some 2)) ⊎ TellsFirst db
 abbrev pub IsFound : Database → Tables → Type 0
 IsFound db T = IsCurrent db T ⊎ IsFirst db T
 
--- of a database of version 1 that tells so the index is made that comes of it, which tells version 2; the rows of meta are
--- those that were there, but for the version
+-- of a database of version 1 that tells so the index is made that comes of it, which tells version
+-- 2; the rows of meta are those that were there, but for the version
 abbrev pub IsRaised : Database → Trees → Type 0
 IsRaised was db =
-    TellsFirst was × AreCurrent db × (tables_in db ≡ without_bans (tables_in was.trees)) × (meta_in db ≡ raised (meta_in was.trees))
+    TellsFirst was × AreCurrent db × (tables_in db ≡ without_bans (tables_in was.trees))
+    × (meta_in db ≡ raised (meta_in was.trees))
 
--- these rows of meta are those of an index as they were, or those of a database of version 1, but for the version
+-- these rows of meta are those of an index as they were, or those of a database of version 1, but
+-- for the version
 abbrev pub AreHandedOn : Database → List Row → Type 0
 AreHandedOn was rows =
-    (IsIndex was × (rows ≡ meta_in was.trees)) ⊎ (TellsFirst was × (rows ≡ raised (meta_in was.trees)))
+    (IsIndex was × (rows ≡ meta_in was.trees))
+    ⊎ (TellsFirst was × (rows ≡ raised (meta_in was.trees)))
 
 -- the schema is this one of ours
 abbrev pub HasSchema : Schema → Kind → Type 0
@@ -76,23 +79,31 @@ abbrev pub IsOfKind : Database → Kind → Type 0
 IsOfKind db kind.Index = IsIndex db
 IsOfKind db kind.FirstVersion = IsFirstVersion db
 
--- it tells this version: what its row of meta has where the tables are ours, else what the query of it shows
+-- it tells this version: what its row of meta has where the tables are ours, else what the query of
+-- it shows
 abbrev pub TellsVersion : {S : Type 0} → Ghosts S → Held S → Option ℕ → Type 0
-TellsVersion g held version = ((IsTrue (state g held).is_open → IsAnyVersion (state g held).now) × (version ≡ version_in (state g held).now.trees)) ⊎ Tells g (begun held) version
+TellsVersion g held version =
+    ((IsTrue (state g held).is_open → IsAnyVersion (state g held).now)
+    × (version ≡ version_in (state g held).now.trees)) ⊎ Tells g (begun held) version
 
 -- tables that are there by name, but are not as an index has them
 abbrev pub foreign_tables_fault : Bool → OpenFault
 foreign_tables_fault has_all = if has_all then Store else NotAnIndex
 
--- why a database is refused that tells this version, and has all tables of version 1 by name, and that of the bans
+-- why a database is refused that tells this version, and has all tables of version 1 by name, and
+-- that of the bans
 abbrev pub refusal_by : Option ℕ → Bool → Bool → OpenFault
 refusal_by None has_first has_bans = NotAnIndex
 refusal_by (Some version) has_first has_bans =
-    if version == 1 then foreign_tables_fault has_first else if version == 2 then foreign_tables_fault (has_first && has_bans) else OtherVersion
+    if version == 1 then foreign_tables_fault has_first
+    else if version == 2 then foreign_tables_fault (has_first && has_bans)
+    else OtherVersion
 
 -- the same, by its schema
 abbrev pub refusal_in : Schema → Option ℕ → OpenFault
-refusal_in schema version = refusal_by version (has_all_of schema first_version_schema.tables) (has_table schema (codes "bans"))
+refusal_in schema version =
+    refusal_by version (has_all_of schema first_version_schema.tables)
+    (has_table schema (codes "bans"))
 
 -- it is refused for this by the version that it tells
 abbrev pub IsRefusedByVersion : {S : Type 0} → Ghosts S → Held S → OpenFault → Type 0
@@ -104,9 +115,12 @@ IsRefusedByVersion g held why =
 abbrev pub IsNotRaised : Database → Type 0
 IsNotRaised db = TellsFirst db × AreRefused asks_of_migration db
 
--- the store fails, the query of the version is refused, or the database is of version 1 and is not raised
+-- the store fails, the query of the version is refused, or the database is of version 1 and is not
+-- raised
 abbrev pub FailsToOpen : {S : Type 0} → Ghosts S → Held S → Held S → Type 0
-FailsToOpen g old new = HasReason (state g old) (state g new) ⊎ (FailsToTell g (begun old) ⊎ IsNotRaised (state g old).now)
+FailsToOpen g old new =
+    HasReason (state g old) (state g new)
+    ⊎ (FailsToTell g (begun old) ⊎ IsNotRaised (state g old).now)
 
 -- the version that an index of this kind tells
 abbrev pub version_of : Kind → ℕ
@@ -119,15 +133,15 @@ IsRefusedByOther g kind held why =
     (version : Option ℕ) × TellsVersion g held version × (version ≢ Some (version_of kind))
     × (why ≡ refusal_in (state g held).now.schema version)
 
--- Why no index is opened of a database whose schema is that of this kind: one that tells the version of its kind is opened,
--- unless it fails to be.
+-- Why no index is opened of a database whose schema is that of this kind: one that tells the
+-- version of its kind is opened, unless it fails to be.
 abbrev pub IsReasonOfKind : {S : Type 0} → Ghosts S → Kind → Held S → Held S → OpenFault → Type 0
 IsReasonOfKind g kind old new OutOfMemory = ⊤
 IsReasonOfKind g kind old new Store = IsRefusedByOther g kind old Store ⊎ FailsToOpen g old new
 IsReasonOfKind g kind old new why = IsRefusedByOther g kind old why
 
--- Why no index is opened on a connection, which is left as `new`. Without a table of the version it is no index, whatever
--- the store does.
+-- Why no index is opened on a connection, which is left as `new`. Without a table of the version it
+-- is no index, whatever the store does.
 abbrev pub IsReason : {S : Type 0} → Ghosts S → Held S → Held S → OpenFault → Type 0
 IsReason g old new NotAnIndex =
     (has_meta (state g old).now.schema ≡ false) ⊎ IsRefusedByVersion g old NotAnIndex

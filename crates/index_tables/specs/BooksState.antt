@@ -17,7 +17,10 @@ pub record BooksState (S : Type 0) : Type 0 where
 
 abbrev pub books_state_code : {S : Type 0} → Coded S → Coded (BooksState S)
 books_state_code {S} store =
-    code_by (Held S × (ℕ × ℕ)) (coded× (held_code store) (coded× coded_ℕ coded_ℕ)) (λ kept. (kept.conn, (kept.failures, kept.stores))) (λ p. record { conn = p.0; failures = p.1.0; stores = p.1.1 }) (λ _. refl)
+    code_by (Held S × (ℕ × ℕ)) (coded× (held_code store) (coded× coded_ℕ coded_ℕ))
+    (λ kept. (kept.conn, (kept.failures, kept.stores)))
+    (λ p. record { conn = p.0; failures = p.1.0; stores = p.1.1 })
+    (λ _. refl)
 
 -- so far the disk has returned what was written, and no fault has shut the connection
 pub record IsWorking (s : State) : Type 0 where
@@ -37,7 +40,8 @@ pub record AreCurrent (db : Trees) : Type 0 where
   pub index : HoldsIndex db
   pub version : version_in db ≡ Some 2
 
--- the disk has returned what was written, and an open after a crash may find these tables. Where it may find no index that
--- tells version 2, that is any tables at all: so a clause that says which tables are left says too that an index is
+-- the disk has returned what was written, and an open after a crash may find these tables. Where it
+-- may find no index that tells version 2, that is any tables at all: so a clause that says which
+-- tables are left says too that an index is
 abbrev pub Leaves : State → Tables → Type 0
 Leaves s T = HasCleanDisk s × ((db : Trees) × s.may_leave db × (AreCurrent db → T ≡ tables_in db))

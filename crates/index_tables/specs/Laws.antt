@@ -18,7 +18,9 @@ pub current : (s : State) → IsHonest s → AreCurrent s.now.trees
 current s honest = record { index = index_held s.now _ honest.index refl; version = honest.version }
 
 -- so of an honest index it leaves the tables as they stand
-pub settled_at : {s : State} → IsHonest s → IsSettled s → (T : Tables) → Leaves s T → T ≡ tables_in s.now.trees
+pub settled_at : {s : State} → IsHonest s → IsSettled s → (T : Tables) → Leaves s T
+    → T ≡ tables_in s.now.trees
 settled_at {s} honest settled T (clean, (db, may, is)) =
-    let at : db ≡ s.now.trees = settled db honest.is_open may ∙ ap (λ (d : Database). d.trees) (sym honest.committed) in
+    let at : db ≡ s.now.trees =
+    settled db honest.is_open may ∙ ap (λ (d : Database). d.trees) (sym honest.committed) in
     is (subst AreCurrent (sym at) (current s honest)) ∙ ap tables_in at

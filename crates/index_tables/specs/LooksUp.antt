@@ -6,12 +6,13 @@ use Rattle.sqlite.specs.Effect.{Database}
 use Rattle.sqlite.specs.Held.{state}
 use Rattle.sqlite.specs.State.{HasCleanDisk}
 use Rattle.index_sql_reads.specs.ConnectionTables.{tables_of}
+use Rattle.index_sql_reads.specs.Steps.{TakerStep}
 use Rattle.index_sql_reads.specs.WalkReasons.{EndsForReason}
 use Rattle.index_rules.specs.Calls as calls
 use Rattle.index_rules.specs.declared.answer.Fault.{Fault}
 use Rattle.index_rules.specs.declared.rows.WalkEnd.{WalkEnd}
 use Rattle.index_rules.specs.Tables.{Tables}
-use Rattle.index_rules.specs.Told.{tells_store, ends_by_store}
+use Rattle.index_rules.specs.StoreFaults.{fails_by_store, ends_by_store}
 use Rattle.index_rules.specs.Walks.{Walks, has_fault}
 use Rattle.index_sql_schema.specs.Index.{meta_in}
 use Rattle.index_sql_schema.specs.Reasons.{FailsForReason}
@@ -24,44 +25,73 @@ abbrev pub HasMetaOf : Database → Trees → Type 0
 HasMetaOf was db = meta_in db ≡ meta_in was.trees
 
 module _ {S : Type 0} (g : Ghosts S) where
+  -- what contracts see of these books
+  abbrev pub sql_model : calls.Model (BooksState S)
+  sql_model = record {
+    tables = λ kept. tables_of g kept.conn;
+    IsHonest = λ kept. IsHonest (state g kept.conn);
+    IsClean = λ kept. HasCleanDisk (state g kept.conn);
+    may_leave = λ kept. Leaves (state g kept.conn);
+    faults = calls.counts (λ kept. kept.failures) (λ kept. kept.stores);
+  }
+
   -- what the trait says of each call
-  abbrev pub Calls : (old new : BooksState S) (succeeds is_store : Bool) → Type 0
-  Calls = calls.Calls (λ kept. IsHonest (state g kept.conn)) (λ kept. HasCleanDisk (state g kept.conn)) (λ kept. kept.failures) (λ kept. kept.stores)
+  abbrev pub Calls : (old new : BooksState S) (succeeds is_store_fault : Bool) → Type 0
+  Calls = calls.Calls sql_model
 
   -- and of each look
-  abbrev pub LooksOrFails : (old new : BooksState S) (succeeds is_store : Bool) → Type 0
-  LooksOrFails = calls.LooksUp (λ kept. tables_of g kept.conn) (λ kept. IsHonest (state g kept.conn)) (λ kept. HasCleanDisk (state g kept.conn)) (λ kept. Leaves (state g kept.conn)) (λ kept. kept.failures) (λ kept. kept.stores)
+  abbrev pub LooksOrFails : (old new : BooksState S) (succeeds is_store_fault : Bool) → Type 0
+  LooksOrFails = calls.LooksUp sql_model
 
   -- the rows of its tables stay records
   abbrev pub KeepsRecords : (old new : BooksState S) → Type 0
-  KeepsRecords old new = IsHonest (state g new.conn) → AreRecords (state g old.conn).now → AreRecords (state g new.conn).now
+  KeepsRecords old new =
+      IsHonest (state g new.conn) → AreRecords (state g old.conn).now
+      → AreRecords (state g new.conn).now
 
   -- while they work, the limit on the steps of their queries is as it was
   abbrev pub KeepsLimit : (old new : BooksState S) → Type 0
-  KeepsLimit old new = IsWorking (state g new.conn) → opened.KeepsLimit (state g old.conn) (state g new.conn)
+  KeepsLimit old new =
+      IsWorking (state g new.conn) → opened.KeepsLimit (state g old.conn) (state g new.conn)
 
   -- the rows of meta stay, and a crash leaves them or what it could leave before
   pub record KeepsMeta (old new : BooksState S) : Type 0 where
-    pub stays : IsHonest (state g new.conn) → HasMetaOf (state g old.conn).now (state g new.conn).now.trees
+    pub stays : IsHonest (state g new.conn)
+        → HasMetaOf (state g old.conn).now (state g new.conn).now.trees
     pub crash : opened.LeavesOr HasMetaOf (state g old.conn) (state g new.conn)
 
   -- a look, where they do so too
-  pub record LooksUp (old new : BooksState S) (succeeds is_store : Bool) : Type 0 where
-    pub looks : LooksOrFails old new succeeds is_store
+  pub record LooksUp (old new : BooksState S) (succeeds is_store_fault : Bool) : Type 0 where
+    pub looks : LooksOrFails old new succeeds is_store_fault
     pub records : KeepsRecords old new
     pub limit : KeepsLimit old new
     pub meta : KeepsMeta old new
 
   -- a look that finds this of the tables of an honest store, and fails only for a reason
-  pub record LooksFor {A : Type 0} (old new : BooksState S) (result : Result A Fault) (Has : Tables → A → Type 0) : Type 0 where
+  pub record LooksFor {A : Type 0} (old new : BooksState S) (result : Result A Fault)
+      (Has : Tables → A → Type 0) : Type 0 where
     pub found : IsHonest (state g new.conn) → IfOk result (Has (tables_of g old.conn))
-    pub looks : LooksUp old new (is_ok result) (tells_store result)
+    pub looks : LooksUp old new (is_ok result) (fails_by_store result)
     pub reason : FailsForReason g old.conn new.conn result
 
-  -- a walk hands over some rows, and of an honest store that stays clean those of the tables
-  pub record WalksBooks {K R A : Type 0} (takes stops : K → R → K → Type 0) (rows_in : Tables → List R) (old new : BooksState S) (before after : K) (result : Result A WalkEnd) : Type 0 where
-    pub walked : IsHonest (state g old.conn) → HasCleanDisk (state g new.conn)
-        → Walks takes stops (rows_in (tables_of g old.conn)) before after result
-    pub given : (rows : List R) × Walks takes stops rows before after result
-    pub looks : LooksUp old new (not (has_fault result)) (ends_by_store result)
-    pub reason : EndsForReason g old.conn new.conn (rows_in (tables_of g old.conn)) result
+-- what books over a store of this kind were before a call, and what they are after it
+pub record BooksStep (S : Type 0) : Type 1 where
+  pub store : Ghosts S
+  pub old : BooksState S
+  pub new : BooksState S
+
+abbrev pub with_books : {S : Type 0} → Ghosts S → BooksState S → BooksState S → BooksStep S
+with_books store old new = record { store = store; old = old; new = new }
+
+-- a walk hands over some rows, and of an honest store that stays clean those of the tables
+pub record WalksBooks {S K R A : Type 0} (rows_in : Tables → List R) (books : BooksStep S)
+    (taker : TakerStep K R) (result : Result A WalkEnd) : Type 0 where
+  pub walked : let rows = rows_in (tables_of books.store books.old.conn) in
+      IsHonest (state books.store books.old.conn)
+      → HasCleanDisk (state books.store books.new.conn)
+      → Walks taker.takes taker.stops rows taker.old taker.new result
+  pub given : (rows : List R) × Walks taker.takes taker.stops rows taker.old taker.new result
+  pub looks :
+      LooksUp books.store books.old books.new (not (has_fault result)) (ends_by_store result)
+  pub reason : let rows = rows_in (tables_of books.store books.old.conn) in
+      EndsForReason books.store books.old.conn books.new.conn rows result

@@ -51,7 +51,8 @@ RefusesFound why = (why ≡ open_fault.NotAnIndex) ⊎ ((why ≡ open_fault.Othe
 
 -- the first user will do, and a table has the name of one of ours
 abbrev pub IsTaken : Bytes → Bytes → Schema → Type 0
-IsTaken user token schema = (¬ IsBadFirstUser user token) × IsTrue (has_any_of schema index_schema.tables)
+IsTaken user token schema =
+    (¬ IsBadFirstUser user token) × IsTrue (has_any_of schema index_schema.tables)
 
 -- there is something, but no table by the name of one of an index
 abbrev pub HasOthers : Schema → Type 0
@@ -61,25 +62,35 @@ HasOthers schema = (has_any_of schema index_schema.tables ≡ false) × (schema 
 abbrev pub IsAmongOthers : Bytes → Bytes → Schema → Type 0
 IsAmongOthers user token schema = (¬ IsBadFirstUser user token) × HasOthers schema
 
--- a fault of the store comes for a reason of the store, or where SQL refuses one of these statements, on what those before
--- it make of the database
-abbrev pub StoreForRefusal : {S : Type 0} → Ghosts S → List Ask → Held S → Held S → OpenFault → Type 0
-StoreForRefusal g asks old new why = why ≡ open_fault.Store → HasReason (state g old) (state g new) ⊎ AreRefused asks (state g old).now
+-- a fault of the store comes for a reason of the store, or where SQL refuses one of these
+-- statements, on what those before it make of the database
+abbrev pub StoreForRefusal : {S : Type 0} → Ghosts S → List Ask → Held S → Held S → OpenFault
+    → Type 0
+StoreForRefusal g asks old new why =
+    why ≡ open_fault.Store
+    → HasReason (state g old) (state g new) ⊎ AreRefused asks (state g old).now
 
 -- or where something else is there
-abbrev pub StoreForOthers : {S : Type 0} → Ghosts S → List Ask → Held S → Held S → OpenFault → Type 0
+abbrev pub StoreForOthers : {S : Type 0} → Ghosts S → List Ask → Held S → Held S → OpenFault
+    → Type 0
 StoreForOthers g asks old new why =
-    why ≡ open_fault.Store → HasOthers (state g old).now.schema ⊎ (HasReason (state g old) (state g new) ⊎ AreRefused asks (state g old).now)
+    why ≡ open_fault.Store
+    → HasOthers (state g old).now.schema
+    ⊎ (HasReason (state g old) (state g new) ⊎ AreRefused asks (state g old).now)
 
--- of a connection that works, an open after a crash may find what it could find before, or what is made of its database
+-- of a connection that works, an open after a crash may find what it could find before, or what is
+-- made of its database
 abbrev pub LeavesOr : (Database → Trees → Type 0) → State → State → Type 0
-LeavesOr Made old new = IsWorking old → HasCleanDisk new → (db : Trees) → new.may_leave db → old.may_leave db ⊎ Made old.now db
+LeavesOr Made old new =
+    IsWorking old → HasCleanDisk new → (db : Trees) → new.may_leave db
+    → old.may_leave db ⊎ Made old.now db
 
 -- these are the rows of meta of a new index: the one that tells version 2
 abbrev pub AreNewMeta : List Row → Type 0
 AreNewMeta rows = rows ≡ version_row 2 ∷ []
 
--- of a database with nothing in it an index is made that tells version 2, with these tables and that one row of meta
+-- of a database with nothing in it an index is made that tells version 2, with these tables and
+-- that one row of meta
 abbrev pub IsCreated : Tables → Database → Trees → Type 0
 IsCreated T was db =
     (was.schema ≡ no_schema) × AreCurrent db × (tables_in db ≡ T) × AreNewMeta (meta_in db)
@@ -101,29 +112,38 @@ abbrev pub KeepsLimit : State → State → Type 0
 KeepsLimit old new = new.step_limit ≡ old.step_limit
 
 -- Books were opened on a connection. `Made` says what may have been made of its database.
-pub record AreOpened {S : Type 0} (g : Ghosts S) (Made : Database → Trees → Type 0) (old : Held S) (books : BooksState S) : Type 0 where
+pub record AreOpened {S : Type 0} (g : Ghosts S) (Made : Database → Trees → Type 0) (old : Held S)
+    (books : BooksState S) : Type 0 where
   -- they work only where the connection did, and there they are honest as far as the disk is clean
   pub was_working : IsWorking (state g books.conn) → IsWorking (state g old)
   pub was_clean : HasCleanDisk (state g books.conn) → HasCleanDisk (state g old)
-  pub lasts : IsWorking (state g old) → HasCleanDisk (state g books.conn) → IsHonest (state g books.conn)
+  pub lasts : IsWorking (state g old) → HasCleanDisk (state g books.conn)
+      → IsHonest (state g books.conn)
   pub failures : books.failures ≡ 0
   pub stores : books.stores ≡ 0
   pub limit : IsWorking (state g books.conn) → KeepsLimit (state g old) (state g books.conn)
   -- their rows are records, if those of the database were
   pub records : AreRecords (state g old).now → HaveRecords g books
-  -- a crash leaves what it could leave before, or what was made, and where the connection worked their tables alone
+  -- a crash leaves what it could leave before, or what was made, and where the connection worked
+  -- their tables alone
   pub crash : LeavesOr Made (state g old) (state g books.conn)
-  pub alone : IsWorking (state g old) → (T : Tables) → Leaves (state g books.conn) T → T ≡ tables_of g books.conn
+  pub alone : IsWorking (state g old) → (T : Tables) → Leaves (state g books.conn) T
+      → T ≡ tables_of g books.conn
 
--- books of a new index with these tables were made on a connection; each of their rows is that of a record, and meta has one
-pub record AreNew {S : Type 0} (g : Ghosts S) (T : Tables) (old : Held S) (books : BooksState S) : Type 0 where
+-- books of a new index with these tables were made on a connection; each of their rows is that of a
+-- record, and meta has one
+pub record AreNew {S : Type 0} (g : Ghosts S) (T : Tables) (old : Held S)
+    (books : BooksState S) : Type 0 where
   pub tables : HaveTables g (λ it. it ≡ T) books
   pub records : HaveRecords g books
   pub meta : HaveMeta g AreNewMeta books
   pub opened : AreOpened g (IsCreated T) old books
 
--- No books were opened on a connection, for a reason of this kind, and it is given back outside a transaction.
-pub record IsUnopened {S : Type 0} (g : Ghosts S) (Made : Database → Trees → Type 0) (Reason : Held S → Held S → OpenFault → Type 0) (old : Held S) (refused : Unopened S) : Type 0 where
+-- No books were opened on a connection, for a reason of this kind, and it is given back outside a
+-- transaction.
+pub record IsUnopened {S : Type 0} (g : Ghosts S) (Made : Database → Trees → Type 0)
+    (Reason : Held S → Held S → OpenFault → Type 0) (old : Held S) (refused : Unopened S)
+    : Type 0 where
   pub outside : refused.conn.in_transaction ≡ false
   pub was_clean : HasCleanDisk (state g refused.conn) → HasCleanDisk (state g old)
   -- on a clean disk, where it is open, its database is as it was

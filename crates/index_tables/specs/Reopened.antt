@@ -37,7 +37,11 @@ IsOpenedOver g image conn = HasCleanDisk (state g conn) → IsOver image (state 
 abbrev pub LeavesEither : Tables → Tables → State → Type 0
 LeavesEither A B s = (T : Tables) → Leaves s T → (T ≡ A) ⊎ (T ≡ B)
 
--- on a clean disk, an open index with such tables is there, or none for want of memory or by a fault of the store
-abbrev pub OpensOnly : {S : Type 0} → Ghosts S → (Tables → Type 0) → Result (BooksState S) (Unopened S) → Type 0
-OpensOnly g Are (Ok books) = HasCleanDisk (state g books.conn) → IsHonest (state g books.conn) × Are (tables_of g books.conn)
+-- on a clean disk, an open index with such tables is there, or none for want of memory or by a
+-- fault of the store
+abbrev pub OpensOnly : {S : Type 0} → Ghosts S → (Tables → Type 0)
+    → Result (BooksState S) (Unopened S) → Type 0
+OpensOnly g Are (Ok books) =
+    HasCleanDisk (state g books.conn)
+    → IsHonest (state g books.conn) × Are (tables_of g books.conn)
 OpensOnly g Are (Err refused) = HasCleanDisk (state g refused.conn) → IsFault refused.why

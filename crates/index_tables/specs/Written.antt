@@ -11,8 +11,11 @@ use Rattle.index_rules.specs.declared.answer.Fault.TheVariants.{Store}
 use Rattle.index_rules.specs.declared.change.Change.{Change}
 use Rattle.index_sql_schema.specs.RecordRows.{AreRecords}
 
--- On a clean disk, where all rows are those of records, it does so only for a reason of the store, or where SQL refuses
--- a statement of the change on the tables as they stand.
-abbrev pub FailsToWrite : {S A : Type 0} → Ghosts S → Change → Held S → Held S → Result A Fault → Type 0
+-- On a clean disk, where all rows are those of records, it does so only for a reason of the store,
+-- or where SQL refuses a statement of the change on the tables as they stand.
+abbrev pub FailsToWrite : {S A : Type 0} → Ghosts S → Change → Held S → Held S → Result A Fault
+    → Type 0
 FailsToWrite g change old new result =
-    HasCleanDisk (state g new) → AreRecords (state g old).now → IfErr result (λ fault. fault ≡ Store → HasReason (state g old) (state g new) ⊎ AreRefused (asks_of change) (state g old).now)
+    HasCleanDisk (state g new) → AreRecords (state g old).now
+    → IfErr result (λ fault. fault ≡ Store → HasReason (state g old) (state g new)
+    ⊎ AreRefused (asks_of change) (state g old).now)

@@ -4,20 +4,22 @@ ghost use Rattle.std.specs.FinMap.{get};
 ghost use Rattle.index_sql_schema.specs.Faults.{fault_by};
 ghost use Rattle.index_sql_schema.specs.Reasons.{FailsForReason};
 ghost use Rattle.index_sql_reads.specs.Sealed.{IsBoundTo, digest_in};
+ghost use Rattle.index_sql_reads.specs.Steps.{to_taker};
 ghost use Rattle.index_rules.specs.Effect.{means};
 ghost use Rattle.index_rules.specs.Facts.{Sees};
 ghost use Rattle.index_rules.specs.TableRows.{file_rows_in, held_rows_in, name_rows_in};
-ghost use Rattle.index_rules.specs.Tables.{Tables, owners_in};
-ghost use Rattle.index_rules.specs.Told.{ends_by_store, tells_store};
+ghost use Rattle.index_rules.specs.Tables.{Tables};
+ghost use Rattle.index_rules.specs.StoreFaults.{ends_by_store, fails_by_store};
+ghost use Rattle.index_rules.specs.Verdict.{is_held as is_held_lem};
 ghost use Rattle.index_rules.specs.Walks.{has_fault};
-ghost use Rattle.index_tables.specs.LooksUp.{Calls, KeepsLimit, KeepsMeta, KeepsRecords, LooksFor, LooksUp, WalksBooks};
+ghost use Rattle.index_tables.specs.LooksUp.{Calls, KeepsLimit, KeepsMeta, KeepsRecords, LooksFor, LooksUp, WalksBooks, with_books};
 ghost use Rattle.index_tables.specs.Written.{FailsToWrite};
 
 use crate::tables::{SqlBooks, next_count};
 use index_digest::Sealed;
 use index_names::{FileName, NormalName};
 use index_rules::{
-    Books, Change, Fault, FileRow, FileTaker, Keys, NameRow, NameTaker, Owners, View, WalkEnd,
+    Books, Change, Fault, FileRow, FileTaker, Keys, NameRow, NameTaker, View, WalkEnd,
 };
 use index_sql_schema::fault_of;
 use index_sql_writes::make_change;
@@ -52,7 +54,7 @@ impl<S: Alter> Books for SqlBooks<S> {
     {
         let seen = index_sql_reads::view(alloc, &mut self.conn, keys);
         self.failures = next_count(self.failures, seen.is_ok());
-        self.stores = next_count(self.stores, !tells_store(&seen));
+        self.stores = next_count(self.stores, !fails_by_store(&seen));
         seen
     }
 
@@ -70,7 +72,7 @@ impl<S: Alter> Books for SqlBooks<S> {
         ensures alone { IsHonest (state S.Store self.old.conn) → OnOk result ((T : Tables)
             → Leaves (state S.Store self.new.conn) T
             → T ≡ means change (tables_of S.Store self.old.conn)) }
-        ensures call { Calls S.Store self.old self.new (is_ok result) (tells_store result) }
+        ensures call { Calls S.Store self.old self.new (is_ok result) (fails_by_store result) }
         // What is written can be read: its rows are records, where they were.
         ensures records { KeepsRecords S.Store self.old self.new }
         ensures limit { KeepsLimit S.Store self.old self.new }
@@ -82,23 +84,24 @@ impl<S: Alter> Books for SqlBooks<S> {
         drop(change);
         self.failures = next_count(self.failures, made.is_ok());
         let told = into_fault(made);
-        self.stores = next_count(self.stores, !tells_store(&told));
+        self.stores = next_count(self.stores, !fails_by_store(&told));
         told
     }
 
-    fn owners_of(&mut self, alloc: Global, name: &NormalName) -> Result<Owners, Fault>
-        ensures { LooksFor S.Store self.old self.new result (λ T it. it ≡ owners_in T name.now) }
+    fn is_held(&mut self, alloc: Global, name: &NormalName) -> Result<bool, Fault>
+        ensures { LooksFor S.Store self.old self.new result
+            (λ T it. it ≡ is_held_lem (get T.names name.now)) }
     {
-        let owners = index_sql_reads::owners_of(alloc, &mut self.conn, name);
-        self.failures = next_count(self.failures, owners.is_ok());
-        self.stores = next_count(self.stores, !tells_store(&owners));
-        owners
+        let held = index_sql_reads::is_held(alloc, &mut self.conn, name);
+        self.failures = next_count(self.failures, held.is_ok());
+        self.stores = next_count(self.stores, !fails_by_store(&held));
+        held
     }
 
     fn bytes_of(&mut self, alloc: Global, file: &FileName) -> Result<Option<Sealed>, Fault>
         ensures found { IsHonest (state S.Store self.new.conn)
             → IfOk result (λ body. body ≡ get (tables_of S.Store self.old.conn).bodies file.now) }
-        ensures looks { LooksUp S.Store self.old self.new (is_ok result) (tells_store result) }
+        ensures looks { LooksUp S.Store self.old self.new (is_ok result) (fails_by_store result) }
         // They have the digest that the file is bound to, whatever else wrote the database.
         ensures bound { IsHonest (state S.Store self.new.conn)
             → IfOk result (IsBoundTo (digest_in (tables_of S.Store self.old.conn) file.now)) }
@@ -108,7 +111,7 @@ impl<S: Alter> Books for SqlBooks<S> {
     {
         let body = index_sql_reads::find_body(alloc, &mut self.conn, file);
         self.failures = next_count(self.failures, body.is_ok());
-        self.stores = next_count(self.stores, !tells_store(&body));
+        self.stores = next_count(self.stores, !fails_by_store(&body));
         body
     }
 
@@ -117,7 +120,7 @@ impl<S: Alter> Books for SqlBooks<S> {
     {
         let rows = index_sql_reads::names(alloc, &mut self.conn);
         self.failures = next_count(self.failures, rows.is_ok());
-        self.stores = next_count(self.stores, !tells_store(&rows));
+        self.stores = next_count(self.stores, !fails_by_store(&rows));
         rows
     }
 
@@ -127,13 +130,13 @@ impl<S: Alter> Books for SqlBooks<S> {
     {
         let rows = index_sql_reads::files_of(alloc, &mut self.conn, name);
         self.failures = next_count(self.failures, rows.is_ok());
-        self.stores = next_count(self.stores, !tells_store(&rows));
+        self.stores = next_count(self.stores, !fails_by_store(&rows));
         rows
     }
 
     fn walk_held<K: NameTaker>(&mut self, alloc: Global, taker: &mut K) -> Result<(), WalkEnd>
-        ensures { WalksBooks S.Store K.takes K.stops held_rows_in
-            self.old self.new taker.old taker.new result }
+        ensures { WalksBooks held_rows_in (with_books S.Store self.old self.new)
+            (to_taker K.takes K.stops taker.old taker.new) result }
     {
         let ended = index_sql_reads::walk_held(alloc, &mut self.conn, taker);
         self.failures = next_count(self.failures, !has_fault(&ended));
@@ -147,8 +150,8 @@ impl<S: Alter> Books for SqlBooks<S> {
         name: &NormalName,
         taker: &mut K,
     ) -> Result<(), WalkEnd>
-        ensures { WalksBooks S.Store K.takes K.stops (λ T. file_rows_in T name.now)
-            self.old self.new taker.old taker.new result }
+        ensures { WalksBooks (λ T. file_rows_in T name.now) (with_books S.Store self.old self.new)
+            (to_taker K.takes K.stops taker.old taker.new) result }
     {
         let ended = index_sql_reads::walk_files(alloc, &mut self.conn, name, taker);
         self.failures = next_count(self.failures, !has_fault(&ended));
@@ -188,8 +191,8 @@ fn ends_by_store(ended: &Result<(), WalkEnd>) -> bool
 }
 
 /// Whether a call told a fault of the store.
-fn tells_store<T>(told: &Result<T, Fault>) -> bool
-    ensures { result ≡ tells_store told.now }
+fn fails_by_store<T>(told: &Result<T, Fault>) -> bool
+    ensures { result ≡ fails_by_store told.now }
 {
     matches!(told, Err(Fault::Store))
 }

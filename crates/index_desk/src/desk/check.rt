@@ -47,6 +47,7 @@ fn is_charged_wrong<B: Books>(books: &mut B, alloc: Global, row: &NameRow) -> Re
     Ok(!is_sum(charge_of(row), files.as_slice()))
 }
 
+/// The charge of a name: 0 if it is prohibited.
 fn charge_of(row: &NameRow) -> u64
     ensures { result ≡ charge_of_lem row.now.record }
 {

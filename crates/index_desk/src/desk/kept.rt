@@ -5,7 +5,7 @@ ghost use Rattle.index_desk.specs.Looks.{ReadsNothing};
 ghost use Rattle.index_desk.specs.Pages.{page_in};
 
 use super::Desk;
-use crate::keeper::{Keeper, Page};
+use crate::keeper::{Keeper, PageKey};
 use index_digest::Sealed;
 use index_names::FileName;
 use index_pages::Served;
@@ -28,7 +28,7 @@ impl<B: Keeper> Desk<B> {
     }
 
     /// The text of a page in a type, where it is kept at hand.
-    pub fn kept_page(&self, page: Page<'_>, served: Served) -> Option<&[u8]>
+    pub fn kept_page(&self, page: PageKey<'_>, served: Served) -> Option<&[u8]>
         ensures { B.IsHonest self.now → IfSome result (λ text.
             page_in (B.tables self.now) served page.entry ≡ Some text.now) }
     {
@@ -36,7 +36,7 @@ impl<B: Keeper> Desk<B> {
     }
 
     /// Keeps the text of a page in a type at hand, where there is room for it. It changes no table.
-    pub fn keep_page(&mut self, page: Page<'_>, served: Served, text: Vec<u8>)
+    pub fn keep_page(&mut self, page: PageKey<'_>, served: Served, text: Vec<u8>)
         requires { B.IsHonest self.old →
             page_in (B.tables self.old) served page ≡ Some text.items }
         ensures { ReadsNothing B.Books self.old self.new }

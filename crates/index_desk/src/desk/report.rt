@@ -61,6 +61,7 @@ fn report_text<B: Books>(books: &mut B, alloc: Global) -> Result<Vec<u8>, Fault>
     Ok(text)
 }
 
+/// A line for each row.
 fn lines_of(alloc: Global, rows: &[NameRow]) -> Result<Vec<u8>, AllocError>
     ensures { IfOk result (λ text. text.items ≡ report_of rows.now) }
 {
@@ -71,6 +72,7 @@ fn lines_of(alloc: Global, rows: &[NameRow]) -> Result<Vec<u8>, AllocError>
     Ok(text)
 }
 
+/// Adds the line of a row.
 fn add_line(text: &mut Vec<u8>, alloc: Global, row: &NameRow) -> Result<(), AllocError>
     ensures { OnOk result (text.new.items ≡ text.old.items ++ report_line row.now) }
 {
@@ -91,6 +93,7 @@ fn add_name(text: &mut Vec<u8>, row: &NameRow) -> Result<(), AllocError>
     Ok(())
 }
 
+/// The word of a name's state.
 fn state_text(known: &NameRecord) -> &'static [u8]
     ensures { result.now ≡ state_text_lem known.now }
 {
@@ -132,6 +135,7 @@ fn add_right(text: &mut Vec<u8>, alloc: Global, number: u64, width: usize) -> Re
     text.extend_from_slice(digits.as_bytes())
 }
 
+/// Adds so many spaces.
 fn add_spaces(text: &mut Vec<u8>, count: usize) -> Result<(), AllocError>
     ensures { OnOk result (text.new.items ≡ text.old.items ++ replicate count 32) }
 {

@@ -9,7 +9,7 @@ ghost use Rattle.index_desk.specs.Looks.{LooksAt, LooksAtBoth, HandsOver};
 ghost use Rattle.index_desk.specs.PastRows.{AreHeldRowsAfter, AreProjectRowsAfter};
 ghost use Rattle.index_desk.specs.Projects.{WalksProject, project_rows_in};
 
-use super::{Desk, seen_name};
+use super::Desk;
 use index_names::NormalName;
 use index_rules::{Books, Fault, FileRow, FileTaker, NameRecord, NameRow, NameTaker, WalkEnd};
 use std::alloc::Global;
@@ -103,6 +103,7 @@ impl<B: Books> Desk<B> {
     }
 }
 
+/// Whether the name of a row is held.
 fn is_held_row(row: &NameRow) -> bool
     ensures { result ≡ is_held_row_lem row.now }
 {
@@ -114,6 +115,5 @@ fn is_held<B: Books>(books: &mut B, alloc: Global, name: &NormalName) -> Result<
     ensures { LooksAt B.Books books.old books.new result
         (λ T held. held ≡ is_held_lem (get T.names name.now)) }
 {
-    let view = seen_name(books, alloc, name)?;
-    Ok(matches!(view.name, Some(NameRecord::Held(_))))
+    books.is_held(alloc, name)
 }

@@ -2,82 +2,31 @@
 ghost use Rattle.std.specs.Prelude.{◌≡◌, IfOk, false, option_map};
 ghost use Rattle.std.specs.Option.{option_map_or};
 ghost use Rattle.std.specs.BTreeMap.{IsOrdered, keys};
-ghost use Rattle.index_rules.specs.Facts.{AreOwners, IsBearer, IsBearerAs, Sees, at_both, caller_of, has_release_in, is_banned_in, of_both, yank_in};
+ghost use Rattle.index_rules.specs.Facts.{IsBearer, IsBearerAs, Sees, at_both, caller_of, has_release_in, is_banned_in, of_both, owners_at, yank_in};
 ghost use Rattle.index_rules.specs.Maps.{bytes_cmp};
 ghost use Rattle.index_rules.specs.Results.{Returns};
 ghost use Rattle.index_rules.specs.Tables.{owners_in};
 ghost use Rattle.index_plain.specs.Plain.{plain_tables};
-ghost use Rattle.index_plain.specs.Seen.{SeesFiles, SeesName, SeesUsers};
+ghost use Rattle.index_rules.specs.Seen.{SeesFiles, SeesName, SeesUsers};
 
 use crate::plain::PlainBooks;
 use crate::{name_files, pairs, table};
 use index_digest::Digest256;
 use index_names::{FileName, NormalName, Release};
-use index_rules::{
-    Caller, CaseRecord, FileRecord, Keys, NameRecord, Owners, UserId, UserRecord, View,
-};
+use index_rules::{Caller, FilesSeen, Keys, NameSeen, Owners, UserId, UserRecord, UsersSeen, View};
 use index_text::Text;
 use std::alloc::{AllocError, Global};
 use std::collections::BTreeMap;
-
-/// What the tables have of users at the keys of a call.
-#[derive(Drop)]
-struct UsersSeen {
-    caller: Option<Caller>,
-    user: Option<UserRecord>,
-    bearer: Option<UserId>,
-}
-
-/// What they have of a name.
-#[derive(Drop)]
-struct NameSeen {
-    record: Option<NameRecord>,
-    owners: Owners,
-    case: Option<CaseRecord>,
-}
-
-/// What they have of a file and a release.
-#[derive(Drop)]
-struct FilesSeen {
-    file: Option<FileRecord>,
-    is_banned: bool,
-    yank: Option<Text>,
-    has_release: bool,
-}
 
 impl PlainBooks {
     /// The records at the keys.
     pub(crate) fn look(&self, alloc: Global, keys: &Keys) -> Result<View, AllocError>
         ensures { IfOk result (Sees (plain_tables self.now) keys.now) }
     {
-        let UsersSeen {
-            caller,
-            user,
-            bearer,
-        } = self.users_at(keys)?;
-        let FilesSeen {
-            file,
-            is_banned,
-            yank,
-            has_release,
-        } = self.files_at(keys)?;
-        let NameSeen {
-            record,
-            owners,
-            case,
-        } = self.name_at(alloc, &keys.name)?;
-        Ok(View {
-            caller,
-            user,
-            bearer,
-            name: record,
-            owners,
-            file,
-            is_banned,
-            yank,
-            has_release,
-            case,
-        })
+        let users = self.users_at(keys)?;
+        let files = self.files_at(keys)?;
+        let name = self.name_at(alloc, keys)?;
+        Ok(View::from_parts(users, name, files))
     }
 
     /// The caller, the user whom the call names and the bearer of the token that it brings.
@@ -111,25 +60,17 @@ impl PlainBooks {
     }
 
     /// The record, the owners and the case of the name that the call speaks of.
-    fn name_at(&self, alloc: Global, name: &Option<NormalName>) -> Result<NameSeen, AllocError>
-        ensures { IfOk result (SeesName (plain_tables self.now) name.now) }
+    fn name_at(&self, alloc: Global, keys: &Keys) -> Result<NameSeen, AllocError>
+        ensures { IfOk result (SeesName (plain_tables self.now) keys.now.name) }
     {
-        let case = table::copy_at_key(&self.cases, name)?;
-        let owners = self.owners_by_key(alloc, name)?;
-        let record = table::copy_at_key(&self.names, name)?;
-        Ok(NameSeen {
-            record,
-            owners,
-            case,
-        })
+        let case = table::copy_at_key(&self.cases, &keys.name)?;
+        let owners = self.owners_by_key(alloc, &keys.name)?;
+        let name = table::copy_at_key(&self.names, &keys.name)?;
+        Ok(NameSeen { name, owners, case })
     }
 
     /// The owners of a name in byte order.
-    pub(crate) fn owners_by_name(
-        &self,
-        alloc: Global,
-        name: &NormalName,
-    ) -> Result<Owners, AllocError>
+    fn owners_by_name(&self, alloc: Global, name: &NormalName) -> Result<Owners, AllocError>
         ensures { Returns result (owners_in (plain_tables self.now) name.now) }
     {
         match self.owners.get(name) {
@@ -140,7 +81,7 @@ impl PlainBooks {
 
     /// The owners of the name, or none if the call speaks of no name.
     fn owners_by_key(&self, alloc: Global, name: &Option<NormalName>) -> Result<Owners, AllocError>
-        ensures { IfOk result (AreOwners (plain_tables self.now) name.now) }
+        ensures { Returns result (owners_at (plain_tables self.now) name.now) }
     {
         match name {
             Some(name) => self.owners_by_name(alloc, name),

@@ -4,7 +4,7 @@ ghost use Rattle.index_rules.specs.Sound.{is_undeleted_of as is_undeleted_of_lem
 ghost use Rattle.index_rules.specs.TableRows.{file_row_in, file_rows_in, name_row as name_row_lem, name_rows_in};
 ghost use Rattle.index_rules.specs.Results.{Returns, ReturnsItems};
 ghost use Rattle.index_plain.specs.Plain.{Hands, HandsFiles, HandsNames, plain_tables};
-ghost use Rattle.index_plain.specs.Seen.{rows_of_file, rows_of_name};
+ghost use Rattle.index_plain.specs.RowsOf.{rows_of_file, rows_of_name};
 
 use crate::pairs;
 use crate::plain::PlainBooks;

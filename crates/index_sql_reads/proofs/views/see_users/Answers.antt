@@ -1,4 +1,4 @@
-use Rattle.index_sql_reads.specs.Seen.{SeesUsers}
+use Rattle.index_rules.specs.Seen.{SeesUsers}
 use Rattle.index_sql_reads.proofs.FindsLemmas.{fails_then, finds_as, finds_then}
 use Rattle.index_sql_reads.proofs.views.see_users.Goals as goal
 

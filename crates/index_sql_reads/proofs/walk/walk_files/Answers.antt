@@ -8,6 +8,7 @@ use Rattle.index_sql_schema.proofs.SelectFiles.{is_plain, records, selects, sure
 use Rattle.index_sql_schema.proofs.ShownRecords.{known_records}
 use Rattle.index_sql_schema.specs.Sure.{IsSure}
 use Rattle.index_sql_reads.specs.Handed.{IsOf, QueryEndsForReason}
+use Rattle.index_sql_reads.specs.Steps.{on_store}
 use Rattle.index_sql_reads.proofs.EndLemmas.{files_ends}
 use Rattle.index_sql_reads.proofs.QueryLemmas.{ends_for, walks_all}
 use Rattle.index_sql_reads.proofs.WalkLemmas.{read_walks}
@@ -30,7 +31,7 @@ returns g c =
       given = (map file_row_shown it.0, read_walks g.K.FileTaker.takes g.K.FileTaker.stops file_row_shown it.0 c.args.taker.now c.walk.new.taker c.walk.result it.1);
       looks = c.walk.ensures.looks;
       reason = λ clean are.
-          let told = subst (λ params. IsSure select_files_text params → QueryEndsForReason g.S.Store IsListedRow select_files_text params old new c.walk.result) (search rules) c.walk.ensures.reason in
+          let told = subst (λ params. IsSure select_files_text params → QueryEndsForReason IsListedRow select_files_text params (on_store g.S.Store old new) c.walk.result) (search rules) c.walk.ensures.reason in
           ends_for g.S.Store select_files_text (Text name ∷ []) files_ends old c.walk.ensures.kept (c.walk.ensures.looks.was_clean clean) file_row_shown (λ T. file_rows_in T name) (selects name)
           IsListedRow (λ before after rows h are shown. let known = known_records before.now h are in records name before after rows h shown known.1.1.1.1.0 known.1.1.1.1.1.1.0) are new c.walk.result ((told (sure name)).reason clean);
     }

@@ -4,7 +4,7 @@ use Rattle.index_rules.specs.Maps.{Bytes}
 use Rattle.index_rules.specs.Sound.{is_undeleted_of}
 use Rattle.index_rules.specs.TableRows.{file_row_in}
 use Rattle.index_plain.specs.Plain.{plain_tables}
-use Rattle.index_plain.specs.Seen.{rows_of_file}
+use Rattle.index_plain.specs.RowsOf.{rows_of_file}
 use Rattle.index_plain.proofs.RowLemmas.{stopped_at_one}
 use Rattle.index_plain.proofs.plain.PlainBooks.hand_file.Goals as goal
 

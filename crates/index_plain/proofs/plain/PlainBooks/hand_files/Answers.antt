@@ -10,7 +10,7 @@ use Rattle.index_rules.proofs.WalkLemmas.{GoesOn-more, GoesOn-early, GoesOn-all}
 use Rattle.index_rules.specs.declared.records.FileRecord.{FileRecord}
 use Rattle.index_rules.specs.Maps.{Bytes, bytes_cmp}
 use Rattle.index_plain.specs.Plain.{plain_tables}
-use Rattle.index_plain.specs.Seen.{rows_of_file}
+use Rattle.index_plain.specs.RowsOf.{rows_of_file}
 use Rattle.index_plain.specs.Trees.{map_of}
 use Rattle.index_plain.proofs.TreeLemmas.{entries_map}
 use Rattle.index_plain.proofs.RowLemmas.{file_rows_of, file_rows_first}

@@ -1,7 +1,7 @@
 use Rattle.std.proofs.Common.{◌≡◌, is_ok, rules, subst}
 use Rattle.index_io.specs.Counts.{next_count}
 use Rattle.index_rules.specs.Facts.{Sees}
-use Rattle.index_rules.specs.Told.{CountsStore, tells_store}
+use Rattle.index_rules.specs.StoreFaults.{CountsStoreFault, fails_by_store}
 use Rattle.index_tables.specs.BooksState.{BooksState}
 use Rattle.index_tables.specs.LooksUp.{LooksFor}
 use Rattle.index_tables.proofs.KeptLemmas.{finds}
@@ -12,5 +12,5 @@ returns g c =
     let new : BooksState _ = record { conn = c.view-seen.new.conn; failures = c.next_count-self-inside.result; stores = c.next_count-self-inside-2.result } in
     let old : BooksState _ = record { conn = c.self.inside.conn; failures = c.self.inside.failures; stores = c.self.inside.stores } in
     let count : new.failures ≡ next_count old.failures (is_ok c.view-seen.result) = search rules in
-    let stores : CountsStore old.stores new.stores (tells_store c.view-seen.result) = search rules in
+    let stores : CountsStoreFault old.stores new.stores (fails_by_store c.view-seen.result) = search rules in
     subst (λ before. LooksFor g.S.Store before new c.view-seen.result (λ T. Sees T c.args.keys.now)) c.self.view_is (finds g.S.Store old new _ _ c.view-seen.ensures count stores)

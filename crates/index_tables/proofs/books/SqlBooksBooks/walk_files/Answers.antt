@@ -3,9 +3,10 @@ use Rattle.index_io.specs.Counts.{next_count}
 use Rattle.index_rules.specs.TableRows.{file_rows_in}
 use Rattle.index_rules.specs.Tables.{Tables}
 use Rattle.index_rules.specs.Walks.{has_fault}
-use Rattle.index_rules.specs.Told.{CountsStore, ends_by_store}
+use Rattle.index_rules.specs.StoreFaults.{CountsStoreFault, ends_by_store}
 use Rattle.index_tables.specs.BooksState.{BooksState}
-use Rattle.index_tables.specs.LooksUp.{WalksBooks}
+use Rattle.index_sql_reads.specs.Steps.{to_taker}
+use Rattle.index_tables.specs.LooksUp.{WalksBooks, with_books}
 use Rattle.index_tables.proofs.KeptLemmas.{walks}
 use Rattle.index_tables.proofs.books.SqlBooksBooks.walk_files.Goals as goal
 
@@ -15,6 +16,7 @@ returns g c =
     let new : BooksState _ = record { conn = c.walk_files-ended.new.conn; failures = c.next_count-self-inside.result; stores = c.next_count-self-inside-2.result } in
     let old : BooksState _ = record { conn = c.self.inside.conn; failures = c.self.inside.failures; stores = c.self.inside.stores } in
     let count : new.failures ≡ next_count old.failures (not (has_fault c.walk_files-ended.result)) = search rules in
-    let stores : CountsStore old.stores new.stores (ends_by_store c.walk_files-ended.result) = search rules in
-    subst (λ before. WalksBooks g.S.Store g.K.FileTaker.takes g.K.FileTaker.stops rows_in before new c.args.taker.now c.walk_files-ended.new.taker c.walk_files-ended.result) c.self.view_is
-    (walks g.S.Store g.K.FileTaker.takes g.K.FileTaker.stops rows_in old new _ _ _ c.walk_files-ended.ensures count stores)
+    let stores : CountsStoreFault old.stores new.stores (ends_by_store c.walk_files-ended.result) = search rules in
+    let taker = to_taker g.K.FileTaker.takes g.K.FileTaker.stops c.args.taker.now c.walk_files-ended.new.taker in
+    subst (λ before. WalksBooks rows_in (with_books g.S.Store before new) taker c.walk_files-ended.result) c.self.view_is
+    (walks rows_in (with_books g.S.Store old new) taker c.walk_files-ended.result c.walk_files-ended.ensures count stores)

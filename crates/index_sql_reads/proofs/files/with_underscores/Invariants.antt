@@ -1,9 +1,0 @@
-use Rattle.std.proofs.Common.{◌≡◌, map, take}
-use Rattle.index_sql_reads.specs.UsualNames.{in_file_name}
-use Rattle.index_sql_reads.proofs.files.with_underscores.Given as goal
-
--- the bytes so far
-abbrev pub invariant-loop-byte : goal.invariant-loop-byte
-invariant-loop-byte l = record {
-  so_far : l.text.items ≡ map in_file_name (take l.byte-index l.name);
-}

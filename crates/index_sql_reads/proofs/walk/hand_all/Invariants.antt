@@ -1,0 +1,11 @@
+use Rattle.std.proofs.Common.{◌≡◌, List, length}
+use Rattle.sqlite_value.specs.Order.{Row}
+use Rattle.index_rules.specs.Rows.{Took}
+use Rattle.index_sql_reads.specs.Handed.{Gives}
+use Rattle.index_sql_reads.proofs.walk.hand_all.Given as goal
+
+abbrev pub invariant-rows : goal.invariant-rows
+invariant-rows g l =
+    (l.rows.conn.ghost_name ≡ l.fn.rows.conn.ghost_name) × (given : List Row)
+    × Gives g.S.Store l.fn.rows.conn.now l.rows.conn.now given × Took g.H.Hand.takes given l.fn.taker l.taker
+    × (length given ≡ l._given)

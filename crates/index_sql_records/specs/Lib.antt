@@ -1,2 +1,0 @@
-pub mod ProhibitedRow
-pub mod Reads
