@@ -25,7 +25,7 @@ use Rattle.index_sql_schema.specs.StatementTexts.{put_user_text, put_file_text, 
 use Rattle.index_sql_schema.proofs.PutUser as user_row
 use Rattle.index_sql_schema.proofs.PutFile as file_row
 use Rattle.index_sql_schema.proofs.PutCase as case_row
-use Rattle.index_sql_writes.specs.Writes.{puts_user, puts_file, puts_case, name_of, row_of_name, flag_number, kind_number}
+use Rattle.index_sql_writes.specs.Writes.{puts_user, puts_file, puts_case, name_of, name_cells, held_numbers, prohibited_numbers, flag_number, kind_number}
 
 flag_again : (b : Bool) → (number_in (Int (flag_number b)) == 1) ≡ b
 flag_again true = refl
@@ -139,21 +139,16 @@ case_put name case fits old new count h ran =
     subst (λ first. Changes (puts_case name (record case { state = record case.state { first = first } })) old.now new.now) (number_again case.state.first) s4
 
 pub held_fits : (name : Bytes) (project : Project) → IsUtf8 project.shown → FitsProject project.quota project.charge project.undeleted
-    → (id : ℤ) → IsNameRow (row_of_name id name (pos 1) project.shown (pos project.quota) (pos project.charge) (pos project.undeleted) (option_map pos project.last_upload))
+    → (id : ℤ) → IsNameRow (Int id ∷ name_cells name project.shown (held_numbers project))
 held_fits name project shown fits id = inl (refl, record { shown = shown; quota = tt; charge = tt; undeleted = tt; last_upload = if_any project.last_upload; fits = fits })
   where
-    if_any : (last : Option ℕ) → IsNumberIfAny (row_of_name id name (pos 1) project.shown (pos project.quota) (pos project.charge) (pos project.undeleted) (option_map pos last)) 7
+    if_any : (last : Option ℕ) → IsNumberIfAny (Int id ∷ name_cells name project.shown (held_numbers (record project { last_upload = last }))) 7
     if_any None = inl (omega arith, refl)
     if_any (Some n) = inr tt
 
--- the same of the columns that a call has
-pub held_by : (name : Bytes) (project : Project) (shown : Bytes) (quota charge undeleted : ℤ) (last : Option ℤ) → shown ≡ project.shown → quota ≡ pos project.quota → charge ≡ pos project.charge → undeleted ≡ pos project.undeleted
-    → last ≡ option_map pos project.last_upload → IsUtf8 shown → FitsProject project.quota project.charge project.undeleted → (id : ℤ) → IsNameRow (row_of_name id name (pos 1) shown quota charge undeleted last)
-held_by name project shown quota charge undeleted last s q c u l utf8 fits id = rw (s, q, c, u, l) (held_fits name project (subst IsUtf8 s utf8) fits id)
-
-pub prohibited_fits : (name : Bytes) (id : ℤ) → IsNameRow (row_of_name id name (pos 2) [] (pos 0) (pos 0) (pos 0) None)
+pub prohibited_fits : (name : Bytes) (id : ℤ) → IsNameRow (Int id ∷ name_cells name [] prohibited_numbers)
 prohibited_fits name id = inr (refl, record { shown = refl; quota = refl; charge = refl; undeleted = refl; last_upload = (omega arith, refl) })
 
 -- a held name's row has its project
-pub held_again : (project : Project) → name_of (pos 1) project.shown (pos project.quota) (pos project.charge) (pos project.undeleted) (option_map pos project.last_upload) ≡ Held project
+pub held_again : (project : Project) → name_of project.shown (held_numbers project) ≡ Held project
 held_again project = rw (number_again project.last_upload) refl

@@ -1,5 +1,5 @@
 -- Steps of one statement.
-use Rattle.std.proofs.Common.{◌≡◌, ◌∙◌, inl, inr, ℕ, ℤ, pos, Option, option_map, List, [], ◌∷◌, ◌++◌, length, Ok, Err, Result, Some, refl, subst, sym, IsTrue, arith, false}
+use Rattle.std.proofs.Common.{◌≡◌, ◌∙◌, inl, inr, ℕ, List, [], ◌∷◌, ◌++◌, length, Ok, Err, Result, Some, refl, subst, sym, IsTrue, arith, false}
 use Rattle.std.specs.Prelude.{IsErrAnd}
 use Rattle.std.specs.Borrow.{MutBor}
 use Rattle.std.proofs.lemmas.Bool.{cases_Bool}
@@ -20,8 +20,9 @@ use Rattle.index_sql_schema.specs.StatementTexts.{put_name_text}
 use Rattle.index_sql_writes.specs.Asks.{AnswersAll, Ask, CanAsk, HasTooMuch, Statement, WithNumbers}
 use Rattle.index_sql_writes.specs.Transaction.{IsInTransaction, IsUncommitted, MakesInTransaction}
 use Rattle.index_sql_writes.specs.Steps.{RunsStatement, TakesStep, TakesSteps}
-use Rattle.index_sql_writes.specs.Statements.{hold_name_ask, name_cells, project_numbers}
-use Rattle.index_sql_writes.specs.Writes.{name_of, puts_name}
+use Rattle.index_sql_writes.specs.Statements.{hold_name_ask, project_numbers}
+use Rattle.index_sql_writes.specs.Writes.{held_numbers, name_cells, name_of, puts_name}
+use Rattle.index_sql_writes.specs.declared.put.NameNumbers.{NameNumbers}
 use Rattle.index_sql_writes.proofs.PutRecords.{held_again}
 use Rattle.index_sql_writes.proofs.AskLemmas.{IsWrite, fits, step_goes}
 use Rattle.index_sql_writes.proofs.GoingLemmas.{all_stop, all_then, fault_since, goes_alone}
@@ -114,13 +115,12 @@ module _ {S : Type 0} (g : Ghosts S) where
     })
 
 -- a step that puts the columns that a call has holds the name with its project
-pub held_step : {S A : Type 0} (g : Ghosts S) (name : Bytes) (project : Project) (shown : Bytes) (quota charge undeleted : ℤ) (last : Option ℤ) → shown ≡ project.shown → quota ≡ pos project.quota → charge ≡ pos project.charge → undeleted ≡ pos project.undeleted
-    → last ≡ option_map pos project.last_upload → (old new : MutBor (Held S)) (r : Result A Error)
-    → TakesStep g (puts_name name (name_of (pos 1) shown quota charge undeleted last)) (Statement put_name_text (name_cells name (pos 1) shown quota charge undeleted last)) old new r
+pub held_step : {S A : Type 0} (g : Ghosts S) (name : Bytes) (project : Project) (shown : Bytes) (numbers : NameNumbers) → shown ≡ project.shown → numbers ≡ held_numbers project → (old new : MutBor (Held S)) (r : Result A Error)
+    → TakesStep g (puts_name name (name_of shown numbers)) (Statement put_name_text (name_cells name shown numbers)) old new r
     → TakesStep g (puts_name name (known.Held project)) (hold_name_ask name project) old new r
-held_step g name project shown quota charge undeleted last s q c u l old new r step =
-    let cells = name_cells name (pos 1) project.shown (pos project.quota) (pos project.charge) (pos project.undeleted) (option_map pos project.last_upload) in
-    let put = rw (s, q, c, u, l) at step in
+held_step g name project shown numbers s n old new r step =
+    let cells = name_cells name project.shown (held_numbers project) in
+    let put = rw (s, n) at step in
     fitting g (puts_name name (known.Held project)) (project_numbers project) put_name_text cells cells old new r refl
     (subst (λ it. TakesStep g (puts_name name it) (Statement put_name_text cells) old new r) (held_again project) put)
 

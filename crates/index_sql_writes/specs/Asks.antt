@@ -33,10 +33,14 @@ use Rattle.index_sql_writes.specs.Writes.{AreFilesOf}
 abbrev pub each_statement : Mode
 each_statement = record { keys = Enforced; in_doubt = false; may_wait = false }
 
--- what SQL makes of a database by a text with these parameters, or why it refuses; the steps of its query are not limited
+-- what SQL makes of a database by a text with these parameters, or why it refuses; the steps of its
+-- query are not limited
 abbrev pub AnswersStatement : List ℕ → Row → Database → Part Database
 AnswersStatement text params db out =
-    (c : Compiled) × (understood db.schema text ≡ Ok c) × Then (Does None each_statement params db (text_of text c) c.returning c.command) (λ done. Gives done.1) out
+    (c : Compiled)
+    × (understood db.schema text ≡ Ok c)
+    × Then (Does None each_statement params db (text_of text c) c.returning c.command)
+    (λ done. Gives done.1) out
 
 -- one of the numbers is above the greatest that SQL holds
 abbrev pub HasTooMuch : List ℕ → Type 0
@@ -72,7 +76,8 @@ pub data Ask : Type 0 where
 -- what comes of it: a number that SQL can't hold is refused before SQL is asked
 abbrev pub AnswersAsk : Ask → Database → Part Database
 AnswersAsk (Statement text params) db out = AnswersStatement text params db out
-AnswersAsk (WithNumbers numbers ask) db out = (HasTooMuch numbers × Refuses (IntegralValueOutOfRange 0) out) ⊎ AnswersAsk ask db out
+AnswersAsk (WithNumbers numbers ask) db out =
+    (HasTooMuch numbers × Refuses (IntegralValueOutOfRange 0) out) ⊎ AnswersAsk ask db out
 AnswersAsk (BodiesOf name) db out =
     (rows : List Row) × AreFilesOf name (tables_in db.trees) rows × AnswersBodyDeletions rows db out
 
@@ -83,7 +88,8 @@ AnswersAll (ask ∷ asks) db = Then (AnswersAsk ask db) (AnswersAll asks)
 
 -- ---- how a step goes
 
--- a transaction on an index is under way, whose rows are those of records, and where no query has a limit on its steps
+-- a transaction on an index is under way, whose rows are those of records, and where no query has a
+-- limit on its steps
 pub record CanAsk (s : State) : Type 0 where
   pub ready : IsInTransaction s
   pub records : AreRecords s.now
@@ -101,12 +107,21 @@ pub record AreFilesIn (s : State) (name : Bytes) (rows : List Row) : Type 0 wher
 
 -- a fault of the store comes where the disk had one, or where SQL refuses
 abbrev pub FailsAs : Part Database → State → State → Error → Type 0
-FailsAs Answered old new e = fault_by e ≡ Store → MoreFaults old.faults new.faults ⊎ ((why : Option Error) × Answered (Err why))
+FailsAs Answered old new e =
+    fault_by e ≡ Store
+    → MoreFaults old.faults new.faults ⊎ ((why : Option Error) × Answered (Err why))
 
 -- on a clean disk what begins in such a state makes what SQL answers, and fails for no other reason
-abbrev pub GoesAs : {S A : Type 0} → Ghosts S → (State → Type 0) → (Database → Part Database) → Held S → Held S → Result A Error → Type 0
+abbrev pub GoesAs : {S A : Type 0} → Ghosts S
+    → (State → Type 0)
+    → (Database → Part Database)
+    → Held S → Held S → Result A Error → Type 0
 GoesAs g Begins Answered old new result =
-    HasCleanDisk (state g new) → Begins (state g old) → MatchResult result (λ _. Answered (state g old).now (Ok (state g new).now)) (FailsAs (Answered (state g old).now) (state g old) (state g new))
+    HasCleanDisk (state g new)
+    → Begins (state g old)
+    → MatchResult result
+    (λ _. Answered (state g old).now (Ok (state g new).now))
+    (FailsAs (Answered (state g old).now) (state g old) (state g new))
 
 -- so a step goes by what it asks
 abbrev pub GoesByAsk : {S A : Type 0} → Ghosts S → Ask → Held S → Held S → Result A Error → Type 0

@@ -26,21 +26,33 @@ abbrev pub asks_of : Change → List Ask
 asks_of (change.AddUser user account) = put_user_ask user account ∷ []
 asks_of (change.SetToken user account) = put_user_ask user account ∷ []
 asks_of (change.SetQuota name project) = hold_name_ask name project ∷ []
-asks_of (change.Claim name project owner) = delete_owners_ask name ∷ delete_yanks_ask name ∷ delete_case_ask name ∷ hold_name_ask name project ∷ put_owner_ask name owner ∷ []
+asks_of (change.Claim name project owner) =
+    delete_owners_ask name ∷ delete_yanks_ask name ∷ delete_case_ask name
+    ∷ hold_name_ask name project ∷ put_owner_ask name owner ∷ []
 asks_of (change.AddOwner name user) = put_owner_ask name user ∷ delete_case_ask name ∷ []
 asks_of (change.RemoveOwner name user) = delete_owner_ask name user ∷ delete_case_ask name ∷ []
 asks_of (change.Upload name project file known body ends_case) =
-    hold_name_ask name project ∷ put_file_ask file known ∷ put_body_ask file body ∷ (if ends_case then delete_case_ask name ∷ [] else [])
-asks_of (change.Delete name project file known) = hold_name_ask name project ∷ put_file_ask file known ∷ delete_body_ask file ∷ delete_case_ask name ∷ []
-asks_of (change.BanFile name project file known) = hold_if_any name project (put_file_ask file known ∷ delete_body_ask file ∷ put_ban_ask file ∷ [])
-asks_of (change.Yank name release reason) = put_yank_ask name release reason ∷ delete_case_ask name ∷ []
+    hold_name_ask name project ∷ put_file_ask file known
+    ∷ delete_body_ask file ∷ put_body_ask file body
+    ∷ (if ends_case then delete_case_ask name ∷ [] else [])
+asks_of (change.Delete name project file known) =
+    hold_name_ask name project ∷ put_file_ask file known
+    ∷ delete_body_ask file ∷ delete_case_ask name ∷ []
+asks_of (change.BanFile name project file known) =
+    hold_if_any name project
+    (put_file_ask file known ∷ delete_body_ask file ∷ put_ban_ask file ∷ [])
+asks_of (change.Yank name release reason) =
+    put_yank_ask name release reason ∷ delete_case_ask name ∷ []
 asks_of (change.Unyank name release) = delete_yank_ask name release ∷ delete_case_ask name ∷ []
 asks_of (change.Relinquish name) = delete_name_ask name ∷ []
-asks_of (change.Prohibit name) = delete_bodies_ask name ∷ mark_files_ask name ∷ delete_name_ask name ∷ prohibit_name_ask name ∷ []
+asks_of (change.Prohibit name) =
+    delete_bodies_ask name ∷ mark_files_ask name
+    ∷ delete_name_ask name ∷ prohibit_name_ask name ∷ []
 asks_of (change.Allow name) = delete_name_ask name ∷ []
 asks_of (change.OpenCase name case) = put_case_ask name case ∷ []
 asks_of (change.RecordAttempt name case) = put_case_ask name case ∷ []
-asks_of (change.Transfer name candidate) = delete_owners_ask name ∷ put_owner_ask name candidate ∷ delete_case_ask name ∷ []
+asks_of (change.Transfer name candidate) =
+    delete_owners_ask name ∷ put_owner_ask name candidate ∷ delete_case_ask name ∷ []
 asks_of (change.CloseCase name) = delete_case_ask name ∷ []
 asks_of (change.AnswerCase name) = delete_case_ask name ∷ []
 

@@ -59,7 +59,10 @@ all_of [] T = T
 all_of (it ∷ rest) T = all_of rest (step_by it T)
 
 -- the change is made and committed, and the rows of meta are what `rows` makes of those before
-pub record IsMade (change : Tables → Tables) (rows : List Row → List Row) (old new : State) : Type 0 where
+pub record IsMade
+    (change : Tables → Tables)
+    (rows : List Row → List Row)
+    (old new : State) : Type 0 where
   pub is_open : IsTrue new.is_open
   pub index : IsIndex new.now
   pub tables : tables_in new.now.trees ≡ change (tables_in old.now.trees)
@@ -77,7 +80,8 @@ IsUndone old new = (new.now ≡ old.committed) × (new.committed ≡ old.committ
 abbrev pub HoldsIndex : Trees → Type 0
 HoldsIndex db = IsIndex (record { schema = index_schema; trees = db })
 
--- a crash leaves what could be left before, or the change as a whole, with its rows of meta, in an index; its rows are records if they were
+-- a crash leaves what could be left before, or the change as a whole, with its rows of meta, in an
+-- index; its rows are records if they were
 abbrev pub LeavesWholeChange : (Tables → Tables) → (List Row → List Row) → State → State → Type 0
 LeavesWholeChange change rows old new =
     Survives old new
@@ -85,18 +89,34 @@ LeavesWholeChange change rows old new =
     × (meta_in db ≡ rows (meta_in old.now.trees)) × HoldsIndex db
     × (AreRecords old.now → AreRecordsOf index_schema.tables db))
 
--- What a transaction leaves that is to make this change of an open database of such a kind, and this of its rows of meta. What it says of values is of a clean disk.
-pub record MakesAll {S A E : Type 0} (g : Ghosts S) (IsKind : Database → Type 0) (change : Tables → Tables) (rows : List Row → List Row) (old new : Connected S) (result : Result A E) : Type 0 where
-  pub made : HasCleanDisk (state g new) → OnOk result (IsTrue (state g old).is_open → IsKind (state g old).now → IsMade change rows (state g old) (state g new))
+-- What a transaction leaves that is to make this change of an open database of such a kind, and
+-- this of its rows of meta. What it says of values is of a clean disk.
+pub record MakesAll {S A E : Type 0} (g : Ghosts S)
+    (IsKind : Database → Type 0)
+    (change : Tables → Tables)
+    (rows : List Row → List Row)
+    (old new : Connected S)
+    (result : Result A E) : Type 0 where
+  pub made : HasCleanDisk (state g new)
+      → OnOk result
+      (IsTrue (state g old).is_open
+      → IsKind (state g old).now
+      → IsMade change rows (state g old) (state g new))
   pub opened : HasCleanDisk (state g new) → OnOk result (IsTrue (state g new).is_open)
   -- after an error, while the connection is open, the database is as it was committed
-  pub unchanged : HasCleanDisk (state g new) → IsTrue (state g new).is_open → IsKind (state g old).now → OnErr result (IsUndone (state g old) (state g new))
+  pub unchanged : HasCleanDisk (state g new)
+      → IsTrue (state g new).is_open
+      → IsKind (state g old).now
+      → OnErr result (IsUndone (state g old) (state g new))
   pub outside : new.in_transaction ≡ false
   pub was_clean : HasCleanDisk (state g new) → HasCleanDisk (state g old)
-  pub was_open : HasCleanDisk (state g new) → IsTrue (state g new).is_open → IsTrue (state g old).is_open
+  pub was_open : HasCleanDisk (state g new)
+      → IsTrue (state g new).is_open
+      → IsTrue (state g old).is_open
   pub crash : IsTrue (state g old).is_open → IsKind (state g old).now
       → LeavesWholeChange change rows (state g old) (state g new)
 
 -- so it is where the database is an index, and its rows of meta stay
-abbrev pub MakesChange : {S A E : Type 0} → Ghosts S → (Tables → Tables) → Connected S → Connected S → Result A E → Type 0
+abbrev pub MakesChange : {S A E : Type 0} → Ghosts S
+    → (Tables → Tables) → Connected S → Connected S → Result A E → Type 0
 MakesChange g change = MakesAll g IsIndex change same_meta

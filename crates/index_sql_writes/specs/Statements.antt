@@ -1,5 +1,5 @@
 -- What each step asks.
-use Rattle.std.specs.Prelude.{pos, ℕ, ℤ, List, [], ◌∷◌, Option, None, option_map}
+use Rattle.std.specs.Prelude.{pos, ℕ, List, [], ◌∷◌, option_map}
 use Rattle.std.specs.Option.{option_to_list}
 use Rattle.sqlite_value.specs.Order.{Row}
 use Rattle.sqlite_value.specs.declared.value.Value.TheVariants.{Int, Text, Blob}
@@ -18,7 +18,8 @@ use Rattle.index_sql_schema.specs.StatementTexts.{delete_case_text, delete_body_
 use Rattle.index_sql_schema.specs.StatementTexts.{update_files_text}
 use Rattle.index_sql_writes.specs.declared.put_case.CaseNumbers.{CaseNumbers}
 use Rattle.index_sql_writes.specs.Asks.{Ask, Statement, WithNumbers, BodiesOf}
-use Rattle.index_sql_writes.specs.Writes.{flag_number, kind_number}
+use Rattle.index_sql_writes.specs.Writes.{flag_number, kind_number, held_numbers}
+use Rattle.index_sql_writes.specs.Writes.{prohibited_numbers, name_cells}
 
 -- one text, by which rows are found
 abbrev by_text : List ℕ → Bytes → Ask
@@ -30,12 +31,8 @@ by_texts sql first second = Statement sql (Text first ∷ Text second ∷ [])
 
 -- the numbers of a held name
 abbrev pub project_numbers : Project → List ℕ
-project_numbers project = project.quota ∷ project.charge ∷ project.undeleted ∷ option_to_list project.last_upload
-
--- the row of a name
-abbrev pub name_cells : Bytes → ℤ → Bytes → ℤ → ℤ → ℤ → Option ℤ → Row
-name_cells name standing shown quota charge undeleted last =
-    Text name ∷ Int standing ∷ Text shown ∷ Int quota ∷ Int charge ∷ Int undeleted ∷ or_null Int last ∷ []
+project_numbers project =
+    project.quota ∷ project.charge ∷ project.undeleted ∷ option_to_list project.last_upload
 
 -- ---- a row in place of the one with its key
 
@@ -45,11 +42,11 @@ put_user_ask user account =
 
 abbrev pub hold_name_ask : Bytes → Project → Ask
 hold_name_ask name project =
-    WithNumbers (project_numbers project) (Statement put_name_text
-    (name_cells name (pos 1) project.shown (pos project.quota) (pos project.charge) (pos project.undeleted) (option_map pos project.last_upload)))
+    WithNumbers (project_numbers project)
+    (Statement put_name_text (name_cells name project.shown (held_numbers project)))
 
 abbrev pub prohibit_name_ask : Bytes → Ask
-prohibit_name_ask name = Statement put_name_text (name_cells name (pos 2) [] (pos 0) (pos 0) (pos 0) None)
+prohibit_name_ask name = Statement put_name_text (name_cells name [] prohibited_numbers)
 
 abbrev pub put_owner_ask : Bytes → Bytes → Ask
 put_owner_ask = by_texts put_owner_text
@@ -57,21 +54,30 @@ put_owner_ask = by_texts put_owner_text
 -- the row of a file
 abbrev pub file_cells : Bytes → FileRecord → Row
 file_cells file known =
-    Text file ∷ Text known.project ∷ Text known.release ∷ Blob known.digest ∷ Int
-    (pos known.size) ∷ Text known.requires_python ∷ Int (flag_number known.is_undeleted) ∷ []
+    Text file
+    ∷ Text known.project
+    ∷ Text known.release
+    ∷ Blob known.digest
+    ∷ Int (pos known.size)
+    ∷ Text known.requires_python
+    ∷ Int (flag_number known.is_undeleted)
+    ∷ []
 
 abbrev pub put_file_ask : Bytes → FileRecord → Ask
-put_file_ask file known = WithNumbers (known.size ∷ []) (Statement put_file_text (file_cells file known))
+put_file_ask file known =
+    WithNumbers (known.size ∷ []) (Statement put_file_text (file_cells file known))
 
 abbrev pub put_body_ask : Bytes → Bytes → Ask
 put_body_ask file body = Statement put_body_text (Text file ∷ Blob body ∷ [])
 
 abbrev pub put_yank_ask : Bytes → Bytes → Bytes → Ask
-put_yank_ask name release reason = Statement put_yank_text (Text name ∷ Text release ∷ Text reason ∷ [])
+put_yank_ask name release reason =
+    Statement put_yank_text (Text name ∷ Text release ∷ Text reason ∷ [])
 
 -- the numbers of a case
 abbrev pub case_numbers : CaseRecord → List ℕ
-case_numbers case = case.opened ∷ case.state.attempts ∷ case.state.sent ∷ option_to_list case.state.first
+case_numbers case =
+    case.opened ∷ case.state.attempts ∷ case.state.sent ∷ option_to_list case.state.first
 
 -- what it has beside its texts, as SQL holds it
 abbrev pub integers_of : CaseRecord → CaseNumbers
@@ -89,12 +95,24 @@ integers_of case = record {
 -- the row of a case
 abbrev pub case_cells : Bytes → CaseRecord → Row
 case_cells name case =
-    Text name ∷ Int (kind_number case.kind) ∷ Text case.candidate ∷ Text case.contact ∷ Text case.work ∷ Text case.why ∷ Int (pos case.opened) ∷ Int (pos case.state.attempts) ∷ Int (pos case.state.sent)
-    ∷ Int (flag_number case.state.profile) ∷ Int (flag_number case.state.author) ∷ Int
-    (flag_number case.state.pages) ∷ or_null Int (option_map pos case.state.first) ∷ []
+    Text name
+    ∷ Int (kind_number case.kind)
+    ∷ Text case.candidate
+    ∷ Text case.contact
+    ∷ Text case.work
+    ∷ Text case.why
+    ∷ Int (pos case.opened)
+    ∷ Int (pos case.state.attempts)
+    ∷ Int (pos case.state.sent)
+    ∷ Int (flag_number case.state.profile)
+    ∷ Int (flag_number case.state.author)
+    ∷ Int (flag_number case.state.pages)
+    ∷ or_null Int (option_map pos case.state.first)
+    ∷ []
 
 abbrev pub put_case_ask : Bytes → CaseRecord → Ask
-put_case_ask name case = WithNumbers (case_numbers case) (Statement put_case_text (case_cells name case))
+put_case_ask name case =
+    WithNumbers (case_numbers case) (Statement put_case_text (case_cells name case))
 
 abbrev pub put_ban_ask : Bytes → Ask
 put_ban_ask = by_text put_ban_text

@@ -66,6 +66,10 @@ abbrev pub FailsForRefusal : List Ask → State → State → Error → Type 0
 FailsForRefusal asks old new e = fault_by e ≡ Store → HasReason old new ⊎ AreRefused asks old.now
 
 -- so it does on a clean disk, over an index whose rows are those of records
-abbrev pub FailsForAsks : {S A : Type 0} → Ghosts S → List Ask → Held S → Held S → Result A Error → Type 0
+abbrev pub FailsForAsks :
+    {S A : Type 0} → Ghosts S → List Ask → Held S → Held S → Result A Error → Type 0
 FailsForAsks g asks old new result =
-    HasCleanDisk (state g new) → (IsTrue (state g old).is_open → IsIndex (state g old).now) → AreRecords (state g old).now → IfErr result (FailsForRefusal asks (state g old) (state g new))
+    HasCleanDisk (state g new)
+    → (IsTrue (state g old).is_open → IsIndex (state g old).now)
+    → AreRecords (state g old).now
+    → IfErr result (FailsForRefusal asks (state g old) (state g new))

@@ -1,5 +1,6 @@
 -- What each statement makes of the tables.
-use Rattle.std.specs.Prelude.{◌≡◌, ℤ, pos, List, [], ◌∷◌, Bool, if◌then◌else◌, not, Option}
+use Rattle.std.specs.Prelude.{◌≡◌, ℤ, pos, List, [], ◌∷◌, Bool, if◌then◌else◌, not, None}
+use Rattle.std.specs.Prelude.{option_map}
 use Rattle.std.specs.List.{list_any}
 use Rattle.std.specs.FinMap.{insert, remove, retain_keys}
 use Rattle.index_retention.specs.declared.attempts.CaseKind.{CaseKind}
@@ -12,10 +13,12 @@ use Rattle.index_rules.specs.declared.records.NameRecord.{NameRecord}
 use Rattle.index_rules.specs.declared.records.FileRecord.{FileRecord}
 use Rattle.index_rules.specs.declared.records.CaseRecord.{CaseRecord}
 use Rattle.index_rules.specs.Maps.{Bytes, Map, same, change_values}
+use Rattle.index_rules.specs.Projects.{Project}
 use Rattle.index_rules.specs.Tables.{Tables}
 use Rattle.index_rules.specs.Effect.{without_name, as_deleted_of, is_file_of}
 use Rattle.index_sql_schema.specs.Records.{number_in, number_if_any, name_by}
 use Rattle.index_sql_schema.specs.ShownRows.{file_shown}
+use Rattle.index_sql_writes.specs.declared.put.NameNumbers.{NameNumbers}
 
 -- ---- a record at its key, in place of the one that is there
 
@@ -67,11 +70,14 @@ deletes_body file T = record T { bodies = remove T.bodies file }
 
 -- the bytes of all files of a name
 abbrev pub deletes_bodies : Bytes → Tables → Tables
-deletes_bodies name T = record T { bodies = retain_keys T.bodies (λ file. not (is_file_of T.files name file)) }
+deletes_bodies name T =
+    record T { bodies = retain_keys T.bodies (λ file. not (is_file_of T.files name file)) }
 
 -- the rows show the files of a name, each of them, in any order
 abbrev pub AreFilesOf : Bytes → Tables → List Row → Type 0
-AreFilesOf name T rows = (file : Bytes) → list_any (λ r. same file (file_shown r)) rows ≡ is_file_of T.files name file
+AreFilesOf name T rows =
+    (file : Bytes)
+    → list_any (λ r. same file (file_shown r)) rows ≡ is_file_of T.files name file
 
 -- the bytes of the files that these rows show
 abbrev pub removes : List Row → Map Bytes → Map Bytes
@@ -89,21 +95,48 @@ marks_files name T = record T { files = change_values (as_deleted_of name) T.fil
 
 -- ---- records by the numbers of their columns
 
--- the record of a name by the numbers in its row
-abbrev pub name_of : ℤ → Bytes → ℤ → ℤ → ℤ → Option ℤ → NameRecord
-name_of standing shown quota charge undeleted last =
-    name_by (number_in (Int standing)) (record {
+-- those of a held name
+abbrev pub held_numbers : Project → NameNumbers
+held_numbers project = record {
+  state = pos 1;
+  quota = pos project.quota;
+  charge = pos project.charge;
+  undeleted = pos project.undeleted;
+  last_upload = option_map pos project.last_upload;
+}
+
+-- those of a prohibited one
+abbrev pub prohibited_numbers : NameNumbers
+prohibited_numbers = record {
+  state = pos 2;
+  quota = pos 0;
+  charge = pos 0;
+  undeleted = pos 0;
+  last_upload = None;
+}
+
+-- the record of a name that is shown so, by the numbers in its row
+abbrev pub name_of : Bytes → NameNumbers → NameRecord
+name_of shown it =
+    name_by (number_in (Int it.state)) (record {
       shown = shown;
-      quota = number_in (Int quota);
-      charge = number_in (Int charge);
-      undeleted = number_in (Int undeleted);
-      last_upload = number_if_any (or_null Int last);
+      quota = number_in (Int it.quota);
+      charge = number_in (Int it.charge);
+      undeleted = number_in (Int it.undeleted);
+      last_upload = number_if_any (or_null Int it.last_upload);
     })
 
--- a row of names by the numbers in it, the first of which numbers the row
-abbrev pub row_of_name : ℤ → Bytes → ℤ → Bytes → ℤ → ℤ → ℤ → Option ℤ → Row
-row_of_name id name standing shown quota charge undeleted last =
-    Int id ∷ Text name ∷ Int standing ∷ Text shown ∷ Int quota ∷ Int charge ∷ Int undeleted ∷ or_null Int last ∷ []
+-- the columns of its row
+abbrev pub name_cells : Bytes → Bytes → NameNumbers → Row
+name_cells name shown it =
+    Text name
+    ∷ Int it.state
+    ∷ Text shown
+    ∷ Int it.quota
+    ∷ Int it.charge
+    ∷ Int it.undeleted
+    ∷ or_null Int it.last_upload
+    ∷ []
 
 -- 1 for true and 0 for false
 abbrev pub flag_number : Bool → ℤ

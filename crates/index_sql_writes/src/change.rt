@@ -1,19 +1,18 @@
 //! A change of the tables in one transaction.
-ghost use Rattle.std.specs.Prelude.{◌≡◌, false};
+ghost use Rattle.std.specs.Prelude.{◌≡◌, ◌<◌, false, length};
 ghost use Rattle.index_rules.specs.Effect.{means};
 ghost use Rattle.index_sql_writes.specs.Transaction.{IsInvisibleIfShut};
-ghost use Rattle.index_sql_writes.specs.StepAsks.{FailsForAsks};
-ghost use Rattle.index_sql_writes.specs.Changed.{MakesChange};
+ghost use Rattle.index_sql_writes.specs.StepAsks.{FailsForAsks, asks_by};
+ghost use Rattle.index_sql_writes.specs.Changed.{MakesChange, all_of};
 ghost use Rattle.index_sql_writes.specs.ChangeAsks.{AreStepsOf, asks_of};
 
-use crate::cases::{end_case, set_case};
-use crate::commit::commit_steps;
 use crate::files::file_steps;
-use crate::names::{claim, free, prohibit, set_project};
-use crate::owners::{add_owner, remove_owner, transfer};
-use crate::steps::Steps;
+use crate::names::{
+    add_owner, claim, end_case, free, prohibit, remove_owner, set_case, set_project, transfer,
+    unyank, yank,
+};
+use crate::step::{Step, Steps, take_steps};
 use crate::users::set_user;
-use crate::yanks::{unyank, yank};
 use index_rules::Change;
 use sqlite::{Alter, Connection, Error};
 
@@ -32,6 +31,20 @@ pub fn make_change<S: Alter>(conn: &mut Connection<S>, change: &Change) -> Resul
 {
     let steps = steps_of(change);
     commit_steps(conn, steps.as_slice())
+}
+
+/// Takes the steps in a transaction and commits it. After an error the tables are what was committed before, and a crash
+/// leaves that, or what all steps make of it. A connection that was shut does none of it.
+fn commit_steps<S: Alter>(conn: &mut Connection<S>, steps: &[Step<'_>]) -> Result<(), Error>
+    requires { conn.old.in_transaction ≡ false }
+    ensures made { MakesChange S.Store (all_of steps.now) conn.old conn.new result }
+    ensures shut { 0 < length steps.now → IsInvisibleIfShut S.Store conn.old conn.new }
+    ensures reason { FailsForAsks S.Store (asks_by steps.now) conn.old conn.new result }
+{
+    let mut tx = conn.transaction();
+    take_steps(&mut tx, steps)?;
+    tx.commit()?;
+    Ok(())
 }
 
 /// The steps that make the change. A row is put before those that refer to it.

@@ -2,21 +2,15 @@
 #![tactic(auto)]
 
 mod bodies;
-mod cases;
 mod change;
-mod commit;
 mod delete;
 mod files;
 mod names;
-mod number;
-mod owners;
 mod put;
 mod put_case;
 mod statement;
 mod step;
-mod steps;
 mod users;
-mod yanks;
 
 pub use change::make_change;
 pub use put::put_user;

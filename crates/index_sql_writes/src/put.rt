@@ -1,22 +1,35 @@
 //! Statements that put a row, in place of the one with its key if there is one. Where a number is more than SQL can
 //! hold, that is an error, and nothing is written.
-ghost use Rattle.std.specs.Prelude.{ℤ};
+ghost use Rattle.std.specs.Prelude.{◌≡◌, ◌∷◌, ℤ, IfErr, IfOk, OnOk};
+ghost use Rattle.sqlite_value.specs.declared.value.Value.TheVariants.{Int};
+ghost use Rattle.index_rules.specs.Projects.{FitsProject};
 ghost use Rattle.index_sql_schema.specs.RecordRows.{IsNameRow};
 ghost use Rattle.index_sql_schema.specs.StatementTexts.{put_name_text};
-ghost use Rattle.index_sql_writes.specs.Asks.{Statement};
+ghost use Rattle.index_sql_writes.specs.Asks.{HasTooMuch, IsOutOfRange, Statement};
 ghost use Rattle.index_sql_writes.specs.Steps.{TakesPut, TakesStep};
 ghost use Rattle.index_sql_writes.specs.declared.step.Put.{Put};
-ghost use Rattle.index_sql_writes.specs.Writes.{puts_user, puts_name, name_of, row_of_name};
-ghost use Rattle.index_sql_writes.specs.Statements.{name_cells, put_user_ask};
+ghost use Rattle.index_sql_writes.specs.Writes.{held_numbers, name_cells, name_of};
+ghost use Rattle.index_sql_writes.specs.Writes.{puts_name, puts_user};
+ghost use Rattle.index_sql_writes.specs.Statements.{project_numbers, put_user_ask};
 
-use crate::number::{sql_integer, sql_integer_if_any};
-use crate::statement::run_statement;
+use crate::statement::{run_statement, sql_integer, sql_integer_if_any};
 use index_names::{FileName, NormalName, Release};
 use index_rules::{FileRecord, Project, UserId, UserRecord};
 use index_sql_schema::statement_texts::{
     PUT_BAN, PUT_BODY, PUT_FILE, PUT_NAME, PUT_OWNER, PUT_USER, PUT_YANK,
 };
 use sqlite::{Alter, Error, Transaction, params};
+
+/// What the row of a name has beside its texts, as SQL holds it.
+#[derive(Clone, Copy)]
+struct NameNumbers {
+    /// 1 where the name is held, and 2 where it is prohibited.
+    state: i64,
+    quota: i64,
+    charge: i64,
+    undeleted: i64,
+    last_upload: Option<i64>,
+}
 
 /// The user has this record.
 ///
@@ -47,20 +60,28 @@ pub(crate) fn hold_name<S: Alter>(
 ) -> Result<(), Error>
     ensures { TakesPut S.Store (Put.Held name.entry project.entry) tx.old.conn tx.new.conn result }
 {
+    let numbers = numbers_of(project)?;
+    put_name(tx, name, project.shown().as_str(), numbers)
+}
+
+/// The numbers of a held name. `IntegralValueOutOfRange` where one is more than SQL can hold.
+fn numbers_of(project: &Project) -> Result<NameNumbers, Error>
+    ensures numbers { IfOk result (λ it. it ≡ held_numbers project.now) }
+    ensures fit { let it = project.now in
+        OnOk result (FitsProject it.quota it.charge it.undeleted) }
+    ensures too_much { IfErr result (IsOutOfRange (HasTooMuch (project_numbers project.now))) }
+{
     let quota = sql_integer(project.quota())?;
     let charge = sql_integer(project.charge())?;
     let undeleted = sql_integer(project.undeleted())?;
-    let last = sql_integer_if_any(project.last_upload())?;
-    put_name(
-        tx,
-        name,
-        1,
-        project.shown().as_str(),
+    let last_upload = sql_integer_if_any(project.last_upload())?;
+    Ok(NameNumbers {
+        state: 1,
         quota,
         charge,
         undeleted,
-        last,
-    )
+        last_upload,
+    })
 }
 
 /// The name is prohibited.
@@ -70,31 +91,40 @@ pub(crate) fn prohibit_name<S: Alter>(
 ) -> Result<(), Error>
     ensures { TakesPut S.Store (Put.Prohibited name.entry) tx.old.conn tx.new.conn result }
 {
-    put_name(tx, name, 2, "", 0, 0, 0, None)
+    let numbers = NameNumbers {
+        state: 2,
+        quota: 0,
+        charge: 0,
+        undeleted: 0,
+        last_upload: None,
+    };
+    put_name(tx, name, "", numbers)
 }
 
 /// The row of a name.
 fn put_name<S: Alter>(
     tx: &mut Transaction<'_, S>,
     name: &NormalName,
-    standing: i64,
     shown: &str,
-    quota: i64,
-    charge: i64,
-    undeleted: i64,
-    last: Option<i64>,
+    numbers: NameNumbers,
 ) -> Result<(), Error>
-    requires { (id : ℤ) → IsNameRow
-        (row_of_name id name.now standing shown.now quota charge undeleted last) }
-    ensures { let known = name_of standing shown.now quota charge undeleted last in
-        let cells = name_cells name.now standing shown.now quota charge undeleted last in
-        TakesStep S.Store (puts_name name.now known) (Statement put_name_text cells)
-        tx.old.conn tx.new.conn result }
+    requires { (id : ℤ) → IsNameRow (Int id ∷ name_cells name.now shown.now numbers) }
+    ensures { let cells = name_cells name.now shown.now numbers in
+        TakesStep S.Store (puts_name name.now (name_of shown.now numbers))
+        (Statement put_name_text cells) tx.old.conn tx.new.conn result }
 {
     run_statement(
         tx,
         PUT_NAME,
-        params![name.text(), standing, shown, quota, charge, undeleted, last],
+        params![
+            name.text(),
+            numbers.state,
+            shown,
+            numbers.quota,
+            numbers.charge,
+            numbers.undeleted,
+            numbers.last_upload
+        ],
     )
 }
 

@@ -7,8 +7,7 @@ ghost use Rattle.index_sql_writes.specs.declared.step.Put.{Put};
 ghost use Rattle.index_sql_writes.specs.Writes.{kind_number};
 ghost use Rattle.index_sql_writes.specs.Statements.{case_numbers, integers_of};
 
-use crate::number::{sql_integer, sql_integer_if_any};
-use crate::statement::run_statement;
+use crate::statement::{run_statement, sql_integer, sql_integer_if_any};
 use index_names::NormalName;
 use index_retention::CaseKind;
 use index_rules::CaseRecord;

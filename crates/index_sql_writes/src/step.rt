@@ -1,5 +1,5 @@
-//! One step of a change.
-ghost use Rattle.std.specs.Prelude.{◌<◌, length};
+//! The steps of a change.
+ghost use Rattle.std.specs.Prelude.{◌≡◌, ◌<◌, [], ◌∷◌, ◌++◌, length};
 ghost use Rattle.index_sql_writes.specs.Transaction.{WasOpenIfOk};
 ghost use Rattle.index_sql_writes.specs.Asks.{AnswersAll, CanAsk};
 ghost use Rattle.index_sql_writes.specs.Steps.{ChangesIndex, RunsStep, TakesDeletion, TakesPut};
@@ -18,6 +18,7 @@ use crate::put_case::put_case;
 use index_names::{FileName, NormalName, Release};
 use index_rules::{CaseRecord, FileRecord, Project, UserId, UserRecord};
 use sqlite::{Alter, Error, Transaction};
+use std::marker::Model;
 
 /// A record that is put at its key, in place of the one that is there.
 #[derive(Clone, Copy)]
@@ -70,6 +71,64 @@ pub(crate) enum Step<'a> {
     Delete(Deletion<'a>),
     /// Each file of the name is deleted.
     MarkFiles(&'a str),
+}
+
+/// The most steps of a change.
+const MOST_STEPS: usize = 5;
+
+/// One to five steps. Contracts see their list.
+#[derive(Drop)]
+pub(crate) struct Steps<'a> {
+    /// The places from `count` on hold the first step again, and are never taken.
+    steps: [Step<'a>; MOST_STEPS],
+    count: usize,
+}
+
+impl<'a> Model for Steps<'a> {
+    ghost use Rattle.std.specs.Prelude.{◌≡◌, ◌<◌, ◌≤◌, List, length, take};
+    ghost use Rattle.index_sql_writes.specs.declared.step.Step.{Step};
+    ghost use Rattle.index_sql_writes.specs.declared.step.TheConstants.{MOST_STEPS};
+
+    ghost Value = { List Step };
+
+    ghost view = { λ s. take s.count s.steps };
+
+    ghost invariant = { λ s. (0 < s.count) × (s.count ≤ MOST_STEPS)
+        × (length s.steps ≡ MOST_STEPS) };
+}
+
+impl<'a> Steps<'a> {
+    /// The first step.
+    pub(crate) fn first(step: Step<'a>) -> Steps<'a>
+        ensures { result ≡ step.entry ∷ [] }
+    {
+        Steps {
+            steps: [step; MOST_STEPS],
+            count: 1,
+        }
+    }
+
+    /// One step more.
+    pub(crate) fn then(self, step: Step<'a>) -> Steps<'a>
+        requires { length self < MOST_STEPS }
+        ensures { result ≡ self.entry ++ step.entry ∷ [] }
+    {
+        let Steps { mut steps, count } = self;
+        let places = steps.as_mut_slice();
+        places[count] = step;
+        Steps {
+            steps,
+            count: count + 1,
+        }
+    }
+
+    /// The steps in their order.
+    pub(crate) fn as_slice(&self) -> &[Step<'a>]
+        ensures steps { result.now ≡ self.now }
+        ensures some { 0 < length result.now }
+    {
+        &self.steps[..self.count]
+    }
 }
 
 /// Puts a record.

@@ -2,8 +2,7 @@
 ghost use Rattle.index_rules.specs.declared.change.Change.{Change};
 ghost use Rattle.index_sql_writes.specs.ChangeAsks.{AreStepsOf};
 
-use crate::step::{Put, Step};
-use crate::steps::Steps;
+use crate::step::{Put, Step, Steps};
 use index_rules::{UserId, UserRecord};
 
 /// The user has this record.

@@ -1,6 +1,6 @@
 use Rattle.std.proofs.Common.{◌≡◌, ◌<◌, ◌≤◌, [], ◌∷◌, ◌++◌, ℕ, List, length, take, ap, arith, sym, ◌∙◌}
 use Rattle.std.proofs.lemmas.List.{length-set, length-take-le, take_more_set}
-use Rattle.index_sql_writes.proofs.steps.Steps.then.Goals as goal
+use Rattle.index_sql_writes.proofs.step.Steps.then.Goals as goal
 
 -- there is room for one more where fewer than all are taken
 room : {X : Type 0} (most count : ℕ) (places taken : List X) → count ≤ most → length places ≡ most → take count places ≡ taken → length taken < most → count < length places

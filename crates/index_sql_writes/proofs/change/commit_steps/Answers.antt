@@ -8,7 +8,7 @@ use Rattle.index_sql_writes.proofs.CommitLemmas.{made_by_commit}
 use Rattle.index_sql_writes.specs.StepAsks.{FailsForRefusal, asks_by}
 use Rattle.index_sql_writes.proofs.StepAskLemmas.{at_exit, begins_fit, fails_inside, fails_to_commit}
 use Rattle.index_sql_writes.proofs.ShutLemmas.{shut_survives}
-use Rattle.index_sql_writes.proofs.commit.commit_steps.Goals as goal
+use Rattle.index_sql_writes.proofs.change.commit_steps.Goals as goal
 
 pub returns-in_err-commit-clause-shut : goal.returns-in_err-commit-clause-shut
 returns-in_err-commit-clause-shut g c = λ some shut.
