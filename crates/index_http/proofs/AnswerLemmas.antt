@@ -3,7 +3,7 @@ use Rattle.std.proofs.Common.{◌≡◌, ℕ, true, refl, Option, Result}
 use Rattle.index_rules.specs.Maps.{Bytes}
 use Rattle.index_rules.specs.Tables.{Tables}
 use Rattle.index_desk.specs.Rules.{by_tables}
-use Rattle.index_message.specs.Requests.{Request}
+use Rattle.index_message.specs.Requests.{HttpRequest}
 use Rattle.index_message.specs.Resources.{is_head, is_reading}
 use Rattle.index_message.specs.declared.message.Message.{Message}
 use Rattle.index_message.specs.declared.message.Message.TheVariants.{Whole}
@@ -17,7 +17,7 @@ use Rattle.index_http.proofs.EndLemmas.{ends_map}
 abbrev pub IsReplyTo : Type 0 → ℕ → Tables → (Tables → Type 0) → Message → Bytes → Type 0
 IsReplyTo Cause at T IsLater message text = (later : Tables) × RepliesTo by_tables Cause at T message text later × IsLater later
 
-module _ (Cause : Type 0) (at : ℕ) (T : Tables) (IsLater : Tables → Type 0) (request : Request) (body : Bytes)
+module _ (Cause : Type 0) (at : ℕ) (T : Tables) (IsLater : Tables → Type 0) (request : HttpRequest) (body : Bytes)
     (before after : Option Bytes) (result : Result (Unit {0}) IoEnd) where
   pub look_ends : is_reading request.method ≡ true → IsLater T
       → EndsShown (is_head request.method) (Shows by_tables T request.fields request.resource) Cause before after result

@@ -14,5 +14,5 @@ module _ (L L' : Type 0) (K K' : Call → Answer → Type 0) (before after : Opt
   asks_for_map (Some call) text_of asks = ends_map _ _ _ _ before after result (λ text it. (it.0, it.1, k call it.0 it.2)) f asks
 
   pub asks_map : (at : ℕ) (given : Option Bytes) → Asks at given L K before after result → Asks at given L' K' before after result
-  asks_map at given (inl it) = inl (f it.0, it.1)
+  asks_map at given (inl it) = inl (f it.0, it.1, it.2)
   asks_map at given (inr it) = inr (it.0, it.1, it.2, it.3, asks_for_map _ _ it.4)

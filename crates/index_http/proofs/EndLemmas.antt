@@ -2,19 +2,15 @@
 use Rattle.std.proofs.Common.{◌≡◌, ◌⊎◌, ℕ, Bool, true, false, inl, inr, refl, sym, subst, Option, Result, Ok, Err}
 use Rattle.index_rules.specs.Maps.{Bytes}
 use Rattle.index_rules.specs.Tables.{Tables}
-use Rattle.index_rules.specs.Told.{CountsStore, is_store, tells_store}
+use Rattle.index_rules.specs.StoreFaults.{CountsStoreFault, is_store_fault}
 use Rattle.index_rules.specs.declared.answer.Fault.{Fault}
 use Rattle.index_rules.specs.declared.answer.Fault.TheVariants.{Store, OutOfMemory as NoMemory}
 use Rattle.index_io.specs.Counts.{HasFailed}
-use Rattle.index_rules.specs.declared.books.Books.{Ghosts}
-use Rattle.index_desk.specs.Looks.{LooksAt}
 use Rattle.index_http.specs.Ends.{Ends}
 use Rattle.index_http.specs.Exchanges.{store_reply}
 use Rattle.index_http.specs.Replies.{Reply, reply_text}
 use Rattle.index_http.specs.Sends.{SendsText}
-use Rattle.index_http.specs.Shown.{SendsFound, reply_of_shown}
-use Rattle.index_http.specs.Shows.{EndsFault, EndsShown, IsShown}
-use Rattle.index_http.specs.declared.shown.Shown.{Shown}
+use Rattle.index_http.specs.Shows.{EndsFault, EndsShown, IsTextOfLook}
 use Rattle.index_http.specs.declared.end.IoEnd.{IoEnd}
 use Rattle.index_http.specs.declared.end.IoEnd.TheVariants.{ReadFault, OutOfMemory, WriteFault, Cut}
 
@@ -28,55 +24,39 @@ sent_ends IsReply Unchanged text before after (Err (WriteFault count)) is sends 
 sent_ends IsReply Unchanged text before after (Err (Cut count)) is sends = (text, is, sends)
 
 -- a reply that shows what is asked for
-pub shown_ends : (to_head : Bool) (IsReply : Reply → Type 0) (Cause : Type 0) (given reply : Reply) (before after : Option Bytes) (result : Result (Unit {0}) IoEnd)
-    → given ≡ reply → IsReply reply → SendsText (reply_text to_head given) before after result → EndsShown to_head IsReply Cause before after result
-shown_ends to_head IsReply Cause given reply before after result same is sends =
-    sent_ends (IsShown to_head IsReply Cause) (Unit {0}) (reply_text to_head given) before after result
+pub shown_ends : (is_head : Bool) (IsReply : Reply → Type 0) (Cause : Type 0) (given reply : Reply) (before after : Option Bytes) (result : Result (Unit {0}) IoEnd)
+    → given ≡ reply → IsReply reply → SendsText (reply_text is_head given) before after result → EndsShown is_head IsReply Cause before after result
+shown_ends is_head IsReply Cause given reply before after result same is sends =
+    sent_ends (IsTextOfLook is_head IsReply Cause) (Unit {0}) (reply_text is_head given) before after result
     (given, refl, inl (subst IsReply (sym same) is)) sends
 
 -- a look that failed
-pub fault_ends : (to_head : Bool) (IsReply : Reply → Type 0) (Cause : Type 0) (fault : Fault) (before after : Option Bytes) (result : Result (Unit {0}) IoEnd)
-    → (fault ≡ Store → IsReply store_reply ⊎ Cause) → EndsFault to_head fault before after result → EndsShown to_head IsReply Cause before after result
-fault_ends to_head IsReply Cause Store before after result caused sends =
-    sent_ends (IsShown to_head IsReply Cause) (Unit {0}) (reply_text to_head store_reply) before after result (store_reply, refl, told (caused refl)) sends
+pub fault_ends : (is_head : Bool) (IsReply : Reply → Type 0) (Cause : Type 0) (fault : Fault) (before after : Option Bytes) (result : Result (Unit {0}) IoEnd)
+    → (fault ≡ Store → IsReply store_reply ⊎ Cause) → EndsFault is_head fault before after result → EndsShown is_head IsReply Cause before after result
+fault_ends is_head IsReply Cause Store before after result caused sends =
+    sent_ends (IsTextOfLook is_head IsReply Cause) (Unit {0}) (reply_text is_head store_reply) before after result (store_reply, refl, told (caused refl)) sends
   where
     told : IsReply store_reply ⊎ Cause → IsReply store_reply ⊎ ((store_reply ≡ store_reply) × Cause)
     told (inl is) = inl is
     told (inr cause) = inr (refl, cause)
-fault_ends to_head IsReply Cause NoMemory before after result caused (is, kept) =
-    subst (λ r. EndsShown to_head IsReply Cause before after r) (sym is) (tt, kept)
-
--- what a look at the desk found, and that was sent
-pub found_ends : {S : Type 0} (g : Ghosts S) (old new : S) (to_head : Bool) (IsReply : Tables → Reply → Type 0) (found : Result Shown Fault)
-    (before after : Option Bytes) (result : Result (Unit {0}) IoEnd)
-    → LooksAt g old new found (λ T shown. IsReply T (reply_of_shown shown)) → SendsFound to_head found before after result → g.IsHonest old → g.IsClean new
-    → EndsShown to_head (IsReply (g.tables old)) (HasFailed (g.failures old) (g.failures new)) before after result
-found_ends g old new to_head IsReply (Ok shown) before after result looks sends honest clean =
-    shown_ends _ _ _ _ (reply_of_shown shown) _ _ _ refl (looks.found (looks.look.lasts honest clean)) sends
-found_ends g old new to_head IsReply (Err fault) before after result looks sends honest clean =
-    fault_ends _ _ _ fault _ _ _ (λ store. inr (looks.look.store store)) sends
+fault_ends is_head IsReply Cause NoMemory before after result caused (is, kept) =
+    subst (λ r. EndsShown is_head IsReply Cause before after r) (sym is) (tt, kept)
 
 -- a reply that was sent is no end for want of memory
 pub sent_memory : (text : Bytes) (before after : Option Bytes) (result : Result (Unit {0}) IoEnd) → SendsText text before after result → result ≡ Err OutOfMemory → ⊥
 sent_memory text before after result sends is = subst (λ r. SendsText text before after r) is sends
 
 -- a fault of the store is replied, so an end for want of memory is of that alone
-pub fault_memory : (to_head : Bool) (fault : Fault) (before after : Option Bytes) (result : Result (Unit {0}) IoEnd) → EndsFault to_head fault before after result
+pub fault_memory : (is_head : Bool) (fault : Fault) (before after : Option Bytes) (result : Result (Unit {0}) IoEnd) → EndsFault is_head fault before after result
     → result ≡ Err OutOfMemory → fault ≡ NoMemory
-fault_memory to_head Store before after result sends is = absurd (sent_memory _ before after result sends is)
-fault_memory to_head NoMemory before after result none is = refl
+fault_memory is_head Store before after result sends is = absurd (sent_memory _ before after result sends is)
+fault_memory is_head NoMemory before after result none is = refl
 
 -- and then no fault of the store was counted
-pub fault_stores : (to_head : Bool) (fault : Fault) (before after : Option Bytes) (result : Result (Unit {0}) IoEnd) (old new : ℕ) → EndsFault to_head fault before after result
-    → CountsStore old new (is_store fault) → result ≡ Err OutOfMemory → new ≡ old
-fault_stores to_head Store before after result old new sends counts is = absurd (sent_memory _ before after result sends is)
-fault_stores to_head NoMemory before after result old new none counts is = counts
-
--- so of what a look found
-pub found_stores : (to_head : Bool) (found : Result Shown Fault) (before after : Option Bytes) (result : Result (Unit {0}) IoEnd) (old new : ℕ)
-    → SendsFound to_head found before after result → CountsStore old new (tells_store found) → result ≡ Err OutOfMemory → new ≡ old
-found_stores to_head (Ok shown) before after result old new sends counts is = absurd (sent_memory _ before after result sends is)
-found_stores to_head (Err fault) before after result old new sends counts is = fault_stores to_head fault before after result old new sends counts is
+pub fault_stores : (is_head : Bool) (fault : Fault) (before after : Option Bytes) (result : Result (Unit {0}) IoEnd) (old new : ℕ) → EndsFault is_head fault before after result
+    → CountsStoreFault old new (is_store_fault fault) → result ≡ Err OutOfMemory → new ≡ old
+fault_stores is_head Store before after result old new sends counts is = absurd (sent_memory _ before after result sends is)
+fault_stores is_head NoMemory before after result old new none counts is = counts
 
 -- ---- a reply of one kind is one of another
 
@@ -88,15 +68,15 @@ ends_map P Q U V before after (Err OutOfMemory) f g ends = (g ends.0, ends.1)
 ends_map P Q U V before after (Err (WriteFault count)) f g ends = (ends.0, f ends.0 ends.1, ends.2)
 ends_map P Q U V before after (Err (Cut count)) f g ends = (ends.0, f ends.0 ends.1, ends.2)
 
-shown_map : (to_head : Bool) (P Q : Reply → Type 0) (Cause : Type 0) → ((reply : Reply) → P reply → Q reply)
-    → (text : Bytes) → IsShown to_head P Cause text → IsShown to_head Q Cause text
-shown_map to_head P Q Cause f text (reply, is, inl shows) = (reply, is, inl (f reply shows))
-shown_map to_head P Q Cause f text (reply, is, inr failed) = (reply, is, inr failed)
+shown_map : (is_head : Bool) (P Q : Reply → Type 0) (Cause : Type 0) → ((reply : Reply) → P reply → Q reply)
+    → (text : Bytes) → IsTextOfLook is_head P Cause text → IsTextOfLook is_head Q Cause text
+shown_map is_head P Q Cause f text (reply, is, inl shows) = (reply, is, inl (f reply shows))
+shown_map is_head P Q Cause f text (reply, is, inr failed) = (reply, is, inr failed)
 
-pub ends_shown_map : (to_head : Bool) (P Q : Reply → Type 0) (Cause : Type 0) (before after : Option Bytes) (result : Result (Unit {0}) IoEnd)
-    → ((reply : Reply) → P reply → Q reply) → EndsShown to_head P Cause before after result → EndsShown to_head Q Cause before after result
-ends_shown_map to_head P Q Cause before after result f ends =
-    ends_map (IsShown to_head P Cause) (IsShown to_head Q Cause) (Unit {0}) (Unit {0}) before after result (shown_map to_head P Q Cause f) (λ u. u) ends
+pub ends_shown_map : (is_head : Bool) (P Q : Reply → Type 0) (Cause : Type 0) (before after : Option Bytes) (result : Result (Unit {0}) IoEnd)
+    → ((reply : Reply) → P reply → Q reply) → EndsShown is_head P Cause before after result → EndsShown is_head Q Cause before after result
+ends_shown_map is_head P Q Cause before after result f ends =
+    ends_map (IsTextOfLook is_head P Cause) (IsTextOfLook is_head Q Cause) (Unit {0}) (Unit {0}) before after result (shown_map is_head P Q Cause f) (λ u. u) ends
 
 -- ---- the tables that stand after a reply
 

@@ -13,7 +13,7 @@ use Rattle.index_rules.proofs.StandsOn.{CarriesOn-answer}
 use Rattle.index_desk.specs.Rules.{by_history, by_tables}
 use Rattle.index_desk.proofs.RulesLemmas.{body_by_history, held_rows_by_history, project_rows_by_history, standing_by_history}
 use Rattle.index_message.specs.Fields.{Field}
-use Rattle.index_message.specs.Requests.{Request}
+use Rattle.index_message.specs.Requests.{HttpRequest}
 use Rattle.index_message.specs.Resources.{is_put, is_reading}
 use Rattle.index_message.specs.declared.message.Message.{Message}
 use Rattle.index_message.specs.declared.message.Message.TheVariants.{Faulty, Whole}
@@ -83,7 +83,7 @@ acts_after Cause h legal T T' stands by_put (Some call) reply (a, is, answers, n
     let on = CarriesOn-answer h legal T stands call a T' (λ _. answers) (λ _. next) in
     record { later = history_after h call a; is = (a, is, on.verdict, refl, cause); legal = on.legal; stands = on.stands }
 
-request_after : (Cause : Type 0) (at : ℕ) (h : History) → IsLegal h → (T T' : Tables) → StandsFor T h → (request : Request) (body : Bytes) (reads : Bool) (reply : Reply)
+request_after : (Cause : Type 0) (at : ℕ) (h : History) → IsLegal h → (T T' : Tables) → StandsFor T h → (request : HttpRequest) (body : Bytes) (reads : Bool) (reply : Reply)
     → Replies by_tables Cause at T request body reads reply T' → After (Replies by_history Cause at h request body reads reply) T'
 request_after Cause at h legal T T' stands request body true reply (inl shows, same) =
     same_after h legal T T' stands same (Replies by_history Cause at h request body true reply)
@@ -95,8 +95,8 @@ request_after Cause at h legal T T' stands request body false reply acts =
 
 message_after : (Cause : Type 0) (at : ℕ) (h : History) → IsLegal h → (T T' : Tables) → StandsFor T h → (message : Message) (text : Bytes)
     → RepliesTo by_tables Cause at T message text T' → After (RepliesTo by_history Cause at h message text) T'
-message_after Cause at h legal T T' stands (Faulty fault to_head) text (is, same) =
-    same_after h legal T T' stands same (RepliesTo by_history Cause at h (Faulty fault to_head) text) (is, refl)
+message_after Cause at h legal T T' stands (Faulty fault is_head) text (is, same) =
+    same_after h legal T T' stands same (RepliesTo by_history Cause at h (Faulty fault is_head) text) (is, refl)
 message_after Cause at h legal T T' stands (Whole request body) text (reply, is, replies) =
     let one = request_after Cause at h legal T T' stands request body (is_reading request.method) reply replies in
     record { later = one.later; is = (reply, is, one.is); legal = one.legal; stands = one.stands }

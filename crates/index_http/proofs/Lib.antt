@@ -4,5 +4,6 @@ pub mod PassLemmas
 pub mod EndLemmas
 pub mod Histories
 pub mod PageLemmas
+pub mod ShowLemmas
 pub mod AnswerLemmas
 pub mod AskLemmas

@@ -22,13 +22,7 @@ use Rattle.index_http.specs.Sends.{SendsFirst, SendsText}
 use Rattle.index_http.specs.declared.end.IoEnd.{IoEnd}
 use Rattle.index_http.specs.declared.end.IoEnd.TheVariants.{ReadFault, OutOfMemory, WriteFault, Cut}
 
--- ---- whether there is a page
-
-pub rows_of_held : (T : Tables) (name : Bytes) → is_held (get T.names name) ≡ true → project_rows_in T name ≡ Some (file_rows_in T name)
-rows_of_held T name held = rw held refl
-
-pub rows_of_none : (T : Tables) (name : Bytes) → is_held (get T.names name) ≡ false → project_rows_in T name ≡ None
-rows_of_none T name free = rw free refl
+-- ---- the length of a page
 
 pub measured : (page : Option Bytes) (before after count : ℕ) → MeasuresProject page before after (Ok (Some count)) → IsMeasured page count
 measured None before after count is = absurd (some_is_none count is)

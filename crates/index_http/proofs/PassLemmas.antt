@@ -6,7 +6,7 @@ use Rattle.std.specs.Result.{result_unwrap_or}
 use Rattle.index_io.specs.Counts.{HasFailed}
 use Rattle.index_rules.specs.Maps.{Bytes}
 use Rattle.index_rules.specs.Rows.{Took}
-use Rattle.index_rules.specs.Told.{CountsStore, ends_by_store}
+use Rattle.index_rules.specs.StoreFaults.{CountsStoreFault, ends_by_store}
 use Rattle.index_rules.specs.Walks.{Walks, has_fault}
 use Rattle.index_rules.specs.declared.answer.Fault.{Fault}
 use Rattle.index_rules.specs.declared.answer.Fault.TheVariants as fault
@@ -42,7 +42,7 @@ faulty at_stop fault (Err walk.OutOfMemory) e = refl
 faulty at_stop fault (Err walk.Store) e = refl
 
 -- a walk that no fault ended counts no fault of the store
-pub stores_kept : {A : Type 0} (walked : Result A WalkEnd) (old new : ℕ) → has_fault walked ≡ false → CountsStore old new (ends_by_store walked) → new ≡ old
+pub stores_kept : {A : Type 0} (walked : Result A WalkEnd) (old new : ℕ) → has_fault walked ≡ false → CountsStoreFault old new (ends_by_store walked) → new ≡ old
 stores_kept (Ok is) old new right counts = counts
 stores_kept (Err walk.Stopped) old new right counts = counts
 stores_kept (Err walk.OutOfMemory) old new right counts = cc right

@@ -17,12 +17,15 @@ use Rattle.index_http.specs.declared.end.IoEnd.{IoEnd}
 use Rattle.index_http.specs.declared.end.IoEnd.TheVariants.{ReadFault, OutOfMemory, WriteFault, Cut}
 
 -- a reply of this kind went out, or as many of its first bytes as the end tells
-abbrev pub SendsReply : (Bytes → Type 0) → Option Bytes → Option Bytes → Result (Unit {0}) IoEnd → Type 0
+abbrev pub SendsReply : (Bytes → Type 0) → Option Bytes → Option Bytes → Result (Unit {0}) IoEnd
+    → Type 0
 SendsReply IsReply before after result =
     (text : Bytes) × IsReply text × SendsText text before after result
 
--- a reply of this kind went out, or a front of it; where the end came before that, this holds and nothing did
-abbrev pub Ends : (Bytes → Type 0) → Type 0 → Option Bytes → Option Bytes → Result (Unit {0}) IoEnd → Type 0
+-- a reply of this kind went out, or a front of it; where the end came before that, this holds and
+-- nothing did
+abbrev pub Ends : (Bytes → Type 0) → Type 0 → Option Bytes → Option Bytes → Result (Unit {0}) IoEnd
+    → Type 0
 Ends IsReply Unchanged before after (Ok done) = SendsReply IsReply before after (Ok done)
 Ends IsReply Unchanged before after (Err (WriteFault count)) =
     SendsReply IsReply before after (Err (WriteFault count))
@@ -35,22 +38,27 @@ Ends IsReply Unchanged before after (Err OutOfMemory) = Unchanged × Keeps befor
 abbrev pub Stands : {S : Type 0} → (S → Type 0) → (S → Tables) → S → Tables → Type 0
 Stands is_honest tables s T = is_honest s → tables s ≡ T
 
--- of a store that was honest, and is clean after it: a reply of this kind went out, or a front of it, by the tables before
--- and those after it, which stand where the store is honest still; or nothing did, and the tables stand as they were
+-- of a store that was honest, and is clean after it: a reply of this kind went out, or a front of
+-- it, by the tables before and those after it, which stand where the store is honest still; or
+-- nothing did, and the tables stand as they were
 abbrev pub RepliesBy : {S K : Type 0} → (Type 0 → Tables → Bytes → Tables → Type 0)
     → DeskStep S → SinkStep K → Result (Unit {0}) IoEnd → Type 0
 RepliesBy IsReply desk sink result =
-    desk.books.IsHonest desk.old → desk.books.IsClean desk.new → HasOneBearer (desk.books.tables desk.old) →
+    desk.books.IsHonest desk.old → desk.books.IsClean desk.new
+    → HasOneBearer (desk.books.tables desk.old) →
     Ends (λ text. (later : Tables)
-    × IsReply (HasFailed (desk.books.failures desk.old) (desk.books.failures desk.new)) (desk.books.tables desk.old) text later
+    × IsReply (HasFailed (desk.books.failures desk.old) (desk.books.failures desk.new))
+    (desk.books.tables desk.old) text later
     × Stands desk.books.IsHonest desk.books.tables desk.new later)
     (Stands desk.books.IsHonest desk.books.tables desk.new (desk.books.tables desk.old))
     (sink.out.contents sink.old) (sink.out.contents sink.new) result
 
 -- the tables stand for a legal history after which the connection ends so, by the history before it
-pub record EndsAfter (Cause : Type 0) (at : ℕ) (h : History) (given before after : Option Bytes) (result : Result (Unit {0}) IoEnd) (T' : Tables) : Type 0 where
+pub record EndsAfter (Cause : Type 0) (at : ℕ) (h : History) (given before after : Option Bytes)
+    (result : Result (Unit {0}) IoEnd) (T' : Tables) : Type 0 where
   pub later : History
-  pub ends : Ends (λ text. RepliesToInput by_history Cause at h given text later) (later ≡ h) before after result
+  pub ends : Ends (λ text. RepliesToInput by_history Cause at h given text later)
+      (later ≡ h) before after result
   pub legal : IsLegal later
   pub stands : StandsFor T' later
 

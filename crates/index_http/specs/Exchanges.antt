@@ -13,7 +13,7 @@ use Rattle.index_rules.specs.declared.answer.Fault.TheVariants.{Store}
 use Rattle.index_rules.specs.declared.answer.Refusal.{Refusal}
 use Rattle.index_rules.specs.declared.answer.Refusal.TheVariants.{BadName, NoFile, NoProject}
 use Rattle.index_rules.specs.declared.call.Call.{Call}
-use Rattle.index_rules.specs.declared.call.Request.{Request as Asked}
+use Rattle.index_rules.specs.declared.call.Request.{Request}
 use Rattle.index_rules.specs.declared.call.Request.TheVariants.{Delete as DeleteFile, Upload}
 use Rattle.index_rules.specs.declared.rows.FileRow.{FileRow}
 use Rattle.index_rules.specs.declared.rows.NameRow.{NameRow}
@@ -24,7 +24,7 @@ use Rattle.index_json.specs.StandingText.{standing_text_of}
 use Rattle.index_io.specs.Bytes.{IsInput}
 use Rattle.index_message.specs.Fields.{Field, value_of, values_of}
 use Rattle.index_message.specs.Messages.{IsMessage}
-use Rattle.index_message.specs.Requests.{Request}
+use Rattle.index_message.specs.Requests.{HttpRequest}
 use Rattle.index_message.specs.Resources.{is_head, is_put, is_reading}
 use Rattle.index_message.specs.declared.fault.Allowed.TheVariants as allowed
 use Rattle.index_message.specs.declared.fault.MessageFault.TheVariants.{BadBody, BadMethod}
@@ -55,43 +55,52 @@ store_reply = answer_reply false (answer.Fault Store)
 -- the type that is chosen by the values of the `Accept` fields
 abbrev pub IsAccepted : List Field → Option Served → Type 0
 IsAccepted fields chosen =
-    (values : List (Bor Bytes)) × (map (λ value. value.now) values ≡ values_of (codes "accept") fields) × IsChosen values chosen
+    (values : List (Bor Bytes))
+    × (map (λ value. value.now) values ≡ values_of (codes "accept") fields)
+    × IsChosen values chosen
 
 -- a page in a type, where it is not too long to be served
 abbrev pub ShowsPage : Served → Bytes → Reply → Type 0
-ShowsPage served page reply = (reply ≡ page_reply served page) ⊎ ((reply ≡ store_reply) × (most_bytes < length page))
+ShowsPage served page reply =
+    (reply ≡ page_reply served page) ⊎ ((reply ≡ store_reply) × (most_bytes < length page))
 
 -- the root page, where a type can be chosen
 abbrev pub ShowsRoot : {S : Type 0} → Rules S → S → Option Served → Reply → Type 0
 ShowsRoot rules s None reply = reply ≡ message_reply NotAcceptable
 ShowsRoot rules s (Some served) reply =
-    (rows : List NameRow) × rules.HeldRows s rows × ShowsPage served (root_page_of served rows) reply
+    (rows : List NameRow) × rules.HeldRows s rows
+    × ShowsPage served (root_page_of served rows) reply
 
 -- the page of these rows of a project, where there is one and a type can be chosen
 abbrev pub ShowsRows : Bytes → Option Served → Option (List FileRow) → Reply → Type 0
 ShowsRows name chosen None reply = reply ≡ refusal_reply NoProject
 ShowsRows name None (Some rows) reply = reply ≡ message_reply NotAcceptable
-ShowsRows name (Some served) (Some rows) reply = ShowsPage served (project_page_of served name rows) reply
+ShowsRows name (Some served) (Some rows) reply =
+    ShowsPage served (project_page_of served name rows) reply
 
 -- a project's page
 abbrev pub ShowsProject : {S : Type 0} → Rules S → S → Bytes → Option Served → Reply → Type 0
 ShowsProject rules s name chosen reply =
-    (rows : Option (List FileRow)) × rules.ProjectRows s name rows × ShowsRows name chosen rows reply
+    (rows : Option (List FileRow)) × rules.ProjectRows s name rows
+    × ShowsRows name chosen rows reply
 
 -- a redirect to the page of a project name, by its normal form (PEP 503)
 abbrev pub ShowsRedirect : Option Bytes → Reply → Type 0
 ShowsRedirect None reply = reply ≡ refusal_reply NoProject
 ShowsRedirect (Some name) reply = reply ≡ redirect_to_project name
 
--- the page of a project whose name is given in its normal form, or not: then it is the way there (PEP 503)
+-- the page of a project whose name is given in its normal form, or not: then it is the way there
+-- (PEP 503)
 abbrev pub ShowsSpelling : {S : Type 0} → Rules S → S → List Field → Bytes → Bool → Reply → Type 0
-ShowsSpelling rules s fields name true reply = (chosen : Option Served) × IsAccepted fields chosen × ShowsProject rules s name chosen reply
+ShowsSpelling rules s fields name true reply =
+    (chosen : Option Served) × IsAccepted fields chosen × ShowsProject rules s name chosen reply
 ShowsSpelling rules s fields name false reply = reply ≡ redirect_to_project name
 
 -- the page at what is given as a name
 abbrev pub ShowsAt : {S : Type 0} → Rules S → S → List Field → Bytes → Option Bytes → Reply → Type 0
 ShowsAt rules s fields given None reply = reply ≡ refusal_reply NoProject
-ShowsAt rules s fields given (Some name) reply = ShowsSpelling rules s fields name (bytes_eq name given) reply
+ShowsAt rules s fields given (Some name) reply =
+    ShowsSpelling rules s fields name (bytes_eq name given) reply
 
 -- the bytes of a file
 abbrev pub body_reply : Option Bytes → Reply
@@ -100,37 +109,44 @@ body_reply (Some bytes) = file_reply bytes
 
 -- a file, where this is the name of one
 abbrev pub ShowsFile : {S : Type 0} → Rules S → S → Bytes → Bool → Reply → Type 0
-ShowsFile rules s file true reply = (body : Option Bytes) × rules.Body s file body × (reply ≡ body_reply body)
+ShowsFile rules s file true reply =
+    (body : Option Bytes) × rules.Body s file body × (reply ≡ body_reply body)
 ShowsFile rules s file false reply = reply ≡ refusal_reply NoFile
 
 -- what stands of a name, where this can be read as one
 abbrev pub ShowsName : {S : Type 0} → Rules S → S → Option Bytes → Reply → Type 0
 ShowsName rules s None reply = reply ≡ refusal_reply BadName
 ShowsName rules s (Some name) reply =
-    (standing : Standing) × rules.Stands s name standing × (reply ≡ json_reply (standing_text_of standing))
+    (standing : Standing) × rules.Stands s name standing
+    × (reply ≡ json_reply (standing_text_of standing))
 
 -- what a resource shows
 abbrev pub Shows : {S : Type 0} → Rules S → S → List Field → Resource → Reply → Type 0
 Shows rules s fields resource.Simple reply = reply ≡ redirect_to_root
-Shows rules s fields resource.Root reply = (chosen : Option Served) × IsAccepted fields chosen × ShowsRoot rules s chosen reply
+Shows rules s fields resource.Root reply =
+    (chosen : Option Served) × IsAccepted fields chosen × ShowsRoot rules s chosen reply
 Shows rules s fields (resource.Project name) reply = ShowsRedirect (read_name name) reply
-Shows rules s fields (resource.ProjectPage name) reply = ShowsAt rules s fields name (read_name name) reply
-Shows rules s fields (resource.File file) reply = ShowsFile rules s file (is_some (read_file_name file)) reply
+Shows rules s fields (resource.ProjectPage name) reply =
+    ShowsAt rules s fields name (read_name name) reply
+Shows rules s fields (resource.File file) reply =
+    ShowsFile rules s file (is_some (read_file_name file)) reply
 Shows rules s fields (resource.Name name) reply = ShowsName rules s (read_name name) reply
 Shows rules s fields resource.Requests reply = reply ≡ message_reply (BadMethod allowed.Requests)
 
 -- ---- what is asked
 
 -- the change that a method asks of a file
-abbrev pub asked_of_file : Method → Bytes → List Field → Bytes → Option Asked
-asked_of_file Put file fields body = Some (Upload file (value_of (codes "x-index-sha256") fields) body (value_of (codes "x-requires-python") fields))
+abbrev pub asked_of_file : Method → Bytes → List Field → Bytes → Option Request
+asked_of_file Put file fields body =
+    Some (Upload file (value_of (codes "x-index-sha256") fields) body
+    (value_of (codes "x-requires-python") fields))
 asked_of_file Delete file fields body = Some (DeleteFile file)
 asked_of_file Get file fields body = None
 asked_of_file Head file fields body = None
 asked_of_file Post file fields body = None
 
 -- the change that a request with this body asks for
-abbrev pub asked_by : Method → Resource → List Field → Bytes → Option Asked
+abbrev pub asked_by : Method → Resource → List Field → Bytes → Option Request
 asked_by method (resource.File file) fields body = asked_of_file method file fields body
 asked_by method resource.Requests fields body = request_of body
 asked_by method resource.Simple fields body = None
@@ -140,39 +156,53 @@ asked_by method (resource.ProjectPage name) fields body = None
 asked_by method (resource.Name name) fields body = None
 
 -- the call at a moment, by the bearer of the request's token
-abbrev pub call_at : ℕ → List Field → Asked → Call
-call_at at fields asked = record { at = at; token = sha256 (value_of (codes "x-index-token") fields); request = asked }
+abbrev pub call_at : ℕ → List Field → Request → Call
+call_at at fields asked =
+    record { at = at; token = sha256 (value_of (codes "x-index-token") fields); request = asked }
 
 -- the answer to a call, and the state after it
 abbrev pub Acts : {S : Type 0} → Rules S → Type 0 → Bool → S → Option Call → Reply → S → Type 0
 Acts rules Cause by_put s None reply s' = (reply ≡ message_reply BadBody) × (s' ≡ s)
 Acts rules Cause by_put s (Some call) reply s' =
-    (a : Answer) × (reply ≡ answer_reply by_put a) × Answers (rules.verdict s call) a × (s' ≡ rules.next s call a)
+    (a : Answer) × (reply ≡ answer_reply by_put a) × Answers (rules.verdict s call) a
+    × (s' ≡ rules.next s call a)
     × (a ≡ answer.Fault Store → Cause)
 
 -- the call that a request with this body makes
-abbrev pub call_of : ℕ → Request → Bytes → Option Call
-call_of at request body = option_map (call_at at request.fields) (asked_by request.method request.resource request.fields body)
+abbrev pub call_of : ℕ → HttpRequest → Bytes → Option Call
+call_of at request body =
+    option_map (call_at at request.fields)
+    (asked_by request.method request.resource request.fields body)
 
--- the reply to a request, and the state after it. It is shown what it asks for, unless a look at the tables failed
-abbrev pub Replies : {S : Type 0} → Rules S → Type 0 → ℕ → S → Request → Bytes → Bool → Reply → S → Type 0
+-- the reply to a request, and the state after it. It is shown what it asks for, unless a look at
+-- the tables failed
+abbrev pub Replies : {S : Type 0} → Rules S → Type 0 → ℕ → S → HttpRequest → Bytes → Bool → Reply
+    → S → Type 0
 Replies rules Cause at s request body true reply s' =
-    (Shows rules s request.fields request.resource reply ⊎ ((reply ≡ store_reply) × Cause)) × (s' ≡ s)
-Replies rules Cause at s request body false reply s' = Acts rules Cause (is_put request.method) s (call_of at request body) reply s'
+    (Shows rules s request.fields request.resource reply ⊎ ((reply ≡ store_reply) × Cause))
+    × (s' ≡ s)
+Replies rules Cause at s request body false reply s' =
+    Acts rules Cause (is_put request.method) s (call_of at request body) reply s'
 
 -- its text, by whether the request only reads
-abbrev pub RepliesToRequest : {S : Type 0} → Rules S → Type 0 → ℕ → S → Request → Bytes → Bool → Bytes → S → Type 0
+abbrev pub RepliesToRequest : {S : Type 0} → Rules S → Type 0 → ℕ → S → HttpRequest → Bytes → Bool
+    → Bytes → S → Type 0
 RepliesToRequest rules Cause at s request body reads text s' =
-    (reply : Reply) × (text ≡ reply_text (is_head request.method) reply) × Replies rules Cause at s request body reads reply s'
+    (reply : Reply) × (text ≡ reply_text (is_head request.method) reply)
+    × Replies rules Cause at s request body reads reply s'
 
 -- ---- messages
 
 -- the text of the reply to a message, and the state after it
 abbrev pub RepliesTo : {S : Type 0} → Rules S → Type 0 → ℕ → S → Message → Bytes → S → Type 0
-RepliesTo rules Cause at s (Faulty fault to_head) text s' = (text ≡ reply_text to_head (message_reply fault)) × (s' ≡ s)
-RepliesTo rules Cause at s (Whole request body) text s' = RepliesToRequest rules Cause at s request body (is_reading request.method) text s'
+RepliesTo rules Cause at s (Faulty fault is_head) text s' =
+    (text ≡ reply_text is_head (message_reply fault)) × (s' ≡ s)
+RepliesTo rules Cause at s (Whole request body) text s' =
+    RepliesToRequest rules Cause at s request body (is_reading request.method) text s'
 
 -- the text of the reply to the message that an input begins with, and the state after it
-abbrev pub RepliesToInput : {S : Type 0} → Rules S → Type 0 → ℕ → S → Option Bytes → Bytes → S → Type 0
+abbrev pub RepliesToInput : {S : Type 0} → Rules S → Type 0 → ℕ → S → Option Bytes → Bytes → S
+    → Type 0
 RepliesToInput rules Cause at s given text s' =
-    (input : Bytes) × (message : Message) × IsInput given input × IsMessage input message × RepliesTo rules Cause at s message text s'
+    (input : Bytes) × (message : Message) × IsInput given input × IsMessage input message
+    × RepliesTo rules Cause at s message text s'

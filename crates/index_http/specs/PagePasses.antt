@@ -69,16 +69,20 @@ pub record KeepsTables {S : Type 0} (g : Ghosts S) (old new : S) (has_fault : Bo
 
 -- ---- what a pass does, of a store that was honest, and is clean after it
 
--- the length is told so of the tables, none of which changes; and no fault of their store is told as want of memory
+-- the length is told so of the tables, none of which changes; and no fault of their store is told
+-- as want of memory
 pub record MeasuresPass {S X : Type 0} (g : Ghosts S) (old new : S) (result : Result X Fault)
     (IsTold : Tables → ℕ → ℕ → Result X Fault → Type 0) : Type 0 where
-  pub measured : g.IsHonest old → g.IsClean new → IsTold (g.tables old) (g.failures old) (g.failures new) result
+  pub measured : g.IsHonest old → g.IsClean new
+      → IsTold (g.tables old) (g.failures old) (g.failures new) result
   pub keeps : KeepsTables g old new (is_err result)
   pub stores : result ≡ Err fault.OutOfMemory → g.stores new ≡ g.stores old
 
 -- the length of the page of the tables, where there is one
-abbrev pub MeasuresText : {S : Type 0} → Ghosts S → S → S → Result (Option ℕ) Fault → (Tables → Option Bytes) → Type 0
-MeasuresText g old new result page_of = MeasuresPass g old new result (λ T. MeasuresProject (page_of T))
+abbrev pub MeasuresText : {S : Type 0} → Ghosts S → S → S → Result (Option ℕ) Fault
+    → (Tables → Option Bytes) → Type 0
+MeasuresText g old new result page_of =
+    MeasuresPass g old new result (λ T. MeasuresProject (page_of T))
 
 -- a page that was measured is there, and has this length
 pub record IsMeasured (page : Option Bytes) (count : ℕ) : Type 0 where
@@ -87,8 +91,8 @@ pub record IsMeasured (page : Option Bytes) (count : ℕ) : Type 0 where
   pub size : count ≡ length bytes
   pub within : count ≤ most_bytes
 
--- the page of the tables is sent, where there is one, and else nothing; the end tells how much of it went out; no table
--- changes
+-- the page of the tables is sent, where there is one, and else nothing; the end tells how much of
+-- it went out; no table changes
 pub record SendsPage {S K : Type 0} (page_of : Tables → Option Bytes)
     (desk : DeskStep S) (sink : SinkStep K) (result : Result (Unit {0}) IoEnd) : Type 0 where
   pub sent : desk.books.IsHonest desk.old → desk.books.IsClean desk.new
@@ -102,6 +106,8 @@ pub record SendsPage {S K : Type 0} (page_of : Tables → Option Bytes)
   pub keeps : KeepsTables desk.books desk.old desk.new (is_cut result)
 
 -- a text that was gathered is that of the page of the tables, none of which changes
-pub record Gathers {S : Type 0} (g : Ghosts S) (old new : S) (result : Result (Option (Vec ℕ)) Fault) (page_of : Tables → Option Bytes) : Type 0 where
-  pub text : g.IsHonest old → g.IsClean new → IfOk result (λ found. IfSome found (λ text. page_of (g.tables old) ≡ Some text.items))
+pub record Gathers {S : Type 0} (g : Ghosts S) (old new : S)
+    (result : Result (Option (Vec ℕ)) Fault) (page_of : Tables → Option Bytes) : Type 0 where
+  pub text : g.IsHonest old → g.IsClean new
+      → IfOk result (λ found. IfSome found (λ text. page_of (g.tables old) ≡ Some text.items))
   pub look : ReadsTables g old new result

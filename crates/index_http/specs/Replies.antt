@@ -38,8 +38,8 @@ pub record IsShortText (most : ℕ) (text bytes : Bytes) : Type 0 where
 unfoldable pub phrase_of : ℕ → Bytes
 phrase_of status = unwrap_or (reason_phrase status) []
 
--- the head of a reply, by the digits of its status, its phrase, its header lines and the digits of its length (RFC 9112,
--- sections 2.1 and 4)
+-- the head of a reply, by the digits of its status, its phrase, its header lines and the digits of
+-- its length (RFC 9112, sections 2.1 and 4)
 unfoldable pub head_text : Bytes → Bytes → Bytes → Bytes → Bytes
 head_text code phrase fields digits = concat (
     codes "HTTP/1.1 " ∷ code ∷ codes " " ∷ phrase ∷ codes "\r\n"
@@ -48,9 +48,11 @@ head_text code phrase fields digits = concat (
 
 -- the head of a reply whose body has this many bytes (RFC 9110, section 8.6)
 unfoldable pub reply_head : ℕ → Bytes → ℕ → Bytes
-reply_head status fields size = head_text (code_digits status) (phrase_of status) fields (decimal size)
+reply_head status fields size =
+    head_text (code_digits status) (phrase_of status) fields (decimal size)
 
--- the bytes of a reply: that to `HEAD` has the length of the body, and no body (RFC 9110, section 9.3.2)
+-- the bytes of a reply: that to `HEAD` has the length of the body, and no body (RFC 9110, section
+-- 9.3.2)
 abbrev pub reply_text : Bool → Reply → Bytes
 reply_text is_head reply =
     reply_head reply.status reply.fields (length reply.body) ++ (if is_head then [] else reply.body)
@@ -85,13 +87,15 @@ location_text path = field_line (codes "Location") path
 abbrev pub project_location : Bytes → Bytes
 project_location name = location_text (codes "/simple/" ++ (name ++ codes "/"))
 
--- the header lines of a reply; a challenge names the scheme of tokens (RFC 9110, section 11.6.1), and a redirect has no
--- type
+-- the header lines of a reply; a challenge names the scheme of tokens (RFC 9110, section 11.6.1),
+-- and a redirect has no type
 unfoldable pub fields_text : Fields → Bytes
 fields_text (Page served) = page_text served
 fields_text File = type_text (codes "application/octet-stream")
 fields_text Json = type_text (codes "application/json")
-fields_text Challenge = type_text (codes "application/json") ++ field_line (codes "WWW-Authenticate") (codes "Index-Token")
+fields_text Challenge =
+    type_text (codes "application/json")
+    ++ field_line (codes "WWW-Authenticate") (codes "Index-Token")
 fields_text (Allow allowed) = type_text (codes "application/json") ++ allow_text allowed
 fields_text ToRoot = location_text (codes "/simple/")
 fields_text (ToProject name) = project_location name.now
@@ -108,7 +112,8 @@ IsFixed ToRoot = ⊤
 
 -- the reply of these parts
 abbrev pub reply_of : Parts → Reply
-reply_of parts = record { status = parts.status; fields = fields_text parts.fields; body = parts.body.now }
+reply_of parts =
+    record { status = parts.status; fields = fields_text parts.fields; body = parts.body.now }
 
 -- ---- the replies to messages and calls
 
@@ -124,8 +129,8 @@ message_fault_name ShortBody = codes "ShortBody"
 message_fault_name BadBody = codes "BadBody"
 message_fault_name NotAcceptable = codes "NotAcceptable"
 
--- the header lines of the reply to a message with this fault: where the method is bad they list the others (RFC 9110,
--- section 15.5.6)
+-- the header lines of the reply to a message with this fault: where the method is bad they list the
+-- others (RFC 9110, section 15.5.6)
 abbrev pub fields_of_fault : MessageFault → Fields
 fields_of_fault BadHead = Json
 fields_of_fault NoRoute = Json

@@ -25,7 +25,8 @@ SendsText text before after (Err (Cut count)) = SendsFirst text before after cou
 
 -- the same of a writer
 abbrev pub SendsBytes : {K : Type 0} → Outs K → K → K → Bytes → Result (Unit {0}) IoEnd → Type 0
-SendsBytes out before after text result = SendsText text (out.contents before) (out.contents after) result
+SendsBytes out before after text result =
+    SendsText text (out.contents before) (out.contents after) result
 
 -- the store, memory or the length of the page cut the page short
 abbrev pub is_cut : {A : Type 0} → Result A IoEnd → Bool
@@ -51,26 +52,35 @@ is_silent (Err OutOfMemory) = true
 is_silent (Err (WriteFault count)) = false
 is_silent (Err (Cut count)) = false
 
--- a write failed, or took no byte, just where the result says so; no read failed; and only a page is cut short
-pub record SendsOnly {K : Type 0} (out : Outs K) (before after : K) (has_page : Bool) (result : Result (Unit {0}) IoEnd) : Type 0 where
-  pub write_fault : is_write_fault result ≡ true → HasFailed (out.failures before) (out.failures after)
+-- a write failed, or took no byte, just where the result says so; no read failed; and only a page
+-- is cut short
+pub record SendsOnly {K : Type 0} (out : Outs K) (before after : K) (has_page : Bool)
+    (result : Result (Unit {0}) IoEnd) : Type 0 where
+  pub write_fault : is_write_fault result ≡ true
+      → HasFailed (out.failures before) (out.failures after)
   pub writes : is_write_fault result ≡ false → out.failures after ≡ out.failures before
   pub no_read_fault : result ≢ Err ReadFault
   pub whole : has_page ≡ false → is_cut result ≡ false
 
--- a head was sent with what stands behind it in a text, and its length is told; or a front of the text was
-pub record SendsHead {K : Type 0} (out : Outs K) (before after : K) (head text : Bytes) (result : Result ℕ ℕ) : Type 0 where
-  pub whole : IfOk result (λ count. (count ≡ length head) × Appends (out.contents before) (out.contents after) text)
+-- a head was sent with what stands behind it in a text, and its length is told; or a front of the
+-- text was
+pub record SendsHead {K : Type 0} (out : Outs K) (before after : K) (head text : Bytes)
+    (result : Result ℕ ℕ) : Type 0 where
+  pub whole : IfOk result (λ count. (count ≡ length head)
+      × Appends (out.contents before) (out.contents after) text)
   pub short : IfOk result (λ count. count ≤ 512)
-  pub front : IfErr result (λ count. (count < length text) × Appends (out.contents before) (out.contents after) (take count text))
+  pub front : IfErr result (λ count. (count < length text)
+      × Appends (out.contents before) (out.contents after) (take count text))
   pub kept : OnOk result (out.failures after ≡ out.failures before)
   pub failed : OnErr result (HasFailed (out.failures before) (out.failures after))
 
 -- a read failed, or a write failed or took no byte, just where the result says so
-pub record FailsOnly {S K : Type 0} (ins : Ins S) (out : Outs K) (old new : S) (before after : K) (result : Result (Unit {0}) IoEnd) : Type 0 where
+pub record FailsOnly {S K : Type 0} (ins : Ins S) (out : Outs K) (old new : S) (before after : K)
+    (result : Result (Unit {0}) IoEnd) : Type 0 where
   pub read_fault : result ≡ Err ReadFault → HasFailed (ins.failures old) (ins.failures new)
   pub reads : result ≢ Err ReadFault → ins.failures new ≡ ins.failures old
-  pub write_fault : is_write_fault result ≡ true → HasFailed (out.failures before) (out.failures after)
+  pub write_fault : is_write_fault result ≡ true
+      → HasFailed (out.failures before) (out.failures after)
   pub writes : is_write_fault result ≡ false → out.failures after ≡ out.failures before
 
 -- the end of a connection by that of a read

@@ -4,7 +4,7 @@ use Rattle.std.specs.Io.KnownBytes.{Keeps}
 use Rattle.index_io.specs.Bytes.{IsInput}
 use Rattle.index_io.specs.Counts.{HasFailed}
 use Rattle.index_message.specs.Messages.{IsMessage}
-use Rattle.index_message.specs.Requests.{Request}
+use Rattle.index_message.specs.Requests.{HttpRequest}
 use Rattle.index_message.specs.Resources.{is_head, is_reading}
 use Rattle.index_message.specs.declared.message.Message.{Message}
 use Rattle.index_message.specs.declared.message.Message.TheVariants.{Faulty, Whole}
@@ -26,13 +26,16 @@ use Rattle.index_http.specs.declared.end.IoEnd.{IoEnd}
 use Rattle.index_http.specs.declared.end.IoEnd.TheVariants.{OutOfMemory}
 
 -- the text of a reply of this kind, or of the one where a look failed for this cause
-abbrev pub IsShown : Bool → (Reply → Type 0) → Type 0 → Bytes → Type 0
-IsShown to_head IsReply Cause text =
-    (reply : Reply) × (text ≡ reply_text to_head reply) × (IsReply reply ⊎ ((reply ≡ store_reply) × Cause))
+abbrev pub IsTextOfLook : Bool → (Reply → Type 0) → Type 0 → Bytes → Type 0
+IsTextOfLook is_head IsReply Cause text =
+    (reply : Reply) × (text ≡ reply_text is_head reply)
+    × (IsReply reply ⊎ ((reply ≡ store_reply) × Cause))
 
 -- a look ended so
-abbrev pub EndsShown : Bool → (Reply → Type 0) → Type 0 → Option Bytes → Option Bytes → Result (Unit {0}) IoEnd → Type 0
-EndsShown to_head IsReply Cause before after result = Ends (IsShown to_head IsReply Cause) (Unit {0}) before after result
+abbrev pub EndsShown : Bool → (Reply → Type 0) → Type 0 → Option Bytes → Option Bytes
+    → Result (Unit {0}) IoEnd → Type 0
+EndsShown is_head IsReply Cause before after result =
+    Ends (IsTextOfLook is_head IsReply Cause) (Unit {0}) before after result
 
 -- a page
 abbrev pub is_page : Resource → Bool
@@ -47,53 +50,57 @@ is_page Requests = false
 -- whether a look is at a page, and whether it replies to `HEAD`, which sends a head alone
 pub record Look : Type 0 where
   pub is_page : Bool
-  pub to_head : Bool
+  pub is_head : Bool
 
 -- a look at a page
-abbrev pub a_page : Bool → Look
-a_page to_head = record { is_page = true; to_head = to_head }
+abbrev pub look_at_page : Bool → Look
+look_at_page is_head = record { is_page = true; is_head = is_head }
 
 -- a look at what is no page
-abbrev pub no_page : Bool → Look
-no_page to_head = record { is_page = false; to_head = to_head }
+abbrev pub look_at_no_page : Bool → Look
+look_at_no_page is_head = record { is_page = false; is_head = is_head }
 
 -- what a request asks to look at
-abbrev pub look_of : Request → Look
-look_of request = record { is_page = is_page request.resource; to_head = is_head request.method }
+abbrev pub look_of : HttpRequest → Look
+look_of request = record { is_page = is_page request.resource; is_head = is_head request.method }
 
--- a look at the desk, and the reply that went to the sink: of a store that was honest, and is clean after it, the reply is of
--- this kind by the tables; no table changed; only a page can be cut short, which no reply to `HEAD` has; and a fault of the
--- store of the books is not told as want of memory
+-- a look at the desk, and the reply that went to the sink: of a store that was honest, and is clean
+-- after it, the reply is of this kind by the tables; no table changed; only a page can be cut
+-- short, which no reply to `HEAD` has; and a fault of the store of the books is not told as want of
+-- memory
 pub record ShowsBy {S K : Type 0} (look : Look) (IsReply : Tables → Reply → Type 0)
     (desk : DeskStep S) (sink : SinkStep K) (result : Result (Unit {0}) IoEnd) : Type 0 where
   pub shown : desk.books.IsHonest desk.old → desk.books.IsClean desk.new
-      → EndsShown look.to_head (IsReply (desk.books.tables desk.old))
+      → EndsShown look.is_head (IsReply (desk.books.tables desk.old))
       (HasFailed (desk.books.failures desk.old) (desk.books.failures desk.new))
       (sink.out.contents sink.old) (sink.out.contents sink.new) result
   pub leaves : LeavesTables desk.books desk.old desk.new
-  pub sends : SendsOnly sink.out sink.old sink.new (look.is_page && not look.to_head) result
+  pub sends : SendsOnly sink.out sink.old sink.new (look.is_page && not look.is_head) result
   pub stores : result ≡ Err OutOfMemory → desk.books.stores desk.new ≡ desk.books.stores desk.old
 
 -- a look that failed: a fault of the store is replied, and where memory ran out nothing went out
 abbrev pub EndsFault : Bool → Fault → Option Bytes → Option Bytes → Result (Unit {0}) IoEnd → Type 0
-EndsFault to_head Store before after result = SendsText (reply_text to_head store_reply) before after result
-EndsFault to_head NoMemory before after result = (result ≡ Err OutOfMemory) × Keeps before after
+EndsFault is_head Store before after result =
+    SendsText (reply_text is_head store_reply) before after result
+EndsFault is_head NoMemory before after result = (result ≡ Err OutOfMemory) × Keeps before after
 
 -- a look whose reply has a page in it: to `HEAD` none has
-abbrev pub shows_page : Request → Bool
-shows_page request = is_reading request.method && (is_page request.resource && not (is_head request.method))
+abbrev pub shows_page : HttpRequest → Bool
+shows_page request =
+    is_reading request.method && (is_page request.resource && not (is_head request.method))
 
 -- a message whose reply has a page in it, where it is no request that changes something
 abbrev pub asks_page : Message → Bool
-asks_page (Faulty fault to_head) = false
+asks_page (Faulty fault is_head) = false
 asks_page (Whole request body) = shows_page request
 
 -- a request that changes nothing
 abbrev pub is_look : Message → Bool
-is_look (Faulty fault to_head) = false
+is_look (Faulty fault is_head) = false
 is_look (Whole request body) = is_reading request.method
 
 -- the message that is given passes a test
 abbrev pub GivesMessage : (Message → Bool) → Option Bytes → Type 0
 GivesMessage passes given =
-    (input : Bytes) × (message : Message) × IsInput given input × IsMessage input message × (passes message ≡ true)
+    (input : Bytes) × (message : Message) × IsInput given input × IsMessage input message
+    × (passes message ≡ true)

@@ -63,7 +63,8 @@ status_of_refusal TooEarly = 409
 status_of_refusal RecentRelease = 409
 status_of_refusal HomePageActive = 409
 
--- the status of the answer to a call, by whether it came by `PUT`: what that makes is created (RFC 9110, section 9.3.4)
+-- the status of the answer to a call, by whether it came by `PUT`: what that makes is created (RFC
+-- 9110, section 9.3.4)
 abbrev pub status_of_answer : Bool → Answer → ℕ
 status_of_answer true answer.Accepted = 201
 status_of_answer false answer.Accepted = 200

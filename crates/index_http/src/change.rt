@@ -14,8 +14,8 @@ use index_desk::Desk;
 use index_digest::Digest256;
 use index_io::Sink;
 use index_json::read_request;
-use index_message::{MessageFault, Method, Request, Resource};
-use index_rules::{Books, Bytes, Call, Request as Asked};
+use index_message::{HttpRequest, MessageFault, Method, Resource};
+use index_rules::{Books, Bytes, Call, Request};
 use std::alloc::{AllocError, Global};
 
 /// Applies a request that is no look, and writes the reply, for which no memory is taken then.
@@ -24,7 +24,7 @@ pub fn act<K: Sink, B: Books>(
     sink: &mut K,
     desk: &mut Desk<B>,
     at: u64,
-    request: &Request,
+    request: &HttpRequest,
     body: Bytes,
 ) -> Result<(), IoEnd>
     requires { is_reading request.now.method ≡ false }
@@ -47,7 +47,7 @@ pub fn act<K: Sink, B: Books>(
 fn call_of(
     alloc: Global,
     at: u64,
-    request: &Request,
+    request: &HttpRequest,
     body: Bytes,
 ) -> Result<Option<Call>, AllocError>
     ensures { IfOk result (λ call. call ≡ call_of_lem at request.now body) }
@@ -64,7 +64,11 @@ fn call_of(
 }
 
 /// What a request asks for.
-fn asked_by(alloc: Global, request: &Request, body: Bytes) -> Result<Option<Asked>, AllocError>
+fn asked_by(
+    alloc: Global,
+    request: &HttpRequest,
+    body: Bytes,
+) -> Result<Option<Request>, AllocError>
     ensures { IfOk result (λ asked. asked
         ≡ asked_by_lem request.now.method request.now.resource request.now.fields body) }
 {
@@ -78,10 +82,10 @@ fn asked_by(alloc: Global, request: &Request, body: Bytes) -> Result<Option<Aske
 /// What a request asks of a file.
 fn asked_of_file(
     alloc: Global,
-    request: &Request,
+    request: &HttpRequest,
     file: &Bytes,
     body: Bytes,
-) -> Result<Option<Asked>, AllocError>
+) -> Result<Option<Request>, AllocError>
     ensures { IfOk result (λ asked. asked
         ≡ asked_of_file_lem request.now.method file.now request.now.fields body) }
 {
@@ -90,7 +94,7 @@ fn asked_of_file(
         Method::Delete => {
             drop(body);
             let file = Bytes::copy_of(alloc, file.as_slice())?;
-            Ok(Some(Asked::Delete { file }))
+            Ok(Some(Request::Delete { file }))
         }
         _ => Ok(None),
     }
@@ -99,17 +103,17 @@ fn asked_of_file(
 /// The upload of a file.
 fn upload_of(
     alloc: Global,
-    request: &Request,
+    request: &HttpRequest,
     file: &Bytes,
     body: Bytes,
-) -> Result<Asked, AllocError>
+) -> Result<Request, AllocError>
     ensures { IfOk result (λ asked.
         Some asked ≡ asked_of_file_lem Method.Put file.now request.now.fields body) }
 {
     let file = Bytes::copy_of(alloc, file.as_slice())?;
     let sha256 = Bytes::copy_of(alloc, request.value(b"x-index-sha256"))?;
     let requires_python = Bytes::copy_of(alloc, request.value(b"x-requires-python"))?;
-    Ok(Asked::Upload {
+    Ok(Request::Upload {
         file,
         sha256,
         body,
@@ -118,7 +122,7 @@ fn upload_of(
 }
 
 /// The request that bytes of JSON are.
-fn asked_in(alloc: Global, bytes: &[u8]) -> Result<Option<Asked>, AllocError>
+fn asked_in(alloc: Global, bytes: &[u8]) -> Result<Option<Request>, AllocError>
     ensures { IfOk result (λ asked. asked ≡ request_of bytes.now) }
 {
     match read_request(alloc, bytes) {

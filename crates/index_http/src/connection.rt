@@ -21,7 +21,7 @@ use crate::reply::message_reply;
 use crate::send::send_reply;
 use index_desk::{Desk, Keeper};
 use index_io::{Sink, Source};
-use index_message::{Message, Request, Site, read_message};
+use index_message::{Message, Site, read_message};
 use index_rules::Bytes;
 use std::alloc::Global;
 

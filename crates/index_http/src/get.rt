@@ -1,69 +1,284 @@
-//! Looks at pages, files and standings. None changes a table.
-ghost use Rattle.std.specs.Prelude.{◌≡◌, Err, IfErr, IfOk, IfSome, IsSome, true, false, bytes_eq, is_some};
+//! Looks at pages, files and standings: what is to be shown is found first, and then sent. None changes a table.
+ghost use Rattle.std.specs.Prelude.{◌≡◌, ◌≢◌, Err, Ok, IfErr, IfOk, IfSome, IsSome, true, false, bytes_eq, is_some};
 ghost use Rattle.index_names.specs.FileName.{read_file_name};
 ghost use Rattle.index_names.specs.Project.{read_name};
+ghost use Rattle.index_rules.specs.Tables.{Tables};
 ghost use Rattle.index_desk.specs.Looks.{LooksAt};
 ghost use Rattle.index_desk.specs.Rules.{by_tables};
-ghost use Rattle.index_http.specs.Exchanges.{IsAccepted, Shows, ShowsAt, ShowsFile, ShowsName, ShowsSpelling};
-ghost use Rattle.index_http.specs.Shown.{reply_of_shown};
-ghost use Rattle.index_http.specs.Shows.{ShowsBy, a_page, look_of, no_page};
+ghost use Rattle.index_http.specs.Exchanges.{IsAccepted, Shows, ShowsAt, ShowsFile, ShowsName, ShowsProject, ShowsRedirect, ShowsRoot, ShowsSpelling};
+ghost use Rattle.index_http.specs.Replies.{reply_of};
+ghost use Rattle.index_http.specs.Shown.{LeadsTo, ShowsFound, can_be_read, is_page_to_show, is_reply, look_for, reply_of_shown};
+ghost use Rattle.index_http.specs.Shows.{ShowsBy, is_page, look_at_no_page, look_of};
 ghost use Rattle.index_http.specs.Steps.{at_desk, to_sink};
 
 use crate::end::IoEnd;
-use crate::page_replies::{show_project, show_root};
+use crate::page_replies::show_page;
 use crate::reply::{
-    file_reply, message_reply, redirect, redirect_to_project, redirect_to_root, refusal_reply,
+    Reply, file_reply, json_reply, message_reply, redirect_to_project, redirect_to_root,
+    refusal_reply,
 };
-use crate::send::{send_fault, send_found, send_reply};
-use crate::shown::Shown;
-use index_desk::{Desk, Keeper};
+use crate::send::{send_fault, send_reply};
+use index_desk::{Desk, Keeper, PageKey};
 use index_io::Sink;
 use index_json::standing_text;
-use index_message::{Allowed, MessageFault, Request, Resource};
+use index_message::{Allowed, HttpRequest, MessageFault, Resource};
 use index_names::{FileName, NameFault, NormalName, normal};
 use index_pages::Served;
 use index_rules::{Books, Bytes, Fault, Refusal};
 use std::alloc::{AllocError, Global};
+
+/// What is to be shown. A page and a file are looked for when they are sent: the books lend those that they keep, and a
+/// long page is never there as a whole, so neither is a value.
+#[derive(Drop)]
+pub enum ToShow {
+    /// The page of the names, in a type.
+    Root(Served),
+    /// The page of a project, in a type.
+    Project(NormalName, Served),
+    /// A file.
+    File(FileName),
+    /// What is there.
+    Found(Shown),
+}
+
+/// The reply to a look, as a value that owns its text.
+#[derive(Drop)]
+pub enum Shown {
+    /// The fault of a message.
+    Faulty(MessageFault),
+    /// A refusal.
+    Refused(Refusal),
+    /// The way to the page of the names.
+    ToRoot,
+    /// The way to the page of a project.
+    ToProject(NormalName),
+    /// The text of a standing.
+    Standing(String),
+}
+
+impl Shown {
+    /// The reply itself.
+    pub fn reply(&self) -> Reply<'_>
+        ensures { reply_of result ≡ reply_of_shown self.now }
+    {
+        match self {
+            Shown::Faulty(fault) => message_reply(*fault),
+            Shown::Refused(refusal) => refusal_reply(*refusal),
+            Shown::ToRoot => redirect_to_root(),
+            Shown::ToProject(name) => redirect_to_project(name),
+            Shown::Standing(text) => json_reply(text.as_bytes()),
+        }
+    }
+}
 
 /// Shows what a request asks for.
 pub fn show<K: Sink, B: Keeper>(
     alloc: Global,
     sink: &mut K,
     desk: &mut Desk<B>,
-    request: &Request,
+    request: &HttpRequest,
 ) -> Result<(), IoEnd>
-    ensures { ShowsBy (look_of request.now)
+    ensures shown { ShowsBy (look_of request.now)
         (λ T. Shows by_tables T request.now.fields request.now.resource)
         (at_desk B.Books desk.old desk.new) (to_sink K.Sink sink.old sink.new) result }
+    // What is no name is replied as such, and is never a want of memory.
+    ensures readable { result ≡ Err IoEnd.OutOfMemory → can_be_read request.now.resource ≡ true }
 {
-    let to_head = request.method().is_head();
-    match request.resource() {
-        Resource::Simple => send_reply(sink, to_head, redirect_to_root()),
-        Resource::Root => {
-            let chosen = accepted_type(alloc, request)?;
-            show_root(alloc, sink, desk, to_head, chosen)
+    let is_head = request.method().is_head();
+    match to_show(alloc, desk, request, request.resource()) {
+        Ok(what) => send_shown(alloc, sink, desk, is_head, what),
+        Err(fault) => send_fault(sink, is_head, fault),
+    }
+}
+
+/// Sends what is to be shown.
+fn send_shown<K: Sink, B: Keeper>(
+    alloc: Global,
+    sink: &mut K,
+    desk: &mut Desk<B>,
+    is_head: bool,
+    what: ToShow,
+) -> Result<(), IoEnd>
+    ensures shown { ShowsBy (look_for is_head what) (λ T. ShowsFound T what)
+        (at_desk B.Books desk.old desk.new) (to_sink K.Sink sink.old sink.new) result }
+    ensures memory { result ≡ Err IoEnd.OutOfMemory → is_reply what ≡ false }
+{
+    match what {
+        ToShow::Root(served) => show_page(alloc, sink, desk, is_head, PageKey::Root, served),
+        ToShow::Project(name, served) => {
+            show_page(alloc, sink, desk, is_head, PageKey::Project(&name), served)
         }
-        Resource::Project(given) => {
-            let name = name_of(alloc, given)?;
-            send_reply(sink, to_head, redirect(&name))
+        ToShow::File(file) => show_file(alloc, sink, desk, is_head, file),
+        ToShow::Found(shown) => send_reply(sink, is_head, shown.reply()),
+    }
+}
+
+/// Shows the bytes of a file.
+fn show_file<K: Sink, B: Keeper>(
+    alloc: Global,
+    sink: &mut K,
+    desk: &mut Desk<B>,
+    is_head: bool,
+    file: FileName,
+) -> Result<(), IoEnd>
+    ensures { ShowsBy (look_at_no_page is_head) (λ T. ShowsFile by_tables T file true)
+        (at_desk B.Books desk.old desk.new) (to_sink K.Sink sink.old sink.new) result }
+{
+    if let Some(body) = desk.kept_body(&file) {
+        return send_reply(sink, is_head, file_reply(body.bytes()));
+    }
+    match desk.body(alloc, &file) {
+        Ok(Some(body)) => {
+            let sent = send_reply(sink, is_head, file_reply(body.bytes()));
+            desk.keep_body(file, body);
+            sent
         }
-        Resource::ProjectPage(given) => show_at(alloc, sink, desk, to_head, request, given),
-        Resource::File(given) => show_file(alloc, sink, desk, to_head, given),
-        Resource::Name(given) => send_found(sink, to_head, standing_of(alloc, desk, given)),
-        Resource::Requests => send_reply(
-            sink,
-            to_head,
-            message_reply(MessageFault::BadMethod(Allowed::Requests)),
-        ),
+        Ok(None) => send_reply(sink, is_head, refusal_reply(Refusal::NoFile)),
+        Err(fault) => send_fault(sink, is_head, fault),
+    }
+}
+
+/// What is to be shown of a resource.
+fn to_show<B: Books>(
+    alloc: Global,
+    desk: &mut Desk<B>,
+    request: &HttpRequest,
+    resource: &Resource,
+) -> Result<ToShow, Fault>
+    ensures shows { LooksAt B.Books desk.old desk.new result
+        (λ T what. LeadsTo T what (Shows by_tables T request.now.fields resource.now)) }
+    ensures page { IfOk result (λ what.
+        is_page_to_show what ≡ true → is_page resource.now ≡ true) }
+    ensures found { IfOk result (λ what.
+        can_be_read resource.now ≡ false → is_reply what ≡ true) }
+    ensures readable { IfErr result (λ _. can_be_read resource.now ≡ true) }
+{
+    match resource {
+        Resource::Simple => Ok(ToShow::Found(Shown::ToRoot)),
+        Resource::Root => Ok(root_to_show(alloc, request)?),
+        Resource::Project(given) => Ok(ToShow::Found(redirect_of(alloc, given)?)),
+        Resource::ProjectPage(given) => page_at(alloc, desk, request, given),
+        Resource::File(given) => Ok(file_to_show(alloc, given)?),
+        Resource::Name(given) => Ok(ToShow::Found(standing_of(alloc, desk, given)?)),
+        Resource::Requests => Ok(ToShow::Found(Shown::Faulty(MessageFault::BadMethod(
+            Allowed::Requests,
+        )))),
+    }
+}
+
+/// The page of the names, or that it has no type which can be chosen.
+fn root_to_show(alloc: Global, request: &HttpRequest) -> Result<ToShow, AllocError>
+    ensures { IfOk result (λ what. (T : Tables) →
+        LeadsTo T what (Shows by_tables T request.now.fields Resource.Root)) }
+{
+    match accepted_type(alloc, request)? {
+        Some(served) => Ok(ToShow::Root(served)),
+        None => Ok(ToShow::Found(Shown::Faulty(MessageFault::NotAcceptable))),
     }
 }
 
 /// The type that the `Accept` fields choose (PEP 691).
-fn accepted_type(alloc: Global, request: &Request) -> Result<Option<Served>, AllocError>
+fn accepted_type(alloc: Global, request: &HttpRequest) -> Result<Option<Served>, AllocError>
     ensures { IfOk result (λ chosen. IsAccepted request.now.fields chosen) }
 {
     let values = request.values(alloc, b"accept")?;
     Ok(Served::choose(values.as_slice()))
+}
+
+/// The way to a project's page, or that this is no name of one.
+fn redirect_of(alloc: Global, given: &Bytes) -> Result<Shown, AllocError>
+    ensures shown { IfOk result (λ shown.
+        ShowsRedirect (read_name given.now) (reply_of_shown shown)) }
+    ensures readable { IfErr result (λ _. IsSome (read_name given.now)) }
+{
+    match name_of(alloc, given)? {
+        Some(name) => Ok(Shown::ToProject(name)),
+        None => Ok(Shown::Refused(Refusal::NoProject)),
+    }
+}
+
+/// The page of a project, or the way there where its name is given in another spelling.
+fn page_at<B: Books>(
+    alloc: Global,
+    desk: &mut Desk<B>,
+    request: &HttpRequest,
+    given: &Bytes,
+) -> Result<ToShow, Fault>
+    ensures shows { LooksAt B.Books desk.old desk.new result (λ T what.
+        LeadsTo T what (ShowsAt by_tables T request.now.fields given.now (read_name given.now))) }
+    ensures found { IfOk result (λ what.
+        is_some (read_name given.now) ≡ false → is_reply what ≡ true) }
+    ensures readable { IfErr result (λ _. IsSome (read_name given.now)) }
+{
+    let Some(name) = name_of(alloc, given)? else {
+        return Ok(ToShow::Found(Shown::Refused(Refusal::NoProject)));
+    };
+    if name.text().as_bytes() == given.as_slice() {
+        page_of(alloc, desk, request, name)
+    } else {
+        Ok(ToShow::Found(Shown::ToProject(name)))
+    }
+}
+
+/// The page of a project whose name is given in its normal form.
+fn page_of<B: Books>(
+    alloc: Global,
+    desk: &mut Desk<B>,
+    request: &HttpRequest,
+    name: NormalName,
+) -> Result<ToShow, Fault>
+    ensures { LooksAt B.Books desk.old desk.new result
+        (λ T what. LeadsTo T what (ShowsSpelling by_tables T request.now.fields name true)) }
+{
+    match accepted_type(alloc, request)? {
+        Some(served) => Ok(ToShow::Project(name, served)),
+        None => Ok(ToShow::Found(no_page_of(alloc, desk, &name)?)),
+    }
+}
+
+/// That there is no page of a project, or none of a type that can be chosen.
+fn no_page_of<B: Books>(
+    alloc: Global,
+    desk: &mut Desk<B>,
+    name: &NormalName,
+) -> Result<Shown, Fault>
+    ensures { LooksAt B.Books desk.old desk.new result
+        (λ T shown. ShowsProject by_tables T name.now None (reply_of_shown shown)) }
+{
+    if desk.is_held(alloc, name)? {
+        Ok(Shown::Faulty(MessageFault::NotAcceptable))
+    } else {
+        Ok(Shown::Refused(Refusal::NoProject))
+    }
+}
+
+/// A file, or that these bytes are no file name.
+fn file_to_show(alloc: Global, given: &Bytes) -> Result<ToShow, AllocError>
+    ensures shows { IfOk result (λ what. (T : Tables) → LeadsTo T what
+        (ShowsFile by_tables T given.now (is_some (read_file_name given.now)))) }
+    ensures found { IfOk result (λ what.
+        is_some (read_file_name given.now) ≡ false → is_reply what ≡ true) }
+    ensures page { IfOk result (λ what. is_page_to_show what ≡ false) }
+    ensures readable { IfErr result (λ _. IsSome (read_file_name given.now)) }
+{
+    match FileName::read(alloc, given.as_slice()) {
+        Ok(file) => Ok(ToShow::File(file)),
+        Err(NameFault::OutOfMemory) => Err(AllocError),
+        Err(_) => Ok(ToShow::Found(Shown::Refused(Refusal::NoFile))),
+    }
+}
+
+/// What stands of a name, or that it is none.
+fn standing_of<B: Books>(alloc: Global, desk: &mut Desk<B>, given: &Bytes) -> Result<Shown, Fault>
+    ensures shows { LooksAt B.Books desk.old desk.new result
+        (λ T shown. ShowsName by_tables T (read_name given.now) (reply_of_shown shown)) }
+    ensures readable { IfErr result (λ _. IsSome (read_name given.now)) }
+{
+    let Some(name) = name_of(alloc, given)? else {
+        return Ok(Shown::Refused(Refusal::BadName));
+    };
+    let standing = desk.standing(alloc, &name)?;
+    Ok(Shown::Standing(standing_text(alloc, &standing)?))
 }
 
 /// The normal form of a name, or `None` where these bytes are no project name.
@@ -76,101 +291,4 @@ fn name_of(alloc: Global, given: &Bytes) -> Result<Option<NormalName>, AllocErro
         Err(NameFault::OutOfMemory) => Err(AllocError),
         Err(_) => Ok(None),
     }
-}
-
-/// The file name that these bytes are, or `None` where they are none.
-fn file_of(alloc: Global, given: &Bytes) -> Result<Option<FileName>, AllocError>
-    ensures file { IfOk result (λ file. IfSome file (λ file. file ≡ given.now)) }
-    ensures found { IfOk result (λ file. is_some file ≡ is_some (read_file_name given.now)) }
-    ensures readable { IfErr result (λ _. IsSome (read_file_name given.now)) }
-{
-    match FileName::read(alloc, given.as_slice()) {
-        Ok(file) => Ok(Some(file)),
-        Err(NameFault::OutOfMemory) => Err(AllocError),
-        Err(_) => Ok(None),
-    }
-}
-
-/// Shows a project's page, or the way there where its name is given in another spelling.
-fn show_at<K: Sink, B: Keeper>(
-    alloc: Global,
-    sink: &mut K,
-    desk: &mut Desk<B>,
-    to_head: bool,
-    request: &Request,
-    given: &Bytes,
-) -> Result<(), IoEnd>
-    ensures shown { ShowsBy (a_page to_head)
-        (λ T. ShowsAt by_tables T request.now.fields given.now (read_name given.now))
-        (at_desk B.Books desk.old desk.new) (to_sink K.Sink sink.old sink.new) result }
-    // What is no name is replied as such, and is never a want of memory.
-    ensures readable { result ≡ Err IoEnd.OutOfMemory → IsSome (read_name given.now) }
-{
-    let Some(name) = name_of(alloc, given)? else {
-        return send_reply(sink, to_head, refusal_reply(Refusal::NoProject));
-    };
-    show_spelling(alloc, sink, desk, to_head, request, given, &name)
-}
-
-/// Shows the page of a project whose name is given in its normal form, and else the way there.
-fn show_spelling<K: Sink, B: Keeper>(
-    alloc: Global,
-    sink: &mut K,
-    desk: &mut Desk<B>,
-    to_head: bool,
-    request: &Request,
-    given: &Bytes,
-    name: &NormalName,
-) -> Result<(), IoEnd>
-    ensures { ShowsBy (a_page to_head)
-        (λ T. ShowsSpelling by_tables T request.now.fields name.now (bytes_eq name.now given.now))
-        (at_desk B.Books desk.old desk.new) (to_sink K.Sink sink.old sink.new) result }
-{
-    if name.text().as_bytes() == given.as_slice() {
-        let chosen = accepted_type(alloc, request)?;
-        show_project(alloc, sink, desk, to_head, chosen, name)
-    } else {
-        send_reply(sink, to_head, redirect_to_project(name))
-    }
-}
-
-/// Shows the bytes of a file.
-fn show_file<K: Sink, B: Keeper>(
-    alloc: Global,
-    sink: &mut K,
-    desk: &mut Desk<B>,
-    to_head: bool,
-    given: &Bytes,
-) -> Result<(), IoEnd>
-    ensures { ShowsBy (no_page to_head)
-        (λ T. ShowsFile by_tables T given.now (is_some (read_file_name given.now)))
-        (at_desk B.Books desk.old desk.new) (to_sink K.Sink sink.old sink.new) result }
-{
-    let Some(file) = file_of(alloc, given)? else {
-        return send_reply(sink, to_head, refusal_reply(Refusal::NoFile));
-    };
-    if let Some(body) = desk.kept_body(&file) {
-        return send_reply(sink, to_head, file_reply(body.bytes()));
-    }
-    match desk.body(alloc, &file) {
-        Ok(Some(body)) => {
-            let sent = send_reply(sink, to_head, file_reply(body.bytes()));
-            desk.keep_body(file, body);
-            sent
-        }
-        Ok(None) => send_reply(sink, to_head, refusal_reply(Refusal::NoFile)),
-        Err(fault) => send_fault(sink, to_head, fault),
-    }
-}
-
-/// What stands of a name, or that it is none.
-fn standing_of<B: Books>(alloc: Global, desk: &mut Desk<B>, given: &Bytes) -> Result<Shown, Fault>
-    ensures { LooksAt B.Books desk.old desk.new result
-        (λ T shown. ShowsName by_tables T (read_name given.now) (reply_of_shown shown)) }
-{
-    let Some(name) = name_of(alloc, given)? else {
-        return Ok(Shown::Refused(Refusal::BadName));
-    };
-    let standing = desk.standing(alloc, &name)?;
-    Ok(Shown::Standing(standing_text(alloc, &standing)?))
 }

@@ -1,7 +1,6 @@
 //! One connection over HTTP: a message is read, applied or looked up, and answered.
 #![tactic(auto)]
 
-mod buffer;
 mod change;
 mod connection;
 mod end;
@@ -11,9 +10,6 @@ mod page_passes;
 mod page_replies;
 mod reply;
 mod send;
-mod shown;
-mod status;
-mod texts;
 
 pub use connection::answer_one;
 pub use end::IoEnd;

@@ -1,106 +1,50 @@
 //! Pages, whose head tells their length before their text is sent.
 ghost use Rattle.std.specs.Prelude.{◌≡◌, None, true, false, not};
-ghost use Rattle.index_desk.specs.Looks.{LeavesTables, LooksAt};
+ghost use Rattle.index_desk.specs.Looks.{LeavesTables};
 ghost use Rattle.index_desk.specs.Pages.{page_in};
-ghost use Rattle.index_desk.specs.Rules.{by_tables};
-ghost use Rattle.index_http.specs.Exchanges.{ShowsProject, ShowsRoot};
 ghost use Rattle.index_http.specs.PagePasses.{Gathers, IsMeasured, MeasuresText, SendsPage};
 ghost use Rattle.index_http.specs.PageShows.{ShowsWhole, after_head};
 ghost use Rattle.index_http.specs.Replies.{page_reply, reply_text};
 ghost use Rattle.index_http.specs.Sends.{SendsBytes, SendsOnly, is_cut, is_silent, is_write_fault};
-ghost use Rattle.index_http.specs.Shown.{reply_of_shown};
-ghost use Rattle.index_http.specs.Shows.{ShowsBy, a_page};
+ghost use Rattle.index_http.specs.Shows.{ShowsBy, look_at_page};
 ghost use Rattle.index_http.specs.Steps.{at_desk, to_sink};
 
 use crate::end::IoEnd;
 use crate::gather::{gathered_project, gathered_root};
 use crate::page_passes::{project_length, project_text, root_length, root_text};
-use crate::reply::{Fields, message_reply, page_reply, refusal_reply};
-use crate::send::{send_fault, send_found, send_head, send_reply};
-use crate::shown::Shown;
+use crate::reply::{Fields, page_reply, refusal_reply};
+use crate::send::{send_fault, send_head, send_reply};
 use http::StatusCode;
-use index_desk::{Desk, Keeper, Page};
+use index_desk::{Desk, Keeper, PageKey};
 use index_io::Sink;
-use index_message::MessageFault;
 use index_names::NormalName;
 use index_pages::Served;
 use index_rules::{Books, Fault, Refusal};
 use std::alloc::Global;
 
-/// Shows the root page.
-pub fn show_root<K: Sink, B: Keeper>(
-    alloc: Global,
-    sink: &mut K,
-    desk: &mut Desk<B>,
-    to_head: bool,
-    chosen: Option<Served>,
-) -> Result<(), IoEnd>
-    ensures { ShowsBy (a_page to_head) (λ T. ShowsRoot by_tables T chosen)
-        (at_desk B.Books desk.old desk.new) (to_sink K.Sink sink.old sink.new) result }
-{
-    match chosen {
-        Some(served) => show_page(alloc, sink, desk, to_head, Page::Root, served),
-        None => send_reply(sink, to_head, message_reply(MessageFault::NotAcceptable)),
-    }
-}
-
-/// Shows a project's page.
-pub fn show_project<K: Sink, B: Keeper>(
-    alloc: Global,
-    sink: &mut K,
-    desk: &mut Desk<B>,
-    to_head: bool,
-    chosen: Option<Served>,
-    name: &NormalName,
-) -> Result<(), IoEnd>
-    ensures { ShowsBy (a_page to_head) (λ T. ShowsProject by_tables T name.now chosen)
-        (at_desk B.Books desk.old desk.new) (to_sink K.Sink sink.old sink.new) result }
-{
-    match chosen {
-        Some(served) => show_page(alloc, sink, desk, to_head, Page::Project(name), served),
-        None => send_found(sink, to_head, no_page_of(alloc, desk, name)),
-    }
-}
-
-/// That there is no page of a project, or none of a type that can be chosen.
-fn no_page_of<B: Books>(
-    alloc: Global,
-    desk: &mut Desk<B>,
-    name: &NormalName,
-) -> Result<Shown, Fault>
-    ensures { LooksAt B.Books desk.old desk.new result
-        (λ T shown. ShowsProject by_tables T name.now None (reply_of_shown shown)) }
-{
-    if desk.is_held(alloc, name)? {
-        Ok(Shown::Faulty(MessageFault::NotAcceptable))
-    } else {
-        Ok(Shown::Refused(Refusal::NoProject))
-    }
-}
-
 /// Shows a page in a type, where there is one.
-fn show_page<K: Sink, B: Keeper>(
+pub fn show_page<K: Sink, B: Keeper>(
     alloc: Global,
     sink: &mut K,
     desk: &mut Desk<B>,
-    to_head: bool,
-    page: Page<'_>,
+    is_head: bool,
+    page: PageKey<'_>,
     served: Served,
 ) -> Result<(), IoEnd>
-    ensures { ShowsBy (a_page to_head) (λ T. ShowsWhole served (page_in T served page.entry))
+    ensures { ShowsBy (look_at_page is_head) (λ T. ShowsWhole served (page_in T served page.entry))
         (at_desk B.Books desk.old desk.new) (to_sink K.Sink sink.old sink.new) result }
 {
     if let Some(text) = desk.kept_page(page, served) {
-        return send_reply(sink, to_head, page_reply(served, text));
+        return send_reply(sink, is_head, page_reply(served, text));
     }
     match gathered_text(alloc, desk, page, served) {
         Ok(Some(text)) => {
-            let sent = send_reply(sink, to_head, page_reply(served, text.as_slice()));
+            let sent = send_reply(sink, is_head, page_reply(served, text.as_slice()));
             desk.keep_page(page, served, text);
             sent
         }
-        Ok(None) => show_in_passes(alloc, sink, desk, to_head, page, served),
-        Err(fault) => send_fault(sink, to_head, fault),
+        Ok(None) => show_in_passes(alloc, sink, desk, is_head, page, served),
+        Err(fault) => send_fault(sink, is_head, fault),
     }
 }
 
@@ -109,14 +53,14 @@ fn show_page<K: Sink, B: Keeper>(
 fn gathered_text<B: Books>(
     alloc: Global,
     desk: &mut Desk<B>,
-    page: Page<'_>,
+    page: PageKey<'_>,
     served: Served,
 ) -> Result<Option<Vec<u8>>, Fault>
     ensures { Gathers B.Books desk.old desk.new result (λ T. page_in T served page.entry) }
 {
     match page {
-        Page::Root => gathered_root(alloc, desk, served),
-        Page::Project(name) => gathered_project(alloc, desk, name, served),
+        PageKey::Root => gathered_root(alloc, desk, served),
+        PageKey::Project(name) => gathered_project(alloc, desk, name, served),
     }
 }
 
@@ -125,17 +69,17 @@ fn show_in_passes<K: Sink, B: Books>(
     alloc: Global,
     sink: &mut K,
     desk: &mut Desk<B>,
-    to_head: bool,
-    page: Page<'_>,
+    is_head: bool,
+    page: PageKey<'_>,
     served: Served,
 ) -> Result<(), IoEnd>
-    ensures { ShowsBy (a_page to_head) (λ T. ShowsWhole served (page_in T served page.entry))
+    ensures { ShowsBy (look_at_page is_head) (λ T. ShowsWhole served (page_in T served page.entry))
         (at_desk B.Books desk.old desk.new) (to_sink K.Sink sink.old sink.new) result }
 {
     match length_of(alloc, desk, page, served) {
-        Ok(Some(size)) => send_page(alloc, sink, desk, to_head, page, served, size),
-        Ok(None) => send_reply(sink, to_head, refusal_reply(Refusal::NoProject)),
-        Err(fault) => send_fault(sink, to_head, fault),
+        Ok(Some(size)) => send_page(alloc, sink, desk, is_head, page, served, size),
+        Ok(None) => send_reply(sink, is_head, refusal_reply(Refusal::NoProject)),
+        Err(fault) => send_fault(sink, is_head, fault),
     }
 }
 
@@ -143,14 +87,14 @@ fn show_in_passes<K: Sink, B: Books>(
 fn length_of<B: Books>(
     alloc: Global,
     desk: &mut Desk<B>,
-    page: Page<'_>,
+    page: PageKey<'_>,
     served: Served,
 ) -> Result<Option<u64>, Fault>
     ensures { MeasuresText B.Books desk.old desk.new result (λ T. page_in T served page.entry) }
 {
     match page {
-        Page::Root => Ok(Some(root_length(alloc, desk, served)?)),
-        Page::Project(name) => project_length(alloc, desk, name, served),
+        PageKey::Root => Ok(Some(root_length(alloc, desk, served)?)),
+        PageKey::Project(name) => project_length(alloc, desk, name, served),
     }
 }
 
@@ -159,24 +103,24 @@ fn send_page<K: Sink, B: Books>(
     alloc: Global,
     sink: &mut K,
     desk: &mut Desk<B>,
-    to_head: bool,
-    page: Page<'_>,
+    is_head: bool,
+    page: PageKey<'_>,
     served: Served,
     size: u64,
 ) -> Result<(), IoEnd>
     ensures sent { B.IsHonest desk.old → B.IsClean desk.new →
         (there : IsMeasured (page_in (B.tables desk.old) served page.entry) size) →
         SendsBytes K.Sink sink.old sink.new
-        (reply_text to_head (page_reply served there.bytes)) result }
+        (reply_text is_head (page_reply served there.bytes)) result }
     ensures leaves { LeavesTables B.Books desk.old desk.new }
-    ensures sends { SendsOnly K.Sink sink.old sink.new (not to_head) result }
+    ensures sends { SendsOnly K.Sink sink.old sink.new (not is_head) result }
     ensures told { is_silent result ≡ false }
 {
     let head = match send_head(sink, StatusCode::OK, Fields::Page(served), size) {
         Ok(head) => head,
         Err(count) => return Err(IoEnd::WriteFault(count)),
     };
-    if to_head {
+    if is_head {
         return Ok(());
     }
     after_head(head, send_text(alloc, sink, desk, page, served))
@@ -187,15 +131,15 @@ fn send_text<K: Sink, B: Books>(
     alloc: Global,
     sink: &mut K,
     desk: &mut Desk<B>,
-    page: Page<'_>,
+    page: PageKey<'_>,
     served: Served,
 ) -> Result<(), IoEnd>
     ensures { SendsPage (λ T. page_in T served page.entry)
         (at_desk B.Books desk.old desk.new) (to_sink K.Sink sink.old sink.new) result }
 {
     match page {
-        Page::Root => root_text(alloc, desk, sink, served),
-        Page::Project(name) => project_text(alloc, desk, sink, name, served),
+        PageKey::Root => root_text(alloc, desk, sink, served),
+        PageKey::Project(name) => project_text(alloc, desk, sink, name, served),
     }
 }
 

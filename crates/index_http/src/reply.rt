@@ -1,10 +1,10 @@
-//! Replies. None of them takes memory.
+//! Replies: their statuses, header lines and bodies. None of them takes memory.
 ghost use Rattle.std.specs.Prelude.{◌≡◌, [], false};
-ghost use Rattle.index_http.specs.Exchanges.{ShowsRedirect, refusal_reply, store_reply};
-ghost use Rattle.index_http.specs.Replies.{answer_fields, answer_reply, fields_of_fault, file_reply, json_reply, message_reply, page_reply, reply_of, redirect_to_project, redirect_to_root};
+ghost use Rattle.index_json.specs.AnswerText.{message_text_of};
+ghost use Rattle.index_http.specs.Exchanges.{refusal_reply, store_reply};
+ghost use Rattle.index_http.specs.Replies.{answer_fields, answer_reply, fields_of_fault, file_reply, json_reply, message_fault_name, message_reply, page_reply, reply_of, redirect_to_project, redirect_to_root};
+ghost use Rattle.index_http.specs.Statuses.{status_of_answer, status_of_fault, status_of_refusal};
 
-use crate::status::{status_of_answer, status_of_fault};
-use crate::texts::message_text;
 use http::StatusCode;
 use index_json::answer_text;
 use index_message::{Allowed, MessageFault};
@@ -134,16 +134,7 @@ pub fn redirect_to_project(name: &NormalName) -> Reply<'_>
     }
 }
 
-/// Redirects to the page of a project, where this is the name of one.
-pub fn redirect(name: &Option<NormalName>) -> Reply<'_>
-    ensures { ShowsRedirect name.now (reply_of result) }
-{
-    match name {
-        Some(name) => redirect_to_project(name),
-        None => refusal_reply(Refusal::NoProject),
-    }
-}
-
+/// The header lines of the reply to a message with a fault.
 fn fields_of_fault(fault: MessageFault) -> Fields<'static>
     ensures { result ≡ fields_of_fault fault }
 {
@@ -153,6 +144,7 @@ fn fields_of_fault(fault: MessageFault) -> Fields<'static>
     }
 }
 
+/// The header lines of the reply to a call: a refused token is told which scheme is wanted.
 fn answer_fields(status: StatusCode) -> Fields<'static>
     ensures { result ≡ answer_fields status }
 {
@@ -160,5 +152,106 @@ fn answer_fields(status: StatusCode) -> Fields<'static>
         Fields::Challenge
     } else {
         Fields::Json
+    }
+}
+
+/// The text of the answer to a message that is none which the index serves.
+#[tactic(auto, unfolding(index_json::proofs::OnLiterals::answers_on_literals))]
+fn message_text(fault: MessageFault) -> &'static str
+    ensures { result.now ≡ message_text_of (message_fault_name fault) }
+{
+    match fault {
+        MessageFault::BadHead => "{\"answer\":\"message\",\"name\":\"BadHead\"}",
+        MessageFault::NoRoute => "{\"answer\":\"message\",\"name\":\"NoRoute\"}",
+        MessageFault::BadMethod(_) => "{\"answer\":\"message\",\"name\":\"BadMethod\"}",
+        MessageFault::BadLength => "{\"answer\":\"message\",\"name\":\"BadLength\"}",
+        MessageFault::NoLength => "{\"answer\":\"message\",\"name\":\"NoLength\"}",
+        MessageFault::BodyTooLarge => "{\"answer\":\"message\",\"name\":\"BodyTooLarge\"}",
+        MessageFault::ShortBody => "{\"answer\":\"message\",\"name\":\"ShortBody\"}",
+        MessageFault::BadBody => "{\"answer\":\"message\",\"name\":\"BadBody\"}",
+        MessageFault::NotAcceptable => "{\"answer\":\"message\",\"name\":\"NotAcceptable\"}",
+    }
+}
+
+/// The status of the reply to a call, by whether it came by `PUT`.
+fn status_of_answer(is_put: bool, answer: &Answer) -> StatusCode
+    ensures { result ≡ status_of_answer is_put answer.now }
+{
+    match answer {
+        Answer::Accepted => status_of_accepted(is_put),
+        Answer::Already => StatusCode::OK,
+        Answer::Refused(refusal) => status_of_refusal(*refusal),
+        Answer::Fault(Fault::OutOfMemory) => StatusCode::SERVICE_UNAVAILABLE,
+        Answer::Fault(Fault::Store) => StatusCode::INTERNAL_SERVER_ERROR,
+    }
+}
+
+/// The status of the reply to a call that was accepted: an upload makes a file.
+fn status_of_accepted(is_put: bool) -> StatusCode
+    ensures { result ≡ status_of_answer is_put Answer.Accepted }
+{
+    if is_put {
+        StatusCode::CREATED
+    } else {
+        StatusCode::OK
+    }
+}
+
+/// The status of the reply of a refusal.
+fn status_of_refusal(refusal: Refusal) -> StatusCode
+    ensures { result ≡ status_of_refusal refusal }
+{
+    match refusal {
+        Refusal::BadToken => StatusCode::UNAUTHORIZED,
+        Refusal::NotOffice
+        | Refusal::NameProhibited
+        | Refusal::NotOwner
+        | Refusal::FileBanned
+        | Refusal::OverQuota => StatusCode::FORBIDDEN,
+        Refusal::NoUser | Refusal::NoProject | Refusal::NoFile | Refusal::NoRelease => {
+            StatusCode::NOT_FOUND
+        }
+        Refusal::TooLarge => StatusCode::PAYLOAD_TOO_LARGE,
+        Refusal::DigestMismatch => StatusCode::UNPROCESSABLE_ENTITY,
+        Refusal::UserExists
+        | Refusal::TokenTaken
+        | Refusal::NameHeld
+        | Refusal::LastOwner
+        | Refusal::FilesRemain
+        | Refusal::FileNameTaken
+        | Refusal::QuotaBelowCharge
+        | Refusal::CaseOpen
+        | Refusal::OwnerCandidate
+        | Refusal::NoCase
+        | Refusal::AttemptsFull
+        | Refusal::TooFewAttempts
+        | Refusal::TooEarly
+        | Refusal::RecentRelease
+        | Refusal::HomePageActive => StatusCode::CONFLICT,
+        Refusal::BadMoment
+        | Refusal::BadUser
+        | Refusal::BadName
+        | Refusal::BadFileName
+        | Refusal::BadRelease
+        | Refusal::BadText
+        | Refusal::BadDigest
+        | Refusal::QuotaTooLarge => StatusCode::BAD_REQUEST,
+    }
+}
+
+/// The status of the reply to a message that is none which the index serves.
+fn status_of_fault(fault: MessageFault) -> StatusCode
+    ensures { result ≡ status_of_fault fault }
+{
+    match fault {
+        MessageFault::BadHead
+        | MessageFault::BadLength
+        | MessageFault::ShortBody
+        | MessageFault::BadBody => StatusCode::BAD_REQUEST,
+        MessageFault::NoRoute => StatusCode::NOT_FOUND,
+        MessageFault::BadMethod(_) => StatusCode::METHOD_NOT_ALLOWED,
+        MessageFault::NoLength => StatusCode::LENGTH_REQUIRED,
+        MessageFault::BodyTooLarge => StatusCode::PAYLOAD_TOO_LARGE,
+        MessageFault::NotAcceptable => StatusCode::NOT_ACCEPTABLE,
     }
 }

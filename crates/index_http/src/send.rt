@@ -1,18 +1,18 @@
-//! Sending replies. Nothing here takes memory.
-ghost use Rattle.std.specs.Prelude.{◌≡◌, ◌<◌, ◌^◌, ◌++◌, false, length};
+//! Sending replies, and the pieces that they are sent in. Nothing here takes memory.
+ghost use Rattle.std.specs.Prelude.{◌≡◌, ◌<◌, ◌≤◌, ◌^◌, ◌++◌, false, length};
 ghost use Rattle.http.specs.StatusCode.{code_digits};
 ghost use Rattle.index_io.specs.Bytes.{joined};
-ghost use Rattle.index_http.specs.Replies.{fields_text, head_text, phrase_of, reply_head, reply_of, reply_text};
+ghost use Rattle.index_http.specs.Replies.{IsFixed, IsShortText, fields_text, head_text, phrase_of, reply_head, reply_of, reply_text};
 ghost use Rattle.index_http.specs.Sends.{SendsBytes, SendsHead, SendsOnly};
-ghost use Rattle.index_http.specs.Shown.{SendsFound};
 ghost use Rattle.index_http.specs.Shows.{EndsFault};
 
 use crate::end::IoEnd;
 use crate::reply::{Fields, Reply, store_reply};
-use crate::shown::Shown;
-use crate::texts::{field_pieces, phrase};
 use http::StatusCode;
 use index_io::{Sink, write_pieces};
+use index_message::Allowed;
+use index_names::NormalName;
+use index_pages::Served;
 use index_rules::Fault;
 use itoa::Buffer;
 
@@ -52,21 +52,6 @@ pub fn send_fault<K: Sink>(sink: &mut K, is_head: bool, fault: Fault) -> Result<
     match fault {
         Fault::OutOfMemory => Err(IoEnd::OutOfMemory),
         Fault::Store => send_reply(sink, is_head, store_reply()),
-    }
-}
-
-/// Sends what a look found, or ends a look that failed.
-pub fn send_found<K: Sink>(
-    sink: &mut K,
-    is_head: bool,
-    found: Result<Shown, Fault>,
-) -> Result<(), IoEnd>
-    ensures found { SendsFound is_head found (K.contents sink.old) (K.contents sink.new) result }
-    ensures sends { SendsOnly K.Sink sink.old sink.new false result }
-{
-    match found {
-        Ok(shown) => send_reply(sink, is_head, shown.reply()),
-        Err(fault) => send_fault(sink, is_head, fault),
     }
 }
 
@@ -146,4 +131,79 @@ fn length_of(pieces: &[&[u8]]) -> u64
         length += piece.len() as u64;
     }
     length
+}
+
+/// The phrase of a status.
+#[tactic(auto, unfolding(crate::specs::Replies::phrase_of))]
+fn phrase(status: StatusCode) -> &'static [u8]
+    ensures text { result.now ≡ phrase_of status }
+    ensures short { length result.now ≤ 64 }
+{
+    // Read for its range alone, in which each phrase is short.
+    let _code = status.as_u16();
+    match status.canonical_reason() {
+        Some(phrase) => phrase.as_bytes(),
+        None => b"",
+    }
+}
+
+/// The header lines, in three pieces.
+#[tactic(auto, unfolding(crate::specs::Replies::fields_text))]
+fn field_pieces<'a>(fields: Fields<'a>) -> (&'a [u8], &'a [u8], &'a [u8])
+    ensures text { result.0.now ++ (result.1.now ++ result.2.now) ≡ fields_text fields.entry }
+    ensures short { length (fields_text fields.entry) ≤ 256 }
+{
+    if let Fields::ToProject(name) = fields {
+        return (b"Location: /simple/", name_bytes(name), b"/\r\n");
+    }
+    (fixed_lines(fields), b"", b"")
+}
+
+/// The header lines, where no name stands in them.
+#[tactic(auto, unfolding(crate::specs::Replies::fields_text))]
+fn fixed_lines(fields: Fields<'_>) -> &'static [u8]
+    ensures text { IsFixed fields.entry → result.now ≡ fields_text fields.entry }
+    ensures short { length result.now ≤ 256 }
+{
+    match fields {
+        Fields::Page(served) => page_lines(served),
+        Fields::File => b"Content-Type: application/octet-stream\r\n",
+        Fields::Json => b"Content-Type: application/json\r\n",
+        Fields::Challenge => b"Content-Type: application/json\r\nWWW-Authenticate: Index-Token\r\n",
+        Fields::Allow(allowed) => allow_lines(allowed),
+        Fields::ToRoot => b"Location: /simple/\r\n",
+        Fields::ToProject(_) => b"",
+    }
+}
+
+/// The header lines of a page: its type.
+#[tactic(auto, unfolding(crate::specs::Replies::fields_text))]
+fn page_lines(served: Served) -> &'static [u8]
+    ensures { IsShortText 256 (fields_text (Fields.Page served)) result.now }
+{
+    match served {
+        Served::PlainHtml => b"Content-Type: text/html\r\n",
+        Served::Html => b"Content-Type: application/vnd.pypi.simple.v1+html\r\n",
+        Served::Json => b"Content-Type: application/vnd.pypi.simple.v1+json\r\n",
+    }
+}
+
+/// The header lines of the reply to a method that the path has not.
+#[tactic(auto, unfolding(crate::specs::Replies::fields_text))]
+fn allow_lines(allowed: Allowed) -> &'static [u8]
+    ensures { IsShortText 256 (fields_text (Fields.Allow allowed)) result.now }
+{
+    match allowed {
+        Allowed::Reading => b"Content-Type: application/json\r\nAllow: GET, HEAD\r\n",
+        Allowed::Files => b"Content-Type: application/json\r\nAllow: DELETE, GET, HEAD, PUT\r\n",
+        Allowed::Requests => b"Content-Type: application/json\r\nAllow: POST\r\n",
+    }
+}
+
+/// The bytes of a name, which has at most 128 of them.
+fn name_bytes(name: &NormalName) -> &[u8]
+    ensures text { result.now ≡ name.now }
+    ensures short { length name.now ≤ 128 }
+{
+    name.text().as_bytes()
 }

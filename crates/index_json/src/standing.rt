@@ -112,6 +112,7 @@ fn put_project(
     put_text(members, alloc, "shown", project.shown().as_str())
 }
 
+/// Puts a text at a key.
 fn put_text(
     members: &mut Map<String, Value>,
     alloc: Global,

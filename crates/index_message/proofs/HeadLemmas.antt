@@ -4,15 +4,11 @@ use Rattle.httparse.proofs.OnLiterals.{httparse_on_literals}
 use Rattle.std.proofs.lemmas.List.Elements.{All-cons, All-nil}
 use Rattle.std.proofs.lemmas.Bool.{cases_Bool, eqb-true}
 use Rattle.std.proofs.Common.{All, IsAscii, IsTrue, zero, suc, inl, inr, nat_eq, refl, codes, ◌≡◌, ℕ, ◌<◌, List, [], ◌∷◌, ◌++◌, length, take, drop, sym, ◌∙◌, ap, arith, length-append}
-use Rattle.std.specs.Prelude.{Option, Some, None, unwrap_or, ◌⊎◌, ◌&&◌}
+use Rattle.std.specs.Prelude.{◌⊎◌, ◌&&◌}
 use Rattle.std.specs.List.{starts_with}
-use Rattle.std.specs.Io.KnownBytes.{IsAtEnd}
-use Rattle.std.proofs.lemmas.List.{append_assoc, append-nil, take-append-le, take-append-drop, length-map, length-take-le}
+use Rattle.std.proofs.lemmas.List.{append_assoc, take-append-le, take-append-drop}
 use Rattle.std.proofs.Math.Seq.{take-append_seam}
 use Rattle.httparse.specs.Grammar.{IsRequestHead, RequestHead, print_request, HasNoRequest, MayBecomeRequest, AllPass, is_token_byte, is_uri_byte, lf}
-use Rattle.httparse.specs.Spans.{IsRequestAt, IsRequestWithin}
-use Rattle.httparse.specs.declared.spans.HeaderSpan.{HeaderSpan}
-use Rattle.httparse.specs.declared.spans.RequestSpans.{RequestSpans}
 use Rattle.index_message.specs.Heads.{HasNoHead}
 use Rattle.index_message.specs.Messages.{begins_with_head}
 
@@ -58,14 +54,6 @@ may_nothing = inl (
   ),
 )
 
--- the first count spans are as many fields
-pub count_fields : (bytes : List ℕ) (fields : List HeaderSpan) (spans : RequestSpans) (h : RequestHead)
-    → IsRequestWithin bytes fields spans → IsRequestAt bytes fields spans h → length h.fields ≡ spans.headers
-count_fields bytes fields spans h within at =
-    let e = ap length at.fields in
-    let f = simp length-map at e in
-    sym f ∙ length-take-le spans.headers fields within.section.count_fits
-
 -- as many bytes as a head may have, which begin with no head, decide
 pub none_by_limit : (bytes rest : List ℕ) → length bytes ≡ 16384 → HasNoRequest bytes → HasNoHead (bytes ++ rest)
 none_by_limit bytes rest full none h q x =
@@ -73,11 +61,6 @@ none_by_limit bytes rest full none h q x =
     sym (take-append-le (length (print_request h)) bytes rest (omega (arith, x.short))) ∙ ap (take (length (print_request h))) x.reads.1 ∙ take-append_seam (print_request h) q in
     none h (drop (length (print_request h)) bytes)
     (x.reads.0, sym (take-append-drop (length (print_request h)) bytes) ∙ ap (λ a. a ++ drop (length (print_request h)) bytes) front)
-
--- an input at its end, which begins with no head, decides
-pub none_at_end : (bytes : List ℕ) (left : Option (List ℕ)) → IsAtEnd left → HasNoRequest bytes → HasNoHead (bytes ++ unwrap_or left [])
-none_at_end bytes None end none = λ h q x. none h q (x.reads.0, sym (append-nil bytes) ∙ x.reads.1)
-none_at_end bytes (Some xs) end none = λ h q x. none h q (x.reads.0, sym (ap (λ e. bytes ++ e) end ∙ append-nil bytes) ∙ x.reads.1)
 
 -- ---- the method of a head that can't be read
 
@@ -120,21 +103,9 @@ may_come bytes more is never =
     never (more ++ behind) head_of_head []
     (record { reads = (is_head_of_head, sym (append_assoc bytes more behind) ∙ ap (λ front. front ++ behind) (sym is)); short = omega arith; few = omega arith })
 
--- whether an input without a head begins with the method `HEAD` is told by the bytes that came: none can follow that make them a head,
+-- whether an input without a head begins with the method `HEAD` is told by the bytes that came: none can follow that make them a head
 pub method_when_never : (bytes left : List ℕ) → ((more : List ℕ) → HasNoHead (bytes ++ more)) → begins_with_head (bytes ++ left) ≡ begins_with_head bytes
 method_when_never bytes left never = elim (decided (codes "HEAD ") bytes) [
   | inl tells ↦ tells left
   | inr front ↦ absurd (may_come bytes front.0 front.1 never)
 ]
-
--- or they are as many as a head may have,
-pub method_at_limit : (bytes left : List ℕ) → length bytes ≡ 16384 → begins_with_head (bytes ++ left) ≡ begins_with_head bytes
-method_at_limit bytes left full = elim (decided (codes "HEAD ") bytes) [
-  | inl tells ↦ tells left
-  | inr front ↦ absurd (let long = simp length-append at (ap length front.1) in omega (arith, full, long))
-]
-
--- or the input has ended
-pub method_at_end : (bytes : List ℕ) (left : Option (List ℕ)) → IsAtEnd left → begins_with_head (bytes ++ unwrap_or left []) ≡ begins_with_head bytes
-method_at_end bytes None end = ap begins_with_head (append-nil bytes)
-method_at_end bytes (Some xs) end = ap begins_with_head (ap (λ e. bytes ++ e) end ∙ append-nil bytes)

@@ -7,8 +7,8 @@ use Rattle.index_rules.specs.Maps.{Bytes}
 use Rattle.httparse.specs.Grammar.{RequestHead}
 use Rattle.httparse.specs.Spans.{header_bytes, name_and_value}
 use Rattle.httparse.specs.declared.spans.HeaderSpan.{HeaderSpan}
-use Rattle.index_message.specs.declared.fields.Found.{Found}
-use Rattle.index_message.specs.declared.fields.Found.TheVariants.{Missing, Once, Again}
+use Rattle.index_message.specs.declared.request.Found.{Found}
+use Rattle.index_message.specs.declared.request.Found.TheVariants.{Missing, Once, Again}
 
 -- a field: its name, and its value without the white space around it
 abbrev pub Field : Type 0
@@ -29,7 +29,8 @@ is_named name field = bytes_eq (map to_ascii_lowercase field.0) (map to_ascii_lo
 -- the values of the fields with this name, in order
 abbrev pub values_of : Bytes → List Field → List Bytes
 values_of name [] = []
-values_of name (field ∷ fields) = if is_named name field then field.1 ∷ values_of name fields else values_of name fields
+values_of name (field ∷ fields) =
+    if is_named name field then field.1 ∷ values_of name fields else values_of name fields
 
 -- the first of these, or nothing where there is none
 abbrev pub first_or_empty : List Bytes → Bytes
@@ -48,4 +49,5 @@ AreValues values found = map (λ value. value.now) found.items ≡ values
 abbrev pub AreFound : Found → List Bytes → Type 0
 AreFound Missing values = values ≡ []
 AreFound (Once value) values = values ≡ value.now ∷ []
-AreFound Again values = (first second : Bytes) × (more : List Bytes) × (values ≡ first ∷ second ∷ more)
+AreFound Again values =
+    (first second : Bytes) × (more : List Bytes) × (values ≡ first ∷ second ∷ more)

@@ -30,7 +30,8 @@ pub record HasHead (input : List ℕ) (head : RequestHead) (rest : List ℕ) : T
 abbrev pub HasNoHead : List ℕ → Type 0
 HasNoHead input = (head : RequestHead) (rest : List ℕ) → ¬ (HasHead input head rest)
 
--- these bytes are no head yet, and may become one; of a target the text is looked at when it has ended
+-- these bytes are no head yet, and may become one; of a target the text is looked at when it has
+-- ended
 pub record AwaitsHead (taken : List ℕ) : Type 0 where
   pub none : HasNoRequest taken
   pub may : MayBecomeRequest taken
@@ -38,12 +39,14 @@ pub record AwaitsHead (taken : List ℕ) : Type 0 where
 
 -- where a read failed, these are the bytes that a source gave, and they are no head yet
 abbrev pub FailsInHead : {S A : Type 0} → Ghosts S → S → S → List ℕ → Result A ReadEnd → Type 0
-FailsInHead g old new taken result = result ≡ Err ReadFault → AwaitsHead taken × GivesBytes g old new taken
+FailsInHead g old new taken result =
+    result ≡ Err ReadFault → AwaitsHead taken × GivesBytes g old new taken
 
 -- ---- as it is found
 
 -- the spans are those of a head within the limit of its fields, at the front of the bytes
-pub record IsHeadAt (bytes : List ℕ) (fields : List HeaderSpan) (spans : RequestSpans) : Type 0 where
+pub record IsHeadAt (bytes : List ℕ) (fields : List HeaderSpan) (spans : RequestSpans)
+    : Type 0 where
   pub head : RequestHead
   pub at : IsRequestAt bytes fields spans head
   pub within : IsRequestWithin bytes fields spans

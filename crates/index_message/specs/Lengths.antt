@@ -22,7 +22,8 @@ longest_request = 65536
 
 -- 1 to 18 digits
 abbrev pub is_length : Bytes → Bool
-is_length value = nat_lt 0 (length value) && (nat_le (length value) 18 && list_all is_ascii_digit value)
+is_length value =
+    nat_lt 0 (length value) && (nat_le (length value) 18 && list_all is_ascii_digit value)
 
 -- the number that 1 to 18 digits are
 abbrev pub length_value : Bytes → Option ℕ
@@ -33,7 +34,8 @@ abbrev pub at_most : ℕ → Option ℕ → Result ℕ MessageFault
 at_most limit None = Err BadLength
 at_most limit (Some n) = if nat_lt limit n then Err BodyTooLarge else Ok n
 
--- the length that the values of `Content-Length` say: just one of them may stand (RFC 9112, section 6.3)
+-- the length that the values of `Content-Length` say: just one of them may stand (RFC 9112, section
+-- 6.3)
 abbrev pub length_by : ℕ → List Bytes → Result ℕ MessageFault
 length_by limit [] = Err NoLength
 length_by limit (value ∷ []) = at_most limit (length_value value)
@@ -47,7 +49,9 @@ is_none (value ∷ more) = false
 -- the length that the fields say: no `Transfer-Encoding` is read (RFC 9112, section 6.1)
 abbrev pub length_in : ℕ → List Field → Result ℕ MessageFault
 length_in limit fields =
-    if is_none (values_of (codes "transfer-encoding") fields) then length_by limit (values_of (codes "content-length") fields) else Err BadLength
+    if is_none (values_of (codes "transfer-encoding") fields)
+    then length_by limit (values_of (codes "content-length") fields)
+    else Err BadLength
 
 -- the length of the body that is read: `PUT` and `POST` have one
 unfoldable pub body_length : Method → List Field → Result ℕ MessageFault

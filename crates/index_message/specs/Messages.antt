@@ -16,7 +16,7 @@ use Rattle.index_message.specs.Heads.{AwaitsHead, HasHead, HasNoHead, IsHeadAt}
 use Rattle.index_message.specs.Fields.{Field, fields_at, fields_of}
 use Rattle.index_message.specs.Lengths.{body_length}
 use Rattle.index_message.specs.Reads.{GivesBytes, and_left}
-use Rattle.index_message.specs.Requests.{Request}
+use Rattle.index_message.specs.Requests.{HttpRequest}
 use Rattle.index_message.specs.Resources.{allowed_of, allows, method_of, resource_of}
 use Rattle.index_message.specs.declared.fault.MessageFault.{MessageFault}
 use Rattle.index_message.specs.declared.fault.MessageFault.TheVariants.{BadHead, BadMethod, NoRoute}
@@ -41,16 +41,15 @@ to_resource resource (Ok method) = Ok (resource, method)
 -- a resource with the method of this name, where it has that
 abbrev pub with_method : Resource → Option Method → Result Target MessageFault
 with_method resource None = Err (BadMethod (allowed_of resource))
-with_method resource (Some method) = if allows (allowed_of resource) method then Ok (resource, method) else Err (BadMethod (allowed_of resource))
+with_method resource (Some method) =
+    if allows (allowed_of resource) method
+    then Ok (resource, method)
+    else Err (BadMethod (allowed_of resource))
 
 -- what a resource and the name of a method are together
 abbrev pub target_by : Bytes → Option Resource → Result Target MessageFault
 target_by name None = Err NoRoute
 target_by name (Some resource) = with_method resource (method_of name)
-
--- what a head asks for
-abbrev pub target_of : RequestHead → Result Target MessageFault
-target_of head = target_by head.method (resource_of head.target)
 
 -- a target with the length of its body
 abbrev pub with_length : Target → Result ℕ MessageFault → Result Asked MessageFault
@@ -62,7 +61,8 @@ abbrev pub with_fields : List Field → Result Target MessageFault → Result As
 with_fields fields (Err fault) = Err fault
 with_fields fields (Ok target) = with_length target (body_length target.1 fields)
 
--- what the name of a method, a target and fields ask for together: the first fault in this order, or a request
+-- what the name of a method, a target and fields ask for together: the first fault in this order,
+-- or a request
 abbrev pub asked_by_head : Bytes → Bytes → List Field → Result Asked MessageFault
 asked_by_head name target fields = with_fields fields (target_by name (resource_of target))
 
@@ -75,8 +75,9 @@ abbrev pub is_head_name : Bytes → Bool
 is_head_name name = bytes_eq name (codes "HEAD")
 
 -- the head of a request, by what it asks for and its fields
-abbrev pub request_asked : Asked → List Field → Request
-request_asked asked fields = record { method = asked.method; resource = asked.resource; fields = fields }
+abbrev pub request_asked : Asked → List Field → HttpRequest
+request_asked asked fields =
+    record { method = asked.method; resource = asked.resource; fields = fields }
 
 -- so it has none where these bytes begin with the method `HEAD`, whatever follows them
 abbrev pub begins_with_head : Bytes → Bool
@@ -101,7 +102,8 @@ message_of head rest = message_by head rest (asked_of head)
 abbrev pub IsMessage : Bytes → Message → Type 0
 IsMessage input message =
     (HasNoHead input × (message ≡ Faulty BadHead (begins_with_head input)))
-    ⊎ ((head : RequestHead) × (rest : Bytes) × HasHead input head rest × (message ≡ message_of head rest))
+    ⊎ ((head : RequestHead) × (rest : Bytes) × HasHead input head rest
+    × (message ≡ message_of head rest))
 
 -- the message of the bytes that are left, where they are known
 abbrev pub BeginsWith : Option Bytes → Message → Type 0
@@ -113,7 +115,8 @@ AwaitsBody head front = (asked : Asked) × (asked_of head ≡ Ok asked) × (leng
 
 -- these bytes are no message yet: their head may come, or it has come and awaits its body
 abbrev pub IsUnfinished : Bytes → Type 0
-IsUnfinished taken = AwaitsHead taken ⊎ ((head : RequestHead) × (front : Bytes) × HasHead taken head front × AwaitsBody head front)
+IsUnfinished taken = AwaitsHead taken
+    ⊎ ((head : RequestHead) × (front : Bytes) × HasHead taken head front × AwaitsBody head front)
 
 -- what was taken is no message yet
 abbrev pub EndsUnfinished : Option Bytes → Option Bytes → Type 0
@@ -121,35 +124,46 @@ EndsUnfinished old new = (taken : Bytes) × Consumes old new taken × IsUnfinish
 
 -- where a read failed, what a source gave is no message yet
 abbrev pub FailsUnfinished : {S A : Type 0} → Ghosts S → S → S → Result A ReadEnd → Type 0
-FailsUnfinished g old new result = result ≡ Err ReadFault → EndsUnfinished (g.remaining old) (g.remaining new)
+FailsUnfinished g old new result =
+    result ≡ Err ReadFault → EndsUnfinished (g.remaining old) (g.remaining new)
 
 -- ---- as it is read
 
--- a body of this length, of the front that was there and more that came; or the input ended before it
+-- a body of this length, of the front that was there and more that came; or the input ended before
+-- it
 abbrev pub TakesBody : ℕ → Bytes → Bytes → Option Bytes → Option Bytes → Type 0
-TakesBody n front more left (Some body) = (n ≤ length (front ++ more)) × (body ≡ take n (front ++ more))
+TakesBody n front more left (Some body) =
+    (n ≤ length (front ++ more)) × (body ≡ take n (front ++ more))
 TakesBody n front more left None = (length (front ++ more) < n) × IsAtEnd left
 
 -- the message of a head, behind which the front was there, more came and the rest is left
 abbrev pub FollowsHead : RequestHead → Bytes → Option Bytes → Option Bytes → Message → Type 0
 FollowsHead head front old new message =
-    (more : Bytes) × Consumes old new more × (message ≡ message_of head (and_left (front ++ more) new))
+    (more : Bytes) × Consumes old new more
+    × (message ≡ message_of head (and_left (front ++ more) new))
 
 -- what a head asks for whose parts lie at these spans
 abbrev pub asked_at : Bytes → RequestSpans → List HeaderSpan → Result Asked MessageFault
 asked_at bytes spans fields =
-    asked_by_head (span_bytes bytes spans.method) (span_bytes bytes spans.path) (fields_at bytes fields)
+    asked_by_head
+    (span_bytes bytes spans.method) (span_bytes bytes spans.path) (fields_at bytes fields)
 
 -- the message of the head that these bytes begin with, by what a source gave behind them
-abbrev pub Follows : {S : Type 0} → Ghosts S → S → S → Vec ℕ → List HeaderSpan → RequestSpans → Message → Type 0
+abbrev pub Follows : {S : Type 0} → Ghosts S → S → S
+    → Vec ℕ → List HeaderSpan → RequestSpans → Message → Type 0
 Follows g old new bytes fields spans message = (found : IsHeadAt bytes.items fields spans)
-    → FollowsHead found.head (drop spans.len bytes.items) (g.remaining old) (g.remaining new) message
+    → FollowsHead
+    found.head (drop spans.len bytes.items) (g.remaining old) (g.remaining new) message
 
 -- where a read failed, what a source gave behind them is no body yet
-abbrev pub FailsInBody : {S A : Type 0} → Ghosts S → S → S → Vec ℕ → List HeaderSpan → RequestSpans → Result A ReadEnd → Type 0
-FailsInBody g old new bytes fields spans result = result ≡ Err ReadFault → (found : IsHeadAt bytes.items fields spans)
-    → (more : Bytes) × AwaitsBody found.head (drop spans.len bytes.items ++ more) × GivesBytes g old new more
+abbrev pub FailsInBody : {S A : Type 0} → Ghosts S → S → S
+    → Vec ℕ → List HeaderSpan → RequestSpans → Result A ReadEnd → Type 0
+FailsInBody g old new bytes fields spans result =
+    result ≡ Err ReadFault → (found : IsHeadAt bytes.items fields spans)
+    → (more : Bytes) × AwaitsBody found.head (drop spans.len bytes.items ++ more)
+    × GivesBytes g old new more
 
 -- a body of this length, of the front that was there and what a source gave
 abbrev pub GivesBody : {S : Type 0} → Ghosts S → S → S → ℕ → Bytes → Option Bytes → Type 0
-GivesBody g old new n front body = (more : Bytes) × GivesBytes g old new more × TakesBody n front more (g.remaining new) body
+GivesBody g old new n front body =
+    (more : Bytes) × GivesBytes g old new more × TakesBody n front more (g.remaining new) body

@@ -5,7 +5,7 @@ use Rattle.index_message.specs.declared.resource.Method.{Method}
 use Rattle.index_message.specs.declared.resource.Resource.{Resource}
 
 -- the head of a request, by its parts
-pub record Request : Type 0 where
+pub record HttpRequest : Type 0 where
   pub method : Method
   pub resource : Resource
   pub fields : List Field

@@ -14,8 +14,8 @@ use Rattle.index_message.specs.declared.resource.Method.{Method}
 use Rattle.index_message.specs.declared.resource.Method.TheVariants.{Delete, Get, Head, Post, Put}
 use Rattle.index_message.specs.declared.resource.Resource.{Resource}
 use Rattle.index_message.specs.declared.resource.Resource.TheVariants as resource
-use Rattle.index_message.specs.declared.site.Route.{Route}
-use Rattle.index_message.specs.declared.site.Route.TheVariants as route
+use Rattle.index_message.specs.declared.target.Route.{Route}
+use Rattle.index_message.specs.declared.target.Route.TheVariants as route
 
 -- ---- methods
 
@@ -101,7 +101,8 @@ first_segment tail = percent_decode (before_slash tail)
 
 -- the file is a file name that spells another project (PEP 427, PEP 625)
 abbrev pub is_file_of_other : Bytes → Bytes → Bool
-is_file_of_other project file = option_map_or (λ spelled. not (bytes_eq spelled.project project)) (read_file_name file) false
+is_file_of_other project file =
+    option_map_or (λ spelled. not (bytes_eq spelled.project project)) (read_file_name file) false
 
 -- a file of this project: one of another project is not found there
 abbrev pub file_of_project : Bytes → Bytes → Option Resource

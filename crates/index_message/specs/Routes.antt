@@ -7,9 +7,9 @@ use Rattle.matchit.specs.Route.{Scan, parse_route}
 use Rattle.matchit.specs.Router.{RouteOf, route_from}
 use Rattle.matchit.specs.declared.error.InsertError.{InsertError}
 use Rattle.index_rules.specs.Maps.{Bytes}
-use Rattle.index_message.specs.declared.site.Route.{Route}
-use Rattle.index_message.specs.declared.site.Route.TheVariants.{Simple, Root, Project, ProjectPage}
-use Rattle.index_message.specs.declared.site.Route.TheVariants.{File, Name, Requests}
+use Rattle.index_message.specs.declared.target.Route.{Route}
+use Rattle.index_message.specs.declared.target.Route.TheVariants.{Simple, Root, Project}
+use Rattle.index_message.specs.declared.target.Route.TheVariants.{ProjectPage, File, Name, Requests}
 
 -- each pattern with its route
 abbrev pub patterns : List (Bytes × Route)
@@ -24,14 +24,16 @@ patterns =
     ∷ []
 
 -- the rows of a router with one pattern more
-abbrev pub with_pattern : Result Scan InsertError → Route → RowsOf (RouteOf Route) → RowsOf (RouteOf Route)
+abbrev pub with_pattern : Result Scan InsertError → Route
+    → RowsOf (RouteOf Route) → RowsOf (RouteOf Route)
 with_pattern (Ok read) route rows = placed (read.pattern, route_from read route) rows
 with_pattern (Err error) route rows = rows
 
 -- the rows of a router with these patterns more
 abbrev pub with_patterns : RowsOf (RouteOf Route) → List (Bytes × Route) → RowsOf (RouteOf Route)
 with_patterns rows [] = rows
-with_patterns rows ((pattern, route) ∷ more) = with_patterns (with_pattern (parse_route pattern) route rows) more
+with_patterns rows ((pattern, route) ∷ more) =
+    with_patterns (with_pattern (parse_route pattern) route rows) more
 
 -- the rows of a router with the patterns of the index
 unfoldable pub site_rows : RowsOf (RouteOf Route)

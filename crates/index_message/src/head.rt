@@ -47,7 +47,8 @@ pub fn read_head<S: Source>(
     ensures short { vec_len held.new ≤ longest_head }
     ensures consumed { OnOk result (GivesBytes S.Source source.old source.new held.new.items) }
     ensures head { IfOk result (λ found. IfSome found (IsHeadAt held.new.items fields.new)) }
-    ensures none { result ≡ Ok None → HasNoHead (and_left held.new.items (S.remaining source.new)) }
+    ensures none { result ≡ Ok None →
+        HasNoHead (and_left held.new.items (S.remaining source.new)) }
     ensures method { result ≡ Ok None →
         begins_with_head (and_left held.new.items (S.remaining source.new))
         ≡ begins_with_head held.new.items }
@@ -88,7 +89,8 @@ pub fn read_up_to<S: Source>(
 ) -> Result<bool, ReadEnd>
     ensures consumed { OnOk result (Fills S.Source source.old source.new held.old held.new) }
     ensures full { result ≡ Ok true → wanted ≤ vec_len held.new }
-    ensures ended { result ≡ Ok false → (vec_len held.new < wanted) × HasEnded S.Source source.new }
+    ensures ended { result ≡ Ok false →
+        (vec_len held.new < wanted) × HasEnded S.Source source.new }
     ensures prompt { FailsBelow S.Source source.old source.new (vec_len held.old) wanted result }
     ensures reads { ReadsWithin S.Source source.old source.new wanted result }
 {

@@ -6,5 +6,6 @@ ghost use Rattle.index_message.specs.declared.message.Message.{Message};
 
 /// An input begins with at most one message: its bytes alone decide which.
 pub fn one_message()
-    ensures { (input : Bytes) (m k : Message) → IsMessage input m → IsMessage input k → m ≡ k }
+    ensures { (input : Bytes) (m k : Message) →
+        IsMessage input m → IsMessage input k → m ≡ k }
 {}

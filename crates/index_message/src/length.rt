@@ -5,7 +5,7 @@ ghost use Rattle.index_message.specs.Fields.{fields_at};
 ghost use Rattle.index_message.specs.Lengths.{at_most as at_most_lem, body_length as body_length_lem, length_in as length_in_lem, length_value, longest_upload};
 
 use crate::fault::MessageFault;
-use crate::fields::{Found, find};
+use crate::request::{Found, find};
 use crate::resource::Method;
 use httparse::spans::HeaderSpan;
 
@@ -46,6 +46,7 @@ fn length_in(limit: u64, bytes: &[u8], fields: &[HeaderSpan]) -> Result<u64, Mes
     }
 }
 
+/// A number that was read, unless it is above the limit; where none was, the length is none.
 fn at_most(limit: u64, number: Option<u64>) -> Result<u64, MessageFault>
     ensures length { result ≡ at_most_lem limit number }
     ensures bound { IfOk result (λ number. number ≤ limit) }

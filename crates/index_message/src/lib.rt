@@ -2,7 +2,6 @@
 #![tactic(auto)]
 
 mod fault;
-mod fields;
 mod head;
 pub mod laws;
 mod length;
@@ -10,13 +9,12 @@ mod message;
 mod read;
 mod request;
 mod resource;
-mod site;
 mod target;
 
 pub use fault::{Allowed, MessageFault};
 pub use head::ReadEnd;
 pub use message::Message;
 pub use read::read_message;
-pub use request::Request;
+pub use request::HttpRequest;
 pub use resource::{Method, Resource};
-pub use site::Site;
+pub use target::Site;

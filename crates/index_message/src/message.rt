@@ -1,6 +1,6 @@
 //! What a connection brings.
 use crate::fault::MessageFault;
-use crate::request::Request;
+use crate::request::HttpRequest;
 use index_rules::Bytes;
 
 /// What a connection brought.
@@ -9,5 +9,5 @@ pub enum Message {
     /// A fault, and whether the method is `HEAD`: then the reply has no body.
     Faulty { fault: MessageFault, is_head: bool },
     /// A request, and its body.
-    Whole { request: Request, body: Bytes },
+    Whole { request: HttpRequest, body: Bytes },
 }

@@ -12,9 +12,8 @@ use crate::fault::MessageFault;
 use crate::head::{MOST_FIELDS, ReadEnd, read_head, read_up_to};
 use crate::length::body_length;
 use crate::message::Message;
-use crate::request::{Asked, Request};
-use crate::site::Site;
-use crate::target::resolve_target;
+use crate::request::{Asked, HttpRequest};
+use crate::target::{Site, resolve_target};
 use httparse::spans::{EMPTY_HEADER_SPAN, HeaderSpan, RequestSpans};
 use index_io::Source;
 use index_rules::Bytes;
@@ -154,7 +153,7 @@ fn whole_message(
 {
     let fields = Vec::from_slice(alloc, fields)?;
     Ok(Message::Whole {
-        request: Request::new(asked, bytes, fields),
+        request: HttpRequest::new(asked, bytes, fields),
         body,
     })
 }

@@ -1,17 +1,87 @@
-//! What the request line of a head asks for.
-ghost use Rattle.std.specs.Prelude.{◌≡◌, ◌<◌, ◌==◌, Some, IfErr, IfOk, IsSome};
-ghost use Rattle.index_names.specs.FileName.{read_file_name};
+//! What the request line of a head asks for, by the routes of the index.
+ghost use Rattle.std.specs.Prelude.{◌≡◌, ◌<◌, ◌==◌, [], Some, IfErr, IfOk, OnOk, IsSome};
 ghost use Rattle.std.specs.List.{after_first, before_first};
 ghost use Rattle.percent_encoding.specs.Percent.{percent_decode};
+ghost use Rattle.index_names.specs.FileName.{read_file_name};
 ghost use Rattle.index_message.specs.Messages.{target_by, to_resource};
 ghost use Rattle.index_message.specs.Resources.{file_at, resource_at as resource_at_lem, resource_of as resource_of_lem, resource_on as resource_on_lem, is_file_of_other as is_file_of_other_lem, tail_of as tail_of_lem};
+ghost use Rattle.index_message.specs.Routes.{route_of, site_rows};
 
 use crate::fault::MessageFault;
 use crate::resource::{Method, Resource};
-use crate::site::{Route, Site};
 use index_names::{FileName, NameFault};
-use index_rules::Bytes;
+use index_rules::{Bytes, Fault};
+use matchit::{InsertError, Router};
 use std::alloc::{AllocError, Global};
+
+/// What a path matches.
+#[derive(Clone, Copy, Debug, PartialEq, Eq)]
+pub enum Route {
+    Simple,
+    Root,
+    Project,
+    ProjectPage,
+    File,
+    Name,
+    Requests,
+}
+
+/// The routes of the index, which are built once.
+#[derive(Drop)]
+pub struct Site {
+    router: Router<Route>,
+    ghost routes: { router ≡ site_rows },
+}
+
+impl Site {
+    /// The routes.
+    ///
+    /// # Errors
+    ///
+    /// `OutOfMemory`.
+    pub fn new(alloc: Global) -> Result<Site, Fault>
+        ensures memory { IfErr result (λ fault. fault ≡ Fault.OutOfMemory) }
+    {
+        match router(alloc) {
+            Ok(router) => Ok(Site { router }),
+            Err(_) => Err(Fault::OutOfMemory),
+        }
+    }
+
+    /// The route of a path.
+    pub(crate) fn route(&self, path: &str) -> Option<Route>
+        ensures { result ≡ route_of path.now }
+    {
+        match self.router.at(path) {
+            Ok(found) => Some(*found.value),
+            Err(_) => None,
+        }
+    }
+}
+
+/// A router with the patterns of the index.
+fn router(alloc: Global) -> Result<Router<Route>, InsertError>
+    ensures { IfOk result (λ router. router ≡ site_rows) }
+{
+    let mut router = Router::new(alloc);
+    add_patterns(&mut router)?;
+    Ok(router)
+}
+
+/// Adds the patterns of the index.
+fn add_patterns(router: &mut Router<Route>) -> Result<(), InsertError>
+    requires empty { router.old ≡ [] }
+    ensures { OnOk result (router.new ≡ site_rows) }
+{
+    router.insert("/simple", Route::Simple)?;
+    router.insert("/simple/", Route::Root)?;
+    router.insert("/simple/{project}", Route::Project)?;
+    router.insert("/simple/{project}/", Route::ProjectPage)?;
+    router.insert("/files/{project}/{file}", Route::File)?;
+    router.insert("/names/{name}", Route::Name)?;
+    router.insert("/requests", Route::Requests)?;
+    Ok(())
+}
 
 /// The resource of a target, with the method of this name: each error has its place in the order of the faults.
 pub fn resolve_target(

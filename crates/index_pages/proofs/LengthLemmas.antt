@@ -1,18 +1,13 @@
 -- The length of a page is that of its text.
-use Rattle.std.proofs.Common.{◌≡◌, ℕ, [], ◌∙◌, ap, refl, sym, IfErr, IfOk, Ok, Err, Option, None, Some, IsSome}
+use Rattle.std.proofs.Common.{◌≡◌, ℕ, [], ◌∙◌, ap, refl, sym, IfErr, IfOk, Ok, Err, Option, None, Some}
 use Rattle.std.specs.Prelude.{Result, option_map}
 use Rattle.index_rules.specs.Maps.{Bytes}
 use Rattle.index_rules.specs.declared.answer.Fault.{Fault}
-use Rattle.index_rules.specs.declared.answer.Fault.TheVariants as fault
 use Rattle.index_pages.specs.Rest.{Rest, IsNext}
-use Rattle.index_pages.specs.Ends.{Closes, WritesPage, Measures, SendsRow, SendsRowFront, SinkState, count_of}
-use Rattle.index_pages.specs.States.{MeasuresGivenRows, StopsLength, StopsText, end_at, ended_at, length_state, no_sink}
+use Rattle.index_pages.specs.Ends.{Closes, WritesPage, Measures, SendsRow, SendsRowFront, SinkState}
+use Rattle.index_pages.specs.States.{MeasuresGivenRows, StopsLength, end_at, ended_at, length_state, no_sink}
 use Rattle.index_pages.specs.declared.end.PageEnd.{PageEnd}
 use Rattle.index_pages.proofs.TextLemmas.{broken_of, front_of_row, page_ends, sends_row}
-
-count-end_at : (count : ℕ) (end : Fault) → count_of (end_at count end) ≡ count
-count-end_at count fault.OutOfMemory = refl
-count-end_at count fault.Store = refl
 
 -- a row was counted
 pub counts_row : {R : Type 0} (rest : Rest R) (row : R) (later : Rest R) (text : Bytes) (old : ℕ) (result : Result ℕ Fault)
@@ -24,24 +19,6 @@ pub counts_front : {R : Type 0} (rest : Rest R) (row : R) (later : Rest R) (text
     → IsNext rest row text later → Closes text no_sink no_sink old (ended_at old result) → IfErr result (λ end. SendsRowFront rest row no_sink no_sink old (end_at old end))
 counts_front rest row later text old (Ok n) next h = tt
 counts_front rest row later text old (Err end) next h = front_of_row rest row later text no_sink no_sink old (Err (end_at old end)) next h
-
--- a row that is not counted ends the page, or leaves one that had ended
-pub stops_length : {R : Type 0} (rest : Rest R) (row : R) (later : Rest R) (old new : ℕ) (before after : Option Fault)
-    → (before ≡ None → (end : Fault) × (after ≡ Some end) × (new ≡ old) × SendsRowFront rest row no_sink no_sink old (end_at old end))
-    → (IsSome before → length_state later new after ≡ length_state rest old before)
-    → StopsText (length_state rest old before) row (length_state later new after)
-stops_length rest row later old new None after stops stays = record {
-  stopped = λ ongoing.
-      let stop = stops refl in
-      record {
-        end = end_at old stop.0;
-        is = rw (stop.1, stop.2) refl;
-        count = rw stop.2 (count-end_at old stop.0);
-        sends = stop.3;
-      };
-  ended = λ none. cc none;
-}
-stops_length rest row later old new (Some end) after stops stays = record { stopped = λ ongoing. cc ongoing; ended = λ some. stays some }
 
 measured : (length : ℕ) (page : Bytes) (before after : SinkState) (result : Result ℕ Fault) → WritesPage page before after (ended_at length result) → Measures page result
 measured length page before after (Ok count) ends = (ends.size, ends.within)

@@ -6,14 +6,13 @@ use Rattle.serde_json.specs.Data.{Data}
 use Rattle.serde_json.specs.View.{items_of}
 use Rattle.serde_json.specs.Written.{compact_text, items_text, comma_if}
 use Rattle.index_rules.specs.Maps.{Bytes}
-use Rattle.index_rules.specs.Projects.{Project}
 use Rattle.index_rules.specs.declared.records.NameRecord.{NameRecord}
 use Rattle.index_rules.specs.declared.records.NameRecord.TheVariants.{Held, Prohibited}
 use Rattle.index_rules.specs.declared.rows.FileRow.{FileRow}
 use Rattle.index_rules.specs.declared.rows.NameRow.{NameRow}
 use Rattle.index_pages.specs.Html.{anchor_of_name, bottom, name_anchor, project_html, root_html}
 use Rattle.index_pages.specs.Json.{name_data, names_of, project_json, root_json}
-use Rattle.index_pages.specs.Parts.{name_line, name_text, project_rest, root_rest, root_start, root_step}
+use Rattle.index_pages.specs.Parts.{name_text, project_rest, root_rest, root_start, root_step}
 use Rattle.index_pages.proofs.JsonLemmas.{json-whole, names-whole}
 
 -- ---- the page of a project
@@ -79,13 +78,3 @@ pub root-whole : (as_json : Bool) (rows : List NameRow) → root_rest as_json fa
 unfolding root_html
 root-whole true rows = json-lines false rows ∙ names-whole rows
 root-whole false rows = html-lines false rows
-
--- the text of a held name is the next of the page, and a prohibited one has none
-pub root-next : (as_json is_started : Bool) (row : NameRow) (project : Project) (rows : List NameRow) → row.record ≡ Held project
-    → root_rest as_json is_started (row ∷ rows)
-    ≡ (root_start as_json is_started ++ name_line as_json is_started row.name project.shown) ++ root_rest as_json true rows
-root-next as_json is_started row project rows e = ap (λ kept. root_step as_json is_started row.name kept (λ b. root_rest as_json b rows)) e
-
-pub root-passes : (as_json is_started : Bool) (row : NameRow) (rows : List NameRow) → row.record ≡ Prohibited
-    → root_rest as_json is_started (row ∷ rows) ≡ root_rest as_json is_started rows
-root-passes as_json is_started row rows e = ap (λ kept. root_step as_json is_started row.name kept (λ b. root_rest as_json b rows)) e

@@ -1,11 +1,7 @@
 -- Texts that are put together from pieces.
-use Rattle.std.proofs.Common.{◌≡◌, [], ◌++◌, sym, subst, append_assoc, append-nil}
+use Rattle.std.proofs.Common.{◌≡◌, ◌++◌, subst, append_assoc}
 use Rattle.index_rules.specs.Maps.{Bytes}
 use Rattle.index_pages.specs.Pieces.{ExtendsText}
-
--- nothing was added
-pub adds_none : {O : Type 0} {holds : O → Bytes → Type 0} {out : O} → ExtendsText holds out out []
-adds_none {O} {holds} {out} = record { behind = λ front h. subst (holds out) (sym (append-nil front)) h }
 
 -- two texts, one after the other
 pub adds_both : {O : Type 0} {holds : O → Bytes → Type 0} {before between after : O} {first second : Bytes}

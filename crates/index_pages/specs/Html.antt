@@ -58,7 +58,8 @@ file_anchor project row = concat (
 -- what stands before a page's title
 unfoldable pub head : Bytes
 head =
-    codes "<!DOCTYPE html>\n<html>\n<head>\n<meta charset=\"utf-8\">\n<meta name=\"pypi:repository-version\" content=\"1.0\">\n<title>"
+    codes "<!DOCTYPE html>\n<html>\n<head>\n<meta charset=\"utf-8\">\n"
+    ++ codes "<meta name=\"pypi:repository-version\" content=\"1.0\">\n<title>"
 
 -- what stands before the files
 unfoldable pub project_top : Bytes → Bytes

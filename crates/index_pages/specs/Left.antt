@@ -1,11 +1,10 @@
 -- What a page of each kind still has before it, by the rows that are still to come.
-use Rattle.std.specs.Prelude.{◌≡◌, ◌++◌, Result}
+use Rattle.std.specs.Prelude.{◌++◌}
 use Rattle.index_rules.specs.Maps.{Bytes}
 use Rattle.index_rules.specs.declared.rows.FileRow.{FileRow}
 use Rattle.index_rules.specs.declared.rows.NameRow.{NameRow}
 use Rattle.index_pages.specs.Parts.{html_rest, json_rest, name_line, project_rest, root_rest}
 use Rattle.index_pages.specs.Parts.{root_start}
-use Rattle.index_pages.specs.Pieces.{AddsRow}
 use Rattle.index_pages.specs.Rest.{Rest}
 use Rattle.index_pages.specs.declared.project.ProjectPage.{ProjectPage}
 use Rattle.index_pages.specs.declared.root.RootPage.{RootPage}
@@ -34,10 +33,3 @@ json_left page project = json_rest project page.is_started page.releases.keys
 -- one in HTML
 abbrev pub html_left : ProjectPage → Bytes → Rest FileRow
 html_left page project = html_rest project page.is_started
-
--- the text of a file was added, by a page that stays in its type
-pub record AddsFile {O A E : Type 0} (rest : ProjectPage → Bytes → Rest FileRow) (name : Bytes)
-    (old : ProjectPage) (row : FileRow) (new : ProjectPage) (holds : O → Bytes → Type 0)
-    (before after : O) (result : Result A E) : Type 0 where
-  pub kept : new.as_json ≡ old.as_json
-  pub next : AddsRow rest name old row new holds before after result

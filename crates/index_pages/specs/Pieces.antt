@@ -20,9 +20,17 @@ pub record ExtendsByRow {R O : Type 0} (rest : Rest R) (row : R) (later : Rest R
   pub next : IsNext rest row text later
   pub adds : ExtendsText holds before after text
 
--- where nothing failed, a page of this name had the text of a row before it, and that
--- was put behind what was there
-abbrev pub AddsRow : {P R O A E : Type 0} → (P → Bytes → Rest R) → Bytes → P → R → P
-    → (O → Bytes → Type 0) → O → O → Result A E → Type 0
-AddsRow rest name old row new holds before after result =
-    OnOk result (ExtendsByRow (rest old name) row (rest new name) holds before after)
+-- what texts are put into, before and after
+pub record PiecesStep (O : Type 0) : Type 1 where
+  pub holds : O → Bytes → Type 0
+  pub old : O
+  pub new : O
+
+abbrev pub to_pieces : {O : Type 0} → (O → Bytes → Type 0) → O → O → PiecesStep O
+to_pieces holds old new = record { holds = holds; old = old; new = new }
+
+-- where nothing failed, a page that had the text of this row before it put that behind what was
+-- there, and has the rest before it
+abbrev pub AddsRow : {R O A E : Type 0} → Rest R → R → Rest R → PiecesStep O → Result A E → Type 0
+AddsRow rest row later out result =
+    OnOk result (ExtendsByRow rest row later out.holds out.old out.new)

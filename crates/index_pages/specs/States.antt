@@ -38,6 +38,14 @@ abbrev pub page_state : {K P R X : Type 0} → Ghosts K → (P → Bytes → Res
 page_state g rest page =
     text_state (rest page.page page.name.now) (state_of g page.sink.now) page.written page.end
 
+-- how many bytes of a page were written
+abbrev pub bytes_written : {K P R : Type 0} → PageText K P R → ℕ
+bytes_written page = page.written
+
+-- the sink that a page is written to, as it is
+abbrev pub sink_of : {K P R : Type 0} → PageText K P R → K
+sink_of page = page.sink.now
+
 -- the text of a row went out between these states of its page, of which so
 -- many bytes were then written
 abbrev pub SendsRowOf : {R : Type 0} → TextState R → R → TextState R → ℕ → Type 0
@@ -231,6 +239,10 @@ abbrev pub CountCloses : {P X : Type 0} → (P → Bytes → Rest X) → PageLen
     → Result ℕ Fault → Type 0
 CountCloses rest page result =
     page.end ≡ None → Counts (rest page.page page.name.now []) page.length result
+
+-- where it had ended, that fault is told
+abbrev pub CountStaysEnded : {P : Type 0} → PageLength P → Result ℕ Fault → Type 0
+CountStaysEnded page result = (end : Fault) → page.end ≡ Some end → result ≡ Err end
 
 -- a count of which nothing was counted, and by any rows it is that of the whole page of these
 pub record BeginsCount {P X : Type 0} (rest : P → Bytes → Rest X) (page : PageLength P)

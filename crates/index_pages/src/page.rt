@@ -1,7 +1,7 @@
 //! What has a text for each row.
 ghost use Rattle.std.specs.Prelude.{List, []};
 ghost use Rattle.index_rules.specs.Maps.{Bytes};
-ghost use Rattle.index_pages.specs.Pieces.{Adds, AddsRow};
+ghost use Rattle.index_pages.specs.Pieces.{Adds, AddsRow, to_pieces};
 
 use crate::pieces::Pieces;
 use std::alloc::AllocError;
@@ -20,7 +20,8 @@ pub trait Page: Drop {
         row: &Self::Row,
         out: &mut O,
     ) -> Result<(), AllocError>
-        ensures { AddsRow rest name.now self.old row.now self.new O.holds out.old out.new result };
+        ensures { AddsRow (rest self.old name.now) row.now (rest self.new name.now)
+            (to_pieces O.holds out.old out.new) result };
 
     /// Adds the text behind the rows.
     fn append_last<O: Pieces>(&self, name: &str, out: &mut O) -> Result<(), AllocError>

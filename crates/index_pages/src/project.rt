@@ -1,11 +1,11 @@
 //! The page of a project.
-ghost use Rattle.std.specs.Prelude.{◌++◌, [], false};
+ghost use Rattle.std.specs.Prelude.{◌≡◌, ◌++◌, [], false};
 ghost use Rattle.serde_json.specs.Written.{comma_if};
 ghost use Rattle.index_pages.specs.Html.{project_top};
-ghost use Rattle.index_pages.specs.Left.{AddsFile, html_left, json_left, files_left};
+ghost use Rattle.index_pages.specs.Left.{html_left, json_left, files_left};
 ghost use Rattle.index_pages.specs.Pages.{project_page_of};
 ghost use Rattle.index_pages.specs.Parts.{file_line, files_bottom, files_top, json_text, once, project_rest, releases_text};
-ghost use Rattle.index_pages.specs.Pieces.{Adds};
+ghost use Rattle.index_pages.specs.Pieces.{Adds, AddsRow, to_pieces};
 ghost use Rattle.index_pages.specs.Rest.{IsWholeOf};
 
 use crate::html::{append_bottom, append_file, append_project_top};
@@ -57,8 +57,9 @@ impl ProjectPage {
         row: &FileRow,
         out: &mut O,
     ) -> Result<(), AllocError>
-        ensures { AddsFile json_left project.now self.old row.now self.new
-            O.holds out.old out.new result }
+        ensures kept { self.new.as_json ≡ self.old.as_json }
+        ensures row { AddsRow (json_left self.old project.now) row.now
+            (json_left self.new project.now) (to_pieces O.holds out.old out.new) result }
     {
         self.releases.insert(row.release.clone()?)?;
         append_file_line(out, project, row, self.is_started)?;
@@ -73,8 +74,9 @@ impl ProjectPage {
         row: &FileRow,
         out: &mut O,
     ) -> Result<(), AllocError>
-        ensures { AddsFile html_left project.now self.old row.now self.new
-            O.holds out.old out.new result }
+        ensures kept { self.new.as_json ≡ self.old.as_json }
+        ensures row { AddsRow (html_left self.old project.now) row.now
+            (html_left self.new project.now) (to_pieces O.holds out.old out.new) result }
     {
         append_html_start(out, project, self.is_started)?;
         append_file(out, project.as_bytes(), row)?;

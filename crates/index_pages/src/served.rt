@@ -34,6 +34,7 @@ impl Served {
         }
     }
 
+    /// Whether it is JSON.
     pub(crate) fn is_json(self) -> bool
         ensures { result ≡ is_json self }
     {

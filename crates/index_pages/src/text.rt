@@ -3,7 +3,7 @@ ghost use Rattle.std.specs.Prelude.{◌≡◌, ◌+◌, ◌<◌, ◌≤◌, [], 
 ghost use Rattle.index_pages.specs.Ends.{most_bytes};
 ghost use Rattle.index_pages.specs.Left.{files_left, names_left};
 ghost use Rattle.index_pages.specs.Pages.{project_page_of, root_page_of};
-ghost use Rattle.index_pages.specs.States.{page_state, Begins, ClosesInto, IsSteady, IsWritten, PageCloses, PageCuts, PageEnds, PageEndsStopped, PageSends, PageStaysEnded, PageStops, PageTakes};
+ghost use Rattle.index_pages.specs.States.{bytes_written, page_state, sink_of, Begins, ClosesInto, IsSteady, IsWritten, PageCloses, PageCuts, PageEnds, PageEndsStopped, PageSends, PageStaysEnded, PageStops, PageTakes};
 
 use crate::end::PageEnd;
 use crate::page::Page;
@@ -82,7 +82,7 @@ impl<'a, 'p, K: Sink, P: Page> PageText<'a, 'p, K, P, Vec<u8>> {
     /// How many bytes were written: a front of the page of all rows that begin with those that were given. It takes no
     /// memory.
     pub fn written(&self) -> u64
-        ensures count { result ≡ self.now.written }
+        ensures count { result ≡ bytes_written self.now }
         ensures front { IsWritten (page_state K.Sink P.rest self.now) }
         ensures steady { IsSteady (page_state K.Sink P.rest self.now) }
     {
@@ -92,8 +92,8 @@ impl<'a, 'p, K: Sink, P: Page> PageText<'a, 'p, K, P, Vec<u8>> {
     /// Lets the page go before it is finished, and tells how many bytes were written, as `written` does. Nothing more is
     /// written.
     pub fn abandon(self) -> u64
-        ensures count { result ≡ self.entry.written }
-        ensures kept { self.exit.0.now ≡ self.entry.sink.now }
+        ensures count { result ≡ bytes_written self.entry }
+        ensures kept { self.exit.0.now ≡ sink_of self.entry }
         ensures front { IsWritten (page_state K.Sink P.rest self.entry) }
         ensures steady { IsSteady (page_state K.Sink P.rest self.entry) }
     {

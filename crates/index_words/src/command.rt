@@ -98,7 +98,7 @@ fn at<'a>(alloc: Global) -> Arg<'a>
 fn keep_recent<'a>(alloc: Global) -> Arg<'a>
     ensures { IsArg result (any_number (option (codes "keep-recent"))) }
 {
-    let help = "How many bytes of files and pages are kept at hand, 0 for none, or 67,108,864";
+    let help = "How many bytes of files and pages are kept at hand, 0 for none, or 268,435,456";
     whole_number(optional_arg(alloc, "keep-recent", help), 0, u64::MAX)
 }
 

@@ -21,12 +21,12 @@ answered verdict (Fault fault) Before After lasts before answers = tt
 pub returns-in_default : goal.returns-in_default
 returns-in_default g c =
     let none : call_of c.args.at c.args.request.now c.args.body ≡ None = sym c.in_ok-call.ensures ∙ c.in_default.is in
-    let to_head : c.is_head.result ≡ is_head c.args.request.now.method = c.is_head.ensures ∙ ap is_head c.method-method.ensures in
+    let same_head : c.is_head.result ≡ is_head c.args.request.now.method = c.is_head.ensures ∙ ap is_head c.method-method.ensures in
     record {
       tables = λ honest clean one.
           sent_ends _ _ _ _ _ _ (
             g.B.Books.tables c.args.desk.now,
-            (reply_of c.message_reply.result, ap (λ h. reply_text h (reply_of c.message_reply.result)) to_head, rw (c.requires, none) (c.message_reply.ensures, refl)),
+            (reply_of c.message_reply.result, ap (λ h. reply_text h (reply_of c.message_reply.result)) same_head, rw (c.requires, none) (c.message_reply.ensures, refl)),
             λ _. refl,
           )
           c.send_reply.ensures.sent;
@@ -41,10 +41,10 @@ returns-in_default g c =
 pub returns : goal.returns
 returns g c =
     let call : call_of c.args.at c.args.request.now c.args.body ≡ Some c.in-Some.call = sym c.in_ok-call.ensures ∙ c.in-Some.is in
-    let to_head : c.is_head-2.result ≡ is_head c.args.request.now.method = c.is_head-2.ensures ∙ ap is_head c.method-method.ensures in
+    let same_head : c.is_head-2.result ≡ is_head c.args.request.now.method = c.is_head-2.ensures ∙ ap is_head c.method-method.ensures in
     let by_put : c.is_put.result ≡ is_put c.args.request.now.method = c.is_put.ensures ∙ ap is_put c.method-method.ensures in
     let reply = c.answer_reply.ensures ∙ ap (λ put. answer_reply put c.apply-answer.result) by_put in
-    let text = ap (λ h. reply_text h (reply_of c.answer_reply.result)) to_head in
+    let text = ap (λ h. reply_text h (reply_of c.answer_reply.result)) same_head in
     let took = c.apply-answer.ensures.takes in
     record {
       tables = λ honest clean one.

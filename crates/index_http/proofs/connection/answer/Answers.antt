@@ -25,12 +25,12 @@ returns-then-is_reading g c =
     record {
       tables = λ honest clean one.
           rw c.in-Whole.is
-          (look_ends _ _ _ (Stands g.B.Books.IsHonest g.B.Books.tables c.show.new.desk) _ _ _ _ _ reads (λ then. c.show.ensures.leaves.unchanged then) (c.show.ensures.shown honest clean));
-      asks = rw (c.in-Whole.is, reads) c.show.ensures.leaves;
+          (look_ends _ _ _ (Stands g.B.Books.IsHonest g.B.Books.tables c.show.new.desk) _ _ _ _ _ reads (λ then. c.show.ensures.shown.leaves.unchanged then) (c.show.ensures.shown.shown honest clean));
+      asks = rw (c.in-Whole.is, reads) c.show.ensures.shown.leaves;
       memory = search rules;
-      stores = c.show.ensures.stores;
+      stores = c.show.ensures.shown.stores;
       cut = search rules;
-      sends = rw (c.in-Whole.is, reads) c.show.ensures.sends;
+      sends = rw (c.in-Whole.is, reads) c.show.ensures.shown.sends;
       keeps = search rules;
     }
 

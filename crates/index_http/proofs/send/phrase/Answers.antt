@@ -1,6 +1,6 @@
 use Rattle.std.proofs.Common.{◌<◌}
 use Rattle.index_http.proofs.Lengths.{short_reason}
-use Rattle.index_http.proofs.texts.phrase.Goals as goal
+use Rattle.index_http.proofs.send.phrase.Goals as goal
 
 pub returns-in-Some-clause-short : goal.returns-in-Some-clause-short
 returns-in-Some-clause-short c =

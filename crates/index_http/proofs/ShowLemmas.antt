@@ -1,0 +1,42 @@
+-- What was found first and then sent is shown.
+use Rattle.std.proofs.Common.{◌≡◌, ◌∙◌, Bool, true, false, refl, Result, Ok}
+use Rattle.std.specs.Prelude.{◌&&◌, not}
+use Rattle.index_rules.specs.Tables.{Tables}
+use Rattle.index_rules.specs.declared.books.Books.{Ghosts}
+use Rattle.index_desk.specs.Looks.{LooksAt}
+use Rattle.index_http.specs.Replies.{Reply}
+use Rattle.index_http.specs.Shown.{LeadsTo, ShowsFound, is_page_to_show, look_for}
+use Rattle.index_http.specs.Shows.{ShowsBy}
+use Rattle.index_http.specs.Steps.{SinkStep, at_desk}
+use Rattle.index_http.specs.declared.end.IoEnd.{IoEnd}
+use Rattle.index_http.specs.declared.get.ToShow.{ToShow}
+use Rattle.index_http.proofs.EndLemmas.{ends_shown_map}
+
+-- what is no page has none in its reply
+no_page : (a b is_head : Bool) → (a ≡ true → b ≡ true) → (b && not is_head) ≡ false → (a && not is_head) ≡ false
+no_page false b is_head page none = refl
+no_page true b is_head page none = rw (page refl) at none
+
+-- a look, and then the reply that it leads to
+pub found_and_sent : {S K : Type 0} (g : Ghosts S) (old mid new : S) (sink : SinkStep K) (is_head is_page : Bool) (what : ToShow) (IsReply : Tables → Reply → Type 0)
+    (result : Result (Unit {0}) IoEnd) → LooksAt g old mid (Ok what) (λ T what. LeadsTo T what (IsReply T))
+    → ShowsBy (look_for is_head what) (λ T. ShowsFound T what) (at_desk g mid new) sink result → (is_page_to_show what ≡ true → is_page ≡ true)
+    → ShowsBy (record { is_page = is_page; is_head = is_head }) IsReply (at_desk g old new) sink result
+found_and_sent g old mid new sink is_head is_page what IsReply result looks shows page = record {
+  shown = λ honest clean.
+      let then = looks.look.lasts honest (shows.leaves.clean clean) in
+      ends_shown_map _ _ _ _ _ _ _ (looks.found then) (rw (looks.look.unchanged then, looks.look.kept) at (shows.shown then clean));
+  leaves = record {
+    unchanged = λ honest. shows.leaves.unchanged honest ∙ looks.look.unchanged (shows.leaves.honest honest);
+    honest = λ honest. looks.look.honest (shows.leaves.honest honest);
+    clean = λ clean. looks.look.clean (shows.leaves.clean clean);
+    crash = λ T left. looks.look.crash T (shows.leaves.crash T left);
+  };
+  sends = record {
+    write_fault = shows.sends.write_fault;
+    writes = shows.sends.writes;
+    no_read_fault = shows.sends.no_read_fault;
+    whole = λ none. shows.sends.whole (no_page (is_page_to_show what) is_page is_head page none);
+  };
+  stores = λ is. shows.stores is ∙ looks.look.stores;
+}
