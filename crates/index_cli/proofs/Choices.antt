@@ -42,7 +42,7 @@ module _ (A Looked : Type 0) (LookedBy : A → Type 0) (Took : Call → Answer �
   AsksOf-choice (Some (line.Call call)) text it = let chosen = of_call call it.0 it.2 in (chosen.0, (it.0, it.1, chosen.1))
   AsksOf-choice (Some (line.Standing name)) text it = of_look it
 
-  AsksLine-choice : (asked text : List ℕ) → AsksLine asked text Looked Took → (a : A) × AsksLine asked text (LookedBy a) (TookBy a)
+  pub AsksLine-choice : (asked text : List ℕ) → AsksLine asked text Looked Took → (a : A) × AsksLine asked text (LookedBy a) (TookBy a)
   AsksLine-choice asked text it = elim (cases_lt longest_line (length asked)) [
     | inr short ↦ let chosen = AsksOf-choice (line_of asked) text (it.0 short) in (chosen.0, (λ _. chosen.1, λ long. absurd (omega (arith, short, long))))
     | inl long ↦ let chosen = of_look (it.1 long) in (chosen.0, (λ short. absurd (omega (arith, short, long)), λ _. chosen.1))
@@ -59,10 +59,10 @@ module _ (A Looked : Type 0) (LookedBy : A → Type 0) (Took : Call → Answer �
 
   Asks-choice : (before after : Option Bytes) (result : Result (Unit {0}) IoEnd) (at : ℕ) (given : Option Bytes)
       → Asks at given Looked Took before after result → (a : A) × Asks at given (LookedBy a) (TookBy a) before after result
-  Asks-choice before after result at given (inl it) = let chosen = of_look it.0 in (chosen.0, inl (chosen.1, it.1))
+  Asks-choice before after result at given (inl it) = let chosen = of_look it.0 in (chosen.0, inl (chosen.1, it.1, it.2))
   Asks-choice before after result at given (inr it) = let chosen = AsksFor-choice before after result _ _ it.4 in (chosen.0, inr (it.0, it.1, it.2, it.3, chosen.1))
 
-  AsksOne-choice : (exchange : Exchange) → AsksOne exchange Looked Took → (a : A) × AsksOne exchange (LookedBy a) (TookBy a)
+  pub AsksOne-choice : (exchange : Exchange) → AsksOne exchange Looked Took → (a : A) × AsksOne exchange (LookedBy a) (TookBy a)
   AsksOne-choice exchange it = let chosen = Asks-choice exchange.had exchange.has it.ended exchange.at exchange.given it.asks in
       (chosen.0, record { ended = it.ended; asks = chosen.1 })
 

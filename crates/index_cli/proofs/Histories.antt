@@ -49,13 +49,13 @@ asked_after h legal T stands (Some (line.Standing name)) text T' (tells, same) =
   stands = subst (λ x. StandsFor x h) (sym same) stands;
 }
 
-record AfterLine (line : List ℕ) (h : History) (text : List ℕ) (T' : Tables) : Type 0 where
-  after : History
-  told : TellsLine by_history line h text after
-  legal : IsLegal after
-  stands : StandsFor T' after
+pub record AfterLine (line : List ℕ) (h : History) (text : List ℕ) (T' : Tables) : Type 0 where
+  pub after : History
+  pub told : TellsLine by_history line h text after
+  pub legal : IsLegal after
+  pub stands : StandsFor T' after
 
-line_after : (h : History) → IsLegal h → (T : Tables) → StandsFor T h → (line text : List ℕ) (T' : Tables)
+pub line_after : (h : History) → IsLegal h → (T : Tables) → StandsFor T h → (line text : List ℕ) (T' : Tables)
     → TellsLine by_tables line T text T' → AfterLine line h text T'
 line_after h legal T stands line text T' tells = elim (cases_lt longest_line (length line)) [
   | inr short ↦

@@ -6,4 +6,7 @@ pub mod CauseLemmas
 pub mod Histories
 pub mod Crashes
 pub mod Choices
+pub mod FaultTexts
+pub mod Fronts
 pub mod Served
+pub mod ServedFronts

@@ -36,7 +36,7 @@ Pushes tells tells' T U size kept first =
     (done : List (List ℕ)) (text line : List ℕ) → length line ≡ size → kept ≡ take longest_line line
     → tells done text T → tells' (done ++ line ∷ []) (text ++ (first ++ line_feed ∷ [])) U
 
-TellsLines-push : (S T U : Tables) (done : List (List ℕ)) (text line first : List ℕ)
+pub TellsLines-push : (S T U : Tables) (done : List (List ℕ)) (text line first : List ℕ)
     → TellsLines by_tables S done text T → TellsLine by_tables line T first U
     → TellsLines by_tables S (done ++ line ∷ []) (text ++ (first ++ line_feed ∷ [])) U
 TellsLines-push S T U [] text line first told tells = (

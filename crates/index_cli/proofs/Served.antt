@@ -9,6 +9,8 @@ use Rattle.index_rules.specs.Tables.{Tables}
 use Rattle.index_desk.specs.Rules.{Rules}
 use Rattle.index_http.specs.declared.end.IoEnd.TheVariants.{OutOfMemory}
 use Rattle.index_cli.specs.Connections.{AreOn, Came, Closed, Exchange, IsRest, KnownList, Loses}
+use Rattle.index_http.specs.Steps.{at_desk}
+use Rattle.index_cli.specs.Steps.{on_connections}
 use Rattle.index_cli.specs.Serving.{AnswersMessage, AnswersNext, ServesCallsOn, ServesHistoryOn, ServesOn}
 
 -- ---- connections of one kind are of another
@@ -38,7 +40,7 @@ module _ {C : Type 0} (coming replies : C → KnownList) where
 
   -- one more was
   pub are_push : {S : Type 0} (g : Ghosts S) (old new : S) (first now after : C) (given : Option ℕ)
-      → (next : AnswersNext g old new coming replies now after given)
+      → (next : AnswersNext given (at_desk g old new) (on_connections coming replies now after))
       → (earlier : List Exchange) → AreSoFar first now earlier → AreSoFar first after (next.exchange ∷ earlier)
   are_push g old new first now after given next earlier it =
       ((coming now, it.0, next.came, next.unsent), (replies now, it.1, next.closed))
@@ -61,14 +63,14 @@ unasked g s at given = record {
   };
   asks = record {
     ended = Err OutOfMemory;
-    asks = inl (record { unchanged = λ _. refl; honest = λ it. it; clean = λ it. it; crash = λ _ left. left }, refl);
+    asks = inl (record { unchanged = λ _. refl; honest = λ it. it; clean = λ it. it; crash = λ _ left. left }, refl, refl);
   };
   keeps = record { one_bearer = λ _ it. it; sound = λ _ it. it; honest = λ it. it; clean = λ it. it };
 }
 
 pub closed_at_once : {S C : Type 0} (g : Ghosts S) (s : S) (coming replies : C → KnownList) (before after : C) (given : Option ℕ)
     → Loses (coming before) (coming after) (replies before) (replies after)
-    → AnswersNext g s s coming replies before after given
+    → AnswersNext given (at_desk g s s) (on_connections coming replies before after)
 closed_at_once g s coming replies before after given lost = record {
   exchange = record { at = unwrap_or given 0; given = lost.0; had = Some []; has = Some [] };
   is_given = its_moment given;

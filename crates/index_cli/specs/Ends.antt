@@ -5,9 +5,10 @@ use Rattle.std.specs.Io.KnownBytes.{Appends, Consumes, IsAtEnd}
 use Rattle.index_io.specs.Bytes.{IsInput}
 use Rattle.index_io.specs.Counts.{HasFailed}
 use Rattle.index_io.specs.declared.sink.Sink.{Ghosts as Outs}
-use Rattle.index_io.specs.declared.source.Source.{Ghosts as Ins}
 use Rattle.index_rules.specs.Tables.{Tables}
+use Rattle.index_http.specs.Steps.{SinkStep}
 use Rattle.index_cli.specs.Lines.{lines_of, Charges, TakesLines, TakesWithin}
+use Rattle.index_cli.specs.Steps.{SourceStep}
 use Rattle.index_cli.specs.declared.end.LineEnd.{LineEnd}
 use Rattle.index_cli.specs.declared.end.LineEnd.TheVariants.{ReadFault, WriteFault, OutOfMemory}
 
@@ -65,22 +66,32 @@ EndsRun tells T given left had has (Err WriteFault) = TellsDuring tells T given 
 EndsRun tells T given left had has (Err OutOfMemory) = TellsBefore tells T given left had has
 
 -- so a run ended that read from a source and wrote to a sink
-abbrev pub EndsBy : {S K : Type 0} → Ins S → Outs K → S → S → K → K → Result ℕ LineEnd → Telling → Tables → Type 0
-EndsBy ins out given left had has result tells T =
-    EndsRun tells T (ins.remaining given) (ins.remaining left) (out.contents had)
-    (out.contents has) result
+abbrev pub EndsBy : {S K : Type 0} → SourceStep S → SinkStep K → Result ℕ LineEnd
+    → Telling → Tables → Type 0
+EndsBy source sink result tells T = EndsRun tells T
+    (source.ins.remaining source.old) (source.ins.remaining source.new)
+    (sink.out.contents sink.old) (sink.out.contents sink.new) result
 
--- a read failed, or as many bytes were read as may be, or a write failed or took no byte, just where the result says so
-pub record RunFailsOnly {S K : Type 0} (ins : Ins S) (out : Outs K) (old new : S) (before after : K) (most : ℕ) (result : Result ℕ LineEnd) : Type 0 where
+-- a read failed, or as many bytes were read as may be, or a write failed or took no byte, just
+-- where the result says so
+pub record RunFailsOnly {S K : Type 0} (most : ℕ) (source : SourceStep S) (sink : SinkStep K)
+    (result : Result ℕ LineEnd) : Type 0 where
   pub read_fault : result ≡ Err ReadFault
-      → HasFailed (ins.failures old) (ins.failures new) ⊎ Charges most 0 (ins.remaining old) (ins.remaining new)
-  pub write_fault : result ≡ Err WriteFault → HasFailed (out.failures before) (out.failures after)
-  pub reads : result ≢ Err ReadFault → ins.failures new ≡ ins.failures old
-  pub writes : result ≢ Err WriteFault → out.failures after ≡ out.failures before
+      → HasFailed (source.ins.failures source.old) (source.ins.failures source.new)
+      ⊎ Charges most 0 (source.ins.remaining source.old) (source.ins.remaining source.new)
+  pub write_fault : result ≡ Err WriteFault
+      → HasFailed (sink.out.failures sink.old) (sink.out.failures sink.new)
+  pub reads : result ≢ Err ReadFault
+      → source.ins.failures source.new ≡ source.ins.failures source.old
+  pub writes : result ≢ Err WriteFault
+      → sink.out.failures sink.new ≡ sink.out.failures sink.old
 
--- a text was written whole, and no write failed; or a write failed or took no byte, and a front of the text went out before it
-pub record WritesText {K : Type 0} (out : Outs K) (before after : K) (text : List ℕ) (result : Result (Unit {0}) ℕ) : Type 0 where
+-- a text was written whole, and no write failed; or a write failed or took no byte, and a front of
+-- the text went out before it
+pub record WritesText {K : Type 0} (out : Outs K) (before after : K) (text : List ℕ)
+    (result : Result (Unit {0}) ℕ) : Type 0 where
   pub whole : OnOk result (Appends (out.contents before) (out.contents after) text)
-  pub front : IfErr result (λ count. (count < length text) × Appends (out.contents before) (out.contents after) (take count text))
+  pub front : IfErr result (λ count. (count < length text)
+      × Appends (out.contents before) (out.contents after) (take count text))
   pub kept : OnOk result (out.failures after ≡ out.failures before)
   pub failed : OnErr result (HasFailed (out.failures before) (out.failures after))

@@ -1,6 +1,6 @@
 -- The reply to a line.
-use Rattle.std.specs.Prelude.{◌≡◌, ℕ, List, length, take, string_bytes, Option, Result, IfErr, IfOk}
-use Rattle.std.specs.Prelude.{OnErr}
+use Rattle.std.specs.Prelude.{◌≡◌, ◌⊎◌, ℕ, List, length, take, string_bytes, Option}
+use Rattle.std.specs.Prelude.{Result, IfErr, IfOk, OnErr}
 use Rattle.index_rules.specs.declared.answer.Answer.{Answer}
 use Rattle.index_rules.specs.declared.books.Books.{Ghosts}
 use Rattle.index_rules.specs.declared.call.Call.{Call}
@@ -13,26 +13,40 @@ use Rattle.index_desk.specs.Takes.{Takes}
 use Rattle.index_cli.specs.Causes.{HasCauses}
 use Rattle.index_cli.specs.Lines.{longest_line}
 use Rattle.index_cli.specs.Telling.{TellsLine, TellsStanding}
+use Rattle.index_cli.specs.TellsFront.{IsFaultText}
 use Rattle.index_cli.specs.declared.end.LineEnd.{LineEnd}
-use Rattle.index_cli.specs.declared.reply.Reply.{Reply}
-use Rattle.index_cli.specs.declared.reply.Reply.TheVariants.{Fixed, Made}
+use Rattle.index_cli.specs.declared.reply.LineReply.{LineReply}
+use Rattle.index_cli.specs.declared.reply.LineReply.TheVariants.{Fixed, Made}
 
 -- the text of a reply
-abbrev pub line_reply_text : Reply → List ℕ
+abbrev pub line_reply_text : LineReply → List ℕ
 line_reply_text (Fixed text) = text.now
 line_reply_text (Made text) = string_bytes text
 
--- each fault of the store that a reply tells has a call that failed; the one error is want of memory, and then none did
-pub record RepliesOnly (failures_before failures_after : ℕ) (result : Result Reply LineEnd) : Type 0 where
+-- the store is honest, or the text is that of a fault, and is told so
+abbrev pub IsHonestOrFault : {S : Type 0} → Ghosts S → S → List ℕ → Type 0 → Type 0
+IsHonestOrFault g new text Told = g.IsHonest new ⊎ (IsFaultText text × Told)
+
+-- each fault of the store that a reply tells has a call that failed; the one error is want of
+-- memory, and then none did
+pub record RepliesOnly (failures_before failures_after : ℕ) (result : Result LineReply LineEnd)
+    : Type 0 where
   pub told : IfOk result (λ reply. HasCauses (line_reply_text reply) failures_before failures_after)
   pub kept : OnErr result (failures_after ≡ failures_before)
   pub memory : IfErr result (λ end. end ≡ LineEnd.OutOfMemory)
 
--- the reply to a line: it is told so by the tables before and after, and asks so of the desk; after an error no table changed
-pub record RepliesToLine {S : Type 0} (g : Ghosts S) (old new : S) (result : Result Reply LineEnd)
-    (Tells : Tables → List ℕ → Tables → Type 0) (Asks : List ℕ → Type 0 → (Call → Answer → Type 0) → Type 0) : Type 0 where
+-- the reply to a line: it is told so by the tables before and after, and asks so of the desk; where
+-- the store was honest and is clean it is honest still, or a fault is told so; after an error no
+-- table changed
+pub record RepliesToLine {S : Type 0} (g : Ghosts S) (old new : S)
+    (result : Result LineReply LineEnd)
+    (Tells : Tables → List ℕ → Tables → Type 0)
+    (Asks : List ℕ → Type 0 → (Call → Answer → Type 0) → Type 0) : Type 0 where
   pub reply : g.IsHonest new → HasOneBearer (g.tables old)
       → IfOk result (λ reply. Tells (g.tables old) (line_reply_text reply) (g.tables new))
+  pub lasts : g.IsHonest old → g.IsClean new → IfOk result
+      (λ reply. IsHonestOrFault g new (line_reply_text reply)
+      (Tells (g.tables old) (line_reply_text reply) (g.tables old)))
   pub asks : IfOk result
       (λ reply. Asks (line_reply_text reply) (LeavesTables g old new) (Takes g old new))
   pub leaves : OnErr result (LeavesTables g old new)
@@ -40,9 +54,13 @@ pub record RepliesToLine {S : Type 0} (g : Ghosts S) (old new : S) (result : Res
   pub keeps : KeepsInvariants g old new
 
 -- the reply to the question for the standing of a name, where it can be read; no table changed
-pub record RepliesStanding {S : Type 0} (g : Ghosts S) (old new : S) (result : Result Reply LineEnd) (name : Option (List ℕ)) : Type 0 where
+pub record RepliesStanding {S : Type 0} (g : Ghosts S) (old new : S)
+    (result : Result LineReply LineEnd) (name : Option (List ℕ)) : Type 0 where
   pub reply : g.IsHonest new
       → IfOk result (λ reply. TellsStanding by_tables (g.tables old) name (line_reply_text reply))
+  pub lasts : g.IsHonest old → g.IsClean new → IfOk result
+      (λ reply. IsHonestOrFault g new (line_reply_text reply)
+      (TellsStanding by_tables (g.tables old) name (line_reply_text reply)))
   pub leaves : LeavesTables g old new
   pub causes : RepliesOnly (g.failures old) (g.failures new) result
 

@@ -1,4 +1,5 @@
--- What is made of the tables by the messages of connections, one after the other, by rules over any state.
+-- What is made of the tables by the messages of connections, one after the other, by rules over any
+-- state.
 use Rattle.std.specs.Prelude.{◌≡◌, ◌<◌, ℕ, List, [], ◌∷◌, ◌++◌, length, Option, IfSome, Result, Ok}
 use Rattle.std.specs.Prelude.{Err}
 use Rattle.std.specs.List.{AllByRecursion}
@@ -18,23 +19,31 @@ use Rattle.index_http.specs.Asks.{Asks}
 use Rattle.index_http.specs.Ends.{Ends}
 use Rattle.index_http.specs.Exchanges.{RepliesToInput}
 use Rattle.index_http.specs.declared.end.IoEnd.{IoEnd}
-use Rattle.index_cli.specs.Connections.{AddsReply, Exchange, IsUnsent, KnownList, TakesFirst}
+use Rattle.index_http.specs.Steps.{DeskStep}
+use Rattle.index_cli.specs.Connections.{AddsReply, Exchange, IsUnsent, TakesFirst}
+use Rattle.index_cli.specs.Steps.{ConnectionsStep}
 use Rattle.index_cli.specs.declared.end.ServeEnd.{ServeEnd}
 
--- a connection was answered: a reply to its message went out, or a front of it, or nothing did and nothing changed
+-- a connection was answered: a reply to its message went out, or a front of it, or nothing did and
+-- nothing changed
 pub record AnswersOne {S : Type 0} (rules : Rules S) (exchange : Exchange) (s s' : S) : Type 0 where
   pub failures : ℕ
   pub later_failures : ℕ
   pub ended : Result (Unit {0}) IoEnd
-  pub ends : Ends (λ text. RepliesToInput rules (HasFailed failures later_failures) exchange.at s exchange.given text s') (s' ≡ s) exchange.had exchange.has ended
+  pub ends : Ends (λ text.
+      RepliesToInput rules (HasFailed failures later_failures) exchange.at s exchange.given text s')
+      (s' ≡ s) exchange.had exchange.has ended
 
 -- connections, of which the newest comes first
 abbrev pub AnswersEach : {S : Type 0} → Rules S → List Exchange → S → S → Type 0
 AnswersEach rules [] s s' = s' ≡ s
-AnswersEach {S} rules (exchange ∷ earlier) s s' = (between : S) × AnswersEach rules earlier s between × AnswersOne rules exchange between s'
+AnswersEach {S} rules (exchange ∷ earlier) s s' =
+    (between : S) × AnswersEach rules earlier s between × AnswersOne rules exchange between s'
 
--- so many connections of this kind, each at the moment that is given, or at some moment where none is
-pub record ServesOn {S : Type 0} (Are : List Exchange → Type 0) (rules : Rules S) (given : Option ℕ) (count : ℕ) (s s' : S) : Type 0 where
+-- so many connections of this kind, each at the moment that is given, or at some moment where none
+-- is given
+pub record ServesOn {S : Type 0} (Are : List Exchange → Type 0) (rules : Rules S)
+    (given : Option ℕ) (count : ℕ) (s s' : S) : Type 0 where
   pub exchanges : List Exchange
   pub are : Are exchanges
   pub answered : AnswersEach rules exchanges s s'
@@ -53,7 +62,8 @@ pub record OneHistory (h : History) (exchange : Exchange) (T' : Tables) : Type 0
   pub stands : StandsFor T' later
 
 -- the tables stand for a legal history that comes of another by so many connections of this kind
-pub record ServesHistoryOn (Are : List Exchange → Type 0) (h : History) (given : Option ℕ) (count : ℕ) (T' : Tables) : Type 0 where
+pub record ServesHistoryOn (Are : List Exchange → Type 0) (h : History)
+    (given : Option ℕ) (count : ℕ) (T' : Tables) : Type 0 where
   pub later : History
   pub serves : ServesOn Are by_history given count h later
   pub legal : IsLegal later
@@ -63,36 +73,46 @@ pub record ServesHistoryOn (Are : List Exchange → Type 0) (h : History) (given
 abbrev pub ServesHistory : History → Option ℕ → ℕ → Tables → Type 0
 ServesHistory h given count T' = ServesHistoryOn (λ exchanges. Unit {0}) h given count T'
 
--- what a connection asked of a desk: nothing but looks, or one call, to whose answer it got the reply
-pub record AsksOne (exchange : Exchange) (Looked : Type 0) (Took : Call → Answer → Type 0) : Type 0 where
+-- what a connection asked of a desk: nothing but looks, or one call, to whose answer it got the
+-- reply
+pub record AsksOne (exchange : Exchange) (Looked : Type 0) (Took : Call → Answer → Type 0)
+    : Type 0 where
   pub ended : Result (Unit {0}) IoEnd
   pub asks : Asks exchange.at exchange.given Looked Took exchange.had exchange.has ended
 
--- the message of a connection is answered: by the tables, by a legal history for which they stood, and by what it asked of
--- the desk
-pub record AnswersMessage {S : Type 0} (g : Ghosts S) (old new : S) (exchange : Exchange) : Type 0 where
+-- the message of a connection is answered: by the tables, by a legal history for which they stood,
+-- and by what it asked of the desk
+pub record AnswersMessage {S : Type 0} (g : Ghosts S) (old new : S) (exchange : Exchange)
+    : Type 0 where
   pub tables : ByTables g old new (AnswersOne by_tables exchange)
   pub history : ByHistory g old new (λ h. OneHistory h exchange)
   pub asks : AsksOne exchange (LeavesTables g old new) (Takes g old new)
   pub keeps : KeepsInvariants g old new
 
--- the message of the next connection is answered, at the moment that is given, and the connection is closed
-pub record AnswersNext {S C : Type 0} (g : Ghosts S) (old new : S) (coming replies : C → KnownList) (before after : C) (given : Option ℕ) : Type 0 where
+-- the message of the next connection is answered, at the moment that is given, and the connection
+-- is closed
+pub record AnswersNext {S C : Type 0} (given : Option ℕ) (desk : DeskStep S)
+    (connections : ConnectionsStep C) : Type 0 where
   pub exchange : Exchange
   pub is_given : IfSome given (λ it. exchange.at ≡ it)
-  pub came : TakesFirst (coming before) (coming after) exchange.given
+  pub came : TakesFirst (connections.coming connections.old)
+      (connections.coming connections.new) exchange.given
   pub unsent : IsUnsent exchange.had
-  pub closed : AddsReply (replies before) (replies after) exchange.has
-  pub answers : AnswersMessage g old new exchange
+  pub closed : AddsReply (connections.replies connections.old)
+      (connections.replies connections.new) exchange.has
+  pub answers : AnswersMessage desk.books desk.old desk.new exchange
 
 -- this holds of the calls of connections, of which the newest comes first, and of their answers
 abbrev pub AsksEach : List Exchange → (List Call → List Answer → Type 0) → Type 0
 AsksEach [] Holds = Holds [] []
 AsksEach (exchange ∷ earlier) Holds =
-    AsksEach earlier (λ calls answers. AsksOne exchange (Holds calls answers) (λ call answer. Holds (calls ++ call ∷ []) (answers ++ answer ∷ [])))
+    AsksEach earlier (λ calls answers. AsksOne exchange (Holds calls answers)
+    (λ call answer. Holds (calls ++ call ∷ []) (answers ++ answer ∷ [])))
 
 -- these tables may be left by the calls of so many connections of this kind and their answers
-pub record ServesCallsOn (Are : List Exchange → Type 0) (Left : List Call → List Answer → Tables → Type 0) (given : Option ℕ) (count : ℕ) (T' : Tables) : Type 0 where
+pub record ServesCallsOn (Are : List Exchange → Type 0)
+    (Left : List Call → List Answer → Tables → Type 0)
+    (given : Option ℕ) (count : ℕ) (T' : Tables) : Type 0 where
   pub exchanges : List Exchange
   pub are : Are exchanges
   pub asked : AsksEach exchanges (λ calls answers. Left calls answers T')
@@ -100,7 +120,8 @@ pub record ServesCallsOn (Are : List Exchange → Type 0) (Left : List Call → 
   pub are_given : AllByRecursion (λ exchange. IfSome given (λ it. exchange.at ≡ it)) exchanges
 
 -- the same of some connections
-abbrev pub ServesCalls : (List Call → List Answer → Tables → Type 0) → Option ℕ → ℕ → Tables → Type 0
+abbrev pub ServesCalls : (List Call → List Answer → Tables → Type 0)
+    → Option ℕ → ℕ → Tables → Type 0
 ServesCalls Left given count T' = ServesCallsOn (λ exchanges. Unit {0}) Left given count T'
 
 -- all of so many, or fewer where the run ended early

@@ -28,8 +28,8 @@ pub trait Connections {
     /// Whether there is one to be closed.
     ghost IsOpen: { Self → Type 0 };
 
-    /// The next connection, on which nothing has gone out, or `None` where there is no memory for it: it was closed then.
-    /// So many are left to answer, and no more are accepted.
+    /// The next connection, on which nothing has gone out, or `None` where there is no memory for
+    /// it: it was closed then. So many are left to answer, and no more are accepted.
     ///
     /// # Errors
     ///

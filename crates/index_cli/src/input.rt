@@ -1,5 +1,6 @@
 //! Lines of bounded size from any source.
-ghost use Rattle.std.specs.Prelude.{◌≡◌, ◌≢◌, ◌+◌, ◌<◌, ◌≤◌, ◌⊎◌, [], ◌∷◌, ◌++◌, Err, IfErr, IfOk, IfSome, OnErr, OnOk};
+ghost use Rattle.std.specs.Prelude.{◌≡◌, ◌≢◌, ◌+◌, ◌<◌, ◌≤◌, ◌⊎◌, [], ◌∷◌, ◌++◌};
+ghost use Rattle.std.specs.Prelude.{Err, IfErr, IfOk, IfSome, OnErr, OnOk};
 ghost use Rattle.index_io.specs.Counts.{HasFailed};
 ghost use Rattle.index_cli.specs.Lines.{Charges, TakesLine, TakesPart};
 
@@ -9,9 +10,9 @@ use index_io::{Source, next_byte};
 /// The most bytes of a line that are kept: no longer line is read.
 pub const LONGEST_LINE: u64 = 65_536;
 
-/// Takes the next line from a source, with its line feed, and answers its size without it. `None` is the
-/// end of the input. Of a line longer than 65,536 bytes `line` has these first ones. It takes the bytes
-/// that it read from `left`, the most that may be read.
+/// Takes the next line from a source, with its line feed, and answers its size without it. `None`
+/// is the end of the input. Of a line longer than 65,536 bytes `line` has these first ones. It
+/// takes the bytes that it read from `left`, the most that may be read.
 pub fn next_line<S: Source>(
     source: &mut S,
     line: &mut Vec<u8>,

@@ -2,10 +2,12 @@
 ghost use Rattle.std.specs.Prelude.{◌≡◌, ◌<◌, ⊤, ℕ, Err, None};
 ghost use Rattle.index_desk.specs.Crashes.{LeavesAll, LeavesAllOf};
 ghost use Rattle.index_desk.specs.Invariants.{KeepsInvariants};
-ghost use Rattle.index_desk.specs.Rules.{by_tables};
+ghost use Rattle.index_desk.specs.Rules.{by_history, by_tables};
 ghost use Rattle.index_desk.specs.Takes.{ByHistory, ByTables, CrashByHistory, CrashByTables};
 ghost use Rattle.index_cli.specs.Connections.{AddsReply, unknown};
+ghost use Rattle.index_cli.specs.ServesFront.{ServesFront};
 ghost use Rattle.index_cli.specs.Serving.{IsCount, Serves, ServesCalls, ServesHistory};
+ghost use Rattle.index_cli.specs.TellsFront.{FrontByHistory, FrontByTables};
 
 use crate::connections::{Connection, Connections};
 use crate::end::ServeEnd;
@@ -24,16 +26,18 @@ use std::{io, thread};
 /// How many bytes of a reply are gathered before they are sent: room for most pages.
 const GATHERED_BYTES: usize = 65_536;
 
-/// How often it is tried to accept a connection, and how many milliseconds are waited after each try.
+/// How often it is tried to accept a connection.
 const ACCEPT_TRIES: u32 = 100;
 
+/// How many milliseconds are waited after each try.
 const ACCEPT_PAUSE: u64 = 10;
 
-/// The most connections that are accepted and wait: each takes a descriptor, and a process mostly has 1,024.
+/// The most connections that are accepted and wait: each takes a descriptor, and a process mostly
+/// has 1,024.
 const MOST_WAITING: usize = 512;
 
-/// Answers one message of each of so many connections of a listener, one connection after the other, as
-/// `answer_connections` does.
+/// Answers one message of each of so many connections of a listener, one connection after the
+/// other, as `answer_connections` does.
 ///
 /// # Errors
 ///
@@ -50,23 +54,35 @@ pub fn serve_connections<B: Keeper>(
     ensures tables { ByTables B.Books desk.old desk.new (λ T T'. (count : ℕ)
         × IsCount requests result count × Serves by_tables at count T T') }
 
-    // By a legal history for which the tables stood: the same, and they stand for the history with what was accepted.
+    // By a legal history for which the tables stood: the same, and they stand for the history with
+    // what was accepted.
     ensures history { ByHistory B.Books desk.old desk.new (λ h T. (count : ℕ)
         × IsCount requests result count × ServesHistory h at count T) }
 
-    // A crash leaves the tables after the accepted calls, or these with one call to which a fault was answered since the
-    // last of them; also where a fault has shut the store.
+    // Also where a fault has shut the store: the same of the connections up to the last of which a
+    // call was accepted.
+    ensures told { FrontByTables B.Books desk.old desk.new (λ T T'. (count : ℕ)
+        × IsCount requests result count × ServesFront by_tables at count T) }
+
+    // By a legal history for which the tables stood: that too.
+    ensures told_history { FrontByHistory B.Books desk.old desk.new (λ h T. (count : ℕ)
+        × IsCount requests result count × ServesFront by_history at count h) }
+
+    // A crash leaves the tables after the accepted calls, or these with one call to which a fault
+    // was answered since the last of them; also where a fault has shut the store.
     ensures crash { CrashByTables B.Books desk.old desk.new (λ T T'. (count : ℕ)
         × IsCount requests result count × ServesCalls (LeavesAll T) at count T') }
 
-    // The former stand for the legal history with these calls, for which the tables stood without them.
+    // The former stand for the legal history with these calls, for which the tables stood without
+    // them.
     ensures crash_history { CrashByHistory B.Books desk.old desk.new (λ h T. (count : ℕ)
         × IsCount requests result count × ServesCalls (LeavesAllOf h) at count T) }
 
     // However it ends: one user at most bears a digest, and accounts that add up keep adding up.
     ensures keeps { KeepsInvariants B.Books desk.old desk.new }
 
-    // It ends by the clock only where no moment is given, and as `Store` only where the store answered a fault.
+    // It ends by the clock only where no moment is given, and as `Store` only where the store
+    // answered a fault.
     ensures clock { result ≡ Err ServeEnd.Clock → at ≡ None }
     ensures store { result ≡ Err ServeEnd.Store → 0 < B.failures desk.new }
 {
@@ -77,7 +93,8 @@ pub fn serve_connections<B: Keeper>(
     answer_connections(rt, &mut listening, requests, at, site, desk)
 }
 
-/// The connections of a listener. Those that wait are accepted. Nothing is known of what clients send and are sent.
+/// The connections of a listener. Those that wait are accepted. Nothing is known of what clients
+/// send and are sent.
 struct Listening<'a> {
     listener: &'a TcpListener,
     waiting: VecDeque<TcpStream>,
@@ -152,8 +169,8 @@ impl Write for Half {
     }
 }
 
-/// A connection over a stream, where there is memory for it. The reply is gathered, so that a page does not go out row by
-/// row.
+/// A connection over a stream, where there is memory for it. The reply is gathered, so that a page
+/// does not go out row by row.
 fn connection_over(
     alloc: Global,
     stream: TcpStream,
@@ -173,8 +190,9 @@ fn connection_over(
     })
 }
 
-/// The next connection of those that wait. As many as can be accepted without a wait are, up to those that are left to
-/// answer: the system's queue has room for 128, and a client that finds it full tries again after a second.
+/// The next connection of those that wait. As many as can be accepted without a wait are, up to
+/// those that are left to answer: the system's queue has room for 128, and a client that finds it
+/// full tries again after a second.
 fn next_waiting(
     rt: &HostRuntime,
     listener: &TcpListener,
@@ -202,8 +220,8 @@ fn next_waiting(
     }
 }
 
-/// The next connection. Where none can be accepted it is tried again for a while, since the reason may pass: a client who
-/// is gone already, or as many open files as the system gives.
+/// The next connection. Where none can be accepted it is tried again for a while, since the reason
+/// may pass: a client who is gone already, or as many open files as the system gives.
 fn next_connection(rt: &HostRuntime, listener: &TcpListener) -> io::Result<TcpStream> {
     for _try in 1..ACCEPT_TRIES {
         if let Ok((stream, _)) = listener.accept() {

@@ -3,7 +3,8 @@ ghost use Rattle.std.specs.Prelude.{◌≡◌, Some};
 ghost use Rattle.index_names.specs.Project.{read_name};
 ghost use Rattle.index_desk.specs.Rules.{by_tables};
 ghost use Rattle.index_json.specs.Line.{line_of};
-ghost use Rattle.index_cli.specs.Replies.{RepliesStanding, RepliesToLine, line_reply_text, TellsKept};
+ghost use Rattle.index_cli.specs.Replies.{RepliesStanding, RepliesToLine, TellsKept};
+ghost use Rattle.index_cli.specs.Replies.{line_reply_text};
 ghost use Rattle.index_cli.specs.Telling.{TellsAsked};
 ghost use Rattle.index_cli.specs.TellsCalls.{AsksKept, AsksOf};
 
@@ -15,46 +16,49 @@ use index_names::{NameFault, NormalName, normal};
 use index_rules::{Answer, Books, Refusal};
 use std::alloc::Global;
 
-/// The reply to a line, without a line feed. That to a call is fixed, so that it takes no memory once the
-/// call was applied.
+/// The reply to a line, without a line feed. That to a call is fixed, so that it takes no memory
+/// once the call was applied.
 #[derive(Debug, Drop)]
-pub enum Reply {
+pub enum LineReply {
     Fixed(&'static str),
     Made(String),
 }
 
-impl Reply {
+impl LineReply {
     /// The reply's text.
     pub fn as_bytes(&self) -> &[u8]
         ensures { result.now ≡ line_reply_text self.now }
     {
         match self {
-            Reply::Fixed(text) => text.as_bytes(),
-            Reply::Made(text) => text.as_str().as_bytes(),
+            LineReply::Fixed(text) => text.as_bytes(),
+            LineReply::Made(text) => text.as_str().as_bytes(),
         }
     }
 }
 
 /// The reply to a line of this size, of which `front` has the first 65,536 bytes. A longer one asks
-/// nothing.
-/// After `OutOfMemory`, its one error, no call was taken.
+/// nothing. After `OutOfMemory`, its one error, no call was taken.
 pub fn reply_to<B: Books>(
     alloc: Global,
     desk: &mut Desk<B>,
     front: &[u8],
     size: u64,
-) -> Result<Reply, LineEnd>
+) -> Result<LineReply, LineEnd>
     ensures { RepliesToLine B.Books desk.old desk.new result
         (TellsKept size front.now) (AsksKept size front.now) }
 {
     if size > LONGEST_LINE {
-        return Ok(Reply::Fixed(bad_body()));
+        return Ok(LineReply::Fixed(bad_body()));
     }
     reply_to_read(alloc, desk, front)
 }
 
 /// The reply to a line that is not too long.
-fn reply_to_read<B: Books>(alloc: Global, desk: &mut Desk<B>, line: &[u8]) -> Result<Reply, LineEnd>
+fn reply_to_read<B: Books>(
+    alloc: Global,
+    desk: &mut Desk<B>,
+    line: &[u8],
+) -> Result<LineReply, LineEnd>
     ensures { RepliesToLine B.Books desk.old desk.new result
         (TellsAsked by_tables (line_of line.now)) (AsksOf (line_of line.now)) }
 {
@@ -62,8 +66,8 @@ fn reply_to_read<B: Books>(alloc: Global, desk: &mut Desk<B>, line: &[u8]) -> Re
         return Err(LineEnd::OutOfMemory);
     };
     match asked {
-        None => Ok(Reply::Fixed(bad_body())),
-        Some(Line::Call(call)) => Ok(Reply::Fixed(answer_text(&desk.apply(alloc, call)))),
+        None => Ok(LineReply::Fixed(bad_body())),
+        Some(Line::Call(call)) => Ok(LineReply::Fixed(answer_text(&desk.apply(alloc, call)))),
         Some(Line::Standing(name)) => standing_reply(alloc, desk, name.as_slice()),
     }
 }
@@ -73,13 +77,13 @@ fn standing_reply<B: Books>(
     alloc: Global,
     desk: &mut Desk<B>,
     name: &[u8],
-) -> Result<Reply, LineEnd>
+) -> Result<LineReply, LineEnd>
     ensures { RepliesStanding B.Books desk.old desk.new result (read_name name.now) }
 {
     match normal(alloc, name) {
         Ok(name) => known_reply(alloc, desk, &name),
         Err(NameFault::OutOfMemory) => Err(LineEnd::OutOfMemory),
-        Err(_) => Ok(Reply::Fixed(answer_text(&Answer::Refused(Refusal::BadName)))),
+        Err(_) => Ok(LineReply::Fixed(answer_text(&Answer::Refused(Refusal::BadName)))),
     }
 }
 
@@ -88,17 +92,17 @@ fn known_reply<B: Books>(
     alloc: Global,
     desk: &mut Desk<B>,
     name: &NormalName,
-) -> Result<Reply, LineEnd>
+) -> Result<LineReply, LineEnd>
     ensures { RepliesStanding B.Books desk.old desk.new result (Some name.now) }
 {
     let standing = match desk.standing(alloc, name) {
         Ok(standing) => standing,
-        Err(fault) => return Ok(Reply::Fixed(answer_text(&Answer::Fault(fault)))),
+        Err(fault) => return Ok(LineReply::Fixed(answer_text(&Answer::Fault(fault)))),
     };
     let text = standing_text(alloc, &standing);
     drop(standing);
     match text {
-        Ok(text) => Ok(Reply::Made(text)),
+        Ok(text) => Ok(LineReply::Made(text)),
         Err(_) => Err(LineEnd::OutOfMemory),
     }
 }

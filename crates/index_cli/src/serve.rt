@@ -1,12 +1,18 @@
 //! Connections, one after the other.
-ghost use Rattle.std.specs.Prelude.{◌≡◌, ◌≢◌, ◌<◌, true, ℕ, Err, None, IfErr, IfOk, IfSome, OnErr, OnOk};
+ghost use Rattle.std.specs.Prelude.{◌≡◌, ◌≢◌, ◌<◌, true, ℕ, Err, None};
+ghost use Rattle.std.specs.Prelude.{IfErr, IfOk, IfSome, OnErr, OnOk};
 ghost use Rattle.index_desk.specs.Crashes.{LeavesAll, LeavesAllOf};
 ghost use Rattle.index_desk.specs.Invariants.{KeepsInvariants};
 ghost use Rattle.index_desk.specs.Looks.{LeavesTables};
-ghost use Rattle.index_desk.specs.Rules.{by_tables};
+ghost use Rattle.index_desk.specs.Rules.{by_history, by_tables};
 ghost use Rattle.index_desk.specs.Takes.{ByHistory, ByTables, CrashByHistory, CrashByTables};
 ghost use Rattle.index_cli.specs.Connections.{AddsReply, AreOn, IsRest};
-ghost use Rattle.index_cli.specs.Serving.{AnswersMessage, AnswersNext, IsCount, ServesCallsOn, ServesHistoryOn, ServesOn};
+ghost use Rattle.index_http.specs.Steps.{at_desk};
+ghost use Rattle.index_cli.specs.ServesFront.{ServesFrontOn};
+ghost use Rattle.index_cli.specs.Serving.{AnswersMessage, AnswersNext, IsCount};
+ghost use Rattle.index_cli.specs.Serving.{ServesCallsOn, ServesHistoryOn, ServesOn};
+ghost use Rattle.index_cli.specs.Steps.{on_connections};
+ghost use Rattle.index_cli.specs.TellsFront.{FrontByHistory, FrontByTables};
 
 use crate::connections::{Connection, Connections};
 use crate::end::ServeEnd;
@@ -20,14 +26,15 @@ use std::alloc::Global;
 use std::fmt::Display;
 use std::time::SystemTime;
 
-/// Answers one message of each of so many connections, one connection after the other, at a moment in Unix seconds or
-/// at that of the clock. Why one of them ended early is named on standard error, and the next is served.
+/// Answers one message of each of so many connections, one connection after the other, at a moment
+/// in Unix seconds or at that of the clock. Why one of them ended early is named on standard error,
+/// and the next is served.
 ///
 /// # Errors
 ///
-/// `ReadFault` where no connection can be accepted, `Clock` where the clock can't be read or stands before 1970, and
-/// `Store` where a fault has shut the store and more connections are to come: no further request of them could be
-/// answered, and a new opening goes on from what was committed.
+/// `ReadFault` where no connection can be accepted, `Clock` where the clock can't be read or stands
+/// before 1970, and `Store` where a fault has shut the store and more connections are to come: no
+/// further request of them could be answered, and a new opening goes on from what was committed.
 pub fn answer_connections<C: Connections, B: Keeper>(
     rt: &HostRuntime,
     connections: &mut C,
@@ -36,27 +43,43 @@ pub fn answer_connections<C: Connections, B: Keeper>(
     site: &Site,
     desk: &mut Desk<B>,
 ) -> Result<(), ServeEnd>
-    // By the tables: what was told of how many connections, and the tables after them. Where it is known what their clients
-    // send and what went out, these are the messages that were answered and the replies.
+    // By the tables: what was told of how many connections, and the tables after them. Where it is
+    // known what their clients send and what went out, these are the messages that were answered
+    // and the replies.
     ensures tables { ByTables B.Books desk.old desk.new (λ T T'. (count : ℕ)
         × IsCount requests result count
         × ServesOn (AreOn C.coming C.replies connections.old connections.new)
         by_tables at count T T') }
 
-    // By a legal history for which the tables stood: the same, and they stand for the history with what was accepted.
+    // By a legal history for which the tables stood: the same, and they stand for the history with
+    // what was accepted.
     ensures history { ByHistory B.Books desk.old desk.new (λ h T. (count : ℕ)
         × IsCount requests result count
         × ServesHistoryOn (AreOn C.coming C.replies connections.old connections.new)
         h at count T) }
 
-    // A crash leaves the tables after the accepted calls, or these with one call to which a fault was answered since the
-    // last of them; also where a fault has shut the store.
+    // Also where a fault has shut the store: the same of the connections up to the last of which a
+    // call was accepted.
+    ensures told { FrontByTables B.Books desk.old desk.new (λ T T'. (count : ℕ)
+        × IsCount requests result count
+        × ServesFrontOn (AreOn C.coming C.replies connections.old connections.new)
+        by_tables at count T) }
+
+    // By a legal history for which the tables stood: that too.
+    ensures told_history { FrontByHistory B.Books desk.old desk.new (λ h T. (count : ℕ)
+        × IsCount requests result count
+        × ServesFrontOn (AreOn C.coming C.replies connections.old connections.new)
+        by_history at count h) }
+
+    // A crash leaves the tables after the accepted calls, or these with one call to which a fault
+    // was answered since the last of them; also where a fault has shut the store.
     ensures crash { CrashByTables B.Books desk.old desk.new (λ T T'. (count : ℕ)
         × IsCount requests result count
         × ServesCallsOn (AreOn C.coming C.replies connections.old connections.new)
         (LeavesAll T) at count T') }
 
-    // The former stand for the legal history with these calls, for which the tables stood without them.
+    // The former stand for the legal history with these calls, for which the tables stood without
+    // them.
     ensures crash_history { CrashByHistory B.Books desk.old desk.new (λ h T. (count : ℕ)
         × IsCount requests result count
         × ServesCallsOn (AreOn C.coming C.replies connections.old connections.new)
@@ -65,25 +88,25 @@ pub fn answer_connections<C: Connections, B: Keeper>(
     // However it ends: one user at most bears a digest, and accounts that add up keep adding up.
     ensures keeps { KeepsInvariants B.Books desk.old desk.new }
 
-    // It ends by the clock only where no moment is given, and as `Store` only where the store answered a fault.
+    // It ends by the clock only where no moment is given, and as `Store` only where the store
+    // answered a fault.
     ensures clock { result ≡ Err ServeEnd.Clock → at ≡ None }
     ensures store { result ≡ Err ServeEnd.Store → 0 < B.failures desk.new }
 {
     let mut was_shut = false;
-    let mut left = requests;
-    for _count in 0..requests {
+    for count in 0..requests {
         if was_shut {
             return Err(ServeEnd::Store);
         }
         let failures = desk.failure_count();
-        answer_next(rt, connections, left, at, site, desk)?;
-        left = left.saturating_sub(1);
+        answer_next(rt, connections, requests - count, at, site, desk)?;
         was_shut = is_shut(rt.alloc(), desk, failures);
     }
     Ok(())
 }
 
-/// Answers the message of the next connection, where so many are left. Why that ended early is named on standard error.
+/// Answers the message of the next connection, where so many are left. Why that ended early is
+/// named on standard error.
 fn answer_next<C: Connections, B: Keeper>(
     rt: &HostRuntime,
     connections: &mut C,
@@ -92,8 +115,8 @@ fn answer_next<C: Connections, B: Keeper>(
     site: &Site,
     desk: &mut Desk<B>,
 ) -> Result<(), ServeEnd>
-    ensures answers { OnOk result (AnswersNext B.Books desk.old desk.new
-        C.coming C.replies connections.old connections.new at) }
+    ensures answers { OnOk result (AnswersNext at (at_desk B.Books desk.old desk.new)
+        (on_connections C.coming C.replies connections.old connections.new)) }
     ensures unasked { OnErr result (desk.new ≡ desk.old) }
     ensures rest { OnErr result (IsRest (C.coming connections.old) (C.coming connections.new)) }
     ensures unsent { OnErr result (C.replies connections.new ≡ C.replies connections.old) }
@@ -127,7 +150,8 @@ fn answer_accepted<C: Connections, B: Keeper>(
     at: u64,
 ) -> Result<(), IoEnd>
     requires open { C.IsOpen connections.old }
-    ensures answered { (has : _) × AddsReply (C.replies connections.old) (C.replies connections.new) has
+    ensures answered { (has : _)
+        × AddsReply (C.replies connections.old) (C.replies connections.new) has
         × AnswersMessage B.Books desk.old desk.new (record {
           at = at;
           given = C.ReadHalf.remaining connection.source;
@@ -152,8 +176,9 @@ fn answer_accepted<C: Connections, B: Keeper>(
     }
 }
 
-/// Whether a fault has shut the store: one was answered since there were so many, and looks at two names are answered by
-/// one too. A row that is no record, which another program wrote, shuts nothing.
+/// Whether a fault has shut the store: one was answered since there were so many, and looks at two
+/// names are answered by one too. A row that is no record, which another program wrote, shuts
+/// nothing.
 fn is_shut<B: Keeper>(alloc: Global, desk: &mut Desk<B>, failures: u64) -> bool
     ensures leaves { LeavesTables B.Books desk.old desk.new }
     ensures store { result ≡ true → 0 < B.failures desk.new }

@@ -6,6 +6,7 @@ use Rattle.index_cli.proofs.Calls.{taken_none}
 use Rattle.index_cli.proofs.CauseLemmas.{HaveFailed-push, faults_before, faults_push, none_failed}
 use Rattle.index_cli.proofs.Crashes.{lines_crash, lines_crash_history, lines_history, taken_push}
 use Rattle.index_cli.proofs.Cuts.{Charges-trans, TakesPart-none}
+use Rattle.index_cli.proofs.Fronts.{front_none, front_push, lines_front, lines_front_history}
 use Rattle.index_cli.proofs.Progress.{Progress-during, Progress-none, Progress-part, Progress-push, Progress-taken, Progress-whole, lines_push}
 use Rattle.index_cli.proofs.RunEnds.{Ends-before, failed_or_spent}
 use Rattle.index_cli.proofs.apply.apply_lines.Goals as goal
@@ -15,6 +16,7 @@ use Rattle.index_cli.proofs.apply.apply_lines.Goals as goal
 pub loop-count-init : goal.loop-count-init
 loop-count-init g c = record {
   progress = search rules;
+  fronts = Progress-none _ _ _ _ (front_none _ _);
   called = Progress-none _ _ _ _ (refl, taken_none _ _ (g.met.B.Books.settled _));
   faults = (0, none_failed _ _ (inl refl), Progress-none _ _ _ _ (refl, refl));
   charged = search rules;
@@ -37,6 +39,20 @@ pub returns-in_err-size-clause-history : goal.returns-in_err-size-clause-history
 returns-in_err-size-clause-history g c = λ honest h legal stands.
     lines_history h legal _ stands _ _ _ _ _ _
     (returns-in_err-size-clause-tables g c honest (sound_when_legal h legal _ stands).one_bearer)
+
+pub returns-in_err-size-clause-told : goal.returns-in_err-size-clause-told
+returns-in_err-size-clause-told g c = λ honest clean one.
+    let is : c.from_residual.result ≡ Err c.in_err-size.field-0.0 = search rules in
+    let other : c.from_residual.result ≢ Err WriteFault = search rules in
+    let B = g.B.Books in
+    lines_front B _ _ honest clean one _ _ _ _ _ _ _
+    (Ends-before _ _ _ _ _ _ c.from_residual.result c.in_err-size.field-0.0 is other
+    (Progress-part _ _ _ _ _ _ _ _ c.loop-count.invariant.fronts c.in_err-size.ensures.part))
+
+pub returns-in_err-size-clause-told_history : goal.returns-in_err-size-clause-told_history
+returns-in_err-size-clause-told_history g c = λ honest clean h legal stands.
+    lines_front_history h legal _ stands _ _ _ _ _ _
+    (returns-in_err-size-clause-told g c honest clean (sound_when_legal h legal _ stands).one_bearer)
 
 pub returns-in_err-size-clause-crash : goal.returns-in_err-size-clause-crash
 returns-in_err-size-clause-crash g c = λ honest clean one T left.
@@ -90,6 +106,18 @@ returns-in_default-clause-history g c = λ honest h legal stands.
     lines_history h legal _ stands _ _ _ _ _ (Ok _)
     (returns-in_default-clause-tables g c honest (sound_when_legal h legal _ stands).one_bearer)
 
+pub returns-in_default-clause-told : goal.returns-in_default-clause-told
+returns-in_default-clause-told g c = λ honest clean one.
+    let end = rw c.in_default.is at c.in_ok-size.ensures.line in
+    let B = g.B.Books in
+    lines_front B _ _ honest clean one _ _ _ _ _ _ (Ok _)
+    (Progress-whole _ _ _ _ _ _ _ _ c.loop-count.invariant.fronts end.0 end.1)
+
+pub returns-in_default-clause-told_history : goal.returns-in_default-clause-told_history
+returns-in_default-clause-told_history g c = λ honest clean h legal stands.
+    lines_front_history h legal _ stands _ _ _ _ _ (Ok _)
+    (returns-in_default-clause-told g c honest clean (sound_when_legal h legal _ stands).one_bearer)
+
 pub returns-in_default-clause-crash : goal.returns-in_default-clause-crash
 returns-in_default-clause-crash g c = λ honest clean one T left.
     let end = rw c.in_default.is at c.in_ok-size.ensures.line in
@@ -123,6 +151,21 @@ pub returns-in_err-reply-clause-history : goal.returns-in_err-reply-clause-histo
 returns-in_err-reply-clause-history g c = λ honest h legal stands.
     lines_history h legal _ stands _ _ _ _ _ _
     (returns-in_err-reply-clause-tables g c honest (sound_when_legal h legal _ stands).one_bearer)
+
+pub returns-in_err-reply-clause-told : goal.returns-in_err-reply-clause-told
+returns-in_err-reply-clause-told g c = λ honest clean one.
+    let is : c.from_residual-in_err-reply.result ≡ Err c.in_err-reply.field-0.0 = search rules in
+    let other : c.from_residual-in_err-reply.result ≢ Err WriteFault = search rules in
+    let leaves = c.in_err-reply.ensures.leaves in
+    let B = g.B.Books in
+    lines_front B _ c.loop-count.desk honest (leaves.clean clean) one _ _ _ _ _ _ _
+    (Ends-before _ _ _ _ _ _ c.from_residual-in_err-reply.result c.in_err-reply.field-0.0 is other
+    (Progress-taken _ _ _ _ _ _ _ _ c.in-Some.size _ c.loop-count.invariant.fronts (rw c.in-Some.is at c.in_ok-size.ensures.line)))
+
+pub returns-in_err-reply-clause-told_history : goal.returns-in_err-reply-clause-told_history
+returns-in_err-reply-clause-told_history g c = λ honest clean h legal stands.
+    lines_front_history h legal _ stands _ _ _ _ _ _
+    (returns-in_err-reply-clause-told g c honest clean (sound_when_legal h legal _ stands).one_bearer)
 
 pub returns-in_err-reply-clause-crash : goal.returns-in_err-reply-clause-crash
 returns-in_err-reply-clause-crash g c = λ honest clean one T left.
@@ -159,23 +202,41 @@ returns-in_err-reply-clause-limit g c =
 
 -- ---- a write failed
 
-pub returns-in_default-told-clause-tables : goal.returns-in_default-told-clause-tables
-returns-in_default-told-clause-tables g c = λ honest one.
+pub returns-in_default-write_line-clause-tables : goal.returns-in_default-write_line-clause-tables
+returns-in_default-write_line-clause-tables g c = λ honest one.
     let honest_then = c.reply_to.ensures.keeps.honest honest in
-    let front = rw c.as_bytes.ensures at c.in_default-told.ensures.front in
+    let front = c.in_default-write_line.ensures.front in
     Progress-during _ _ _ _ _ _ _ _ _ _ _ c.in-Some.size _ _ _ (c.loop-count.invariant.progress honest_then one)
     (rw c.in-Some.is at c.in_ok-size.ensures.line)
     (lines_push _ _ _ _ _ _ (rw c.as_slice.ensures.value at (c.in_ok-reply.ensures.reply honest (c.loop-count.invariant.keeps.one_bearer honest_then one))))
     front.0 front.1
 
-pub returns-in_default-told-clause-history : goal.returns-in_default-told-clause-history
-returns-in_default-told-clause-history g c = λ honest h legal stands.
+pub returns-in_default-write_line-clause-history : goal.returns-in_default-write_line-clause-history
+returns-in_default-write_line-clause-history g c = λ honest h legal stands.
     lines_history h legal _ stands _ _ _ _ _ (Err WriteFault)
-    (returns-in_default-told-clause-tables g c honest (sound_when_legal h legal _ stands).one_bearer)
+    (returns-in_default-write_line-clause-tables g c honest (sound_when_legal h legal _ stands).one_bearer)
 
-pub returns-in_default-told-clause-crash : goal.returns-in_default-told-clause-crash
-returns-in_default-told-clause-crash g c = λ honest clean one T left.
-    let front = rw c.as_bytes.ensures at c.in_default-told.ensures.front in
+pub returns-in_default-write_line-clause-told : goal.returns-in_default-write_line-clause-told
+returns-in_default-write_line-clause-told g c = λ honest clean one.
+    let front = c.in_default-write_line.ensures.front in
+    let B = g.B.Books in
+    let reply = rw c.as_slice.ensures.value at c.in_ok-reply.ensures.reply in
+    let lasts = rw c.as_slice.ensures.value at c.in_ok-reply.ensures.lasts in
+    let asks = rw c.as_slice.ensures.value at c.in_ok-reply.ensures.asks in
+    lines_front B _ c.reply_to.new.desk honest clean one (B.tables c.reply_to.new.desk) _ _ _ _ _ (Err WriteFault)
+    (Progress-during _ _ _ _ _ _ _ _ _ _ _ c.in-Some.size _ _ _ c.loop-count.invariant.fronts
+    (rw c.in-Some.is at c.in_ok-size.ensures.line)
+    (front_push B _ _ _ (B.tables c.loop-count.desk) (B.tables c.reply_to.new.desk) _ _ _ c.loop-count.invariant.keeps c.reply_to.ensures.keeps reply lasts asks)
+    front.0 front.1)
+
+pub returns-in_default-write_line-clause-told_history : goal.returns-in_default-write_line-clause-told_history
+returns-in_default-write_line-clause-told_history g c = λ honest clean h legal stands.
+    lines_front_history h legal _ stands _ _ _ _ _ (Err WriteFault)
+    (returns-in_default-write_line-clause-told g c honest clean (sound_when_legal h legal _ stands).one_bearer)
+
+pub returns-in_default-write_line-clause-crash : goal.returns-in_default-write_line-clause-crash
+returns-in_default-write_line-clause-crash g c = λ honest clean one T left.
+    let front = c.in_default-write_line.ensures.front in
     let B = g.B.Books in
     lines_crash B _ _ honest clean one T left (B.tables c.reply_to.new.desk) _ _ _ _ (Err WriteFault)
     (Progress-during _ _ _ _ _ _ _ _ _ _ _ c.in-Some.size _ _ _ c.loop-count.invariant.called
@@ -183,14 +244,14 @@ returns-in_default-told-clause-crash g c = λ honest clean one T left.
     (taken_push B _ _ _ _ (B.tables c.reply_to.new.desk) _ _ _ (rw c.as_slice.ensures.value at c.in_ok-reply.ensures.asks))
     front.0 front.1)
 
-pub returns-in_default-told-clause-crash_history : goal.returns-in_default-told-clause-crash_history
-returns-in_default-told-clause-crash_history g c = λ honest clean h legal stands T left.
+pub returns-in_default-write_line-clause-crash_history : goal.returns-in_default-write_line-clause-crash_history
+returns-in_default-write_line-clause-crash_history g c = λ honest clean h legal stands T left.
     lines_crash_history h legal _ stands T _ _ _ _ (Err WriteFault)
-    (returns-in_default-told-clause-crash g c honest clean (sound_when_legal h legal _ stands).one_bearer T left)
+    (returns-in_default-write_line-clause-crash g c honest clean (sound_when_legal h legal _ stands).one_bearer T left)
 
-pub returns-in_default-told-clause-store : goal.returns-in_default-told-clause-store
-returns-in_default-told-clause-store g c =
-    let front = rw c.as_bytes.ensures at c.in_default-told.ensures.front in
+pub returns-in_default-write_line-clause-store : goal.returns-in_default-write_line-clause-store
+returns-in_default-write_line-clause-store g c =
+    let front = c.in_default-write_line.ensures.front in
     let told = c.loop-count.invariant.faults in
     let causes = c.in_ok-reply.ensures.causes.told in (
       told.0 + causes.0,
@@ -201,20 +262,20 @@ returns-in_default-told-clause-store g c =
           front.0 front.1,
     )
 
-pub returns-in_default-told-clause-fails : goal.returns-in_default-told-clause-fails
-returns-in_default-told-clause-fails g c = record {
+pub returns-in_default-write_line-clause-fails : goal.returns-in_default-write_line-clause-fails
+returns-in_default-write_line-clause-fails g c = record {
   read_fault = search rules;
-  write_fault = λ _. rw c.loop-count.invariant.writes at c.in_default-told.ensures.failed;
+  write_fault = λ _. rw c.loop-count.invariant.writes at c.in_default-write_line.ensures.failed;
   reads = λ _. c.in_ok-size.ensures.kept (search rules) ∙ c.loop-count.invariant.reads;
   writes = search rules;
 }
 
-pub returns-in_default-told-clause-limit : goal.returns-in_default-told-clause-limit
-returns-in_default-told-clause-limit g c =
+pub returns-in_default-write_line-clause-limit : goal.returns-in_default-write_line-clause-limit
+returns-in_default-write_line-clause-limit g c =
     (c.next_line.new.left, Charges-trans _ _ _ _ _ _ c.loop-count.invariant.charged c.next_line.ensures.charged)
 
-pub returns-in_default-told-clause-keeps : goal.returns-in_default-told-clause-keeps
-returns-in_default-told-clause-keeps g c = keeps_on _ _ _ _ c.loop-count.invariant.keeps c.reply_to.ensures.keeps
+pub returns-in_default-write_line-clause-keeps : goal.returns-in_default-write_line-clause-keeps
+returns-in_default-write_line-clause-keeps g c = keeps_on _ _ _ _ c.loop-count.invariant.keeps c.reply_to.ensures.keeps
 
 -- ---- a line was answered
 
@@ -228,18 +289,26 @@ loop-count-preserved g c =
           Progress-push _ _ _ _ _ _ _ _ _ _ _ c.in-Some.size _ _ (invariant.progress honest_then one)
           (rw c.in-Some.is at c.in_ok-size.ensures.line)
           (lines_push _ _ _ _ _ _ (rw c.as_slice.ensures.value at (c.in_ok-reply.ensures.reply honest (invariant.keeps.one_bearer honest_then one))))
-          (rw c.as_bytes.ensures at c.in-Ok.ensures.whole);
+          c.in-Ok.ensures.whole;
+      fronts =
+          let reply = rw c.as_slice.ensures.value at c.in_ok-reply.ensures.reply in
+          let lasts = rw c.as_slice.ensures.value at c.in_ok-reply.ensures.lasts in
+          let asks = rw c.as_slice.ensures.value at c.in_ok-reply.ensures.asks in
+          Progress-push _ _ _ _ _ _ _ _ _ _ _ c.in-Some.size _ _ invariant.fronts
+          (rw c.in-Some.is at c.in_ok-size.ensures.line)
+          (front_push B _ _ _ (B.tables c.loop-count.desk) (B.tables c.reply_to.new.desk) _ _ _ invariant.keeps c.reply_to.ensures.keeps reply lasts asks)
+          c.in-Ok.ensures.whole;
       called = Progress-push _ _ _ _ _ _ _ _ _ _ _ c.in-Some.size _ _ invariant.called
           (rw c.in-Some.is at c.in_ok-size.ensures.line)
           (taken_push B _ _ _ _ _ _ _ _ (rw c.as_slice.ensures.value at c.in_ok-reply.ensures.asks))
-          (rw c.as_bytes.ensures at c.in-Ok.ensures.whole);
+          c.in-Ok.ensures.whole;
       faults = let causes = c.in_ok-reply.ensures.causes.told in (
         invariant.faults.0 + causes.0,
         HaveFailed-push invariant.faults.0 causes.0 _ _ _ invariant.faults.1 causes.2,
         Progress-push _ _ _ _ _ _ _ _ _ _ _ c.in-Some.size _ _ invariant.faults.2
             (rw c.in-Some.is at c.in_ok-size.ensures.line)
             (faults_push invariant.faults.0 causes.0 _ (B.tables c.loop-count.desk) (B.tables c.reply_to.new.desk) _ _ causes.1)
-            (rw c.as_bytes.ensures at c.in-Ok.ensures.whole),
+            c.in-Ok.ensures.whole,
       );
       charged = Charges-trans _ _ _ _ _ _ invariant.charged c.next_line.ensures.charged;
       spent = let less = rw c.in-Some.is at c.in_ok-size.ensures.left in omega (arith, less.1, invariant.spent);
@@ -258,6 +327,17 @@ pub returns-clause-history : goal.returns-clause-history
 returns-clause-history g c = λ honest h legal stands.
     lines_history h legal _ stands _ _ _ _ _ (Err ReadFault)
     (returns-clause-tables g c honest (sound_when_legal h legal _ stands).one_bearer)
+
+pub returns-clause-told : goal.returns-clause-told
+returns-clause-told g c = λ honest clean one.
+    let B = g.B.Books in
+    lines_front B _ _ honest clean one _ _ _ _ _ _ (Err ReadFault)
+    (Progress-part _ _ _ _ _ _ _ _ c.loop-count.invariant.fronts (TakesPart-none _))
+
+pub returns-clause-told_history : goal.returns-clause-told_history
+returns-clause-told_history g c = λ honest clean h legal stands.
+    lines_front_history h legal _ stands _ _ _ _ _ (Err ReadFault)
+    (returns-clause-told g c honest clean (sound_when_legal h legal _ stands).one_bearer)
 
 pub returns-clause-crash : goal.returns-clause-crash
 returns-clause-crash g c = λ honest clean one T left.

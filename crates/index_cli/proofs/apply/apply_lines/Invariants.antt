@@ -8,6 +8,7 @@ use Rattle.index_cli.specs.Lines.{Charges}
 use Rattle.index_cli.specs.Telling.{TellsLines}
 use Rattle.index_cli.specs.TellsCalls.{TellsCalls}
 use Rattle.index_cli.proofs.Calls.{by_taken}
+use Rattle.index_cli.proofs.Fronts.{by_front}
 use Rattle.index_cli.proofs.Progress.{Progress}
 use Rattle.index_cli.proofs.apply.apply_lines.Given as goal
 
@@ -21,6 +22,8 @@ invariant-loop-count g l =
     record {
       progress : honest → HasOneBearer before
           → Progress (TellsLines by_tables before) now given left (g.K.Sink.contents l.fn.sink) (g.K.Sink.contents l.sink) l.count;
+      fronts : Progress (by_front g.B.Books l.fn.desk l.desk) now
+          given left (g.K.Sink.contents l.fn.sink) (g.K.Sink.contents l.sink) l.count;
       called : Progress (TellsCalls (by_taken g.B.Books l.fn.desk l.desk)) now
           given left (g.K.Sink.contents l.fn.sink) (g.K.Sink.contents l.sink) l.count;
       faults : (faults : ℕ) × HaveFailed faults (g.B.Books.failures l.fn.desk) (g.B.Books.failures l.desk)

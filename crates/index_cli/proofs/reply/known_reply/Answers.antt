@@ -1,10 +1,11 @@
-use Rattle.std.proofs.Common.{rules}
+use Rattle.std.proofs.Common.{inl, inr, rules}
 use Rattle.index_cli.proofs.CauseLemmas.{fault_causes, standing_causes}
 use Rattle.index_cli.proofs.reply.known_reply.Goals as goal
 
 pub returns-in-Err : goal.returns-in-Err
 returns-in-Err g c = record {
   reply = search rules;
+  lasts = λ honest clean. inr ((c.in-Err.fault, c.answer_text.ensures), inr (c.in-Err.fault, c.answer_text.ensures));
   leaves = search rules;
   causes = record {
     told = fault_causes c.in-Err.fault _ _ _ c.answer_text.ensures c.in-Err.ensures.look.once c.in-Err.ensures.look.store;
@@ -16,6 +17,7 @@ returns-in-Err g c = record {
 pub returns-in-Ok-text : goal.returns-in-Ok-text
 returns-in-Ok-text g c = record {
   reply = search rules;
+  lasts = λ honest clean. inl (c.in-Ok.ensures.look.lasts honest clean);
   leaves = search rules;
   causes = record {
     told = standing_causes c.in-Ok.standing _ _ _ c.in-Ok-text.ensures.text c.in-Ok.ensures.look.once;

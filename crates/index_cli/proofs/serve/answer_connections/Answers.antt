@@ -5,6 +5,7 @@ use Rattle.index_cli.specs.declared.end.ServeEnd.{ServeEnd}
 use Rattle.index_cli.specs.Serving.{IsCount}
 use Rattle.index_cli.proofs.Crashes.{serves_crash, serves_crash_history, serves_look, serves_push}
 use Rattle.index_cli.proofs.Served.{are_on, are_push, calls_are}
+use Rattle.index_cli.proofs.ServedFronts.{served_front, served_front_history, served_look, served_push}
 use Rattle.index_cli.proofs.serve.answer_connections.Goals as goal
 
 -- a connection is answered, and then a look is made, which changes no table
@@ -43,6 +44,10 @@ loop-count-preserved g c =
             legal = it.legal;
             stands = it.stands;
           });
+      fronts = λ clean one.
+          served_look B _ _ _ _ _ _ looked
+          (served_push B _ _ next.exchange more _ next.is_given _ _ _ _ invariant.keeps next.answers (looked.clean clean) one
+          (invariant.fronts (kept.clean (looked.clean clean)) one));
       called =
           serves_look B _ _ _ _ (B.tables c.answer_next.new.desk) _ _ _ looked
           (serves_push B _ _ next.exchange more _ _ _ _ _ _ _ next.is_given next.answers.asks invariant.called);
@@ -50,18 +55,70 @@ loop-count-preserved g c =
       shut = c.is_shut-was_shut.ensures.store;
     }
 
--- ---- what a crash leaves
+-- ---- what was told
 
 -- fewer were answered
 early : (requests count : ℕ) (result : Result (Unit {0}) ServeEnd) (end : ServeEnd) → result ≡ Err end → count < requests → IsCount requests result count
 early requests count result end is less = subst (λ r. IsCount requests r count) (sym is) less
 
+pub returns-then-was_shut-clause-told : goal.returns-then-was_shut-clause-told
+returns-then-was_shut-clause-told g c = λ honest clean one.
+    let B = g.B.Books in
+    let C = g.C.Connections in
+    let less : c.loop-count.count < c.args.requests = search rules in (
+      c.loop-count.count,
+      less,
+      served_front B _ _ (are_on C.coming C.replies _ _ c.loop-count.connections (inl refl) refl) _ _ _ _
+          (c.loop-count.invariant.fronts clean one),
+    )
+
+pub returns-then-was_shut-clause-told_history : goal.returns-then-was_shut-clause-told_history
+returns-then-was_shut-clause-told_history g c = λ honest clean h legal stands.
+    let it = returns-then-was_shut-clause-told g c honest clean (sound_when_legal h legal _ stands).one_bearer in
+    (it.0, it.1, served_front_history h legal _ stands _ _ _ it.2)
+
+pub returns-in_err-answer_next-clause-told : goal.returns-in_err-answer_next-clause-told
+returns-in_err-answer_next-clause-told g c = λ honest clean one.
+    let B = g.B.Books in
+    let C = g.C.Connections in
+    let failed = c.in_err-answer_next.ensures in
+    let less : c.loop-count.count < c.args.requests = search rules in
+    let is : c.from_residual.result ≡ Err c.in_err-answer_next.field-0.0 = search rules in (
+      c.loop-count.count,
+      early _ _ _ _ is less,
+      served_front B _ _ (are_on C.coming C.replies _ _ c.answer_next.new.connections failed.rest failed.unsent) _ _ _ _
+          (c.loop-count.invariant.fronts (subst B.IsClean failed.unasked clean) one),
+    )
+
+pub returns-in_err-answer_next-clause-told_history : goal.returns-in_err-answer_next-clause-told_history
+returns-in_err-answer_next-clause-told_history g c = λ honest clean h legal stands.
+    let it = returns-in_err-answer_next-clause-told g c honest clean (sound_when_legal h legal _ stands).one_bearer in
+    (it.0, it.1, served_front_history h legal _ stands _ _ _ it.2)
+
+pub returns-clause-told : goal.returns-clause-told
+returns-clause-told g c = λ honest clean one.
+    let B = g.B.Books in
+    let C = g.C.Connections in
+    let all : c.loop-count.count ≡ c.args.requests = search rules in (
+      c.loop-count.count,
+      all,
+      served_front B _ _ (are_on C.coming C.replies _ _ c.loop-count.connections (inl refl) refl) _ _ _ _
+          (c.loop-count.invariant.fronts clean one),
+    )
+
+pub returns-clause-told_history : goal.returns-clause-told_history
+returns-clause-told_history g c = λ honest clean h legal stands.
+    let it = returns-clause-told g c honest clean (sound_when_legal h legal _ stands).one_bearer in
+    (it.0, it.1, served_front_history h legal _ stands _ _ _ it.2)
+
+-- ---- what a crash leaves
+
 pub returns-then-was_shut-clause-crash : goal.returns-then-was_shut-clause-crash
 returns-then-was_shut-clause-crash g c = λ honest clean one T left.
     let B = g.B.Books in
     let C = g.C.Connections in
-    let less : c.loop-count._count < c.args.requests = search rules in (
-      c.loop-count._count,
+    let less : c.loop-count.count < c.args.requests = search rules in (
+      c.loop-count.count,
       less,
       calls_are _ _ (are_on C.coming C.replies _ _ c.loop-count.connections (inl refl) refl) _ _ _ _
           (serves_crash B _ _ honest clean one T left _ _ _ _ c.loop-count.invariant.called),
@@ -77,11 +134,11 @@ returns-in_err-answer_next-clause-crash g c = λ honest clean one T left.
     let B = g.B.Books in
     let C = g.C.Connections in
     let failed = c.in_err-answer_next.ensures in
-    let less : c.loop-count._count < c.args.requests = search rules in
+    let less : c.loop-count.count < c.args.requests = search rules in
     let is : c.from_residual.result ≡ Err c.in_err-answer_next.field-0.0 = search rules in
     let clean_then = subst B.IsClean failed.unasked clean in
     let left_then = subst (λ desk. B.may_leave desk T) failed.unasked left in (
-      c.loop-count._count,
+      c.loop-count.count,
       early _ _ _ _ is less,
       calls_are _ _ (are_on C.coming C.replies _ _ c.answer_next.new.connections failed.rest failed.unsent) _ _ _ _
           (serves_crash B _ _ honest clean_then one T left_then _ _ _ _ c.loop-count.invariant.called),
@@ -96,8 +153,8 @@ pub returns-clause-crash : goal.returns-clause-crash
 returns-clause-crash g c = λ honest clean one T left.
     let B = g.B.Books in
     let C = g.C.Connections in
-    let all : c.loop-count._count ≡ c.args.requests = search rules in (
-      c.loop-count._count,
+    let all : c.loop-count.count ≡ c.args.requests = search rules in (
+      c.loop-count.count,
       all,
       calls_are _ _ (are_on C.coming C.replies _ _ c.loop-count.connections (inl refl) refl) _ _ _ _
           (serves_crash B _ _ honest clean one T left _ _ _ _ c.loop-count.invariant.called),

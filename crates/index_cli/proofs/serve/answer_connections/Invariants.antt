@@ -8,6 +8,7 @@ use Rattle.index_desk.specs.Rules.{by_tables}
 use Rattle.index_cli.specs.Serving.{ServesCallsOn, ServesHistoryOn, ServesOn}
 use Rattle.index_cli.proofs.Calls.{by_taken}
 use Rattle.index_cli.proofs.Served.{AreSoFar}
+use Rattle.index_cli.proofs.ServedFronts.{ServedSoFar}
 use Rattle.index_cli.proofs.serve.answer_connections.Given as goal
 
 -- what was true of the tables is, and they are those after the connections so far
@@ -18,9 +19,10 @@ invariant-loop-count g l =
     let honest = g.B.Books.IsHonest l.desk in
     let are = AreSoFar g.C.Connections.coming g.C.Connections.replies l.fn.connections l.connections in
     record {
-      tables : honest → HasOneBearer before → ServesOn are by_tables l.fn.at l._count before now;
-      history : honest → (h : History) → IsLegal h → StandsFor before h → ServesHistoryOn are h l.fn.at l._count now;
-      called : ServesCallsOn are (by_taken g.B.Books l.fn.desk l.desk) l.fn.at l._count now;
+      tables : honest → HasOneBearer before → ServesOn are by_tables l.fn.at l.count before now;
+      history : honest → (h : History) → IsLegal h → StandsFor before h → ServesHistoryOn are h l.fn.at l.count now;
+      fronts : g.B.Books.IsClean l.desk → HasOneBearer before → ServedSoFar g.B.Books are l.fn.at l.fn.desk l.desk l.count;
+      called : ServesCallsOn are (by_taken g.B.Books l.fn.desk l.desk) l.fn.at l.count now;
       keeps : KeepsInvariants g.B.Books l.fn.desk l.desk;
       shut : l.was_shut ≡ true → 0 < g.B.Books.failures l.desk;
     }

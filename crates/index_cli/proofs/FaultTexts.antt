@@ -1,0 +1,25 @@
+-- A store that is honest still, or the text of a fault.
+use Rattle.std.proofs.Common.{◌≡◌, ◌⊎◌, ℕ, inl, inr, refl, List, Some}
+use Rattle.index_rules.specs.declared.answer.Answer.{Answer}
+use Rattle.index_rules.specs.declared.answer.Answer.TheVariants.{Accepted, Already, Refused, Fault}
+use Rattle.index_rules.specs.declared.call.Call.{Call}
+use Rattle.index_rules.specs.Tables.{Tables}
+use Rattle.index_desk.specs.Crashes.{Lasts}
+use Rattle.index_desk.specs.Rules.{by_tables}
+use Rattle.index_json.specs.AnswerText.{answer_text_of}
+use Rattle.index_json.specs.declared.line.Line.TheVariants as line
+use Rattle.index_cli.specs.Telling.{TellsAsked}
+use Rattle.index_cli.specs.TellsFront.{IsFaultText}
+
+-- what is told of a fault
+pub honest_or_mapped : {H F P Q : Type 0} → H ⊎ (F × P) → (P → Q) → H ⊎ (F × Q)
+honest_or_mapped (inl honest) f = inl honest
+honest_or_mapped (inr (fault, told)) f = inr (fault, f told)
+
+-- a call after which the store is not shown to be honest was answered by a fault
+pub call_lasts : (H H' : Type 0) (T : Tables) (call : Call) (answer : Answer) (text : List ℕ) → text ≡ answer_text_of answer → Lasts answer H H' → H
+    → H' ⊎ (IsFaultText text × TellsAsked by_tables (Some (line.Call call)) T text T)
+call_lasts H H' T call Accepted text is lasts honest = inl lasts
+call_lasts H H' T call Already text is lasts honest = inl (lasts honest)
+call_lasts H H' T call (Refused refusal) text is lasts honest = inl (lasts honest)
+call_lasts H H' T call (Fault fault) text is lasts honest = inr ((fault, is), (Fault fault, is, tt, refl))
