@@ -37,8 +37,10 @@ use Rattle.index_cli.specs.Telling.{TellsLines}
 use Rattle.index_cli.specs.TellsCalls.{TellsCalls}
 use Rattle.index_cli.specs.TellsHistory.{TellsHistory}
 use Rattle.index_cli.proofs.Choices.{Ends-choice, ServesCalls-choice, TellsCalls-choice}
+use Rattle.index.specs.declared.database.Finished.{Finished}
 use Rattle.index.specs.declared.database.Left.{Left}
 use Rattle.index.specs.declared.database.Left.TheVariants as unused
+use Rattle.index.specs.declared.database.Unused.{Unused}
 use Rattle.index.specs.declared.end.End.{End}
 use Rattle.index.specs.Chains.{Run, InitRun, EndedRun, CutRun, UnusedRun, LeadsOn, LeadTo, ClosedLeadsOn, UnclosedLeadsOn, UnusedLeadsOn, WorkLeadsOn, InitLeadsOn}
 use Rattle.index.specs.Chains.{MayBecome, Carries, MayCarry, ComesByRun, ComesByRuns, StandByRuns, StandThrough}
@@ -96,12 +98,12 @@ module _ {D : Type 0} {g : Ghosts D} where
         }
       ])
 
-  pub work_leads : (task : Task) (start : Image) (result : Result (Result (Files D) (End × FileStore D g) × Result ℕ End) (End × Option (Left D g)))
+  pub work_leads : (task : Task) (start : Image) (result : Result (Finished D g) (Unused D g))
       → EndsRunOn g task start result → WorkLeadsOn g task start result
   work_leads task start result it = record {
-    ended = IfOk-weaker result _ _ (λ done ran. IfOk-weaker done.0 _ _ (λ files. ended_leads task done.1 start files) ran) it.ran;
-    cut = IfOk-weaker result _ _ (λ done cut. IfErr-weaker done.0 _ _ (λ e. cut_leads task done.1 start e.1) cut) it.interrupted;
-    unused = IfErr-weaker result _ _ (λ e refused. IfSome_then e.1 refused (unfound_leads start)) it.refused;
+    ended = IfOk-weaker result _ _ (λ run ran. IfOk-weaker run.closed _ _ (λ files. ended_leads task run.end start files) ran) it.ran;
+    cut = IfOk-weaker result _ _ (λ run cut. IfErr-weaker run.closed _ _ (λ it. cut_leads task run.end start it.store) cut) it.interrupted;
+    unused = IfErr-weaker result _ _ (λ it refused. IfSome_then it.left refused (unfound_leads start)) it.refused;
   }
 
   -- ---- an init

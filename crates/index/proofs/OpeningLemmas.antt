@@ -91,6 +91,6 @@ module _ {D : Type 0} {g : Ghosts D} where
 
   pub shut_for : (start : Image) (left : Option (Leftover D g)) (error : Error) (told : End) → Tells error told → Asks error told
       → (left ≡ None → (error ≡ SqliteFailure code.CannotOpen) ⊎ ((error ≡ SqliteFailure code.OutOfMemory) ⊎ (error ≡ SqliteFailure code.DatabaseBusy)))
-      → IfSome left (λ left. IsCleanLeft left → IsWhyNoDatabase start left told) → IsWhyShut start told left
+      → IfSome left (λ left. IsCleanLeft left → IsWhyNoDatabase start left told) → IsWhyShut false start told left
   shut_for start None error told tells asks unopened opened = no_files error told tells asks (unopened refl)
-  shut_for start (Some left) error told tells asks unopened opened = opened
+  shut_for start (Some left) error told tells asks unopened opened = λ clean. inl (opened clean)

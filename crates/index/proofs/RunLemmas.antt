@@ -1,5 +1,5 @@
 -- From the states of a connection to the files that it was opened on and closed to.
-use Rattle.std.proofs.Common.{◌≡◌, ◌⊎◌, ◌↔◌, ◌∙◌, Bool, List, [], ◌∷◌, false, sym, ap, subst, subst₂, if◌then◌else◌, inl, inr, ℕ, Some, Result, Ok, Err, IfOk, IsTrue, true≢false, arith}
+use Rattle.std.proofs.Common.{◌≡◌, ◌⊎◌, ◌↔◌, ◌∙◌, Bool, List, [], ◌∷◌, false, sym, ap, subst, subst₂, if◌then◌else◌, inl, inr, ℕ, Some, Result, Ok, Err, IfErr, IfOk, IsTrue, true≢false, arith}
 use Rattle.std.proofs.lemmas.Bool.{cases_Bool}
 use Rattle.std.proofs.Math.Logic.{∥∥₁_elim, ∥∥₁_map}
 use Rattle.sqlite.specs.Closing.{HoldsAlone, IsCopied}
@@ -24,8 +24,7 @@ use Rattle.sqlite_pool.specs.Stored.{StandsAs}
 use Rattle.sqlite_store.specs.FileStore as store
 use Rattle.sqlite_store.specs.Unopened.{state_of}
 use Rattle.sqlite_trees.specs.Props.{Trees-set}
-use Rattle.sqlite_trees.proofs.Doubt.{no_doubt}
-use Rattle.sqlite_trees.specs.View.{IsClean, doubt}
+use Rattle.sqlite_trees.specs.View.{IsClean}
 use Rattle.index_sql_opening.specs.Names.{has_any_of}
 use Rattle.index_rules.specs.declared.open.OpenFault.TheVariants.{BadFirstUser, NotEmpty, OutOfMemory}
 use Rattle.index_rules.specs.FirstTables.{IsBadFirstUser}
@@ -39,7 +38,9 @@ use Rattle.index_tables.specs.BooksState.{AreCurrent, IsWorking}
 use Rattle.index_tables.specs.Reopened.{MayLeave}
 use Rattle.index_tables.specs.Opened.{IsRefusedAs, IsTaken}
 use Rattle.index_tables.specs.declared.opening.Unopened.{Unopened}
-use Rattle.index.specs.Openings.{HoldsOnly, LeavesOfShut, OpensAgain, Refused}
+use Rattle.sqlite.specs.WalReads.{AreClean}
+use Rattle.index.specs.declared.database.Unclosed.{Unclosed}
+use Rattle.index.specs.Openings.{HoldsOnly, IsCleanClosed, LeavesOfShut, OpensAgain, Refused}
 use Rattle.index.specs.Runs.{Began, Created, CreatedInLog, FindsOnly, Holds, HoldsAfterCrash, HoldsCurrent, HoldsNone, Interrupted, IsMadeNew, LeavesAsWas, LeavesOnly, Ran, Worked}
 
 -- an index of today is found as it is, and never as one of version 1
@@ -69,11 +70,6 @@ free_of user token schema (Ok made) bad taken = elim (cases_Bool (has_any_of sch
   | inr free ↦ free
 ]
 free_of user token schema (Err refused) bad taken = tt
-
--- a store is clean as long as it is open
-pub clean_if_open : (clean is_open : Bool) → (clean ≡ false → is_open ≡ false) → IsTrue is_open → doubt clean ≡ 0
-clean_if_open clean is_open shut is =
-    elim (cases_Bool clean) [ inl holds ↦ no_doubt clean holds | inr falls ↦ absurd (true≢false (sym is ∙ shut falls)) ]
 
 -- what a crash leaves of the log or the database file after these calls, where these are what the two held
 abbrev LeavesFile : Bool → List ℕ → List ℕ → Bool → List Event → List ℕ → Type 0
@@ -178,6 +174,12 @@ module _ {D : Type 0} {g : Ghosts D} where
   -- a disk that is clean as a close fails was so before it
   pub clean_before : (last : Held (FileStore D g)) (store : FileStore D g) → IsClosed last store → IsClean (over_files.view store) → HasCleanDisk (file_state last)
   clean_before last store closed clean = omega (arith, closed.quiet.clean, clean)
+
+  -- and so it was before an index was made
+  pub was_clean_by : {T : Tables} (first last : Held (FileStore D g)) (closed : Result (Files D) (Unclosed D g)) → IsMadeNew T (file_state first) (file_state last)
+      → IfOk closed (λ files. AreClean g files.log files.db → IsCopied last files) → IfErr closed (λ it. IsClosed last it.store) → IsCleanClosed closed → HasCleanDisk (file_state first)
+  was_clean_by first last (Ok files) made copied kept clean = made.was_clean (copied clean).was_clean
+  was_clean_by first last (Err it) made copied kept clean = made.was_clean (clean_before last it.store kept clean)
 
   -- an opening that fails, over files that nothing had happened to
   pub shut_by : (start : Image) (files : Files D) (left : Leftover D g) → image_of g files ≡ start → ((image : Image) → outcomes g files.log files.db image → image ≡ start)

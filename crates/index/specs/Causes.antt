@@ -30,7 +30,10 @@ cause_of_error _ = None
 -- what the failed calls of the files met, and whether each sync went well
 abbrev pub cause_of_calls : Tally → Bool → Option Cause
 cause_of_calls tally may_be_used =
-    if not (tally.caught == 0) then Some cause.Damaged else if not (tally.refused == 0) then Some cause.Full else if may_be_used then None else Some cause.DiskFailed
+    if not (tally.caught == 0) then Some cause.Damaged
+    else if not (tally.refused == 0) then Some cause.Full
+    else if may_be_used then None
+    else Some cause.DiskFailed
 
 -- an error of the system at a path
 abbrev pub cause_of_kind : ErrorKind → Option Cause
@@ -44,7 +47,10 @@ cause_of_kind _ = None
 -- what is at a path: whether it is a folder, whether a file, and how many names it has
 abbrev pub cause_of_node : Bool → Bool → ℕ → Option Cause
 cause_of_node is_folder is_file names =
-    if is_folder then Some cause.Folder else if not is_file then Some cause.NoRegularFile else if names == 1 then None else Some cause.SecondName
+    if is_folder then Some cause.Folder
+    else if not is_file then Some cause.NoRegularFile
+    else if names == 1 then None
+    else Some cause.SecondName
 
 -- it is found at the path of a database, whose files are not opened for it
 abbrev pub is_at_path : Cause → Bool
@@ -62,7 +68,8 @@ is_at_path _ = false
 
 -- a table of an index has this name; the case of ASCII letters does not count
 abbrev pub is_table : List ℕ → Bool
-is_table name = list_any (λ (table : Table). same_name table.name name) index_schema.tables
+is_table name =
+    list_any (λ (table : Table). same_name table.name name) index_schema.tables
 
 -- SQLite gives such a name to the index of a key, and lets nobody else give one
 abbrev pub is_of_key : List ℕ → Bool
@@ -77,16 +84,21 @@ abbrev pub or_else : {T : Type 0} → Option T → Option T → Option T
 or_else (Some first) second = Some first
 or_else None second = second
 
--- the name of the first object that an index has not: of the tables, then of the indexes, then of what is kept as it is
+-- the name of the first object that an index has not: of the tables, then of the indexes, then of
+-- what is kept as it is
 abbrev pub other_object : Schema → Option (List ℕ)
 other_object schema =
     or_else (option_map (λ table. table.name) (find (λ table. is_other table.name) schema.tables))
-    (or_else (option_map (λ index. index.name) (find (λ index. is_other index.name) schema.indexes)) (option_map (λ view. view.name) (find (λ view. is_other view.name) schema.views)))
+    (or_else
+    (option_map (λ index. index.name) (find (λ index. is_other index.name) schema.indexes))
+    (option_map (λ view. view.name) (find (λ view. is_other view.name) schema.views)))
 
 -- the schema of nothing, of an index, or of one of version 1
 abbrev pub IsKnown : Schema → Type 0
-IsKnown schema = (schema ≡ no_schema) ⊎ ((schema ≡ index_schema) ⊎ (schema ≡ first_version_schema))
+IsKnown schema =
+    (schema ≡ no_schema) ⊎ ((schema ≡ index_schema) ⊎ (schema ≡ first_version_schema))
 
 -- an object of this name, as text
 abbrev pub IsObject : List ℕ → Option Cause → Type 0
-IsObject name told = (text : _) × (told ≡ Some (cause.Object text)) × (string_bytes text ≡ utf8_lossy name)
+IsObject name told =
+    (text : _) × (told ≡ Some (cause.Object text)) × (string_bytes text ≡ utf8_lossy name)

@@ -1,5 +1,5 @@
--- Runs of the program one after the other, each of which finds what the one before left, and the one history that they
--- carry on.
+-- Runs of the program one after the other, each of which finds what the one before left, and the
+-- one history that they carry on.
 use Rattle.std.specs.Prelude.{◌≡◌, ◌⊎◌, ℕ, List, [], ◌∷◌, Option, Result, IfOk, IfErr, IfSome}
 use Rattle.sqlite.specs.declared.FileStore.{FileStore}
 use Rattle.sqlite.specs.declared.file.Leftover.{Leftover}
@@ -30,8 +30,11 @@ use Rattle.index_rules.specs.Legal.{IsLegal, history_after, verdict_after}
 use Rattle.index_rules.specs.Maps.{Bytes}
 use Rattle.index_rules.specs.StandsFor.{StandsFor}
 use Rattle.index_rules.specs.Tables.{Tables}
+use Rattle.index.specs.declared.database.Finished.{Finished}
 use Rattle.index.specs.declared.database.Left.{Left}
 use Rattle.index.specs.declared.database.Left.TheVariants as unused
+use Rattle.index.specs.declared.database.Unclosed.{Unclosed}
+use Rattle.index.specs.declared.database.Unused.{Unused}
 use Rattle.index.specs.declared.end.End.{End}
 use Rattle.index.specs.Ends.{end_of}
 use Rattle.index.specs.Openings.{OpensAgain}
@@ -41,9 +44,9 @@ use Rattle.index.specs.Tasks.{Task, WriteReport}
 
 -- ---- one run, from the files that it finds to those that the next one finds
 
--- An init, which names a user and the digest of a token. A run that did its task, ended so and closed its files. One that
--- was killed, or whose files a fault of the disk had shut, with its task and what had come of that. And one that did
--- nothing on the index that it found.
+-- An init, which names a user and the digest of a token. A run that did its task, ended so and
+-- closed its files. One that was killed, or whose files a fault of the disk had shut, with its
+-- task and what had come of that. And one that did nothing on the index that it found.
 pub data Run : Type 0 where
   InitRun : (user token : Bytes) → Run
   EndedRun : Task → Result ℕ End → Run
@@ -51,24 +54,28 @@ pub data Run : Type 0 where
   UnusedRun : Run
 
 -- the task was done on the index that was there, and what it made of it is there
-pub record EndsOn (task : Task) (result : Result ℕ End) (start next : Image) : Type 0 where
+pub record EndsOn
+    (task : Task) (result : Result ℕ End) (start next : Image) : Type 0 where
   pub before : Tables
   pub after : Tables
   pub held : Holds start before
   pub did : Does task result before after
   pub left : HoldsCurrent next after
 
--- the task was begun on the index that was there, and whatever index is found next has what may be left of it
-pub record BreaksOff (task : Task) (result : Result ℕ End) (start next : Image) : Type 0 where
+-- the task was begun on the index that was there, and whatever index is found next has what may be
+-- left of it
+pub record BreaksOff
+    (task : Task) (result : Result ℕ End) (start next : Image) : Type 0 where
   pub before : Tables
   pub held : Holds start before
   pub left : FindsOnly next (MayLeaveBy task result before)
 
--- A run leads from the files that it found to the next ones. After an init whatever index is found was there, or is the
--- new one, made where there was nothing of an index.
+-- A run leads from the files that it found to the next ones. After an init whatever index is found
+-- was there, or is the new one, made where there was nothing of an index.
 abbrev pub LeadsOn : Run → Image → Image → Type 0
 LeadsOn (InitRun user token) start next =
-    FindsOnly next (λ found. Holds start found ⊎ (HoldsNone start × (found ≡ first_tables user token)))
+    FindsOnly next (λ found.
+    Holds start found ⊎ (HoldsNone start × (found ≡ first_tables user token)))
 LeadsOn (EndedRun task result) start next = EndsOn task result start next
 LeadsOn (CutRun task result) start next = BreaksOff task result start next
 LeadsOn UnusedRun start next = FindsOnly next (Holds start)
@@ -76,14 +83,16 @@ LeadsOn UnusedRun start next = FindsOnly next (Holds start)
 -- so do runs one after the other
 abbrev pub LeadTo : List Run → Image → Image → Type 0
 LeadTo [] start last = last ≡ start
-LeadTo (run ∷ runs) start last = (next : Image) × LeadsOn run start next × LeadTo runs next last
+LeadTo (run ∷ runs) start last =
+    (next : Image) × LeadsOn run start next × LeadTo runs next last
 
 -- ---- what each run leads to, by what it hands back
 
 -- the files were closed: next is what they hold now, or what a crash leaves of them
 abbrev pub ClosedLeadsOn : {D : Type 0} → Ghosts D → Run → Image → Files D → Type 0
 ClosedLeadsOn g run start files =
-    AreClean g files.log files.db → (next : Image) → (next ≡ image_of g files) ⊎ outcomes g files.log files.db next
+    AreClean g files.log files.db → (next : Image)
+    → (next ≡ image_of g files) ⊎ outcomes g files.log files.db next
     → LeadsOn run start next
 
 module _ {D : Type 0} {g : Ghosts D} where
@@ -91,10 +100,12 @@ module _ {D : Type 0} {g : Ghosts D} where
   abbrev pub UnclosedLeadsOn : Run → Image → FileStore D g → Type 0
   UnclosedLeadsOn run start store =
       IsClean (over_files.view store)
-      → (last : Held (FileStore D g)) × IsClosed last store × ((next : Image) → MayLeave last next → LeadsOn run start next)
+      → (last : Held (FileStore D g)) × IsClosed last store
+      × ((next : Image) → MayLeave last next → LeadsOn run start next)
 
-  -- A crash may leave these files of ones that could not be opened as a database: of a store that was refused, where it
-  -- can be opened again. Where the log was put in order, or a database begun, `LeavesOfShut` says what is left.
+  -- A crash may leave these files of ones that could not be opened as a database: of a store that
+  -- was refused, where it can be opened again. Where the log was put in order, or a database
+  -- begun, `LeavesOfShut` says what is left.
   abbrev pub MayStay : Leftover D g → Image → Type 0
   MayStay (leftover.Files now) next = outcomes g now.log now.db next
   MayStay (leftover.Unopened now) next = ⊥
@@ -105,26 +116,29 @@ module _ {D : Type 0} {g : Ghosts D} where
   UnusedLeadsOn run start (unused.Shut left) =
       IsCleanLeft left → (next : Image) → MayStay left next → LeadsOn run start next
   UnusedLeadsOn run start (unused.Refused left) =
-      HasCleanDisk (file_state left.conn) → (next : Image) → MayLeave left.conn next → LeadsOn run start next
+      HasCleanDisk (file_state left.conn) → (next : Image)
+      → MayLeave left.conn next → LeadsOn run start next
 
 -- a run of work, by its task
 pub record WorkLeadsOn {D : Type 0} (g : Ghosts D) (task : Task) (start : Image)
-    (result : Result (Result (Files D) (End × FileStore D g) × Result ℕ End) (End × Option (Left D g))) : Type 0 where
-  pub ended : IfOk result (λ done. IfOk done.0 (ClosedLeadsOn g (EndedRun task done.1) start))
-  pub cut : IfOk result (λ done. IfErr done.0 (λ e. UnclosedLeadsOn (CutRun task done.1) start e.1))
-  pub unused : IfErr result (λ e. IfSome e.1 (UnusedLeadsOn UnusedRun start))
+    (result : Result (Finished D g) (Unused D g)) : Type 0 where
+  pub ended : IfOk result (λ run. IfOk run.closed (ClosedLeadsOn g (EndedRun task run.end) start))
+  pub cut : IfOk result (λ run. IfErr run.closed (λ it.
+      UnclosedLeadsOn (CutRun task run.end) start it.store))
+  pub unused : IfErr result (λ it. IfSome it.left (UnusedLeadsOn UnusedRun start))
 
 -- an init, by its user and the digest of the token
 pub record InitLeadsOn {D : Type 0} (g : Ghosts D) (user token : Bytes) (start : Image)
-    (result : Result (Result (Files D) (End × FileStore D g)) (End × Option (Left D g))) : Type 0 where
+    (result : Result (Result (Files D) (Unclosed D g)) (Unused D g)) : Type 0 where
   pub made : IfOk result (λ closed. IfOk closed (ClosedLeadsOn g (InitRun user token) start))
-  pub unclosed : IfOk result (λ closed. IfErr closed (λ e. UnclosedLeadsOn (InitRun user token) start e.1))
-  pub unused : IfErr result (λ e. IfSome e.1 (UnusedLeadsOn (InitRun user token) start))
+  pub unclosed : IfOk result (λ closed. IfErr closed (λ it.
+      UnclosedLeadsOn (InitRun user token) start it.store))
+  pub unused : IfErr result (λ it. IfSome it.left (UnusedLeadsOn (InitRun user token) start))
 
 -- ---- the history that runs carry on
 
--- after calls in a row a history may be left as this one: with the accepted calls, or with these and one to which a fault
--- was answered since the last of them
+-- after calls in a row a history may be left as this one: with the accepted calls, or with these
+-- and one to which a fault was answered since the last of them
 abbrev pub MayBecome : History → History → List Call → List Answer → Tables → Type 0
 MayBecome h h' = LeavesOver verdict_after history_after (λ left T'. left ≡ h') h
 
@@ -148,32 +162,39 @@ MayCarry (AnswerConnections at requests) result h h' T' =
 MayCarry (WriteReport had has) result h h' T' = h' ≡ h
 MayCarry CountWrong result h h' T' = h' ≡ h
 
--- A run made this history of one of a kind, or left it. The tables that the run found stood for the one, and those that it
--- left stand for the other.
-abbrev pub ComesByRun : (run : Run) (start next : Image) → LeadsOn run start next → (History → Type 0) → History → Type 0
-ComesByRun (InitRun user token) start next it Was h' = Was h' ⊎ (HoldsNone start × (h' ≡ begins user token))
+-- A run made this history of one of a kind, or left it. The tables that the run found stood for
+-- the one, and those that it left stand for the other.
+abbrev pub ComesByRun : (run : Run) (start next : Image) → LeadsOn run start next
+    → (History → Type 0) → History → Type 0
+ComesByRun (InitRun user token) start next it Was h' =
+    Was h' ⊎ (HoldsNone start × (h' ≡ begins user token))
 ComesByRun (EndedRun task result) start next it Was h' =
-    (h : History) × Was h × StandsFor it.before h × StandsFor it.after h' × Carries task result h h' it.after
+    (h : History) × Was h × StandsFor it.before h
+    × StandsFor it.after h' × Carries task result h h' it.after
 ComesByRun (CutRun task result) start next it Was h' =
     (h : History) × Was h × StandsFor it.before h
     × ((left : Tables) × StandsFor left h' × MayCarry task result h h' left)
 ComesByRun UnusedRun start next it Was h' = Was h'
 
 -- runs one after the other did, and each history is legal
-abbrev pub ComesByRuns : (runs : List Run) (start last : Image) → LeadTo runs start last → (History → Type 0) → History → Type 0
+abbrev pub ComesByRuns : (runs : List Run) (start last : Image) → LeadTo runs start last
+    → (History → Type 0) → History → Type 0
 ComesByRuns [] start last leads Was h' = Was h'
 ComesByRuns (run ∷ runs) start last leads Was h' =
-    ComesByRuns runs leads.0 last leads.2 (λ h. IsLegal h × ComesByRun run start leads.0 leads.1 Was h) h'
+    ComesByRuns runs leads.0 last leads.2
+    (λ h. IsLegal h × ComesByRun run start leads.0 leads.1 Was h) h'
 
 -- tables stand for a legal history that comes by these runs, of none before them
-pub record StandByRuns (runs : List Run) (first last : Image) (leads : LeadTo runs first last) (T : Tables) : Type 0 where
+pub record StandByRuns (runs : List Run) (first last : Image)
+    (leads : LeadTo runs first last) (T : Tables) : Type 0 where
   pub history : History
   pub legal : IsLegal history
   pub stands : StandsFor T history
   pub comes : ComesByRuns runs first last leads (λ h. ⊥) history
 
--- The law of runs: from files on in which there is no index, whatever runs there were, the tables that the next one finds
--- stand for one history that comes by them.
+-- The law of runs: from files on in which there is no index, whatever runs there were, the tables
+-- that the next one finds stand for one history that comes by them.
 abbrev pub StandThrough : List Run → Image → Image → Type 0
 StandThrough runs first last =
-    (¬ ((T : Tables) × Holds first T)) → (leads : LeadTo runs first last) → FindsOnly last (StandByRuns runs first last leads)
+    (¬ ((T : Tables) × Holds first T)) → (leads : LeadTo runs first last)
+    → FindsOnly last (StandByRuns runs first last leads)

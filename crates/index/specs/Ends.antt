@@ -1,9 +1,11 @@
--- The ends of the program with the status 1: which of them tell a fault, and the ends that faults of other layers are.
+-- The ends of the program with the status 1: which of them tell a fault, and the ends that faults
+-- of other layers are.
 use Rattle.std.specs.Prelude.{ℕ, ◌&&◌, Bool, true, false, Option, None, Result, Ok, Err}
 use Rattle.std.specs.Prelude.{if◌then◌else◌}
 use Rattle.sqlite.specs.declared.error.Error.{Error}
 use Rattle.sqlite.specs.declared.error.Error.TheVariants.{SqliteFailure}
 use Rattle.sqlite.specs.declared.error.ErrorCode.TheVariants as code
+use Rattle.sqlite_disk.specs.declared.Disk.{Ghosts}
 use Rattle.index_cli.specs.declared.end.LineEnd.{LineEnd}
 use Rattle.index_cli.specs.declared.end.ServeEnd.{ServeEnd}
 use Rattle.index_cli.specs.declared.end.ServeEnd.TheVariants as serve_end
@@ -14,6 +16,7 @@ use Rattle.index_rules.specs.declared.answer.Fault.TheVariants as fault
 use Rattle.index_rules.specs.declared.open.OpenFault.TheVariants as open_fault
 use Rattle.index.specs.declared.cause.Cause.{Cause}
 use Rattle.index.specs.declared.end.End.{End}
+use Rattle.index.specs.declared.database.Unclosed.{Unclosed}
 use Rattle.index.specs.declared.end.End.TheVariants as end
 use Rattle.index.specs.Causes.{cause_of_error}
 
@@ -50,7 +53,8 @@ end_of_report report_fault.OutOfMemory = end.OutOfMemory
 end_of_report report_fault.Store = end.Store None
 end_of_report (report_fault.WriteFault count) = end.WriteFault
 
--- what comes of a run over lines, of one over connections, and of a report: these two find no number
+-- what comes of a run over lines, of one over connections, and of a report: these two find no
+-- number
 abbrev pub end_of : Result ℕ LineEnd → Result ℕ End
 end_of (Ok count) = Ok count
 end_of (Err early) = Err (end.Lines early)
@@ -63,13 +67,15 @@ abbrev pub end_of_reporting : Result (Unit {0}) ReportFault → Result ℕ End
 end_of_reporting (Ok done) = Ok 0
 end_of_reporting (Err fault) = Err (end_of_report fault)
 
--- what comes of work, where it is as well closed; where the database failed in both, the end of closing has the cause
+-- what comes of work, where it is as well closed; where the database failed in both, the end of
+-- closing has the cause
 abbrev pub end_by : Result ℕ End → Result (Unit {0}) End → Result ℕ End
 end_by end (Ok done) = end
 end_by (Ok count) (Err fault) = Err fault
 end_by (Err early) (Err fault) = if is_store early && is_store fault then Err fault else Err early
 
 -- what comes of closing
-abbrev pub closing_of : {F S : Type 0} → Result F (End × S) → Result (Unit {0}) End
+abbrev pub closing_of : {F D : Type 0} → {g : Ghosts D} → Result F (Unclosed D g)
+    → Result (Unit {0}) End
 closing_of (Ok files) = Ok tt
-closing_of (Err unclosed) = Err unclosed.0
+closing_of (Err unclosed) = Err unclosed.fault

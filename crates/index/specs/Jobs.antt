@@ -1,12 +1,11 @@
 -- How a subcommand ends, by the run that it made.
-use Rattle.std.specs.Prelude.{◌≡◌, ◌⊎◌, ◌↔◌, ℕ, List, codes, Option, Some, None, option_map, Result}
-use Rattle.std.specs.Prelude.{Ok, Err, IfErr, IfOk, IsErr, IsErrAnd}
+use Rattle.std.specs.Prelude.{◌≡◌, ◌⊎◌, ◌↔◌, ℕ, Bool, List, codes, Option, Some, None, option_map}
+use Rattle.std.specs.Prelude.{Result, Ok, Err, IfErr, IfOk, IsErr, IsErrAnd}
 use Rattle.std.specs.Process.{exit_status}
 use Rattle.std.specs.declared.process.ExitCode.{ExitCode}
 use Rattle.clap.specs.Words.{kind_of}
 use Rattle.clap.specs.declared.error.Error.{Error}
 use Rattle.clap.specs.declared.error.ErrorKind.TheVariants.{DisplayHelp, DisplayVersion}
-use Rattle.sqlite.specs.declared.FileStore.{FileStore}
 use Rattle.sqlite.specs.Recovery.{Image}
 use Rattle.sqlite_disk.specs.declared.Disk.{Ghosts}
 use Rattle.sqlite_disk.specs.declared.Files.{Files}
@@ -19,7 +18,9 @@ use Rattle.index_words.specs.declared.job.Job.{Job}
 use Rattle.index_words.specs.declared.job.Job.TheVariants as job
 use Rattle.index_words.specs.declared.job.WordsEnd.{WordsEnd}
 use Rattle.index_words.specs.declared.job.WordsEnd.TheVariants as words
-use Rattle.index.specs.declared.database.Left.{Left}
+use Rattle.index.specs.declared.database.Finished.{Finished}
+use Rattle.index.specs.declared.database.Unclosed.{Unclosed}
+use Rattle.index.specs.declared.database.Unused.{Unused}
 use Rattle.index.specs.declared.end.End.{End}
 use Rattle.index.specs.declared.end.End.TheVariants as end
 use Rattle.index.specs.Chains.{InitLeadsOn, WorkLeadsOn}
@@ -30,34 +31,42 @@ use Rattle.index.specs.Tasks.{AnswerConnections, AnswerLines, CountWrong, Does, 
 
 -- ---- what came of a run
 
--- This is what came of some run of this task on the index in two files that held this: the end of the work, where they were
--- closed; else that of closing, or why nothing was done.
-pub record ComesOfRun {D : Type 0} (g : Ghosts D) (task : Task) (start : Image) (result : Result ℕ End) : Type 0 where
-  pub run : Result (Result (Files D) (End × FileStore D g) × Result ℕ End) (End × Option (Left D g))
+-- This is what came of some run of this task, on the index in some two files that held this: the
+-- end of the work, where they were closed; else that of closing, or why nothing was done. Nothing
+-- says here that these are the files at the path of the job.
+pub record ComesOfRun {D : Type 0}
+    (g : Ghosts D) (task : Task) (start : Image) (result : Result ℕ End) : Type 0 where
+  pub run : Result (Finished D g) (Unused D g)
   pub ends : EndsRunOn g task start run
   pub leads : WorkLeadsOn g task start run
-  pub done : IfOk run (λ it. result ≡ end_by it.1 (closing_of it.0))
-  pub refused : IfErr run (λ it. IsErrAnd result (IsToldOf it.0 it.1))
+  pub done : IfOk run (λ it. result ≡ end_by it.end (closing_of it.closed))
+  pub refused : IfErr run (λ it. IsErrAnd result (IsToldOf it.why it.left))
 
--- this is what came of this task on the tables of a new index of the user `office` in memory, or memory was wanting for them
+-- this is what came of this task on the tables of a new index of the user `office` in memory, or
+-- memory was wanting for them
 abbrev pub ComesInMemory : Task → Result ℕ End → Type 0
 ComesInMemory task result =
     (result ≡ Err (end.Open open_fault.OutOfMemory))
-    ⊎ ((after : Tables) × Does task result (first_tables (codes "office") (sha256 (codes "office"))) after)
+    ⊎ ((after : Tables)
+    × Does task result (first_tables (codes "office") (sha256 (codes "office"))) after)
 
 -- the same, on the index in two files if a path was given, and else in memory
-abbrev pub ComesByPath : {D Path : Type 0} → Ghosts D → Option Path → Task → Image → Result ℕ End → Type 0
+abbrev pub ComesByPath : {D Path : Type 0} → Ghosts D → Option Path → Task → Image
+    → Result ℕ End → Type 0
 ComesByPath g (Some path) task start result = ComesOfRun g task start result
 ComesByPath g None task start result = ComesInMemory task result
 
--- This is what came of some init with this user and these hex digits of the token's digest, on two files that held this: that
--- of closing, or why no index was made.
-pub record ComesOfInit {D : Type 0} (g : Ghosts D) (user digits : Bytes) (start : Image) (result : Result (Unit {0}) End) : Type 0 where
-  pub run : Result (Result (Files D) (End × FileStore D g)) (End × Option (Left D g))
-  pub ends : EndsInitOn g user digits start run
-  pub leads : (digest : Bytes) → read_digest digits ≡ Some digest → InitLeadsOn g user digest start run
+-- This is what came of some init with this user, these hex digits of the token's digest, and page
+-- sums or none, on some two files that held this: that of closing, or why no index was made.
+pub record ComesOfInit {D : Type 0}
+    (g : Ghosts D) (user digits : Bytes) (page_sums : Bool) (start : Image)
+    (result : Result (Unit {0}) End) : Type 0 where
+  pub run : Result (Result (Files D) (Unclosed D g)) (Unused D g)
+  pub ends : EndsInitOn g user digits page_sums start run
+  pub leads : (digest : Bytes) → read_digest digits ≡ Some digest
+      → InitLeadsOn g user digest start run
   pub done : IfOk run (λ closed. result ≡ closing_of closed)
-  pub refused : IfErr run (λ it. IsErrAnd result (IsToldOf it.0 it.1))
+  pub refused : IfErr run (λ it. IsErrAnd result (IsToldOf it.why it.left))
 
 -- ---- the status of a job
 
@@ -82,32 +91,45 @@ IsStatusOfInit (Err told) result = result ≡ Err told
 -- ---- how a job ends
 
 -- a job ended as a run of this task on the index in two files that held this
-abbrev pub EndsAs : {D : Type 0} → Ghosts D → Task → Image → (Result ℕ End → Result ExitCode End → Type 0) → Result ExitCode End → Type 0
-EndsAs g task start IsStatus result = (found : Result ℕ End) × ComesOfRun g task start found × IsStatus found result
+abbrev pub EndsAs : {D : Type 0} → Ghosts D → Task → Image
+    → (Result ℕ End → Result ExitCode End → Type 0) → Result ExitCode End → Type 0
+EndsAs g task start IsStatus result =
+    (found : Result ℕ End) × ComesOfRun g task start found × IsStatus found result
 
 -- or it ended before any run, for want of memory
-abbrev pub EndsAsOrEarly : {D : Type 0} → Ghosts D → Task → Image → (Result ℕ End → Result ExitCode End → Type 0) → Result ExitCode End → Type 0
-EndsAsOrEarly g task start IsStatus result = (result ≡ Err end.OutOfMemory) ⊎ EndsAs g task start IsStatus result
+abbrev pub EndsAsOrEarly : {D : Type 0} → Ghosts D → Task → Image
+    → (Result ℕ End → Result ExitCode End → Type 0) → Result ExitCode End → Type 0
+EndsAsOrEarly g task start IsStatus result =
+    (result ≡ Err end.OutOfMemory) ⊎ EndsAs g task start IsStatus result
 
--- an init ended so, with this user and these hex digits of the token's digest
-abbrev pub EndsAsInit : {D : Type 0} → Ghosts D → Bytes → Bytes → Image → Result ExitCode End → Type 0
-EndsAsInit g user digits start result = (made : Result (Unit {0}) End) × ComesOfInit g user digits start made × IsStatusOfInit made result
+-- an init ended so, with this user, these hex digits of the token's digest, and page sums or none
+abbrev pub EndsAsInit : {D : Type 0} → Ghosts D → Bytes → Bytes → Bool → Image
+    → Result ExitCode End → Type 0
+EndsAsInit g user digits page_sums start result =
+    (made : Result (Unit {0}) End)
+    × ComesOfInit g user digits page_sums start made × IsStatusOfInit made result
 
--- an apply: want of memory ended it before any run, or the lines of some input were answered to some output
-abbrev pub EndsApply : {D Path : Type 0} → Ghosts D → Option Path → Image → Result ExitCode End → Type 0
+-- an apply: want of memory ended it before any run, or the lines of some input were answered to
+-- some output
+abbrev pub EndsApply : {D Path : Type 0} → Ghosts D → Option Path → Image
+    → Result ExitCode End → Type 0
 EndsApply g path start result =
     (result ≡ Err end.OutOfMemory)
-    ⊎ ((given left had has : Option (List ℕ)) × (found : Result ℕ End) × ComesByPath g path (AnswerLines given left had has) start found × IsStatusOf found result)
+    ⊎ ((given left had has : Option (List ℕ)) × (found : Result ℕ End)
+    × ComesByPath g path (AnswerLines given left had has) start found × IsStatusOf found result)
 
 -- the report was written to some output
 abbrev pub EndsReport : {D : Type 0} → Ghosts D → Image → Result ExitCode End → Type 0
-EndsReport g start result = (had has : Option (List ℕ)) × EndsAs g (WriteReport had has) start IsStatusOf result
+EndsReport g start result =
+    (had has : Option (List ℕ)) × EndsAs g (WriteReport had has) start IsStatusOf result
 
 -- each job, on two files that held this
 abbrev pub EndsJob : {D : Type 0} → Ghosts D → Job → Image → Result ExitCode End → Type 0
-EndsJob g (job.Init db user digits page_sums) start result = EndsAsInit g user.now digits.now start result
+EndsJob g (job.Init db user digits page_sums) start result =
+    EndsAsInit g user.now digits.now page_sums start result
 EndsJob g (job.Apply db) start result = EndsApply g db start result
-EndsJob g (job.Serve db listen requests at keep_recent) start result = EndsAsOrEarly g (AnswerConnections at requests) start IsStatusOf result
+EndsJob g (job.Serve db listen requests at keep_recent) start result =
+    EndsAsOrEarly g (AnswerConnections at requests) start IsStatusOf result
 EndsJob g (job.Report db) start result = EndsReport g start result
 EndsJob g (job.Check db) start result = EndsAs g CountWrong start IsStatusOfCheck result
 
@@ -125,11 +147,14 @@ path_of (job.Check db) = Some db.now
 abbrev pub IsShown : Error → Type 0
 IsShown error = (kind_of error ≡ DisplayHelp) ⊎ (kind_of error ≡ DisplayVersion)
 
--- Its status, by what is read of its words. That of the job, or 1 where that ended with a fault. Else 1 for want of memory,
--- and where the help can't be printed; 0 where it is; and 2 for any mistake in them.
+-- Its status, by what is read of its words. That of the job, or 1 where that ended with a fault.
+-- Else 1 for want of memory, 0 or 1 where the words ask for the help or the version, and 2 for any
+-- mistake.
 abbrev pub EndsByWords : {D : Type 0} → Ghosts D → Result Job WordsEnd → Image → ExitCode → Type 0
 EndsByWords g (Ok asked) start status =
-    (ended : Result ExitCode End) × EndsJob g asked start ended × IfOk ended (λ told. status ≡ told) × (IsErr ended → exit_status status ≡ 1)
+    (ended : Result ExitCode End) × EndsJob g asked start ended
+    × IfOk ended (λ told. status ≡ told) × (IsErr ended → exit_status status ≡ 1)
 EndsByWords g (Err words.OutOfMemory) start status = exit_status status ≡ 1
 EndsByWords g (Err (words.Clap error)) start status =
-    (IsShown error → (exit_status status ≡ 0) ⊎ (exit_status status ≡ 1)) × ((¬ IsShown error) → exit_status status ≡ 2)
+    (IsShown error → (exit_status status ≡ 0) ⊎ (exit_status status ≡ 1))
+    × ((¬ IsShown error) → exit_status status ≡ 2)

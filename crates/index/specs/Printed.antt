@@ -1,5 +1,5 @@
 -- What the ends of the program print, and the causes of a failed database.
-use Rattle.std.specs.Prelude.{ℕ, List, codes, ◌++◌, string_bytes}
+use Rattle.std.specs.Prelude.{ℕ, List, [], codes, ◌++◌, string_bytes}
 use Rattle.index_cli.specs.Printed.{line_end_text, serve_end_text}
 use Rattle.index_rules.specs.Printed.{open_fault_text}
 use Rattle.index.specs.declared.cause.Cause.{Cause}
@@ -17,21 +17,31 @@ end_text end.OutOfMemory = codes "OutOfMemory"
 end_text (end.Store cause) = codes "Store"
 end_text end.WriteFault = codes "WriteFault"
 
--- each cause prints its words
+-- the words for each cause
+abbrev pub cause_words : Cause → List ℕ
+cause_words cause.InUse = codes "in use by another program"
+cause_words cause.NoFile = codes "no such file"
+cause_words cause.NoFolder = codes "no such folder"
+cause_words cause.NotMade = codes "no such file, and none could be made"
+cause_words cause.NoRight = codes "no right to read and write it"
+cause_words cause.Folder = codes "a folder"
+cause_words cause.NoRegularFile = codes "no regular file"
+cause_words cause.SecondName = codes "a file with a second name"
+cause_words cause.Beside = codes "it opens, but not with the log or journal beside it"
+cause_words cause.NoDatabase = codes "no database that this program can read"
+cause_words cause.Damaged = codes "damaged"
+cause_words (cause.Object name) = codes "an object that no index has: "
+cause_words cause.NotNew = codes "not new, and only a new file gets page sums"
+cause_words cause.OtherTables = codes "tables that are not as an index has them"
+cause_words cause.DiskFailed = codes "the disk failed"
+cause_words cause.Full = codes "the disk or the file is full"
+cause_words cause.Shut = codes "shut by an earlier failure of the disk"
+
+-- the name of the object, of the cause that has one
+abbrev pub object_in : Cause → List ℕ
+object_in (cause.Object name) = string_bytes name
+object_in _ = []
+
+-- each cause prints its words, and the object behind them
 abbrev pub cause_text : Cause → List ℕ
-cause_text cause.InUse = codes "in use by another program"
-cause_text cause.NoFile = codes "no such file"
-cause_text cause.NoFolder = codes "no such folder"
-cause_text cause.NotMade = codes "no such file, and none could be made"
-cause_text cause.NoRight = codes "no right to read and write it"
-cause_text cause.Folder = codes "a folder"
-cause_text cause.NoRegularFile = codes "no regular file"
-cause_text cause.SecondName = codes "a file with a second name"
-cause_text cause.Beside = codes "it opens, but not with the log or journal beside it"
-cause_text cause.NoDatabase = codes "no database that this program can read"
-cause_text cause.Damaged = codes "damaged"
-cause_text (cause.Object name) = codes "an object that no index has: " ++ string_bytes name
-cause_text cause.OtherTables = codes "tables that are not as an index has them"
-cause_text cause.DiskFailed = codes "the disk failed"
-cause_text cause.Full = codes "the disk or the file is full"
-cause_text cause.Shut = codes "shut by an earlier failure of the disk"
+cause_text cause = cause_words cause ++ object_in cause

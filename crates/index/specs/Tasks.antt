@@ -22,18 +22,21 @@ use Rattle.index.specs.Ends.{end_of, end_of_reporting, end_of_serving, is_fault}
 
 -- ---- each kind of work
 
--- the lines of what a reader had were answered up to this end: by the tables, and by each legal history for which they
--- stood, so that the tables after it stand for the history with the calls that were accepted
-pub record AnswersLines (given left had has : Option (List ℕ)) (T T' : Tables) (result : Result ℕ End) : Type 0 where
+-- the lines of what a reader had were answered up to this end: by the tables, and by each legal
+-- history for which they stood, so that the tables after it stand for the history with the
+-- accepted calls
+pub record AnswersLines
+    (given left had has : Option (List ℕ)) (T T' : Tables) (result : Result ℕ End) : Type 0 where
   pub ended : Result ℕ LineEnd
   pub is : result ≡ end_of ended
   pub tables : EndsRun (TellsLines by_tables T) T' given left had has ended
   pub history : (h : History) → IsLegal h → StandsFor T h
       → EndsRun (TellsHistory h) T' given left had has ended
 
--- these tables may be left by the lines that were answered up to this end: what comes of the accepted calls, or of these
--- and one to which a fault was answered since the last of them
-pub record LeavesLines (given left had has : Option (List ℕ)) (T T' : Tables) (result : Result ℕ End) : Type 0 where
+-- these tables may be left by the lines that were answered up to this end: what comes of the
+-- accepted calls, or of these and one to which a fault was answered since the last of them
+pub record LeavesLines
+    (given left had has : Option (List ℕ)) (T T' : Tables) (result : Result ℕ End) : Type 0 where
   pub ended : Result ℕ LineEnd
   pub is : result ≡ end_of ended
   pub tables : EndsRun (TellsCalls (LeavesAll T)) T' given left had has ended
@@ -41,7 +44,8 @@ pub record LeavesLines (given left had has : Option (List ℕ)) (T T' : Tables) 
       → EndsRun (TellsCalls (LeavesAllOf h)) T' given left had has ended
 
 -- the report was written, or a front of it, up to this end, and no table changed
-pub record WritesReport (had has : Option (List ℕ)) (T T' : Tables) (result : Result ℕ End) : Type 0 where
+pub record WritesReport
+    (had has : Option (List ℕ)) (T T' : Tables) (result : Result ℕ End) : Type 0 where
   pub ended : Result (Unit {0}) ReportFault
   pub is : result ≡ end_of_reporting ended
   pub reports : Reports (report_in T) had has ended
@@ -53,7 +57,8 @@ pub record CountsWrong (T T' : Tables) (result : Result ℕ End) : Type 0 where
   pub fault : IfErr result (λ e. IsTrue (is_fault e))
   pub unchanged : T' ≡ T
 
--- it ended as the connections did, or before the first: the address can't be listened on, or was not told
+-- it ended as the connections did, or before the first: the address can't be listened on, or was
+-- not told
 abbrev pub IsServingEnd : Result ℕ End → Type 0
 IsServingEnd result =
     ((result ≡ Err end.Listen) ⊎ (result ≡ Err end.WriteFault))
@@ -64,24 +69,28 @@ abbrev pub IsUpTo : ℕ → Result ℕ End → ℕ → Type 0
 IsUpTo requests (Ok done) count = count ≡ requests
 IsUpTo requests (Err early) count = count ≤ requests
 
--- connections were answered, one after the other: by the tables, and by each legal history for which they stood, so that
--- the tables after it stand for the history with the calls that were accepted
-pub record AnswersConnections (at : Option ℕ) (requests : ℕ) (T T' : Tables) (result : Result ℕ End) : Type 0 where
+-- connections were answered, one after the other: by the tables, and by each legal history for
+-- which they stood, so that the tables after it stand for the history with the accepted calls
+pub record AnswersConnections
+    (at : Option ℕ) (requests : ℕ) (T T' : Tables) (result : Result ℕ End) : Type 0 where
   pub ends : IsServingEnd result
   pub tables : (count : ℕ) × IsUpTo requests result count × Serves by_tables at count T T'
   pub history : (h : History) → IsLegal h → StandsFor T h
       → (count : ℕ) × IsUpTo requests result count × ServesHistory h at count T'
 
 -- these tables may be left by the connections that were answered: the same of their calls
-pub record LeavesConnections (at : Option ℕ) (requests : ℕ) (T T' : Tables) (result : Result ℕ End) : Type 0 where
-  pub tables : (count : ℕ) × IsUpTo requests result count × ServesCalls (LeavesAll T) at count T'
+pub record LeavesConnections
+    (at : Option ℕ) (requests : ℕ) (T T' : Tables) (result : Result ℕ End) : Type 0 where
+  pub tables : (count : ℕ) × IsUpTo requests result count
+      × ServesCalls (LeavesAll T) at count T'
   pub history : (h : History) → IsLegal h → StandsFor T h
       → (count : ℕ) × IsUpTo requests result count × ServesCalls (LeavesAllOf h) at count T'
 
 -- ---- a task
 
--- A kind of work, with what it is done on besides the tables. Lines: what a reader had and has left, and what a writer had
--- and has. Connections: the moment that was given for all of them, and how many. A report: what a writer had and has.
+-- A kind of work, with what it is done on besides the tables. Lines: what a reader had and has
+-- left, and what a writer had and has. Connections: the moment that was given for all of them, and
+-- how many. A report: what a writer had and has.
 pub data Task : Type 0 where
   AnswerLines : (given left had has : Option (List ℕ)) → Task
   AnswerConnections : (at : Option ℕ) → (requests : ℕ) → Task
@@ -90,14 +99,18 @@ pub data Task : Type 0 where
 
 -- what it makes of the tables, where it ends so
 abbrev pub Does : Task → Result ℕ End → Tables → Tables → Type 0
-Does (AnswerLines given left had has) result T T' = AnswersLines given left had has T T' result
-Does (AnswerConnections at requests) result T T' = AnswersConnections at requests T T' result
+Does (AnswerLines given left had has) result T T' =
+    AnswersLines given left had has T T' result
+Does (AnswerConnections at requests) result T T' =
+    AnswersConnections at requests T T' result
 Does (WriteReport had has) result T T' = WritesReport had has T T' result
 Does CountWrong result T T' = CountsWrong T T' result
 
 -- what a crash may leave of it, where it ends so
 abbrev pub MayLeaveBy : Task → Result ℕ End → Tables → Tables → Type 0
-MayLeaveBy (AnswerLines given left had has) result T T' = LeavesLines given left had has T T' result
-MayLeaveBy (AnswerConnections at requests) result T T' = LeavesConnections at requests T T' result
+MayLeaveBy (AnswerLines given left had has) result T T' =
+    LeavesLines given left had has T T' result
+MayLeaveBy (AnswerConnections at requests) result T T' =
+    LeavesConnections at requests T T' result
 MayLeaveBy (WriteReport had has) result T T' = T' ≡ T
 MayLeaveBy CountWrong result T T' = T' ≡ T

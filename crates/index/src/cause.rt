@@ -1,6 +1,7 @@
 //! Why the database failed, as far as that is known.
 ghost use Rattle.std.specs.Prelude.{◌≡◌};
 ghost use Rattle.index.specs.Causes.{cause_of_calls, cause_of_error, cause_of_kind, cause_of_node};
+ghost use Rattle.index.specs.Printed.{cause_words, object_in};
 
 use sqlite::{Error, ErrorCode};
 use sqlite_disk::Tally;
@@ -28,10 +29,12 @@ pub enum Cause {
     SecondName,
     /// It can be opened, but not with what is beside it.
     Beside,
-    /// The file is no database, or its schema is none that is read here, or its rows don't obey that.
+    /// The file is no database, or its schema is none that is read here, or its rows don't obey it.
     NoDatabase,
     /// It is damaged.
     Damaged,
+    /// Its file is not empty, and its pages were to get sums.
+    NotNew,
     /// It has an object of this name, and an index has none.
     Object(String),
     /// Its objects have the names of those of an index, and are not as these.
@@ -44,6 +47,43 @@ pub enum Cause {
     Shut,
 }
 
+impl Cause {
+    /// The words for it. An object is named behind them.
+    fn words(&self) -> &'static str
+        ensures { result.now ≡ cause_words self.now }
+    {
+        match self {
+            Cause::InUse => "in use by another program",
+            Cause::NoFile => "no such file",
+            Cause::NoFolder => "no such folder",
+            Cause::NotMade => "no such file, and none could be made",
+            Cause::NoRight => "no right to read and write it",
+            Cause::Folder => "a folder",
+            Cause::NoRegularFile => "no regular file",
+            Cause::SecondName => "a file with a second name",
+            Cause::Beside => "it opens, but not with the log or journal beside it",
+            Cause::NoDatabase => "no database that this program can read",
+            Cause::Damaged => "damaged",
+            Cause::NotNew => "not new, and only a new file gets page sums",
+            Cause::Object(_) => "an object that no index has: ",
+            Cause::OtherTables => "tables that are not as an index has them",
+            Cause::DiskFailed => "the disk failed",
+            Cause::Full => "the disk or the file is full",
+            Cause::Shut => "shut by an earlier failure of the disk",
+        }
+    }
+
+    /// The name of the object, of the cause that has one.
+    fn object(&self) -> &str
+        ensures { result.now ≡ object_in self.now }
+    {
+        match self {
+            Cause::Object(name) => name.as_str(),
+            _ => "",
+        }
+    }
+}
+
 impl fmt::Display for Cause {
     ghost use Rattle.std.specs.Prelude.{Some};
     ghost use Rattle.index.specs.Printed.{cause_text};
@@ -51,24 +91,8 @@ impl fmt::Display for Cause {
     ghost output = { λ cause. Some (cause_text cause) };
 
     fn fmt<W: fmt::Write>(&self, f: &mut fmt::Formatter<W>) -> fmt::Result {
-        match self {
-            Cause::InUse => f.write_str("in use by another program"),
-            Cause::NoFile => f.write_str("no such file"),
-            Cause::NoFolder => f.write_str("no such folder"),
-            Cause::NotMade => f.write_str("no such file, and none could be made"),
-            Cause::NoRight => f.write_str("no right to read and write it"),
-            Cause::Folder => f.write_str("a folder"),
-            Cause::NoRegularFile => f.write_str("no regular file"),
-            Cause::SecondName => f.write_str("a file with a second name"),
-            Cause::Beside => f.write_str("it opens, but not with the log or journal beside it"),
-            Cause::NoDatabase => f.write_str("no database that this program can read"),
-            Cause::Damaged => f.write_str("damaged"),
-            Cause::Object(name) => write!(f, "an object that no index has: {name}"),
-            Cause::OtherTables => f.write_str("tables that are not as an index has them"),
-            Cause::DiskFailed => f.write_str("the disk failed"),
-            Cause::Full => f.write_str("the disk or the file is full"),
-            Cause::Shut => f.write_str("shut by an earlier failure of the disk"),
-        }
+        f.write_str(self.words())?;
+        f.write_str(self.object())
     }
 }
 
@@ -115,7 +139,8 @@ pub fn cause_of_kind(kind: ErrorKind) -> Option<Cause>
     }
 }
 
-/// The cause that what is at a path tells: whether it is a folder, or a file, and how many names it has.
+/// The cause that what is at a path tells: whether it is a folder, or a file, and how many names
+/// it has.
 pub fn cause_of_node(is_folder: bool, is_file: bool, names: u64) -> Option<Cause>
     ensures { result ≡ cause_of_node is_folder is_file names }
 {

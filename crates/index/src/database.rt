@@ -1,7 +1,7 @@
 //! The index in a database of SQLite: made or adopted, worked on, and closed.
-ghost use Rattle.std.specs.Prelude.{◌≡◌, ◌↔◌, false, ℕ, Result, None, Some, IfOk, IfErr, IfSome, IsErrOf, IsTrue};
+ghost use Rattle.std.specs.Prelude.{◌≡◌, false, ℕ, Result, None, Some, IfOk, IfErr, IfSome, IsTrue};
 ghost use Rattle.sqlite.specs.Closing.{IsCopied};
-ghost use Rattle.sqlite.specs.Files.{IsClosed, over_files};
+ghost use Rattle.sqlite.specs.Files.{IsClosed, file_state, over_files};
 ghost use Rattle.sqlite.specs.Held.{AreDatabases, state};
 ghost use Rattle.sqlite.specs.Recovery.{Image};
 ghost use Rattle.sqlite.specs.State.{HasCleanDisk};
@@ -10,7 +10,7 @@ ghost use Rattle.sqlite.specs.WalReads.{AreClean};
 ghost use Rattle.sqlite_trees.specs.View.{IsClean};
 ghost use Rattle.index_digest.specs.Digest.{read_digest};
 ghost use Rattle.index_rules.specs.Facts.{HasOneBearer};
-ghost use Rattle.index_rules.specs.FirstTables.{IsBadFirstUser, first_tables};
+ghost use Rattle.index_rules.specs.FirstTables.{first_tables};
 ghost use Rattle.index_rules.specs.Tables.{Tables};
 ghost use Rattle.index_sql_schema.specs.Schema.{no_schema};
 ghost use Rattle.index_tables.specs.Adopted.{IsRaised};
@@ -19,8 +19,10 @@ ghost use Rattle.index.specs.declared.end.End.{End as EndData};
 ghost use Rattle.index.specs.Causes.{IsKnown, IsObject, other_object};
 ghost use Rattle.index.specs.Chains.{InitLeadsOn, WorkLeadsOn};
 ghost use Rattle.index.specs.Ends.{closing_of, is_fault};
-ghost use Rattle.index.specs.Openings.{IsBadFirstUserByHex, IsOpenedOn, IsToldOf, IsUnmade, IsWhyUnfound, IsWhyUnmade, IsWhyUnused, LeavesUnused};
-ghost use Rattle.index.specs.Runs.{Created, CreatedInLog, EndsRunOn, EndsWork, IsMadeNew, LeavesAsWas};
+ghost use Rattle.index.specs.Openings.{IsCleanClosed, IsOpenedOn, IsToldOf, IsUnmade, IsWhyUnfound};
+ghost use Rattle.index.specs.Openings.{IsWhyUnmade, IsWhyUnused, LeavesUnused};
+ghost use Rattle.index.specs.Runs.{Created, CreatedInLog, EndsInitOn, EndsRunOn, EndsWork};
+ghost use Rattle.index.specs.Runs.{IsMadeNew, LeavesAsWas};
 ghost use Rattle.index.specs.Tasks.{Does, MayLeaveBy, Task};
 
 use crate::cause::{Cause, cause_of_calls};
@@ -37,11 +39,32 @@ use sqlite::{Alter, Connection, FileFrom, FileStore, Files, Leftover, Start};
 use sqlite_disk::Disk;
 use std::alloc::{AllocError, Global};
 
-/// What comes of closing: the files, or the fault for which the log was not copied, and the store that has it.
-pub type Closed<D> = Result<Files<D>, (End, FileStore<D>)>;
+/// What comes of closing: the files, or why they could not be closed.
+pub type Closed<D> = Result<Files<D>, Unclosed<D>>;
 
-/// Why nothing was done, and what is left of the files, where they were opened.
-pub type Unused<D> = (End, Option<Left<D>>);
+/// A database whose log was not copied into the file.
+pub struct Unclosed<D: Disk> {
+    /// The fault for which it was not.
+    pub fault: End,
+    /// The store that has the log.
+    pub store: FileStore<D>,
+}
+
+/// A run of work that was done.
+pub struct Finished<D: Disk> {
+    /// What came of closing the files.
+    pub closed: Closed<D>,
+    /// The end of the work, with the number that it found.
+    pub end: Result<u64, End>,
+}
+
+/// Two files on which nothing was done.
+pub struct Unused<D: Disk> {
+    /// Why nothing was.
+    pub why: End,
+    /// What is left of them, where they were opened.
+    pub left: Option<Left<D>>,
+}
 
 /// What is left of two files on which nothing was done.
 pub enum Left<D: Disk> {
@@ -70,10 +93,12 @@ pub trait Work {
         ensures clean { B.IsClean desk.new → B.IsClean desk.old };
 }
 
-/// Makes a new index with one user, of the office, whose token has the digest of these hex digits, and closes the files.
+/// Makes a new index with one user, of the office, whose token has the digest of these hex digits,
+/// and closes the files.
 ///
-/// `BadFirstUser`, also where the digits are malformed, and then no file is opened or made; `NotEmpty`, `OutOfMemory`, or
-/// `Store`.
+/// `BadFirstUser`, also where the digits are malformed, and then no file is opened or made;
+/// `NotEmpty`, `OutOfMemory`, or `Store`, also where page sums are asked for and the file is not
+/// empty.
 pub fn create<S: Start>(
     rt: &HostRuntime,
     path: &str,
@@ -82,29 +107,8 @@ pub fn create<S: Start>(
     token: &str,
     page_sums: bool,
 ) -> Result<Closed<FileFrom<S>>, Unused<FileFrom<S>>>
-    ensures bad_first_user { IsErrOf result (End.Open OpenFault.BadFirstUser, None)
-        ↔ IsBadFirstUserByHex user.now token.now }
-    ensures why { (digest : _) → read_digest token.now ≡ Some digest
-        → (¬ IsBadFirstUser user.now digest)
-        → IfErr result (λ e. IsWhyUnused (IsWhyUnmade user.now digest over_files)
-        (image_at S.Start) e.0 e.1) }
-
-    // The files held nothing of an index, and hold the new one.
-    ensures created { IfOk result (λ closed. IfOk closed (λ files.
-        let g = ⟦<FileFrom<S> as Disk>⟧ in
-        AreClean g files.log files.db → (digest : _) × (read_digest token.now ≡ Some digest)
-        × Created g (first_tables user.now digest) (image_at S.Start) files)) }
-
-    // Where the log was not copied, a crash leaves the new index.
-    ensures unclosed { IfOk result (λ closed. IfErr closed (λ e. IsClean (over_files.view e.1)
-        → (digest : _) × (read_digest token.now ≡ Some digest)
-        × CreatedInLog (first_tables user.now digest) (image_at S.Start) e.1)) }
-    ensures fault { IfOk result (λ closed. IfErr closed (λ e. IsTrue (is_fault e.0))) }
-
-    // What is refused is as it was.
-    ensures refused { (digest : _) → read_digest token.now ≡ Some digest
-        → IfErr result (λ e. IfSome e.1
-        (LeavesUnused (IsUnmade (first_tables user.now digest)) (image_at S.Start))) }
+    ensures ends { EndsInitOn ⟦<FileFrom<S> as Disk>⟧ user.now token.now page_sums
+        (image_at S.Start) result }
 
     // The next run finds what was there, or the new index.
     ensures leads { (digest : _) → read_digest token.now ≡ Some digest
@@ -112,26 +116,36 @@ pub fn create<S: Start>(
 {
     let token = match first_token(rt.alloc(), user, token) {
         Ok(token) => token,
-        Err(why) => return Err((End::Open(why), None)),
+        Err(why) => {
+            return Err(Unused {
+                why: End::Open(why),
+                left: None,
+            });
+        }
     };
     match open(rt, path, start, page_sums) {
         Ok(conn) => create_and_close(rt, conn, user, token),
-        Err((end, left)) => match left {
-            Some(left) => Err((end, Some(Left::Shut(left)))),
-            None => Err((end, None)),
+        Err((why, left)) => match left {
+            Some(left) => Err(Unused {
+                why,
+                left: Some(Left::Shut(left)),
+            }),
+            None => Err(Unused { why, left: None }),
         },
     }
 }
 
-/// Does work on the index in a file, and closes the files. The end of the work comes beside what came of closing.
+/// Does work on the index in a file, and closes the files. The end of the work comes beside what
+/// came of closing.
 ///
-/// `NotAnIndex`, `OtherVersion`, `OutOfMemory`, or `Store`, also where there is no file, and none is made.
+/// `NotAnIndex`, `OtherVersion`, `OutOfMemory`, or `Store`, also where there is no file, and none
+/// is made.
 pub fn work_on<S: Start, W: Work>(
     rt: &HostRuntime,
     path: &str,
     start: S,
     work: &mut W,
-) -> Result<(Closed<FileFrom<S>>, Result<u64, End>), Unused<FileFrom<S>>>
+) -> Result<Finished<FileFrom<S>>, Unused<FileFrom<S>>>
     ensures ends { EndsRunOn ⟦<FileFrom<S> as Disk>⟧ (W.task work.old work.new)
         (image_at S.Start) result }
 
@@ -141,9 +155,12 @@ pub fn work_on<S: Start, W: Work>(
 {
     match open_there(rt, path, start) {
         Ok(conn) => work_and_close(rt, conn, work),
-        Err((end, left)) => match left {
-            Some(left) => Err((end, Some(Left::Shut(left)))),
-            None => Err((end, None)),
+        Err((why, left)) => match left {
+            Some(left) => Err(Unused {
+                why,
+                left: Some(Left::Shut(left)),
+            }),
+            None => Err(Unused { why, left: None }),
         },
     }
 }
@@ -159,21 +176,26 @@ fn create_and_close<D: Disk + Drop>(
     ensures created { IfOk result (λ closed. IfOk closed (λ files.
         AreClean D.Disk files.log files.db → (start : Image) → IsOpenedOn start conn
         → Created D.Disk (first_tables user.now token) start files)) }
-    ensures unclosed { IfOk result (λ closed. IfErr closed (λ e. IsClean (over_files.view e.1)
+    ensures unclosed { IfOk result (λ closed. IfErr closed (λ it. IsClean (over_files.view it.store)
         → (start : Image) → IsOpenedOn start conn
-        → CreatedInLog (first_tables user.now token) start e.1)) }
-    ensures fault { IfOk result (λ closed. IfErr closed (λ e. IsTrue (is_fault e.0))) }
-    ensures refused { IfErr result (λ e. IfSome e.1 (λ left. (start : Image) →
+        → CreatedInLog (first_tables user.now token) start it.store)) }
+    ensures was_clean { IfOk result (λ closed. IsCleanClosed closed
+        → HasCleanDisk (file_state conn)) }
+    ensures fault { IfOk result (λ closed. IfErr closed (λ it. IsTrue (is_fault it.fault))) }
+    ensures refused { IfErr result (λ it. IfSome it.left (λ left. (start : Image) →
         IsOpenedOn start conn → LeavesUnused (IsUnmade (first_tables user.now token)) start left)) }
-    ensures why { IfErr result (λ e. (start : Image) → IsOpenedOn start conn →
-        IsWhyUnused (IsWhyUnmade user.now token over_files) start e.0 e.1) }
+    ensures why { IfErr result (λ it. (page_sums : _) (start : Image) → IsOpenedOn start conn →
+        IsWhyUnused page_sums (IsWhyUnmade user.now token over_files) start it.why it.left) }
 {
     match create_in(rt, conn, user, token) {
         Ok(conn) => Ok(close(worked_on(conn))),
         Err(left) => {
             let Unopened { why, conn } = left;
             let conn = worked_on(conn);
-            Err((End::Open(why), Some(Left::Refused(Unopened { why, conn }))))
+            Err(Unused {
+                why: End::Open(why),
+                left: Some(Left::Refused(Unopened { why, conn })),
+            })
         }
     }
 }
@@ -183,17 +205,23 @@ fn work_and_close<D: Disk + Drop, W: Work>(
     rt: &HostRuntime,
     conn: Connection<FileStore<D>>,
     work: &mut W,
-) -> Result<(Closed<D>, Result<u64, End>), Unused<D>>
+) -> Result<Finished<D>, Unused<D>>
     requires outside { conn.in_transaction ≡ false }
     ensures ends { (start : Image) → IsOpenedOn start conn → EndsRunOn D.Disk
         (W.task work.old work.new) start result }
 {
     match work_in(rt, conn, work) {
-        Ok((conn, end)) => Ok((close(worked_on(conn)), end)),
+        Ok((conn, end)) => Ok(Finished {
+            closed: close(worked_on(conn)),
+            end,
+        }),
         Err(left) => {
             let Unopened { why, conn } = left;
             let conn = worked_on(conn);
-            Err((End::Open(why), Some(Left::Refused(Unopened { why, conn }))))
+            Err(Unused {
+                why: End::Open(why),
+                left: Some(Left::Refused(Unopened { why, conn })),
+            })
         }
     }
 }
@@ -258,16 +286,20 @@ fn work_in<S: Alter + Drop, W: Work>(
 
 /// Closes the database: the log of the last changes is copied into the file.
 ///
-/// `OutOfMemory` or `Store` where the copy fails. The changes are kept then too, by the log, which the store has.
+/// `OutOfMemory` or `Store` where the copy fails. The changes are kept then too, by the log, which
+/// the store has.
 #[tactic(auto, using(crate::proofs::FaultLemmas::error_is_fault))]
 fn close<D: Disk + Drop>(conn: Connection<FileStore<D>>) -> Closed<D>
     ensures copied { IfOk result (λ it. AreClean D.Disk it.log it.db → IsCopied conn it) }
-    ensures kept { IfErr result (λ e. IsClosed conn e.1) }
-    ensures fault { IfErr result (λ e. IsTrue (is_fault e.0)) }
+    ensures kept { IfErr result (λ it. IsClosed conn it.store) }
+    ensures fault { IfErr result (λ it. IsTrue (is_fault it.fault)) }
 {
     match conn.close_files() {
         Ok(files) => Ok(files),
-        Err((error, store)) => Err((End::from(error), store)),
+        Err((error, store)) => Err(Unclosed {
+            fault: End::from(error),
+            store,
+        }),
     }
 }
 
@@ -280,36 +312,37 @@ pub fn let_go<D: Disk + Drop>(closed: Closed<D>) -> Result<(), End>
             drop(files);
             Ok(())
         }
-        Err((fault, store)) => {
+        Err(Unclosed { fault, store }) => {
             drop(store.close());
             Err(fault)
         }
     }
 }
 
-/// Why nothing was done. The files are let go as they are. What they hold, and what became of the calls on them, may tell
-/// why they were refused.
+/// Why nothing was done. The files are let go as they are. What they hold, and what became of the
+/// calls on them, may tell why they were refused.
 pub fn why<D: Disk + Drop>(alloc: Global, unused: Unused<D>) -> End
-    ensures { IsToldOf unused.0 unused.1 result }
+    ensures { IsToldOf unused.why unused.left result }
 {
-    let (end, left) = unused;
+    let Unused { why, left } = unused;
     match left {
         Some(Left::Refused(Unopened { why: _, conn })) => {
-            if end.is_store() {
+            if why.is_store() {
                 return End::Store(cause_of_refused(alloc, conn));
             }
             drop(conn);
-            end
+            why
         }
         Some(Left::Shut(left)) => {
             drop(left);
-            end
+            why
         }
-        None => end,
+        None => why,
     }
 }
 
-/// Why a database was refused that could be opened, where its schema tells that, or what its files met. They are let go.
+/// Why a database was refused that could be opened, where its schema tells that, or what its files
+/// met. They are let go.
 fn cause_of_refused<D: Disk + Drop>(
     alloc: Global,
     conn: Connection<FileStore<D>>,
@@ -322,8 +355,8 @@ fn cause_of_refused<D: Disk + Drop>(
     cause_of_calls(files.tally(), files.may_be_used())
 }
 
-/// Why a database was refused, where its schema tells that: by an object that no index has, or by tables that were not
-/// seen to be those of an index or of version 1.
+/// Why a database was refused, where its schema tells that: by an object that no index has, or by
+/// tables that were not seen to be those of an index or of version 1.
 ///
 /// `AllocError` for want of memory.
 fn cause_of_schema<S: Alter>(

@@ -1,16 +1,19 @@
 //! The program's subcommands.
-ghost use Rattle.std.specs.Prelude.{◌≡◌, ◌↔◌, ◌∷◌, ◌++◌, [], IfErr, IfOk, OnOk, codes, decimal, unwrap_or};
+ghost use Rattle.std.specs.Prelude.{◌≡◌, ◌↔◌, ◌∷◌, ◌++◌, [], codes, decimal, false, unwrap_or};
+ghost use Rattle.std.specs.Prelude.{Err, IfErr, IfOk, IsOk, IsTrue, OnOk};
 ghost use Rattle.std.specs.Io.KnownBytes.{Appends};
 ghost use Rattle.std.specs.Process.{exit_status};
 ghost use Rattle.sqlite.specs.WalFiles.{image_at};
 ghost use Rattle.index_digest.specs.Digest.{sha256};
 ghost use Rattle.index_rules.specs.FirstTables.{first_tables};
 ghost use Rattle.index_rules.specs.Tables.{Tables};
-ghost use Rattle.index.specs.Ends.{end_by};
-ghost use Rattle.index.specs.Jobs.{ComesByPath, ComesOfInit, ComesOfRun, EndsApply, EndsAs, EndsAsInit, EndsAsOrEarly, EndsReport, IsStatusOf, IsStatusOfCheck};
+ghost use Rattle.index.specs.Ends.{end_by, is_store};
+ghost use Rattle.index.specs.Jobs.{ComesByPath, ComesOfInit, ComesOfRun, EndsApply, EndsAs};
+ghost use Rattle.index.specs.Jobs.{EndsAsInit, EndsAsOrEarly, EndsReport, IsStatusOf};
+ghost use Rattle.index.specs.Jobs.{IsStatusOfCheck};
 ghost use Rattle.index.specs.Tasks.{AnswerConnections, CountWrong, Does};
 
-use crate::database::{self, Work};
+use crate::database::{self, Finished, Work};
 use crate::end::End;
 use index_cli::{apply_lines, serve_connections};
 use index_desk::{Desk, Keeper};
@@ -27,7 +30,7 @@ use std::net::{SocketAddr, TcpListener};
 use std::process::ExitCode;
 
 /// How many bytes of files and pages are kept at hand, where the command line does not tell.
-const KEPT_BYTES: u64 = 67_108_864;
+const KEPT_BYTES: u64 = 268_435_456;
 
 /// Makes a new index, with page sums or without, and says so.
 pub fn init<S: Start>(
@@ -38,7 +41,8 @@ pub fn init<S: Start>(
     token: &str,
     page_sums: bool,
 ) -> Result<ExitCode, End>
-    ensures { EndsAsInit ⟦<FileFrom<S> as Disk>⟧ user.now token.now (image_at S.Start) result }
+    ensures { EndsAsInit ⟦<FileFrom<S> as Disk>⟧ user.now token.now page_sums
+        (image_at S.Start) result }
 {
     make(rt, db, start, user, token, page_sums)?;
     match println!(rt; "created") {
@@ -56,7 +60,8 @@ fn make<S: Start>(
     token: &str,
     page_sums: bool,
 ) -> Result<(), End>
-    ensures { ComesOfInit ⟦<FileFrom<S> as Disk>⟧ user.now token.now (image_at S.Start) result }
+    ensures { ComesOfInit ⟦<FileFrom<S> as Disk>⟧ user.now token.now page_sums
+        (image_at S.Start) result }
 {
     match database::create(rt, db, start, user, token, page_sums) {
         Ok(closed) => database::let_go(closed),
@@ -79,7 +84,8 @@ pub fn apply<S: Start>(rt: &HostRuntime, db: Option<&str>, start: S) -> Result<E
     Ok(ExitCode::SUCCESS)
 }
 
-/// Does work on the index in a file or, where no path is given, on tables in memory, and gives the number that it found.
+/// Does work on the index in a file or, where no path is given, on tables in memory, and gives the
+/// number that it found.
 fn work_by_path<S: Start, W: Work>(
     rt: &HostRuntime,
     db: Option<&str>,
@@ -106,14 +112,25 @@ fn work_on<S: Start, W: Work>(
         (image_at S.Start) result }
 {
     match database::work_on(rt, db, start, work) {
-        Ok((closed, end)) => ended_by(end, database::let_go(closed)),
+        Ok(Finished { closed, end }) => ended_by(end, database::let_go(closed)),
         Err(unused) => Err(database::why(rt.alloc(), unused)),
     }
 }
 
-/// What came of work, where it is as well closed. A database that failed in the work tells the cause as it is closed.
+/// What came of work, where it is as well closed. A database that failed in the work tells the
+/// cause as it is closed.
 fn ended_by(end: Result<u64, End>, closed: Result<(), End>) -> Result<u64, End>
-    ensures { result ≡ end_by end closed }
+    ensures is { result ≡ end_by end closed }
+
+    // The same, case by case: the end of the work, but where closing failed and the work did not,
+    // or where the database failed in both.
+    ensures closed { IsOk closed → result ≡ end }
+    ensures unclosed { IfErr closed (λ fault. IfOk end (λ _. result ≡ Err fault)) }
+    ensures ended { IfErr end (λ e. is_store e ≡ false → result ≡ Err e) }
+    ensures kept { IfErr end (λ e.
+        IfErr closed (λ fault. is_store fault ≡ false → result ≡ Err e)) }
+    ensures failed { IfErr end (λ e. IsTrue (is_store e)
+        → IfErr closed (λ fault. IsTrue (is_store fault) → result ≡ Err fault)) }
 {
     let Err(fault) = closed else {
         return end;
@@ -124,7 +141,8 @@ fn ended_by(end: Result<u64, End>, closed: Result<(), End>) -> Result<u64, End>
     }
 }
 
-/// Does work on tables in memory whose one user is `office`, of the office, with the token `office`.
+/// Does work on tables in memory whose one user is `office`, of the office, with the token
+/// `office`.
 fn work_in_memory<W: Work>(rt: &HostRuntime, work: &mut W) -> Result<Result<u64, End>, OpenFault>
     ensures worked { let first = first_tables (codes "office") (sha256 (codes "office")) in
         IfOk result (λ end. (T : Tables) × Does (W.task work.old work.new) end first T) }
@@ -174,7 +192,8 @@ pub struct ServeWords<'a> {
     pub keep_recent: Option<u64>,
 }
 
-/// Answers so many connections on the tables of a database, which is opened before the first of them can come.
+/// Answers so many connections on the tables of a database, which is opened before the first of
+/// them can come.
 pub fn serve<S: Start>(
     rt: &HostRuntime,
     db: &str,
@@ -291,7 +310,8 @@ impl<K: Sink> Work for Reporting<K> {
     }
 }
 
-/// Prints how many names have a wrong charge in the tables of a database, and fails where there is one.
+/// Prints how many names have a wrong charge in the tables of a database, and fails where there is
+/// one.
 pub fn check<S: Start>(rt: &HostRuntime, db: &str, start: S) -> Result<ExitCode, End>
     ensures { EndsAs ⟦<FileFrom<S> as Disk>⟧ CountWrong (image_at S.Start)
         IsStatusOfCheck result }

@@ -6,6 +6,7 @@ mod database;
 mod end;
 mod job;
 mod laws;
+mod new_file;
 mod objects;
 mod opening;
 mod path;
@@ -110,8 +111,8 @@ fn database_of(asked: Job<'_>) -> Option<&str>
     }
 }
 
-/// The status of a job. A fault that ended it is named on standard error, with the cause behind it that is known of the
-/// database.
+/// The status of a job. A fault that ended it is named on standard error, with the cause behind it
+/// that is known of the database.
 fn status_of_end(rt: &HostRuntime, db: Option<&str>, end: Result<ExitCode, End>) -> ExitCode
     ensures ok { IfOk end (λ status. result ≡ status) }
     ensures fault { IsErr end → exit_status result ≡ 1 }
@@ -122,7 +123,8 @@ fn status_of_end(rt: &HostRuntime, db: Option<&str>, end: Result<ExitCode, End>)
     }
 }
 
-/// Names a fault on standard error, where that takes it, and on a second line the cause that is known of the database.
+/// Names a fault on standard error, where that takes it, and on a second line the cause that is
+/// known of the database.
 fn tell_fault(rt: &HostRuntime, db: Option<&str>, end: End) -> ExitCode
     ensures status { exit_status result ≡ 1 }
 {

@@ -5,7 +5,8 @@ ghost use Rattle.index.specs.Causes.{is_of_key, is_other, is_table, other_object
 use sqlite_schema::names::same_name;
 use sqlite_schema::schema::{Index, Schema, Table, View};
 
-/// The name of the first object that no index has: of the tables, of the indexes, or of what is kept as it is.
+/// The name of the first object that no index has: of the tables, of the indexes, or of what is
+/// kept as it is.
 pub fn other_object(schema: &Schema) -> Option<&[u8]>
     ensures { option_copied result ≡ other_object schema.now }
 {
@@ -61,7 +62,8 @@ fn is_table(name: &[u8]) -> bool
         || same_name(b"bans", name)
 }
 
-/// Whether SQLite made the index of this name, for a key of a table. Nobody else may give a name that begins so.
+/// Whether SQLite made the index of this name, for a key of a table. Nobody else may give a name
+/// that begins so.
 fn is_of_key(name: &[u8]) -> bool
     ensures { result ≡ is_of_key name.now }
 {

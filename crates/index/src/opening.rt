@@ -1,8 +1,5 @@
 //! The opening of a database file, and the token of the first user of a new index.
-ghost use Rattle.std.specs.Prelude.{◌≡◌, ◌≢◌, ◌↔◌, Some, IfOk, IfSome, IsErrOf, IsTrue};
-ghost use Rattle.sqlite_store.specs.FileStore.{view};
-ghost use Rattle.sqlite.specs.Files.{IsBlankAs, file_state};
-ghost use Rattle.sqlite.specs.State.{HasCleanDisk};
+ghost use Rattle.std.specs.Prelude.{◌≡◌, ◌≢◌, ◌↔◌, Some, IfOk, IfSome, IsErrOf, IsTrue, false};
 ghost use Rattle.sqlite.specs.WalFiles.{image_at};
 ghost use Rattle.index_digest.specs.Digest.{read_digest};
 ghost use Rattle.index_names.specs.Faults.{FailsByEither};
@@ -12,34 +9,49 @@ ghost use Rattle.index.specs.Openings.{EndsOpening, IsBadFirstUserByHex};
 
 use crate::cause::Cause;
 use crate::end::End;
+use crate::new_file::open_new;
 use crate::path::{cause_at, is_missing};
 use index_digest::Digest256;
 use index_rules::{OpenFault, first_user};
 use sqlite::{Connection, Error, ErrorCode, FileFrom, FileStore, Leftover, Start};
 use std::alloc::Global;
 
-/// Opens a database file, which is locked from here on, or makes an empty one, whose pages end in sums where these are asked
-/// for. `S` says what it and its log held.
+/// Opens a database file, which is locked from here on, or makes an empty one. Where page sums are
+/// asked for, it is new, and its pages end in sums. `S` says what it and its log held.
 ///
-/// `OutOfMemory`, or `Store` where that can't be done: where the file is no database, or is in use.
+/// `OutOfMemory`, or `Store` where that can't be done: where the file is no database, is in use,
+/// or is to get page sums and is not new.
 pub fn open<S: Start>(
     rt: &HostRuntime,
     path: &str,
     start: S,
-    new_has_sums: bool,
+    page_sums: bool,
 ) -> Result<Connection<FileStore<FileFrom<S>>>, (End, Option<Leftover<FileFrom<S>>>)>
-    ensures ends { EndsOpening (image_at S.Start) result }
-    ensures sums { IfOk result (λ conn. HasCleanDisk (file_state conn)
-        → IsBlankAs new_has_sums (image_at S.Start)
-        → (view conn.store).has_sums ≡ new_has_sums) }
+    ensures { EndsOpening page_sums (image_at S.Start) result }
 {
-    match Connection::open_from(rt, path, new_has_sums, start) {
+    if page_sums {
+        open_new(rt, path, start)
+    } else {
+        open_any(rt, path, start)
+    }
+}
+
+/// Opens a database file that is there, or makes an empty one without page sums.
+fn open_any<S: Start>(
+    rt: &HostRuntime,
+    path: &str,
+    start: S,
+) -> Result<Connection<FileStore<FileFrom<S>>>, (End, Option<Leftover<FileFrom<S>>>)>
+    ensures { EndsOpening false (image_at S.Start) result }
+{
+    match Connection::open_from(rt, path, false, start) {
         Ok(conn) => Ok(conn),
         Err((error, left)) => Err((unopened(rt, path, error), left)),
     }
 }
 
-/// The end that an error is of a database that could not be opened. What is found at its path may tell the cause.
+/// The end that an error is of a database that could not be opened. What is found at its path may
+/// tell the cause.
 #[tactic(auto, using(crate::proofs::FaultLemmas::error_is_fault))]
 fn unopened(rt: &HostRuntime, path: &str, error: Error) -> End
     ensures fault { IsTrue (is_fault result) }
@@ -59,17 +71,18 @@ pub fn open_there<S: Start>(
     path: &str,
     start: S,
 ) -> Result<Connection<FileStore<FileFrom<S>>>, (End, Option<Leftover<FileFrom<S>>>)>
-    ensures ends { EndsOpening (image_at S.Start) result }
+    ensures { EndsOpening false (image_at S.Start) result }
 {
     if is_missing(rt, path) {
         return Err((End::Store(Some(Cause::NoFile)), None));
     }
-    open(rt, path, start, false)
+    open_any(rt, path, start)
 }
 
 /// The digest of the first user's token by its hex digits, where this user may be the first.
 ///
-/// `BadFirstUser` exactly where the digits are malformed or the two can't be the first, else `OutOfMemory`.
+/// `BadFirstUser` exactly where the digits are malformed or the two can't be the first, else
+/// `OutOfMemory`.
 pub fn first_token(alloc: Global, user: &str, token: &str) -> Result<Digest256, OpenFault>
     ensures read { IfOk result (λ digest. read_digest token.now ≡ Some digest) }
     ensures bad_first_user { IsErrOf result OpenFault.BadFirstUser

@@ -25,11 +25,12 @@ returns-in-Ok g c = record {
             let opening = first (worked.was_working working).clean in
             ran_by _ start c.args.conn conn files opening.0 opening.1 (worked.worked working) is)
             (subst (λ held. IfOk c.close.result (λ it. AreClean g.D.Disk it.log it.db → IsCopied held it)) again.same c.close.ensures.copied);
-        interrupted = IfErr-weaker c.close.result _ _ (λ e closed clean.
-            let then = clean_before c.worked_on.result e.1 closed clean in
+        interrupted = IfErr-weaker c.close.result _ _ (λ it closed clean.
+            let then = clean_before c.worked_on.result it.store closed clean in
             let opening = first (then_worked.was_clean then) in
-            interrupted_by _ start c.args.conn c.worked_on.result e.1 opening.0 opening.1 (then_worked.began then opening.0.0.is_open) closed (again.numbered then, again.databases then))
+            interrupted_by _ start c.args.conn c.worked_on.result it.store opening.0 opening.1 (then_worked.began then opening.0.0.is_open) closed (again.numbered then, again.databases then))
             c.close.ensures.kept;
+        fault = c.close.ensures.fault;
         refused = tt;
         why = tt;
       };
@@ -42,6 +43,7 @@ returns-in-Err g c = record {
       record {
         ran = tt;
         interrupted = tt;
+        fault = tt;
         refused = (
           subst (λ held. IsUnfound start (file_state held)) (sym again.same) (λ clean.
               let leaves = c.in-Err.ensures.refused clean in
