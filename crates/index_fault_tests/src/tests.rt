@@ -9,6 +9,7 @@ use std::alloc::AllocGlobal;
 use std::io::{Read, Write};
 use std::process::Abort;
 
+mod clients;
 mod connections;
 mod ends;
 mod fakes;

@@ -14,6 +14,7 @@ mod looks;
 mod migrations;
 mod opening;
 mod rows;
+mod runs;
 mod stops;
 
 const ACCEPTED: &str = r#"{"answer":"accepted"}"#;

@@ -106,12 +106,8 @@ fn failing<B: Books + Drop>(
     books: B,
     failing: BooksCall,
 ) -> Recent<FailingBooks<B>> {
-    let failing = FailingBooks {
-        books: desk_with_users(rt, books).into_books(),
-        failing,
-        fault: Fault::Store,
-        after: 0,
-    };
+    let books = desk_with_users(rt, books).into_books();
+    let failing = FailingBooks::new(books, failing, Fault::Store, 0);
     Recent::new(rt.alloc(), failing, 0)
 }
 
@@ -119,7 +115,7 @@ fn failing<B: Books + Drop>(
 fn a_store_that_is_shut_ends_the_run(rt: HostRuntime) {
     let loopback = SocketAddr::from((Ipv4Addr::LOCALHOST, 0));
     let listener = TcpListener::bind(&rt, loopback).expect(&rt, "a port");
-    let shut = failing(&rt, new_books(&rt), BooksCall::View);
+    let shut = failing(&rt, new_books(&rt), BooksCall::Every);
     assert_ends(&rt, &rt, &listener, shut, Err(ServeEnd::Store));
 }
 

@@ -1,11 +1,12 @@
 //! The ends of a run over lines.
-use super::fakes::{FailingReader, FullWriter};
+use super::fakes::failing;
 use super::{
     ACCEPTED, ALREADY, BAD_BODY, BOTH_CLAIMS, CLAIM, NEST_IS_FREE, OTHER_CLAIM, STANDING_OF_NEST,
     TWICE_ACCEPTED, assert_answers, assert_run, desk_with_users, new_books, run,
 };
 use index_cli::LineEnd;
 use index_desk::Desk;
+use index_fakes::ShortWriter;
 use index_rules::Books;
 use std::alloc::AllocGlobal;
 use std::process::Abort;
@@ -74,9 +75,7 @@ fn assert_first_claim_alone<B: Books>(rt: &(impl Abort + AllocGlobal), desk: &mu
 /// The line before the failure is applied, and the one that it cuts is not.
 fn fail_read<B: Books + Drop>(rt: &(impl Abort + AllocGlobal), books: B) {
     let mut desk = desk_with_users(rt, books);
-    let reader = FailingReader {
-        rest: BOTH_CLAIMS.as_bytes(),
-    };
+    let reader = failing(BOTH_CLAIMS.as_bytes());
     assert_run(rt, &mut desk, reader, Err(LineEnd::ReadFault), ACCEPTED);
     assert_first_claim_alone(rt, &mut desk);
 }
@@ -123,7 +122,7 @@ fn fail_behind<B: Books + Drop>(rt: &(impl Abort + AllocGlobal), books: B, front
         answers.push('\n').expect(rt, answer);
     }
     let mut desk = Desk::new(books);
-    let reader = FailingReader { rest: front };
+    let reader = failing(front);
     let ended = Err(LineEnd::ReadFault);
     assert_run(rt, &mut desk, reader, ended, answers.as_str());
 }
@@ -138,9 +137,10 @@ fn each_read_of_lines_fails_in_turn(rt: HostRuntime) {
 
 /// A writer takes these bytes of the first answer.
 fn cut<B: Books>(rt: &(impl Abort + AllocGlobal), desk: &mut Desk<B>, taken: &str, fails: bool) {
-    let mut writer = FullWriter {
+    let mut writer = ShortWriter {
         taken: Vec::new(rt.alloc()),
         room: taken.len(),
+        at_a_time: usize::MAX,
         fails,
     };
     let ended = run(rt, desk, BOTH_CLAIMS.as_bytes(), &mut writer);

@@ -1,63 +1,26 @@
 //! Readers, writers and books that fail.
-ghost use Rattle.std.specs.Prelude.{List};
+ghost use Rattle.std.specs.Prelude.{List, ◌≡◌, not};
 ghost use Rattle.index_rules.specs.declared.rows.FileRow.{FileRow as FileRowData};
 ghost use Rattle.index_rules.specs.declared.rows.NameRow.{NameRow as NameRowData};
-ghost use Rattle.index_rules.specs.Walks.{Walks};
+ghost use Rattle.index_rules.specs.Walks.{Walks, WalksSome, has_fault};
+ghost use Rattle.index_io.specs.Counts.{next_count};
 
 use index_digest::Sealed;
+use index_fakes::ShortReader;
 use index_names::{FileName, NormalName};
 use index_rules::{
-    Books, Change, Fault, FileRow, FileTaker, Keys, NameRow, NameTaker, Owners, View, WalkEnd,
+    Books, Change, Fault, FileRow, FileTaker, Keys, NameRow, NameTaker, View, WalkEnd,
 };
 use std::alloc::Global;
 use std::io;
 use std::io::{Error, ErrorKind, Read, Write};
 
-/// Gives its bytes, and then fails.
-#[derive(Drop)]
-pub(super) struct FailingReader<'a> {
-    pub(super) rest: &'a [u8],
-}
-
-impl Read for FailingReader<'_> {
-    fn read(&mut self, buf: &mut [u8]) -> io::Result<usize> {
-        if self.rest.is_empty() {
-            return Err(Error::from(ErrorKind::ConnectionReset));
-        }
-        Read::read(&mut self.rest, buf)
-    }
-}
-
-/// Takes so many bytes; from then on none, or it fails.
-pub(super) struct FullWriter {
-    pub(super) taken: Vec<u8>,
-    pub(super) room: usize,
-    pub(super) fails: bool,
-}
-
-impl Drop for FullWriter {
-    fn drop(self) {
-        let FullWriter {
-            taken: _taken,
-            room: _room,
-            fails: _fails,
-        } = self;
-    }
-}
-
-impl Write for FullWriter {
-    fn write(&mut self, buf: &[u8]) -> io::Result<usize> {
-        if self.room == 0 && self.fails {
-            return Err(Error::from(ErrorKind::BrokenPipe));
-        }
-        let count = buf.len().min(self.room);
-        self.taken.extend_from_slice(&buf[..count])?;
-        self.room -= count;
-        Ok(count)
-    }
-
-    fn flush(&mut self) -> io::Result<()> {
-        Ok(())
+/// Gives these bytes, and then fails.
+pub(super) fn failing(bytes: &[u8]) -> ShortReader<'_> {
+    ShortReader {
+        rest: bytes,
+        at_a_time: usize::MAX,
+        fails: true,
     }
 }
 
@@ -106,7 +69,7 @@ impl Write for InterruptedWriter<'_> {
 pub(super) enum BooksCall {
     View,
     Write,
-    OwnersOf,
+    IsHeld,
     BytesOf,
     Names,
     FilesOf,
@@ -116,6 +79,8 @@ pub(super) enum BooksCall {
     HeldRow,
     /// A walk over the files of a name, behind its first row.
     FilesRow,
+    /// Each of them, as of a store that is shut.
+    Every,
 }
 
 /// Hands a name to a taker, as a walk does that this fault ends then.
@@ -142,12 +107,14 @@ fn hand_file<K: FileTaker>(taker: &mut K, row: &FileRow, fault: Fault) -> Result
     }
 }
 
-/// Books of which one call fails, after so many that didn't. No contract knows what they hold.
+/// Books of which one call fails, after so many that didn't. They count the calls that answered a fault. No contract knows
+/// what they hold.
 pub(super) struct FailingBooks<B: Books + Drop> {
     pub(super) books: B,
     pub(super) failing: BooksCall,
     pub(super) fault: Fault,
     pub(super) after: u32,
+    pub(super) failures: u64,
 }
 
 impl<B: Books + Drop> Drop for FailingBooks<B> {
@@ -157,14 +124,28 @@ impl<B: Books + Drop> Drop for FailingBooks<B> {
             failing: _failing,
             fault: _fault,
             after: _after,
+            failures: _failures,
         } = self;
     }
 }
 
 impl<B: Books + Drop> FailingBooks<B> {
+    /// Books of which this call fails, after so many that don't.
+    pub(super) fn new(books: B, failing: BooksCall, fault: Fault, after: u32) -> FailingBooks<B> {
+        FailingBooks {
+            books,
+            failing,
+            fault,
+            after,
+            failures: 0,
+        }
+    }
+
     /// Whether this call fails now.
-    fn fails(&mut self, call: BooksCall) -> bool {
-        if self.failing != call {
+    fn fails(&mut self, call: BooksCall) -> bool
+        ensures { self.new.failures ≡ self.old.failures }
+    {
+        if self.failing != call && self.failing != BooksCall::Every {
             return false;
         }
         if self.after == 0 {
@@ -174,10 +155,29 @@ impl<B: Books + Drop> FailingBooks<B> {
         false
     }
 
+    /// Counts a call, by whether it answered no fault.
+    fn count(&mut self, succeeds: bool)
+        ensures { self.new.failures ≡ next_count self.old.failures succeeds }
+    {
+        if !succeeds {
+            self.failures = self.failures.saturating_add(1);
+        }
+    }
+
+    /// Counts a walk, by how it ended.
+    fn count_walk(&mut self, ended: &Result<(), WalkEnd>)
+        ensures { self.new.failures ≡ next_count self.old.failures (not (has_fault ended.now)) }
+    {
+        match ended {
+            Ok(()) | Err(WalkEnd::Stopped) => {}
+            Err(WalkEnd::OutOfMemory | WalkEnd::Store) => self.count(false),
+        }
+    }
+
     /// A walk over the held names that fails behind its first row.
     fn hand_first_name<K: NameTaker>(&mut self, alloc: Global, taker: &mut K) -> Result<(), WalkEnd>
-        ensures given { (rows : List NameRowData) ×
-            Walks K.takes K.stops rows taker.old taker.new result }
+        ensures given { WalksSome K.takes K.stops taker.old taker.new result }
+        ensures uncounted { self.new.failures ≡ self.old.failures }
     {
         let rows = self.books.names(alloc)?;
         match rows.first() {
@@ -193,14 +193,47 @@ impl<B: Books + Drop> FailingBooks<B> {
         name: &NormalName,
         taker: &mut K,
     ) -> Result<(), WalkEnd>
-        ensures given { (rows : List FileRowData) ×
-            Walks K.takes K.stops rows taker.old taker.new result }
+        ensures given { WalksSome K.takes K.stops taker.old taker.new result }
+        ensures uncounted { self.new.failures ≡ self.old.failures }
     {
         let rows = self.books.files_of(alloc, name)?;
         match rows.first() {
             Some(row) => hand_file(taker, row, self.fault),
             None => Err(WalkEnd::from(self.fault)),
         }
+    }
+
+    /// A walk over the held names, which is not counted.
+    fn hand_names<K: NameTaker>(&mut self, alloc: Global, taker: &mut K) -> Result<(), WalkEnd>
+        ensures given { WalksSome K.takes K.stops taker.old taker.new result }
+        ensures uncounted { self.new.failures ≡ self.old.failures }
+    {
+        if self.fails(BooksCall::WalkHeld) {
+            return Err(WalkEnd::from(self.fault));
+        }
+        if self.fails(BooksCall::HeldRow) {
+            return self.hand_first_name(alloc, taker);
+        }
+        self.books.walk_held(alloc, taker)
+    }
+
+    /// A walk over the files of a name, which is not counted.
+    fn hand_files<K: FileTaker>(
+        &mut self,
+        alloc: Global,
+        name: &NormalName,
+        taker: &mut K,
+    ) -> Result<(), WalkEnd>
+        ensures given { WalksSome K.takes K.stops taker.old taker.new result }
+        ensures uncounted { self.new.failures ≡ self.old.failures }
+    {
+        if self.fails(BooksCall::WalkFiles) {
+            return Err(WalkEnd::from(self.fault));
+        }
+        if self.fails(BooksCall::FilesRow) {
+            return self.hand_first_file(alloc, name, taker);
+        }
+        self.books.walk_files(alloc, name, taker)
     }
 
     /// The books, of which no call fails.
@@ -210,6 +243,7 @@ impl<B: Books + Drop> FailingBooks<B> {
             failing: _failing,
             fault: _fault,
             after: _after,
+            failures: _failures,
         } = self;
         books
     }
@@ -236,65 +270,79 @@ impl<B: Books + Drop> Books for FailingBooks<B> {
 
     ghost may_leave = { λ _ _. ⊥ };
 
-    ghost failures = { λ _. last_count };
+    ghost failures = { λ books. books.failures };
 
     ghost stores = { λ _. last_count };
 
     fn failure_count(&self) -> u64 {
-        u64::MAX
+        self.failures
     }
 
     fn view(&mut self, alloc: Global, keys: &Keys) -> Result<View, Fault> {
         if self.fails(BooksCall::View) {
+            self.count(false);
             return Err(self.fault);
         }
-        self.books.view(alloc, keys)
+        let found = self.books.view(alloc, keys);
+        self.count(found.is_ok());
+        found
     }
 
     fn write(&mut self, alloc: Global, change: Change) -> Result<(), Fault> {
         if self.fails(BooksCall::Write) {
             drop(change);
+            self.count(false);
             return Err(self.fault);
         }
-        self.books.write(alloc, change)
+        let written = self.books.write(alloc, change);
+        self.count(written.is_ok());
+        written
     }
 
-    fn owners_of(&mut self, alloc: Global, name: &NormalName) -> Result<Owners, Fault> {
-        if self.fails(BooksCall::OwnersOf) {
+    fn is_held(&mut self, alloc: Global, name: &NormalName) -> Result<bool, Fault> {
+        if self.fails(BooksCall::IsHeld) {
+            self.count(false);
             return Err(self.fault);
         }
-        self.books.owners_of(alloc, name)
+        let found = self.books.is_held(alloc, name);
+        self.count(found.is_ok());
+        found
     }
 
     fn bytes_of(&mut self, alloc: Global, file: &FileName) -> Result<Option<Sealed>, Fault> {
         if self.fails(BooksCall::BytesOf) {
+            self.count(false);
             return Err(self.fault);
         }
-        self.books.bytes_of(alloc, file)
+        let found = self.books.bytes_of(alloc, file);
+        self.count(found.is_ok());
+        found
     }
 
     fn names(&mut self, alloc: Global) -> Result<Vec<NameRow>, Fault> {
         if self.fails(BooksCall::Names) {
+            self.count(false);
             return Err(self.fault);
         }
-        self.books.names(alloc)
+        let found = self.books.names(alloc);
+        self.count(found.is_ok());
+        found
     }
 
     fn files_of(&mut self, alloc: Global, name: &NormalName) -> Result<Vec<FileRow>, Fault> {
         if self.fails(BooksCall::FilesOf) {
+            self.count(false);
             return Err(self.fault);
         }
-        self.books.files_of(alloc, name)
+        let found = self.books.files_of(alloc, name);
+        self.count(found.is_ok());
+        found
     }
 
     fn walk_held<K: NameTaker>(&mut self, alloc: Global, taker: &mut K) -> Result<(), WalkEnd> {
-        if self.fails(BooksCall::WalkHeld) {
-            return Err(WalkEnd::from(self.fault));
-        }
-        if self.fails(BooksCall::HeldRow) {
-            return self.hand_first_name(alloc, taker);
-        }
-        self.books.walk_held(alloc, taker)
+        let ended = self.hand_names(alloc, taker);
+        self.count_walk(&ended);
+        ended
     }
 
     fn walk_files<K: FileTaker>(
@@ -303,13 +351,9 @@ impl<B: Books + Drop> Books for FailingBooks<B> {
         name: &NormalName,
         taker: &mut K,
     ) -> Result<(), WalkEnd> {
-        if self.fails(BooksCall::WalkFiles) {
-            return Err(WalkEnd::from(self.fault));
-        }
-        if self.fails(BooksCall::FilesRow) {
-            return self.hand_first_file(alloc, name, taker);
-        }
-        self.books.walk_files(alloc, name, taker)
+        let ended = self.hand_files(alloc, name, taker);
+        self.count_walk(&ended);
+        ended
     }
 
     ghost honest_is_clean = { λ _ honest. honest };

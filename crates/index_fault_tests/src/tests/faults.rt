@@ -21,12 +21,7 @@ pub(super) fn failing_desk<B: Books + Drop>(
 ) -> Desk<FailingBooks<B>> {
     let mut desk = desk_with_users(rt, books);
     assert_answers(rt, &mut desk, CLAIM, ACCEPTED);
-    Desk::new(FailingBooks {
-        books: desk.into_books(),
-        failing: call,
-        fault,
-        after: 0,
-    })
+    Desk::new(FailingBooks::new(desk.into_books(), call, fault, 0))
 }
 
 /// The answer by a fault, and its line feed.
@@ -48,9 +43,6 @@ const STANDING_OF_FROB: &str = r#"{"do":"standing","name":"frob"}"#;
 
 const FROB_IS_HELD: &str =
     "{\"case\":null,\"charge\":0,\"name\":\"frob\",\"owners\":[\"ann\"],\"quota\":1073741824,\"shown\":\"frob\",\"state\":\"held\"}\n";
-
-const NEST_IS_HELD: &str =
-    "{\"case\":null,\"charge\":0,\"name\":\"nest\",\"owners\":[\"bob\"],\"quota\":1073741824,\"shown\":\"nest\",\"state\":\"held\"}\n";
 
 /// Where no call of these books fails, `frob` stands as it did, and `nest` so.
 fn assert_after<B: Books + Drop>(rt: &(impl Abort + AllocGlobal), books: B, nest: &str) {
@@ -105,23 +97,6 @@ fn a_write_that_fails_is_a_fault(rt: HostRuntime) {
             fault,
             answers,
             NEST_IS_FREE,
-        );
-    }
-}
-
-/// bob's claim needs no owners. It was applied.
-#[test]
-fn owners_that_fail_are_a_fault(rt: HostRuntime) {
-    for fault in [Fault::Store, Fault::OutOfMemory] {
-        let line = fault_line(fault);
-        let answers = [ACCEPTED, ALREADY, line, line];
-        assert_told(
-            &rt,
-            new_books(&rt),
-            BooksCall::OwnersOf,
-            fault,
-            answers,
-            NEST_IS_HELD,
         );
     }
 }
@@ -205,14 +180,7 @@ fn a_question_is_answered_by_the_fault(rt: HostRuntime) {
             None,
         );
         assert_faults(&rt, new_books(&rt), BooksCall::Write, fault, None, None);
-        assert_faults(
-            &rt,
-            new_books(&rt),
-            BooksCall::OwnersOf,
-            fault,
-            Some(fault),
-            None,
-        );
+        assert_faults(&rt, new_books(&rt), BooksCall::IsHeld, fault, None, None);
         assert_faults(
             &rt,
             new_books(&rt),

@@ -2,7 +2,7 @@
 use super::fakes::{BooksCall, FailingBooks};
 use super::replies::{ROOT, STORE, assert_reply, tell};
 use super::{ACCEPTED, assert_answers, desk_with_users, new_books};
-use index_desk::Desk;
+use index_desk::{Desk, Keeper};
 use index_http::IoEnd;
 use index_message::Site;
 use index_recent::Recent;
@@ -39,34 +39,28 @@ fn desk_of_long_names<B: Books + Drop>(
 ) -> Desk<Recent<FailingBooks<B>>> {
     let mut desk = desk_with_users(rt, books);
     claim_long_names(rt, &mut desk);
-    let failing = FailingBooks {
-        books: desk.into_books(),
-        failing,
-        fault,
-        after,
-    };
+    let failing = FailingBooks::new(desk.into_books(), failing, fault, after);
     Desk::new(Recent::new(rt.alloc(), failing, 0))
 }
 
 /// The reply to a look at a long page is cut where its last walk fails: its head went out, and no more than this front, which
 /// ends before the row at which it failed. How many bytes went out is told.
-fn assert_cut<B: Books + Drop>(
+fn assert_cut<B: Keeper>(
     rt: &(impl Abort + AllocGlobal),
     site: &Site,
-    books: B,
-    failing: BooksCall,
-    fault: Fault,
+    desk: &mut Desk<B>,
+    message: &str,
+    head: &str,
     front: &str,
 ) {
-    let mut desk = desk_of_long_names(rt, books, failing, fault, 2);
     let mut told = Vec::new(rt.alloc());
-    let ended = tell(rt, site, &mut desk, ROOT.message.as_bytes(), &mut told);
-    assert_is_cut(rt, told.as_slice(), ended, front);
+    let ended = tell(rt, site, desk, message.as_bytes(), &mut told);
+    assert_is_cut(rt, told.as_slice(), ended, head, front);
 }
 
-/// What went out is the head of the long page and no more than this front of it, and its length was told.
-fn assert_is_cut(rt: &impl Abort, told: &[u8], ended: Result<(), IoEnd>, front: &str) {
-    assert!(rt; told.starts_with(HEAD_OF_LONG_PAGE.as_bytes()));
+/// What went out is this head and no more than this front of the reply, and its length was told.
+fn assert_is_cut(rt: &impl Abort, told: &[u8], ended: Result<(), IoEnd>, head: &str, front: &str) {
+    assert!(rt; told.starts_with(head.as_bytes()));
     assert!(rt; front.as_bytes().starts_with(told));
     assert!(rt; ended == Err(IoEnd::Cut(told.len() as u64)));
 }
@@ -97,19 +91,48 @@ const WITH_A_ROW: &str = front_of_long_page!(
     "<a href=\"/simple/aaaaaaaaaabbbbbbbbbbccccccccccddddddddddeeeeeeeeeeffffffffffgggggggggghhhhhhhhhhiiiiiiiiiijjjjjjjjjjkkkkkkkkkkllllllllll0/\">aaaaaaaaaabbbbbbbbbbccccccccccddddddddddeeeeeeeeeeffffffffffgggggggggghhhhhhhhhhiiiiiiiiiijjjjjjjjjjkkkkkkkkkkllllllllll0</a><br>\n"
 );
 
+/// The root page is cut where its last walk fails so.
+fn assert_names_cut<B: Books + Drop>(
+    rt: &(impl Abort + AllocGlobal),
+    site: &Site,
+    books: B,
+    failing: BooksCall,
+    fault: Fault,
+    front: &str,
+) {
+    let mut desk = desk_of_long_names(rt, books, failing, fault, 2);
+    let message = ROOT.message;
+    assert_cut(rt, site, &mut desk, message, HEAD_OF_LONG_PAGE, front);
+}
+
 #[test]
 fn a_long_page_is_cut(rt: HostRuntime) {
     let site = &Site::new(rt.alloc()).expect(&rt, "routes");
     for fault in [Fault::Store, Fault::OutOfMemory] {
         let books = new_books(&rt);
-        assert_cut(&rt, site, books, BooksCall::WalkHeld, fault, WITHOUT_ROWS);
+        assert_names_cut(&rt, site, books, BooksCall::WalkHeld, fault, WITHOUT_ROWS);
         let books = new_books(&rt);
-        assert_cut(&rt, site, books, BooksCall::HeldRow, fault, WITH_A_ROW);
+        assert_names_cut(&rt, site, books, BooksCall::HeldRow, fault, WITH_A_ROW);
     }
 }
 
-/// Where a walk before the last fails, nothing of the page went out.
-fn assert_not_begun<B: Books + Drop>(
+/// Nothing of the page went out, since a walk before the last failed.
+fn assert_not_begun<B: Keeper>(
+    rt: &(impl Abort + AllocGlobal),
+    site: &Site,
+    desk: &mut Desk<B>,
+    message: &str,
+    fault: Fault,
+) {
+    let (ended, reply) = match fault {
+        Fault::Store => (Ok(()), STORE),
+        Fault::OutOfMemory => (Err(IoEnd::OutOfMemory), ""),
+    };
+    assert_reply(rt, site, desk, message.as_bytes(), ended, reply);
+}
+
+/// The root page is not begun where its first walk fails so, or its second.
+fn assert_names_not_begun<B: Books + Drop>(
     rt: &(impl Abort + AllocGlobal),
     site: &Site,
     books: B,
@@ -118,11 +141,7 @@ fn assert_not_begun<B: Books + Drop>(
     after: u32,
 ) {
     let mut desk = desk_of_long_names(rt, books, failing, fault, after);
-    let (ended, reply) = match fault {
-        Fault::Store => (Ok(()), STORE),
-        Fault::OutOfMemory => (Err(IoEnd::OutOfMemory), ""),
-    };
-    assert_reply(rt, site, &mut desk, ROOT.message.as_bytes(), ended, reply);
+    assert_not_begun(rt, site, &mut desk, ROOT.message, fault);
 }
 
 #[test]
@@ -130,8 +149,8 @@ fn a_long_page_is_not_begun(rt: HostRuntime) {
     let site = &Site::new(rt.alloc()).expect(&rt, "routes");
     for fault in [Fault::Store, Fault::OutOfMemory] {
         for failing in [BooksCall::WalkHeld, BooksCall::HeldRow] {
-            assert_not_begun(&rt, site, new_books(&rt), failing, fault, 0);
-            assert_not_begun(&rt, site, new_books(&rt), failing, fault, 1);
+            assert_names_not_begun(&rt, site, new_books(&rt), failing, fault, 0);
+            assert_names_not_begun(&rt, site, new_books(&rt), failing, fault, 1);
         }
     }
 }

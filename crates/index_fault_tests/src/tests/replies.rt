@@ -1,6 +1,6 @@
 //! Replies where the tables fail: each route, each call of the tables, both faults. And replies to messages that are
 //! decided before their end, while the peer sends no more.
-use super::fakes::{BooksCall, FailingBooks, FailingReader};
+use super::fakes::{BooksCall, FailingBooks, failing};
 use super::{
     ACCEPTED, CLAIM, NEST_IS_FREE, STANDING_OF_NEST, assert_answers, assert_text, desk_with_users,
     new_books,
@@ -77,14 +77,14 @@ pub(super) const ROOT: Route = Route {
 
 const PAGE: Route = Route {
     message: "GET /simple/frob/ HTTP/1.1\r\n\r\n",
-    calls: &[BooksCall::View, BooksCall::WalkFiles, BooksCall::FilesRow],
+    calls: &[BooksCall::IsHeld, BooksCall::WalkFiles, BooksCall::FilesRow],
     front: IN_HTML,
 };
 
 /// Whether there is such a page is looked at before its type.
 const PAGE_OF_NO_TYPE: Route = Route {
     message: "GET /simple/frob/ HTTP/1.1\r\nAccept: */*;q=0\r\n\r\n",
-    calls: &[BooksCall::View],
+    calls: &[BooksCall::IsHeld],
     front: "HTTP/1.1 406 Not Acceptable\r\n",
 };
 
@@ -96,7 +96,7 @@ const FILE: Route = Route {
 
 const STANDING: Route = Route {
     message: "GET /names/frob HTTP/1.1\r\n\r\n",
-    calls: &[BooksCall::View, BooksCall::OwnersOf],
+    calls: &[BooksCall::View],
     front: IN_JSON,
 };
 
@@ -110,7 +110,7 @@ const ROOT_HEAD: Route = Route {
 
 const PAGE_HEAD: Route = Route {
     message: "HEAD /simple/frob/ HTTP/1.1\r\n\r\n",
-    calls: &[BooksCall::View, BooksCall::WalkFiles, BooksCall::FilesRow],
+    calls: &[BooksCall::IsHeld, BooksCall::WalkFiles, BooksCall::FilesRow],
     front: IN_HTML,
 };
 
@@ -122,7 +122,7 @@ const FILE_HEAD: Route = Route {
 
 const STANDING_HEAD: Route = Route {
     message: "HEAD /names/frob HTTP/1.1\r\n\r\n",
-    calls: &[BooksCall::View, BooksCall::OwnersOf],
+    calls: &[BooksCall::View],
     front: IN_JSON,
 };
 
@@ -213,12 +213,7 @@ fn failing_desk<B: Books + Drop>(
     let mut desk = desk_with_users(rt, books);
     assert_answers(rt, &mut desk, CLAIM, ACCEPTED);
     assert_answers(rt, &mut desk, UPLOAD, ACCEPTED);
-    let failing = FailingBooks {
-        books: desk.into_books(),
-        failing,
-        fault,
-        after,
-    };
+    let failing = FailingBooks::new(desk.into_books(), failing, fault, after);
     Desk::new(Recent::new(rt.alloc(), failing, 0))
 }
 
@@ -226,7 +221,7 @@ fn failing_desk<B: Books + Drop>(
 const EACH_CALL: &[BooksCall] = &[
     BooksCall::View,
     BooksCall::Write,
-    BooksCall::OwnersOf,
+    BooksCall::IsHeld,
     BooksCall::BytesOf,
     BooksCall::Names,
     BooksCall::FilesOf,
@@ -341,8 +336,7 @@ fn assert_decided<B: Books + Drop>(
     reply: &str,
 ) {
     let mut desk = failing_desk(rt, books, BooksCall::View, Fault::Store, 0);
-    let reader = FailingReader { rest: front };
-    assert_reply(rt, site, &mut desk, reader, Ok(()), reply);
+    assert_reply(rt, site, &mut desk, failing(front), Ok(()), reply);
 }
 
 const BAD_HEAD: &str = json_reply!(

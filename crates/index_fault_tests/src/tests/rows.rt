@@ -66,7 +66,7 @@ fn rows_are_answered_by_the_fault(rt: HostRuntime) {
         assert_rows(
             &rt,
             new_books(&rt),
-            BooksCall::View,
+            BooksCall::IsHeld,
             fault,
             None,
             Some(fault),
@@ -114,7 +114,7 @@ fn walks_end_by_the_fault(rt: HostRuntime) {
         assert_walks(
             &rt,
             new_books(&rt),
-            BooksCall::View,
+            BooksCall::IsHeld,
             fault,
             Ok(()),
             Err(end),

@@ -1,17 +1,16 @@
 //! Messages, and the short texts that tell them.
+use index_fakes::ShortReader;
 use index_io::Input;
 use index_message::{
-    Allowed, Message, MessageFault, Method, Request, Resource, Site, read_message,
+    Allowed, HttpRequest, Message, MessageFault, Method, Resource, Site, read_message,
 };
 use index_rules::Bytes;
-use pieces::Pieces;
 use std::alloc::AllocGlobal;
 use std::process::Abort;
 
 mod fields;
 mod heads;
 mod lengths;
-mod pieces;
 mod plain;
 mod reads;
 mod targets;
@@ -22,12 +21,18 @@ fn site(rt: &(impl Abort + AllocGlobal)) -> Site {
 
 /// The message that these bytes begin with has this text, whether they come at once or one by one.
 fn assert_message(rt: &(impl Abort + AllocGlobal), site: &Site, bytes: &[u8], text: &str) {
-    assert_read(rt, site, Pieces::at_once(bytes), text);
-    assert_read(rt, site, Pieces::single(bytes), text);
+    for at_a_time in [usize::MAX, 1] {
+        let reader = ShortReader {
+            rest: bytes,
+            at_a_time,
+            fails: false,
+        };
+        assert_read(rt, site, reader, text);
+    }
 }
 
-fn assert_read(rt: &(impl Abort + AllocGlobal), site: &Site, pieces: Pieces<'_>, text: &str) {
-    let mut input = Input::new(pieces);
+fn assert_read(rt: &(impl Abort + AllocGlobal), site: &Site, reader: ShortReader<'_>, text: &str) {
+    let mut input = Input::new(reader);
     let message = read_message(rt.alloc(), site, &mut input).expect(rt, text);
     let told = text_of(rt, &message);
     drop(message);
@@ -65,7 +70,7 @@ fn add_fault(rt: &impl Abort, text: &mut Vec<u8>, fault: MessageFault, is_head: 
     }
 }
 
-fn add_request(rt: &impl Abort, text: &mut Vec<u8>, request: &Request, body: &Bytes) {
+fn add_request(rt: &impl Abort, text: &mut Vec<u8>, request: &HttpRequest, body: &Bytes) {
     add(rt, text, method_name(request.method()).as_bytes());
     add(rt, text, resource_name(request.resource()).as_bytes());
     add(rt, text, last_segment(request.resource()));

@@ -1,7 +1,7 @@
 //! Exchanges: a message and the whole reply to it, as they come in and go out.
 use super::{Story, assert_story};
-use fakes::PieceReader;
 use index_desk::{Desk, Keeper};
+use index_fakes::ShortReader;
 use index_http::{IoEnd, answer_one};
 use index_io::{Input, Output};
 use index_message::Site;
@@ -211,9 +211,13 @@ fn assert_reply<B: Keeper>(
     reply: &str,
     most: usize,
 ) {
-    let rest = message.as_bytes();
+    let reader = ShortReader {
+        rest: message.as_bytes(),
+        at_a_time: most,
+        fails: false,
+    };
     let mut told = Vec::new(rt.alloc());
-    let ended = tell(rt, site, desk, PieceReader { rest, most }, &mut told);
+    let ended = tell(rt, site, desk, reader, &mut told);
     assert!(rt; ended == Ok(()), "{message}");
     assert_text(rt, told, reply, message);
 }

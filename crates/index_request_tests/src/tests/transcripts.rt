@@ -1,11 +1,11 @@
 //! Transcripts: constant texts that have each request as a line of JSON, and below it `= ` and its answer, as they come
-//! in and go out. A line that begins with `#` says why. An empty line says nothing.
+//! in and go out. A line that begins with `#` says why. An empty line says nothing. `<abc>` stands for the digest of `abc`.
 use super::{Story, assert_story};
 use index_cli::apply_lines;
 use index_desk::{Desk, Keeper};
 use index_io::{Input, Output};
 use index_rules::Books;
-use std::alloc::AllocGlobal;
+use std::alloc::{AllocError, AllocGlobal};
 use std::fmt;
 use std::process::Abort;
 
@@ -23,9 +23,9 @@ mod yanks;
 
 /// The office adds ann, whose token is `abc`, and bob, whose token is `hello`.
 const USERS: &str = r#"
-{"at":1,"token":"office","do":"add_user","user":"ann","office":false,"token_sha256":"ba7816bf8f01cfea414140de5dae2223b00361a396177a9cb410ff61f20015ad"}
+{"at":1,"token":"office","do":"add_user","user":"ann","office":false,"token_sha256":"<abc>"}
 = {"answer":"accepted"}
-{"at":1,"token":"office","do":"add_user","user":"bob","office":false,"token_sha256":"2cf24dba5fb0a30e26e83b2ac5b9e29e1b161e5c1fa7425e73043362938b9824"}
+{"at":1,"token":"office","do":"add_user","user":"bob","office":false,"token_sha256":"<hello>"}
 = {"answer":"accepted"}
 "#;
 
@@ -37,13 +37,13 @@ const FROB: &str = r#"
 
 /// Then ann uploads `frob-1.0.tar.gz`, the bytes `abc`.
 const FILE: &str = r#"
-{"at":11,"token":"abc","do":"upload","file":"frob-1.0.tar.gz","sha256":"ba7816bf8f01cfea414140de5dae2223b00361a396177a9cb410ff61f20015ad","hex":"616263","requires_python":""}
+{"at":11,"token":"abc","do":"upload","file":"frob-1.0.tar.gz","sha256":"<abc>","hex":"616263","requires_python":""}
 = {"answer":"accepted"}
 "#;
 
 /// Or she uploads it later, and bob opens a case later still.
 const CASE: &str = r#"
-{"at":12092801,"token":"abc","do":"upload","file":"frob-1.0.tar.gz","sha256":"ba7816bf8f01cfea414140de5dae2223b00361a396177a9cb410ff61f20015ad","hex":"616263","requires_python":""}
+{"at":12092801,"token":"abc","do":"upload","file":"frob-1.0.tar.gz","sha256":"<abc>","hex":"616263","requires_python":""}
 = {"answer":"accepted"}
 {"at":39999999,"token":"hello","do":"open_case","name":"frob","kind":"continue","contact":"mail","work":"fork","why":"used"}
 = {"answer":"accepted"}
@@ -85,16 +85,54 @@ fn assert_answers<B: Books>(
     assert_lines(rt, requests, told.as_str(), answers);
 }
 
+/// What stands for a digest in a transcript, and the digest, as `sha256sum` prints it; the first is that of FIPS 180-4.
+const DIGESTS: &[[&str; 2]] = &[
+    [
+        "<abc>",
+        "ba7816bf8f01cfea414140de5dae2223b00361a396177a9cb410ff61f20015ad",
+    ],
+    [
+        "<abd>",
+        "a52d159f262b2c6ddb724a61840befc36eb30c88877a4030b65cbe86298449c9",
+    ],
+    [
+        "<a>",
+        "ca978112ca1bbdcafac231b39a23dc4da786eff8147c4e72b9807785afee48bb",
+    ],
+    [
+        "<hello>",
+        "2cf24dba5fb0a30e26e83b2ac5b9e29e1b161e5c1fa7425e73043362938b9824",
+    ],
+    [
+        "<JZ>",
+        "f296f16660298255410aba6b8ec57ecdb56bd5757475e57e46d65911bc6b501a",
+    ],
+    [
+        "<>",
+        "e3b0c44298fc1c149afbf4c8996fb92427ae41e4649b934ca495991b7852b855",
+    ],
+];
+
 /// Adds the requests and the answers of a transcript to others, a line each.
 fn split(text: &str, requests: &mut String, answers: &mut String) -> fmt::Result {
     for line in text.lines() {
         match line.strip_prefix("= ") {
             Some(answer) => writeln!(answers, "{answer}")?,
             None if line.is_empty() || line.starts_with('#') => {}
-            None => writeln!(requests, "{line}")?,
+            None => add_request(requests, line)?,
         }
     }
     Ok(())
+}
+
+/// Adds a request to others, with the digest that something stands for in it.
+fn add_request(requests: &mut String, line: &str) -> Result<(), AllocError> {
+    for [placeholder, digest] in DIGESTS {
+        if let Some((before, after)) = line.split_once(*placeholder) {
+            return writeln!(requests, "{before}{digest}{after}");
+        }
+    }
+    writeln!(requests, "{line}")
 }
 
 /// What is told to requests is these answers.

@@ -1,44 +1,8 @@
 //! What no clause says of `write_bytes` and `write_pieces`: which ends come.
+use index_fakes::ShortWriter;
 use index_io::{Output, write_bytes, write_pieces};
 use std::alloc::AllocGlobal;
-use std::io;
-use std::io::{Error, ErrorKind, Write};
 use std::process::Abort;
-
-/// Takes so many bytes at a time, and so many in all; from then on no byte, or a failure.
-pub(super) struct Short {
-    pub(super) taken: Vec<u8>,
-    pub(super) room: usize,
-    pub(super) at_a_time: usize,
-    pub(super) fails: bool,
-}
-
-impl Drop for Short {
-    fn drop(self) {
-        let Short {
-            taken: _taken,
-            room: _room,
-            at_a_time: _at_a_time,
-            fails: _fails,
-        } = self;
-    }
-}
-
-impl Write for Short {
-    fn write(&mut self, buf: &[u8]) -> io::Result<usize> {
-        if self.room == 0 && self.fails {
-            return Err(Error::from(ErrorKind::BrokenPipe));
-        }
-        let count = buf.len().min(self.room).min(self.at_a_time);
-        self.taken.extend_from_slice(&buf[..count])?;
-        self.room -= count;
-        Ok(count)
-    }
-
-    fn flush(&mut self) -> io::Result<()> {
-        Ok(())
-    }
-}
 
 /// Just these bytes of a text go out to a writer: the write succeeds where they are all, and else tells how many.
 fn assert_taken(
@@ -49,7 +13,7 @@ fn assert_taken(
     fails: bool,
     taken: &str,
 ) {
-    let mut output = Output::new(Short {
+    let mut output = Output::new(ShortWriter {
         taken: Vec::new(rt.alloc()),
         room,
         at_a_time,
@@ -87,7 +51,7 @@ fn assert_pieces_taken(
     fails: bool,
     taken: &str,
 ) {
-    let mut output = Output::new(Short {
+    let mut output = Output::new(ShortWriter {
         taken: Vec::new(rt.alloc()),
         room,
         at_a_time,

@@ -1,9 +1,9 @@
 //! The rows that a desk gives: whole lists, walks, the check and the report.
 use super::desk::{assert_answer, desk_with_frob};
-use super::output::Short;
 use super::requests::{claim, prohibit, upload, yank};
 use super::{OF_ABC, name, new_books};
 use index_desk::{Desk, ReportFault};
+use index_fakes::ShortWriter;
 use index_io::Output;
 use index_rules::{Answer, Books, FileRow, FileTaker, NameRow, NameTaker, WalkEnd};
 use std::alloc::AllocGlobal;
@@ -202,7 +202,7 @@ fn assert_report<B: Books + Drop>(
     want: Result<(), ReportFault>,
 ) {
     let mut desk = desk_with_file(rt, books);
-    let mut output = Output::new(Short {
+    let mut output = Output::new(ShortWriter {
         taken: Vec::new(rt.alloc()),
         room,
         at_a_time: 50,

@@ -1,9 +1,9 @@
 //! User ids, tokens, and the other values of the rules.
 use super::{OF_ABC, OF_NOTHING, token, user};
 use index_rules::{
-    Bytes, Fault, OpenFault, Owners, UserFault, UserId, UserRecord, first_user, read_token,
+    Bytes, OpenFault, Owners, UserFault, UserId, UserRecord, first_user, read_token,
 };
-use std::alloc::{AllocError, AllocGlobal, Global};
+use std::alloc::{AllocGlobal, Global};
 use std::process::Abort;
 
 /// User ids, the last of 32 bytes.
@@ -115,31 +115,4 @@ fn owners_come_back_as_they_went_in(rt: HostRuntime) {
     }
     let owners = Owners::new(users);
     assert!(rt; are_users(owners.as_slice(), "bob", "alice"));
-}
-
-fn assert_printed(rt: &impl Abort, printed: Result<String, AllocError>, text: &str) {
-    let printed = printed.expect(rt, text);
-    assert_eq!(rt; printed.as_str(), text);
-}
-
-#[test]
-fn faults_print_their_names(rt: HostRuntime) {
-    let alloc = rt.alloc();
-    assert_printed(&rt, Fault::OutOfMemory.to_string(alloc), "OutOfMemory");
-    assert_printed(&rt, Fault::Store.to_string(alloc), "Store");
-}
-
-#[test]
-fn reasons_not_to_open_print_their_names(rt: HostRuntime) {
-    let alloc = rt.alloc();
-    for (fault, name) in [
-        (OpenFault::BadFirstUser, "BadFirstUser"),
-        (OpenFault::NotEmpty, "NotEmpty"),
-        (OpenFault::NotAnIndex, "NotAnIndex"),
-        (OpenFault::OtherVersion, "OtherVersion"),
-        (OpenFault::OutOfMemory, "OutOfMemory"),
-        (OpenFault::Store, "Store"),
-    ] {
-        assert_printed(&rt, fault.to_string(alloc), name);
-    }
 }

@@ -57,6 +57,7 @@ fn migrate<S: Alter + Drop>(rt: &(impl Abort + AllocGlobal), conn: Connection<S>
     let conn = with_first_version(rt, conn);
     let mut conn = connection_of(desk_over(rt, adopt(rt, conn)));
     assert_number(rt, &mut conn, VERSION, 2);
+    assert_number(rt, &mut conn, "SELECT count(*) FROM meta", 1);
     assert_number(rt, &mut conn, "SELECT count(*) FROM bans", 0);
     assert_adopted(rt, conn, &[[STANDING, UNCHARGED]]);
 }

@@ -156,6 +156,33 @@ fn tables_of_another_shape_are_refused(rt: HostRuntime) {
     );
 }
 
+/// A query of the version may take no step, and a database is not adopted, by a fault of the store. It is as it was.
+fn assert_unread<S: Alter + Drop>(rt: &(impl Abort + AllocGlobal), conn: Connection<S>) {
+    let mut conn = conn;
+    conn.set_step_limit(Some(0));
+    let mut conn = refused(rt, adopt(rt, conn), OpenFault::Store);
+    conn.set_step_limit(None);
+    assert_number(rt, &mut conn, VERSION, 2);
+    drop(conn);
+}
+
+/// The version of an index, and of tables that others made.
+fn leave_unread<S: Alter + Drop>(
+    rt: &(impl Abort + AllocGlobal),
+    conn: Connection<S>,
+    others: Connection<S>,
+) {
+    assert_unread(rt, new_index(rt, conn, &[FROB]));
+    let mut others = others;
+    run(rt, &mut others, SECOND_VERSION);
+    assert_unread(rt, others);
+}
+
+#[test]
+fn a_version_that_is_not_read_is_a_fault_of_the_store(rt: HostRuntime) {
+    leave_unread(&rt, new_database(&rt), new_database(&rt));
+}
+
 fn make_beside<S: Alter + Drop>(rt: &(impl Abort + AllocGlobal), conn: Connection<S>) {
     let mut conn = conn;
     run(rt, &mut conn, "CREATE TABLE names (name TEXT)");

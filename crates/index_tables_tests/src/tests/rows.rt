@@ -73,6 +73,22 @@ const PROHIBITED_ROWS: &[(&str, i64)] = &[
     ),
 ];
 
+/// The one row that says what the tables are.
+const META_ROWS: &[(&str, i64)] = &[
+    ("SELECT count(*) FROM meta", 1),
+    (
+        "SELECT count(*) FROM meta WHERE id = 1 AND kind = 'python-index' AND version = 2",
+        1,
+    ),
+];
+
+#[test]
+fn meta_has_one_row(rt: HostRuntime) {
+    assert_rows(&rt, new_database(&rt), &[], META_ROWS);
+    let prohibited = &[FROB, FILE, PROHIBITED];
+    assert_rows(&rt, new_database(&rt), prohibited, META_ROWS);
+}
+
 #[test]
 fn a_prohibited_name_keeps_its_files_alone(rt: HostRuntime) {
     let prohibited = &[FROB, FILE, PROHIBITED];

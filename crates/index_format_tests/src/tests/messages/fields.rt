@@ -1,7 +1,7 @@
 //! The header fields of a request.
 use super::site;
 use index_io::Input;
-use index_message::{Message, Request, read_message};
+use index_message::{HttpRequest, Message, read_message};
 use std::alloc::AllocGlobal;
 use std::process::Abort;
 
@@ -16,7 +16,7 @@ Empty: \t\r
 ";
 
 /// The request with these fields.
-fn request(rt: &(impl Abort + AllocGlobal)) -> Request {
+fn request(rt: &(impl Abort + AllocGlobal)) -> HttpRequest {
     let site = site(rt);
     let mut input = Input::new(HEAD);
     match read_message(rt.alloc(), &site, &mut input) {
@@ -25,7 +25,7 @@ fn request(rt: &(impl Abort + AllocGlobal)) -> Request {
     }
 }
 
-fn assert_value(rt: &impl Abort, request: &Request, name: &[u8], value: &str) {
+fn assert_value(rt: &impl Abort, request: &HttpRequest, name: &[u8], value: &str) {
     assert_eq!(rt; request.value(name), value.as_bytes());
 }
 
@@ -52,7 +52,7 @@ fn lines_of(rt: &(impl Abort + AllocGlobal), values: &[&[u8]]) -> Vec<u8> {
 }
 
 /// The fields of this name have these values, in this order.
-fn assert_values(rt: &(impl Abort + AllocGlobal), request: &Request, name: &[u8], lines: &str) {
+fn assert_values(rt: &(impl Abort + AllocGlobal), request: &HttpRequest, name: &[u8], lines: &str) {
     let values = request.values(rt.alloc(), name).expect(rt, "values");
     let found = lines_of(rt, values.as_slice());
     drop(values);

@@ -1,6 +1,6 @@
 //! Reads that fail.
-use super::pieces::Pieces;
 use super::{assert_read, site};
+use index_fakes::ShortReader;
 use index_io::Input;
 use index_message::{ReadEnd, Site, read_message};
 use std::alloc::AllocGlobal;
@@ -9,11 +9,12 @@ use std::process::Abort;
 const UPLOAD: &[u8] = b"PUT /files/frob/frob-1.0.tar.gz HTTP/1.1\r\nContent-Length: 3\r\n\r\nabc";
 
 /// The upload in pieces of this size, of which so many come before a read fails.
-fn upload(size: usize, good_reads: usize) -> Pieces<'static> {
-    Pieces {
-        rest: UPLOAD,
-        size,
-        good_reads,
+fn upload(size: usize, good_reads: usize) -> ShortReader<'static> {
+    let count = UPLOAD.len().min(size.saturating_mul(good_reads));
+    ShortReader {
+        rest: &UPLOAD[..count],
+        at_a_time: size,
+        fails: true,
     }
 }
 
@@ -28,8 +29,8 @@ fn assert_fault(rt: &(impl Abort + AllocGlobal), site: &Site, size: usize, good_
 
 /// No read comes behind the body.
 fn assert_whole(rt: &(impl Abort + AllocGlobal), site: &Site, size: usize, good_reads: usize) {
-    let pieces = upload(size, good_reads);
-    assert_read(rt, site, pieces, "PUT File frob-1.0.tar.gz abc");
+    let reader = upload(size, good_reads);
+    assert_read(rt, site, reader, "PUT File frob-1.0.tar.gz abc");
 }
 
 #[test]

@@ -1,12 +1,11 @@
 //! Pages that end early.
 use super::{file_row, name};
+use index_fakes::ShortWriter;
 use index_io::Output;
 use index_names::NormalName;
 use index_pages::{PageEnd, PageText, ProjectPage, Served};
 use index_rules::{FileRow, FileTaker};
 use std::alloc::AllocGlobal;
-use std::io;
-use std::io::Write;
 use std::process::Abort;
 
 const PAGE: &str =
@@ -15,43 +14,18 @@ const PAGE: &str =
 /// How many of its bytes stand before the bracket behind the files.
 const FIRST_ROW: usize = 172;
 
-/// Takes so many bytes, and then none.
-struct FullWriter {
-    taken: Vec<u8>,
-    room: usize,
-}
-
-impl Drop for FullWriter {
-    fn drop(self) {
-        let FullWriter {
-            taken: _taken,
-            room: _room,
-        } = self;
-    }
-}
-
-impl Write for FullWriter {
-    fn write(&mut self, buf: &[u8]) -> io::Result<usize> {
-        let count = buf.len().min(self.room);
-        self.taken.extend_from_slice(&buf[..count])?;
-        self.room -= count;
-        Ok(count)
-    }
-
-    fn flush(&mut self) -> io::Result<()> {
-        Ok(())
-    }
-}
-
-fn full_output(rt: &impl AllocGlobal, size: usize) -> Output<FullWriter> {
-    Output::new(FullWriter {
+/// A writer that takes so many bytes, and then none.
+fn full_output(rt: &impl AllocGlobal, size: usize) -> Output<ShortWriter> {
+    Output::new(ShortWriter {
         taken: Vec::new(rt.alloc()),
         room: size,
+        at_a_time: usize::MAX,
+        fails: false,
     })
 }
 
 /// What went out is a front of the page, of so many bytes, and one write failed.
-fn assert_front(rt: &impl Abort, output: &Output<FullWriter>, size: usize) {
+fn assert_front(rt: &impl Abort, output: &Output<ShortWriter>, size: usize) {
     assert_eq!(rt; output.failures, 1);
     assert_eq!(rt; output.writer.taken.len(), size);
     assert!(rt; PAGE.as_bytes().starts_with(output.writer.taken.as_slice()));
@@ -60,7 +34,7 @@ fn assert_front(rt: &impl Abort, output: &Output<FullWriter>, size: usize) {
 /// A page of one file ends as its writer's room does, once the row was taken or not.
 fn assert_ends(
     rt: &impl Abort,
-    page: PageText<'_, '_, Output<FullWriter>, ProjectPage, Vec<u8>>,
+    page: PageText<'_, '_, Output<ShortWriter>, ProjectPage, Vec<u8>>,
     row: &FileRow,
     size: usize,
 ) {

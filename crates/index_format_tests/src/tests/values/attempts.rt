@@ -1,6 +1,5 @@
-//! The attempts of a case, and the texts of its faults.
+//! The attempts of a case.
 use index_retention::{CaseFault, CaseState, Means, note};
-use std::alloc::AllocGlobal;
 use std::process::Abort;
 
 /// A case with an attempt that was not sent.
@@ -57,22 +56,4 @@ fn cases_from_parts(rt: HostRuntime) {
     assert!(rt; fit_none(2, 3, Some(0)));
     assert!(rt; fit_none(2, 1, None));
     assert!(rt; fit_none(2, 0, Some(0)));
-}
-
-fn assert_printed(rt: &(impl Abort + AllocGlobal), fault: CaseFault, want: &str) {
-    let printed = format!(in rt.alloc(); "{fault}").expect(rt, want);
-    assert_eq!(rt; printed.as_str(), want);
-}
-
-#[test]
-fn texts_of_the_faults(rt: HostRuntime) {
-    assert_printed(&rt, CaseFault::AttemptsFull, "the case has 1,000 attempts");
-    let too_few = "too few attempts to reach the owner";
-    assert_printed(&rt, CaseFault::TooFewAttempts, too_few);
-    let too_early = "less than six weeks since the first attempt";
-    assert_printed(&rt, CaseFault::TooEarly, too_early);
-    let recent = "an upload in the last twelve months";
-    assert_printed(&rt, CaseFault::RecentRelease, recent);
-    let active = "the owner's home page may show activity";
-    assert_printed(&rt, CaseFault::HomePageActive, active);
 }

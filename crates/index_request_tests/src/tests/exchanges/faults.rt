@@ -1,11 +1,12 @@
 //! Reads and writes that fail.
-use super::fakes::{FailingReader, FailingWriter, FullWriter};
+use super::fakes::FailingWriter;
 use super::{
     ACCEPTED, ALREADY, BYTES, CHARGED, CREATED, DELETE, FILE, PUT, assert_parts, claim_frob,
     new_site, tell,
 };
 use crate::tests::{Story, assert_story};
 use index_desk::{Desk, Keeper};
+use index_fakes::{ShortReader, ShortWriter};
 use index_http::IoEnd;
 use index_message::Site;
 use std::alloc::AllocGlobal;
@@ -20,9 +21,10 @@ fn assert_cut<B: Keeper>(
     front: &str,
     fails: bool,
 ) {
-    let mut writer = FullWriter {
+    let mut writer = ShortWriter {
         taken: Vec::new(rt.alloc()),
         room: front.len(),
+        at_a_time: usize::MAX,
         fails,
     };
     let ended = tell(rt, site, desk, message.as_bytes(), &mut writer);
@@ -182,8 +184,13 @@ fn assert_read_fails<B: Keeper>(
     desk: &mut Desk<B>,
     front: &[u8],
 ) {
+    let reader = ShortReader {
+        rest: front,
+        at_a_time: 1,
+        fails: true,
+    };
     let mut told = Vec::new(rt.alloc());
-    let ended = tell(rt, site, desk, FailingReader { rest: front }, &mut told);
+    let ended = tell(rt, site, desk, reader, &mut told);
     assert!(rt; told.is_empty());
     assert!(rt; ended == Err(IoEnd::ReadFault));
 }

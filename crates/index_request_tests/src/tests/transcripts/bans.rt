@@ -12,14 +12,14 @@ const FOR_GOOD: &str = r#"
 = {"case":null,"charge":0,"name":"frob","owners":["ann"],"quota":1073741824,"shown":"frob","state":"held"}
 {"at":21,"token":"office","do":"ban_file","file":"frob-1.0.tar.gz"}
 = {"answer":"already"}
-{"at":22,"token":"abc","do":"upload","file":"frob-1.0.tar.gz","sha256":"ba7816bf8f01cfea414140de5dae2223b00361a396177a9cb410ff61f20015ad","hex":"616263","requires_python":""}
+{"at":22,"token":"abc","do":"upload","file":"frob-1.0.tar.gz","sha256":"<abc>","hex":"616263","requires_python":""}
 = {"answer":"refused","code":25,"name":"FileBanned"}
-{"at":23,"token":"abc","do":"upload","file":"frob-1.0.tar.gz","sha256":"ca978112ca1bbdcafac231b39a23dc4da786eff8147c4e72b9807785afee48bb","hex":"61","requires_python":""}
+{"at":23,"token":"abc","do":"upload","file":"frob-1.0.tar.gz","sha256":"<a>","hex":"61","requires_python":""}
 = {"answer":"refused","code":24,"name":"FileNameTaken"}
 {"at":24,"token":"abc","do":"delete","file":"frob-1.0.tar.gz"}
 = {"answer":"already"}
 # The other files of the project may come.
-{"at":25,"token":"abc","do":"upload","file":"frob-1.1.tar.gz","sha256":"ba7816bf8f01cfea414140de5dae2223b00361a396177a9cb410ff61f20015ad","hex":"616263","requires_python":""}
+{"at":25,"token":"abc","do":"upload","file":"frob-1.1.tar.gz","sha256":"<abc>","hex":"616263","requires_python":""}
 = {"answer":"accepted"}
 {"do":"standing","name":"frob"}
 = {"case":null,"charge":3,"name":"frob","owners":["ann"],"quota":1073741824,"shown":"frob","state":"held"}
@@ -36,12 +36,12 @@ const NEXT_OWNER: &str = r#"
 = {"answer":"accepted"}
 {"at":22,"token":"hello","do":"claim","name":"frob"}
 = {"answer":"accepted"}
-{"at":23,"token":"hello","do":"upload","file":"frob-1.0.tar.gz","sha256":"ba7816bf8f01cfea414140de5dae2223b00361a396177a9cb410ff61f20015ad","hex":"616263","requires_python":""}
+{"at":23,"token":"hello","do":"upload","file":"frob-1.0.tar.gz","sha256":"<abc>","hex":"616263","requires_python":""}
 = {"answer":"refused","code":25,"name":"FileBanned"}
 {"at":24,"token":"office","do":"set_quota","name":"frob","quota":0}
 = {"answer":"accepted"}
 # Of the two that apply the least is answered.
-{"at":25,"token":"hello","do":"upload","file":"frob-1.0.tar.gz","sha256":"ba7816bf8f01cfea414140de5dae2223b00361a396177a9cb410ff61f20015ad","hex":"616263","requires_python":""}
+{"at":25,"token":"hello","do":"upload","file":"frob-1.0.tar.gz","sha256":"<abc>","hex":"616263","requires_python":""}
 = {"answer":"refused","code":25,"name":"FileBanned"}
 "#;
 
@@ -81,7 +81,7 @@ const PROHIBITED: &str = r#"
 = {"answer":"accepted"}
 {"at":16,"token":"hello","do":"claim","name":"frob"}
 = {"answer":"accepted"}
-{"at":17,"token":"hello","do":"upload","file":"frob-1.0.tar.gz","sha256":"ba7816bf8f01cfea414140de5dae2223b00361a396177a9cb410ff61f20015ad","hex":"616263","requires_python":""}
+{"at":17,"token":"hello","do":"upload","file":"frob-1.0.tar.gz","sha256":"<abc>","hex":"616263","requires_python":""}
 = {"answer":"refused","code":25,"name":"FileBanned"}
 "#;
 

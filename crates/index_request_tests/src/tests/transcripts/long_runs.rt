@@ -34,8 +34,7 @@ fn of_each_file(rt: &(impl Abort + AllocGlobal), word: &str, keys: &str, answer:
 }
 
 /// The keys of an upload of the bytes `abc`, after its file.
-const UPLOAD: &str =
-    r#","sha256":"ba7816bf8f01cfea414140de5dae2223b00361a396177a9cb410ff61f20015ad","hex":"616263","requires_python":"""#;
+const UPLOAD: &str = r#","sha256":"<abc>","hex":"616263","requires_python":"""#;
 
 /// The project is charged three bytes for each file.
 const CHARGED: &str = r#"

@@ -2,9 +2,9 @@
 use super::{USERS, assert_transcript};
 
 const CLAIMS: &str = r#"
-{"at":1,"token":"office","do":"add_user","user":"ann","office":false,"token_sha256":"ba7816bf8f01cfea414140de5dae2223b00361a396177a9cb410ff61f20015ad"}
+{"at":1,"token":"office","do":"add_user","user":"ann","office":false,"token_sha256":"<abc>"}
 = {"answer":"accepted"}
-{"at":1,"token":"office","do":"add_user","user":"bob","office":false,"token_sha256":"2cf24dba5fb0a30e26e83b2ac5b9e29e1b161e5c1fa7425e73043362938b9824"}
+{"at":1,"token":"office","do":"add_user","user":"bob","office":false,"token_sha256":"<hello>"}
 = {"answer":"accepted"}
 {"at":2,"token":"abc","do":"claim","name":"Frob._-Nest"}
 = {"answer":"accepted"}
@@ -23,9 +23,9 @@ fn a_name_stays_with_its_first_claim(rt: HostRuntime) {
 
 /// Each request is accepted once.
 const EACH_REQUEST: &str = r#"
-{"at":1,"token":"office","do":"add_user","user":"carol","office":true,"token_sha256":"ca978112ca1bbdcafac231b39a23dc4da786eff8147c4e72b9807785afee48bb"}
+{"at":1,"token":"office","do":"add_user","user":"carol","office":true,"token_sha256":"<a>"}
 = {"answer":"accepted"}
-{"at":2,"token":"office","do":"set_token","user":"carol","token_sha256":"a52d159f262b2c6ddb724a61840befc36eb30c88877a4030b65cbe86298449c9"}
+{"at":2,"token":"office","do":"set_token","user":"carol","token_sha256":"<abd>"}
 = {"answer":"accepted"}
 {"at":3,"token":"abc","do":"claim","name":"frob"}
 = {"answer":"accepted"}
@@ -33,7 +33,7 @@ const EACH_REQUEST: &str = r#"
 = {"answer":"accepted"}
 {"at":5,"token":"abc","do":"add_owner","name":"frob","user":"bob"}
 = {"answer":"accepted"}
-{"at":6,"token":"hello","do":"upload","file":"frob-1.0.tar.gz","sha256":"ba7816bf8f01cfea414140de5dae2223b00361a396177a9cb410ff61f20015ad","hex":"616263","requires_python":""}
+{"at":6,"token":"hello","do":"upload","file":"frob-1.0.tar.gz","sha256":"<abc>","hex":"616263","requires_python":""}
 = {"answer":"accepted"}
 {"at":7,"token":"hello","do":"yank","name":"frob","release":"1.0","reason":"broken"}
 = {"answer":"accepted"}

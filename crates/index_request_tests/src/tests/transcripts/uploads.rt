@@ -6,17 +6,17 @@ use std::process::Abort;
 /// What is declared of a file. Of several refusals the one with the least number is answered.
 const DECLARED: &str = r#"
 # The declared digest is compared with the bytes, and not kept as it was declared.
-{"at":11,"token":"abc","do":"upload","file":"frob-1.0.tar.gz","sha256":"e3b0c44298fc1c149afbf4c8996fb92427ae41e4649b934ca495991b7852b855","hex":"616263","requires_python":""}
+{"at":11,"token":"abc","do":"upload","file":"frob-1.0.tar.gz","sha256":"<>","hex":"616263","requires_python":""}
 = {"answer":"refused","code":11,"name":"DigestMismatch"}
 {"at":11,"token":"abc","do":"upload","file":"frob-1.0.tar.gz","sha256":"BA7816BF8F01CFEA414140DE5DAE2223B00361A396177A9CB410FF61F20015AD","hex":"616263","requires_python":""}
 = {"answer":"refused","code":9,"name":"BadDigest"}
-{"at":11,"token":"abc","do":"upload","file":"frob-1.0.zip","sha256":"ba7816bf8f01cfea414140de5dae2223b00361a396177a9cb410ff61f20015ad","hex":"616263","requires_python":""}
+{"at":11,"token":"abc","do":"upload","file":"frob-1.0.zip","sha256":"<abc>","hex":"616263","requires_python":""}
 = {"answer":"refused","code":6,"name":"BadFileName"}
 {"at":11,"token":"abc","do":"upload","file":"foo-1.0.zip","sha256":"","hex":"616263","requires_python":""}
 = {"answer":"refused","code":6,"name":"BadFileName"}
-{"at":11,"token":"hello","do":"upload","file":"frob-1.0.tar.gz","sha256":"e3b0c44298fc1c149afbf4c8996fb92427ae41e4649b934ca495991b7852b855","hex":"616263","requires_python":""}
+{"at":11,"token":"hello","do":"upload","file":"frob-1.0.tar.gz","sha256":"<>","hex":"616263","requires_python":""}
 = {"answer":"refused","code":11,"name":"DigestMismatch"}
-{"at":11,"token":"abc","do":"upload","file":"frob-1.0.tar.gz","sha256":"ba7816bf8f01cfea414140de5dae2223b00361a396177a9cb410ff61f20015ad","hex":"616263","requires_python":""}
+{"at":11,"token":"abc","do":"upload","file":"frob-1.0.tar.gz","sha256":"<abc>","hex":"616263","requires_python":""}
 = {"answer":"accepted"}
 {"do":"standing","name":"frob"}
 = {"case":null,"charge":3,"name":"frob","owners":["ann"],"quota":1073741824,"shown":"frob","state":"held"}
@@ -29,17 +29,17 @@ fn a_first_upload_is_as_declared(rt: HostRuntime) {
 
 /// The office does not own a name by being the office.
 const STRANGERS: &str = r#"
-{"at":11,"token":"x","do":"upload","file":"frob-1.0.tar.gz","sha256":"ba7816bf8f01cfea414140de5dae2223b00361a396177a9cb410ff61f20015ad","hex":"616263","requires_python":""}
+{"at":11,"token":"x","do":"upload","file":"frob-1.0.tar.gz","sha256":"<abc>","hex":"616263","requires_python":""}
 = {"answer":"refused","code":2,"name":"BadToken"}
-{"at":11,"token":"hello","do":"upload","file":"frob-1.0.tar.gz","sha256":"ba7816bf8f01cfea414140de5dae2223b00361a396177a9cb410ff61f20015ad","hex":"616263","requires_python":""}
+{"at":11,"token":"hello","do":"upload","file":"frob-1.0.tar.gz","sha256":"<abc>","hex":"616263","requires_python":""}
 = {"answer":"refused","code":18,"name":"NotOwner"}
-{"at":11,"token":"office","do":"upload","file":"frob-1.0.tar.gz","sha256":"ba7816bf8f01cfea414140de5dae2223b00361a396177a9cb410ff61f20015ad","hex":"616263","requires_python":""}
+{"at":11,"token":"office","do":"upload","file":"frob-1.0.tar.gz","sha256":"<abc>","hex":"616263","requires_python":""}
 = {"answer":"refused","code":18,"name":"NotOwner"}
-{"at":11,"token":"abc","do":"upload","file":"foo-1.0.tar.gz","sha256":"ba7816bf8f01cfea414140de5dae2223b00361a396177a9cb410ff61f20015ad","hex":"616263","requires_python":""}
+{"at":11,"token":"abc","do":"upload","file":"foo-1.0.tar.gz","sha256":"<abc>","hex":"616263","requires_python":""}
 = {"answer":"refused","code":17,"name":"NoProject"}
-{"at":11,"token":"abc","do":"upload","file":"frob-1.0.tar.gz","sha256":"ba7816bf8f01cfea414140de5dae2223b00361a396177a9cb410ff61f20015ad","hex":"616263","requires_python":""}
+{"at":11,"token":"abc","do":"upload","file":"frob-1.0.tar.gz","sha256":"<abc>","hex":"616263","requires_python":""}
 = {"answer":"accepted"}
-{"at":11,"token":"hello","do":"upload","file":"frob-1.0.tar.gz","sha256":"ba7816bf8f01cfea414140de5dae2223b00361a396177a9cb410ff61f20015ad","hex":"616263","requires_python":""}
+{"at":11,"token":"hello","do":"upload","file":"frob-1.0.tar.gz","sha256":"<abc>","hex":"616263","requires_python":""}
 = {"answer":"refused","code":18,"name":"NotOwner"}
 {"do":"standing","name":"frob"}
 = {"case":null,"charge":3,"name":"frob","owners":["ann"],"quota":1073741824,"shown":"frob","state":"held"}
@@ -52,21 +52,21 @@ fn owners_alone_upload(rt: HostRuntime) {
 
 /// Uploads of a file that is there.
 const BOUND: &str = r#"
-{"at":11,"token":"abc","do":"upload","file":"frob-1.0.tar.gz","sha256":"ba7816bf8f01cfea414140de5dae2223b00361a396177a9cb410ff61f20015ad","hex":"616263","requires_python":""}
+{"at":11,"token":"abc","do":"upload","file":"frob-1.0.tar.gz","sha256":"<abc>","hex":"616263","requires_python":""}
 = {"answer":"already"}
 {"do":"standing","name":"frob"}
 = {"case":null,"charge":3,"name":"frob","owners":["ann"],"quota":1073741824,"shown":"frob","state":"held"}
 # A repeated upload changes nothing, whatever it says of Python.
-{"at":11,"token":"abc","do":"upload","file":"frob-1.0.tar.gz","sha256":"ba7816bf8f01cfea414140de5dae2223b00361a396177a9cb410ff61f20015ad","hex":"616263","requires_python":">=3.8"}
+{"at":11,"token":"abc","do":"upload","file":"frob-1.0.tar.gz","sha256":"<abc>","hex":"616263","requires_python":">=3.8"}
 = {"answer":"already"}
 {"do":"standing","name":"frob"}
 = {"case":null,"charge":3,"name":"frob","owners":["ann"],"quota":1073741824,"shown":"frob","state":"held"}
-{"at":11,"token":"abc","do":"upload","file":"frob-1.0.tar.gz","sha256":"e3b0c44298fc1c149afbf4c8996fb92427ae41e4649b934ca495991b7852b855","hex":"","requires_python":""}
+{"at":11,"token":"abc","do":"upload","file":"frob-1.0.tar.gz","sha256":"<>","hex":"","requires_python":""}
 = {"answer":"refused","code":24,"name":"FileNameTaken"}
 {"do":"standing","name":"frob"}
 = {"case":null,"charge":3,"name":"frob","owners":["ann"],"quota":1073741824,"shown":"frob","state":"held"}
 # Bytes of another digest and the size of the first ones.
-{"at":11,"token":"abc","do":"upload","file":"frob-1.0.tar.gz","sha256":"a52d159f262b2c6ddb724a61840befc36eb30c88877a4030b65cbe86298449c9","hex":"616264","requires_python":""}
+{"at":11,"token":"abc","do":"upload","file":"frob-1.0.tar.gz","sha256":"<abd>","hex":"616264","requires_python":""}
 = {"answer":"refused","code":24,"name":"FileNameTaken"}
 {"do":"standing","name":"frob"}
 = {"case":null,"charge":3,"name":"frob","owners":["ann"],"quota":1073741824,"shown":"frob","state":"held"}
@@ -79,11 +79,11 @@ fn a_file_name_is_bound_to_its_bytes(rt: HostRuntime) {
 
 const CHARGED: &str = r#"
 # Another spelling of the project, and so another file.
-{"at":11,"token":"abc","do":"upload","file":"FROB-1.0.tar.gz","sha256":"2cf24dba5fb0a30e26e83b2ac5b9e29e1b161e5c1fa7425e73043362938b9824","hex":"68656C6C6F","requires_python":""}
+{"at":11,"token":"abc","do":"upload","file":"FROB-1.0.tar.gz","sha256":"<hello>","hex":"68656C6C6F","requires_python":""}
 = {"answer":"accepted"}
 {"do":"standing","name":"frob"}
 = {"case":null,"charge":8,"name":"frob","owners":["ann"],"quota":1073741824,"shown":"frob","state":"held"}
-{"at":11,"token":"abc","do":"upload","file":"frob-1.0-py3-none-any.whl","sha256":"ca978112ca1bbdcafac231b39a23dc4da786eff8147c4e72b9807785afee48bb","hex":"61","requires_python":""}
+{"at":11,"token":"abc","do":"upload","file":"frob-1.0-py3-none-any.whl","sha256":"<a>","hex":"61","requires_python":""}
 = {"answer":"accepted"}
 {"do":"standing","name":"frob"}
 = {"case":null,"charge":9,"name":"frob","owners":["ann"],"quota":1073741824,"shown":"frob","state":"held"}
@@ -96,13 +96,13 @@ fn each_file_is_charged(rt: HostRuntime) {
 
 const HEX_DIGITS: &str = r#"
 # The digest is that of the bytes J and Z.
-{"at":11,"token":"abc","do":"upload","file":"frob-1.0.tar.gz","sha256":"f296f16660298255410aba6b8ec57ecdb56bd5757475e57e46d65911bc6b501a","hex":"616","requires_python":""}
+{"at":11,"token":"abc","do":"upload","file":"frob-1.0.tar.gz","sha256":"<JZ>","hex":"616","requires_python":""}
 = {"answer":"message","name":"BadBody"}
-{"at":11,"token":"abc","do":"upload","file":"frob-1.0.tar.gz","sha256":"f296f16660298255410aba6b8ec57ecdb56bd5757475e57e46d65911bc6b501a","hex":"61626g","requires_python":""}
+{"at":11,"token":"abc","do":"upload","file":"frob-1.0.tar.gz","sha256":"<JZ>","hex":"61626g","requires_python":""}
 = {"answer":"message","name":"BadBody"}
-{"at":11,"token":"abc","do":"upload","file":"frob-1.0.tar.gz","sha256":"f296f16660298255410aba6b8ec57ecdb56bd5757475e57e46d65911bc6b501a","hex":"4A5a","requires_python":""}
+{"at":11,"token":"abc","do":"upload","file":"frob-1.0.tar.gz","sha256":"<JZ>","hex":"4A5a","requires_python":""}
 = {"answer":"accepted"}
-{"at":11,"token":"abc","do":"upload","file":"frob-1.0.tar.gz","sha256":"f296f16660298255410aba6b8ec57ecdb56bd5757475e57e46d65911bc6b501a","hex":"4a5A","requires_python":""}
+{"at":11,"token":"abc","do":"upload","file":"frob-1.0.tar.gz","sha256":"<JZ>","hex":"4a5A","requires_python":""}
 = {"answer":"already"}
 "#;
 
@@ -113,17 +113,17 @@ fn bytes_are_hex_digits_of_either_case(rt: HostRuntime) {
 
 /// Control characters, and characters beside them, as JSON writes them.
 const PLAIN_TEXTS: &str = r#"
-{"at":11,"token":"abc","do":"upload","file":"frob-1.0.tar.gz","sha256":"ba7816bf8f01cfea414140de5dae2223b00361a396177a9cb410ff61f20015ad","hex":"616263","requires_python":"\u0000"}
+{"at":11,"token":"abc","do":"upload","file":"frob-1.0.tar.gz","sha256":"<abc>","hex":"616263","requires_python":"\u0000"}
 = {"answer":"refused","code":8,"name":"BadText"}
-{"at":11,"token":"abc","do":"upload","file":"frob-1.0.tar.gz","sha256":"ba7816bf8f01cfea414140de5dae2223b00361a396177a9cb410ff61f20015ad","hex":"616263","requires_python":">=3\n"}
+{"at":11,"token":"abc","do":"upload","file":"frob-1.0.tar.gz","sha256":"<abc>","hex":"616263","requires_python":">=3\n"}
 = {"answer":"refused","code":8,"name":"BadText"}
-{"at":11,"token":"abc","do":"upload","file":"frob-1.0.tar.gz","sha256":"ba7816bf8f01cfea414140de5dae2223b00361a396177a9cb410ff61f20015ad","hex":"616263","requires_python":"\u001f"}
+{"at":11,"token":"abc","do":"upload","file":"frob-1.0.tar.gz","sha256":"<abc>","hex":"616263","requires_python":"\u001f"}
 = {"answer":"refused","code":8,"name":"BadText"}
-{"at":11,"token":"abc","do":"upload","file":"frob-1.0.tar.gz","sha256":"ba7816bf8f01cfea414140de5dae2223b00361a396177a9cb410ff61f20015ad","hex":"616263","requires_python":"\u007f"}
+{"at":11,"token":"abc","do":"upload","file":"frob-1.0.tar.gz","sha256":"<abc>","hex":"616263","requires_python":"\u007f"}
 = {"answer":"refused","code":8,"name":"BadText"}
-{"at":11,"token":"abc","do":"upload","file":"frob-1.0.tar.gz","sha256":"ba7816bf8f01cfea414140de5dae2223b00361a396177a9cb410ff61f20015ad","hex":"616263","requires_python":"\u009f"}
+{"at":11,"token":"abc","do":"upload","file":"frob-1.0.tar.gz","sha256":"<abc>","hex":"616263","requires_python":"\u009f"}
 = {"answer":"refused","code":8,"name":"BadText"}
-{"at":11,"token":"abc","do":"upload","file":"frob-1.0.tar.gz","sha256":"ba7816bf8f01cfea414140de5dae2223b00361a396177a9cb410ff61f20015ad","hex":"616263","requires_python":"\u0020\u007e\u00a0"}
+{"at":11,"token":"abc","do":"upload","file":"frob-1.0.tar.gz","sha256":"<abc>","hex":"616263","requires_python":"\u0020\u007e\u00a0"}
 = {"answer":"accepted"}
 "#;
 
@@ -141,7 +141,7 @@ fn with_requires_python(
 ) -> String {
     let text = repeated(rt, text, times);
     let line = format!(in rt.alloc();
-        "{{\"at\":11,\"token\":\"abc\",\"do\":\"upload\",\"file\":\"frob-1.0.tar.gz\",\"sha256\":\"ba7816bf8f01cfea414140de5dae2223b00361a396177a9cb410ff61f20015ad\",\"hex\":\"616263\",\"requires_python\":\"{text}\"}}\n= {answer}\n"
+        "{{\"at\":11,\"token\":\"abc\",\"do\":\"upload\",\"file\":\"frob-1.0.tar.gz\",\"sha256\":\"<abc>\",\"hex\":\"616263\",\"requires_python\":\"{text}\"}}\n= {answer}\n"
     );
     line.expect(rt, answer)
 }

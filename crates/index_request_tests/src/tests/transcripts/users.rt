@@ -3,19 +3,19 @@ use super::{USERS, assert_transcript};
 
 /// A user, and a token that somebody bears, are added once.
 const ADDED_TWICE: &str = r#"
-{"at":1,"token":"office","do":"add_user","user":"ann","office":false,"token_sha256":"ba7816bf8f01cfea414140de5dae2223b00361a396177a9cb410ff61f20015ad"}
+{"at":1,"token":"office","do":"add_user","user":"ann","office":false,"token_sha256":"<abc>"}
 = {"answer":"already"}
-{"at":1,"token":"office","do":"add_user","user":"ann","office":true,"token_sha256":"ba7816bf8f01cfea414140de5dae2223b00361a396177a9cb410ff61f20015ad"}
+{"at":1,"token":"office","do":"add_user","user":"ann","office":true,"token_sha256":"<abc>"}
 = {"answer":"refused","code":14,"name":"UserExists"}
-{"at":1,"token":"office","do":"add_user","user":"ann","office":false,"token_sha256":"ca978112ca1bbdcafac231b39a23dc4da786eff8147c4e72b9807785afee48bb"}
+{"at":1,"token":"office","do":"add_user","user":"ann","office":false,"token_sha256":"<a>"}
 = {"answer":"refused","code":14,"name":"UserExists"}
-{"at":1,"token":"office","do":"add_user","user":"ann","office":false,"token_sha256":"2cf24dba5fb0a30e26e83b2ac5b9e29e1b161e5c1fa7425e73043362938b9824"}
+{"at":1,"token":"office","do":"add_user","user":"ann","office":false,"token_sha256":"<hello>"}
 = {"answer":"refused","code":14,"name":"UserExists"}
-{"at":1,"token":"office","do":"add_user","user":"carol","office":false,"token_sha256":"ba7816bf8f01cfea414140de5dae2223b00361a396177a9cb410ff61f20015ad"}
+{"at":1,"token":"office","do":"add_user","user":"carol","office":false,"token_sha256":"<abc>"}
 = {"answer":"refused","code":15,"name":"TokenTaken"}
-{"at":1,"token":"office","do":"add_user","user":"carol","office":true,"token_sha256":"ca978112ca1bbdcafac231b39a23dc4da786eff8147c4e72b9807785afee48bb"}
+{"at":1,"token":"office","do":"add_user","user":"carol","office":true,"token_sha256":"<a>"}
 = {"answer":"accepted"}
-{"at":1,"token":"a","do":"add_user","user":"dan","office":false,"token_sha256":"2cf24dba5fb0a30e26e83b2ac5b9e29e1b161e5c1fa7425e73043362938b9824"}
+{"at":1,"token":"a","do":"add_user","user":"dan","office":false,"token_sha256":"<hello>"}
 = {"answer":"refused","code":15,"name":"TokenTaken"}
 "#;
 
@@ -25,22 +25,22 @@ fn users_are_added_once(rt: HostRuntime) {
 }
 
 const ADDED: &str = r#"
-{"at":1,"token":"office","do":"add_user","user":"carol","office":false,"token_sha256":"e3b0c44298fc1c149afbf4c8996fb92427ae41e4649b934ca495991b7852b855"}
+{"at":1,"token":"office","do":"add_user","user":"carol","office":false,"token_sha256":"<>"}
 = {"answer":"refused","code":9,"name":"BadDigest"}
 {"at":1,"token":"office","do":"add_user","user":"carol","office":false,"token_sha256":"616263"}
 = {"answer":"refused","code":9,"name":"BadDigest"}
-{"at":1,"token":"abc","do":"add_user","user":"carol","office":false,"token_sha256":"ca978112ca1bbdcafac231b39a23dc4da786eff8147c4e72b9807785afee48bb"}
+{"at":1,"token":"abc","do":"add_user","user":"carol","office":false,"token_sha256":"<a>"}
 = {"answer":"refused","code":3,"name":"NotOffice"}
-{"at":1,"token":"a","do":"add_user","user":"carol","office":false,"token_sha256":"ca978112ca1bbdcafac231b39a23dc4da786eff8147c4e72b9807785afee48bb"}
+{"at":1,"token":"a","do":"add_user","user":"carol","office":false,"token_sha256":"<a>"}
 = {"answer":"refused","code":2,"name":"BadToken"}
-{"at":1,"token":"office","do":"add_user","user":"Ann","office":false,"token_sha256":"ca978112ca1bbdcafac231b39a23dc4da786eff8147c4e72b9807785afee48bb"}
+{"at":1,"token":"office","do":"add_user","user":"Ann","office":false,"token_sha256":"<a>"}
 = {"answer":"refused","code":4,"name":"BadUser"}
 # Of several refusals the one with the least number is answered.
-{"at":1,"token":"office","do":"add_user","user":"Ann","office":false,"token_sha256":"e3b0c44298fc1c149afbf4c8996fb92427ae41e4649b934ca495991b7852b855"}
+{"at":1,"token":"office","do":"add_user","user":"Ann","office":false,"token_sha256":"<>"}
 = {"answer":"refused","code":4,"name":"BadUser"}
-{"at":1,"token":"abc","do":"add_user","user":"Ann","office":false,"token_sha256":"e3b0c44298fc1c149afbf4c8996fb92427ae41e4649b934ca495991b7852b855"}
+{"at":1,"token":"abc","do":"add_user","user":"Ann","office":false,"token_sha256":"<>"}
 = {"answer":"refused","code":3,"name":"NotOffice"}
-{"at":1,"token":"office","do":"add_user","user":"carol","office":false,"token_sha256":"ca978112ca1bbdcafac231b39a23dc4da786eff8147c4e72b9807785afee48bb"}
+{"at":1,"token":"office","do":"add_user","user":"carol","office":false,"token_sha256":"<a>"}
 = {"answer":"accepted"}
 "#;
 
@@ -50,24 +50,24 @@ fn the_office_adds_users(rt: HostRuntime) {
 }
 
 const TOKENS: &str = r#"
-{"at":1,"token":"office","do":"set_token","user":"zed","token_sha256":"ca978112ca1bbdcafac231b39a23dc4da786eff8147c4e72b9807785afee48bb"}
+{"at":1,"token":"office","do":"set_token","user":"zed","token_sha256":"<a>"}
 = {"answer":"refused","code":13,"name":"NoUser"}
-{"at":1,"token":"office","do":"set_token","user":"ann","token_sha256":"2cf24dba5fb0a30e26e83b2ac5b9e29e1b161e5c1fa7425e73043362938b9824"}
+{"at":1,"token":"office","do":"set_token","user":"ann","token_sha256":"<hello>"}
 = {"answer":"refused","code":15,"name":"TokenTaken"}
-{"at":1,"token":"office","do":"set_token","user":"ann","token_sha256":"ba7816bf8f01cfea414140de5dae2223b00361a396177a9cb410ff61f20015ad"}
+{"at":1,"token":"office","do":"set_token","user":"ann","token_sha256":"<abc>"}
 = {"answer":"already"}
-{"at":1,"token":"office","do":"set_token","user":"ann","token_sha256":"e3b0c44298fc1c149afbf4c8996fb92427ae41e4649b934ca495991b7852b855"}
+{"at":1,"token":"office","do":"set_token","user":"ann","token_sha256":"<>"}
 = {"answer":"refused","code":9,"name":"BadDigest"}
-{"at":1,"token":"office","do":"set_token","user":"Ann","token_sha256":"ca978112ca1bbdcafac231b39a23dc4da786eff8147c4e72b9807785afee48bb"}
+{"at":1,"token":"office","do":"set_token","user":"Ann","token_sha256":"<a>"}
 = {"answer":"refused","code":4,"name":"BadUser"}
-{"at":1,"token":"abc","do":"set_token","user":"ann","token_sha256":"ca978112ca1bbdcafac231b39a23dc4da786eff8147c4e72b9807785afee48bb"}
+{"at":1,"token":"abc","do":"set_token","user":"ann","token_sha256":"<a>"}
 = {"answer":"refused","code":3,"name":"NotOffice"}
-{"at":1,"token":"office","do":"set_token","user":"ann","token_sha256":"ca978112ca1bbdcafac231b39a23dc4da786eff8147c4e72b9807785afee48bb"}
+{"at":1,"token":"office","do":"set_token","user":"ann","token_sha256":"<a>"}
 = {"answer":"accepted"}
 # The old token is no one's, and the new one is hers.
-{"at":1,"token":"abc","do":"set_token","user":"ann","token_sha256":"ba7816bf8f01cfea414140de5dae2223b00361a396177a9cb410ff61f20015ad"}
+{"at":1,"token":"abc","do":"set_token","user":"ann","token_sha256":"<abc>"}
 = {"answer":"refused","code":2,"name":"BadToken"}
-{"at":1,"token":"a","do":"set_token","user":"ann","token_sha256":"ba7816bf8f01cfea414140de5dae2223b00361a396177a9cb410ff61f20015ad"}
+{"at":1,"token":"a","do":"set_token","user":"ann","token_sha256":"<abc>"}
 = {"answer":"refused","code":3,"name":"NotOffice"}
 "#;
 

@@ -10,7 +10,7 @@ const REASONS: &str = r#"
 = {"answer":"accepted"}
 {"at":15,"token":"abc","do":"yank","name":"frob","release":"1.0","reason":""}
 = {"answer":"already"}
-{"at":16,"token":"abc","do":"upload","file":"frob-1.0-py3-none-any.whl","sha256":"ca978112ca1bbdcafac231b39a23dc4da786eff8147c4e72b9807785afee48bb","hex":"61","requires_python":""}
+{"at":16,"token":"abc","do":"upload","file":"frob-1.0-py3-none-any.whl","sha256":"<a>","hex":"61","requires_python":""}
 = {"answer":"accepted"}
 {"at":17,"token":"abc","do":"unyank","name":"frob","release":"1.0"}
 = {"answer":"accepted"}

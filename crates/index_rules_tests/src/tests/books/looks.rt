@@ -13,7 +13,7 @@ pub(super) fn found_by<B: Books>(
 ) -> String {
     let (word, about) = look.split_once(' ').expect(rt, look);
     match word {
-        "owners" => owners(rt, books, about),
+        "held" => held(rt, books, about),
         "body" => body(rt, books, about),
         _ => found_in_view(rt, books, word, about),
     }
@@ -46,6 +46,7 @@ fn told(alloc: Global, word: &str, view: &View) -> Result<String, AllocError> {
         "ban" => format!(in alloc; "{}", view.is_banned),
         "release" => told_release(alloc, view),
         "name" => told_name(alloc, view),
+        "owners" => told_owners(alloc, view),
         "charge" => told_charge(alloc, view),
         "case" => told_case(alloc, view),
         _ => String::from_str(alloc, "no look"),
@@ -150,17 +151,15 @@ fn told_case(alloc: Global, view: &View) -> Result<String, AllocError> {
 }
 
 /// The owners of a name, with spaces between them.
-fn owners<B: Books>(rt: &(impl Abort + AllocGlobal), books: &mut B, text: &str) -> String {
-    let name = name(rt, text);
-    let owners = books.owners_of(rt.alloc(), &name).expect(rt, text);
-    let mut found = String::new(rt.alloc());
-    for user in owners.as_slice() {
-        add_word(&mut found, user.text()).expect(rt, text);
+fn told_owners(alloc: Global, view: &View) -> Result<String, AllocError> {
+    let mut found = String::new(alloc);
+    for user in view.owners.as_slice() {
+        add_word(&mut found, user.text())?;
     }
     if found.is_empty() {
-        found.push('-').expect(rt, text);
+        found.push('-')?;
     }
-    found
+    Ok(found)
 }
 
 fn add_word(words: &mut String, word: &str) -> Result<(), AllocError> {
@@ -168,6 +167,13 @@ fn add_word(words: &mut String, word: &str) -> Result<(), AllocError> {
         words.push(' ')?;
     }
     words.push_str(word)
+}
+
+/// Whether a name is held.
+fn held<B: Books>(rt: &(impl Abort + AllocGlobal), books: &mut B, text: &str) -> String {
+    let name = name(rt, text);
+    let held = books.is_held(rt.alloc(), &name).expect(rt, text);
+    format!(in rt.alloc(); "{held}").expect(rt, text)
 }
 
 /// The bytes of a file.

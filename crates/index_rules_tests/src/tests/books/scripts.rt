@@ -41,8 +41,10 @@ name flask = FLASK 1073741824
 owners flask = carol
 name django = Django 5
 owners django = bob
+held django = true
 name numpy = -
-owners numpy = -";
+owners numpy = -
+held numpy = false";
 
 #[test]
 fn names_are_claimed_and_their_quotas_set(rt: HostRuntime) {
@@ -85,6 +87,7 @@ fn a_claim_after_a_relinquish_has_no_yanks(rt: HostRuntime) {
 const PROHIBITED: &str = "\
 prohibit flask
 name flask = prohibited
+held flask = false
 owners flask = -
 release flask 1.0 = false -
 file flask-1.0.tar.gz = flask 1.0 >=3.9 3 false

@@ -1,0 +1,330 @@
+//! Clients in memory, one after the other: each gets the reply of docs/HTTP.md, and nothing else.
+ghost use Rattle.std.specs.Prelude.{◌≡◌, None};
+ghost use Rattle.index_cli.specs.Connections.{AddsReply, unknown};
+
+use super::fakes::{BooksCall, FailingBooks};
+use super::new_books;
+use index_cli::{Connection, Connections, ServeEnd, answer_connections};
+use index_desk::{Desk, Keeper};
+use index_io::{Failed, Input, Output};
+use index_message::Site;
+use index_recent::Recent;
+use index_rules::{Books, Fault};
+use std::alloc::AllocGlobal;
+use std::process::Abort;
+
+/// A message, and the whole reply to it.
+type Exchange = [&'static str; 2];
+
+/// Clients of whom each sends its message and no more, in order. What they are sent is kept. For one of them there may be
+/// no memory. Behind the last none can be accepted.
+struct Clients<'a, R: Abort> {
+    rt: &'a R,
+    coming: &'a [Exchange],
+    accepted: usize,
+    without_memory: Option<usize>,
+    replies: Vec<Vec<u8>>,
+}
+
+impl<R: Abort> Drop for Clients<'_, R> {
+    fn drop(self) {
+        let Clients {
+            rt: _rt,
+            coming: _coming,
+            accepted: _accepted,
+            without_memory: _without_memory,
+            replies: _replies,
+        } = self;
+    }
+}
+
+impl<R: Abort> Connections for Clients<'_, R> {
+    ghost use Rattle.std.specs.Prelude.{⊤};
+
+    type ReadHalf = Input<&'static [u8]>;
+
+    type WriteHalf = Output<Vec<u8>>;
+
+    ghost coming = { λ _. unknown };
+
+    ghost replies = { λ _. unknown };
+
+    ghost IsOpen = { λ _. ⊤ };
+
+    fn accept(
+        &mut self,
+        rt: &HostRuntime,
+        _left: u32,
+    ) -> Result<Option<Connection<Input<&'static [u8]>, Output<Vec<u8>>>>, Failed> {
+        let Some([message, _]) = self.coming.get(self.accepted) else {
+            return Err(Failed);
+        };
+        self.accepted = self.accepted.saturating_add(1);
+        if self.without_memory == Some(self.replies.len()) {
+            let nothing = Vec::new(rt.alloc());
+            self.replies.push(nothing).expect(self.rt, "room");
+            return Ok(None);
+        }
+        Ok(Some(Connection {
+            source: Input::new(message.as_bytes()),
+            sink: Output::new(Vec::new(rt.alloc())),
+        }))
+    }
+
+    fn close(
+        &mut self,
+        connection: Connection<Input<&'static [u8]>, Output<Vec<u8>>>,
+    ) -> Result<(), Failed>
+        ensures closed { AddsReply unknown unknown None }
+        ensures kept { unknown ≡ unknown }
+    {
+        let Connection {
+            source: _source,
+            sink,
+        } = connection;
+        self.replies.push(sink.writer).expect(self.rt, "room");
+        Ok(())
+    }
+}
+
+/// A message without a body: its method and target, and its header lines.
+macro_rules! look {
+    ($target:literal $($line:literal)*) => {
+        concat!($target, " HTTP/1.1\r\nHost: index\r\n", $($line, "\r\n",)* "\r\n")
+    };
+}
+
+/// A request in JSON, by the bearer of a token.
+macro_rules! post {
+    ($token:literal, $length:literal, $body:literal) => {
+        concat!(
+            "POST /requests HTTP/1.1\r\nX-Index-Token: ",
+            $token,
+            "\r\nContent-Length: ",
+            $length,
+            "\r\n\r\n",
+            $body
+        )
+    };
+}
+
+/// A reply with a status, header lines, and a body of this length.
+macro_rules! reply {
+    ($status:literal, [$($line:literal)*], $length:literal, $body:literal) => {
+        concat!(
+            "HTTP/1.1 ",
+            $status,
+            "\r\n",
+            $($line, "\r\n",)*
+            "Content-Length: ",
+            $length,
+            "\r\nConnection: close\r\n\r\n",
+            $body
+        )
+    };
+}
+
+/// A reply in JSON.
+macro_rules! json_reply {
+    ($status:literal, $length:literal, $body:literal) => {
+        reply!($status, ["Content-Type: application/json"], $length, $body)
+    };
+}
+
+const ACCEPTED: &str = json_reply!("200 OK", "21", r#"{"answer":"accepted"}"#);
+
+const ADD_ANN: Exchange = [
+    post!(
+        "office",
+        "127",
+        r#"{"do":"add_user","user":"ann","office":false,"token_sha256":"ba7816bf8f01cfea414140de5dae2223b00361a396177a9cb410ff61f20015ad"}"#
+    ),
+    ACCEPTED,
+];
+
+const CLAIM: Exchange = [
+    post!("abc", "28", r#"{"do":"claim","name":"Frob"}"#),
+    ACCEPTED,
+];
+
+const FROB_IS_FREE: Exchange = [
+    look!("GET /names/frob"),
+    json_reply!("200 OK", "30", r#"{"name":"frob","state":"free"}"#),
+];
+
+const STORE: &str = json_reply!(
+    "500 Internal Server Error",
+    "33",
+    r#"{"answer":"fault","name":"Store"}"#
+);
+
+/// The examples of the page, in its order, and messages that can't be read among them.
+const EXAMPLES: &[Exchange] = &[
+    ADD_ANN,
+    CLAIM,
+    [
+        concat!(
+            "PUT /files/frob/frob-1.0.tar.gz HTTP/1.1\r\nX-Index-Token: abc\r\nX-Index-SHA256: ",
+            "ba7816bf8f01cfea414140de5dae2223b00361a396177a9cb410ff61f20015ad",
+            "\r\nContent-Length: 3\r\n\r\nabc"
+        ),
+        json_reply!("201 Created", "21", r#"{"answer":"accepted"}"#),
+    ],
+    [
+        look!("GET /files/frob/frob-1.0.tar.gz"),
+        reply!(
+            "200 OK",
+            ["Content-Type: application/octet-stream"],
+            "3",
+            "abc"
+        ),
+    ],
+    // a client that is gone in the midst of its head
+    [
+        "GET /simple/ HTTP/1.1\r\nHo",
+        json_reply!(
+            "400 Bad Request",
+            "37",
+            r#"{"answer":"message","name":"BadHead"}"#
+        ),
+    ],
+    [
+        look!("GET /simple/frob/" "Accept: application/vnd.pypi.simple.v1+json"),
+        reply!(
+            "200 OK",
+            ["Content-Type: application/vnd.pypi.simple.v1+json"],
+            "236",
+            r#"{"files":[{"filename":"frob-1.0.tar.gz","hashes":{"sha256":"ba7816bf8f01cfea414140de5dae2223b00361a396177a9cb410ff61f20015ad"},"size":3,"url":"/files/frob/frob-1.0.tar.gz"}],"meta":{"api-version":"1.1"},"name":"frob","versions":["1.0"]}"#
+        ),
+    ],
+    [
+        look!("GET /names/FROB"),
+        json_reply!(
+            "200 OK",
+            "104",
+            r#"{"case":null,"charge":3,"name":"frob","owners":["ann"],"quota":1073741824,"shown":"Frob","state":"held"}"#
+        ),
+    ],
+    [
+        look!("DELETE /files/frob/frob-1.0.tar.gz"),
+        reply!(
+            "401 Unauthorized",
+            ["Content-Type: application/json" "WWW-Authenticate: Index-Token"],
+            "47",
+            r#"{"answer":"refused","code":2,"name":"BadToken"}"#
+        ),
+    ],
+    [
+        look!("GET /simple/Frob"),
+        reply!(
+            "301 Moved Permanently",
+            ["Location: /simple/frob/"],
+            "0",
+            ""
+        ),
+    ],
+];
+
+/// A run over so many connections of clients: how many of them get a reply, and how it ends.
+#[derive(Clone, Copy)]
+struct Run<'a> {
+    exchanges: &'a [Exchange],
+    without_memory: Option<usize>,
+    requests: u32,
+    replied: usize,
+    ended: Result<(), ServeEnd>,
+}
+
+fn assert_run<R: Abort + AllocGlobal, B: Keeper + Drop>(
+    rt: &R,
+    host: &HostRuntime,
+    books: B,
+    run: &Run<'_>,
+) {
+    let site = Site::new(rt.alloc()).expect(rt, "routes");
+    let mut desk = Desk::new(books);
+    let mut clients = Clients {
+        rt,
+        coming: run.exchanges,
+        accepted: 0,
+        without_memory: run.without_memory,
+        replies: Vec::new(rt.alloc()),
+    };
+    let ended = answer_connections(host, &mut clients, run.requests, Some(2), &site, &mut desk);
+    assert!(rt; ended == run.ended);
+    assert_eq!(rt; clients.replies.len(), run.replied);
+    assert_replies(rt, clients.replies.as_slice(), run.exchanges);
+}
+
+/// These are the replies to the first of these messages.
+fn assert_replies(rt: &impl Abort, replies: &[Vec<u8>], exchanges: &[Exchange]) {
+    for (told, [message, reply]) in replies.iter().zip(exchanges) {
+        let is_reply = told.as_slice() == reply.as_bytes();
+        assert!(rt; is_reply, "{message}");
+    }
+}
+
+/// Books that keep no answers.
+fn keeping_nothing<B: Books>(rt: &impl AllocGlobal, books: B) -> Recent<B> {
+    Recent::new(rt.alloc(), books, 0)
+}
+
+const ALL: Run<'static> = Run {
+    exchanges: EXAMPLES,
+    without_memory: None,
+    requests: 9,
+    replied: 9,
+    ended: Ok(()),
+};
+
+#[test]
+fn each_client_gets_the_reply_to_its_message(rt: HostRuntime) {
+    assert_run(&rt, &rt, keeping_nothing(&rt, new_books(&rt)), &ALL);
+}
+
+#[test]
+fn a_run_ends_where_no_client_comes(rt: HostRuntime) {
+    let run = Run {
+        requests: 10,
+        ended: Err(ServeEnd::ReadFault),
+        ..ALL
+    };
+    assert_run(&rt, &rt, keeping_nothing(&rt, new_books(&rt)), &run);
+}
+
+#[test]
+fn a_run_ends_behind_so_many_clients(rt: HostRuntime) {
+    let run = Run {
+        requests: 2,
+        replied: 2,
+        ..ALL
+    };
+    assert_run(&rt, &rt, keeping_nothing(&rt, new_books(&rt)), &run);
+}
+
+/// Nothing goes out to a client for whom there is no memory, and what it sent is not done. The next one is answered.
+#[test]
+fn a_client_without_memory_is_passed_over(rt: HostRuntime) {
+    let run = Run {
+        exchanges: &[ADD_ANN, [CLAIM[0], ""], FROB_IS_FREE],
+        without_memory: Some(1),
+        requests: 3,
+        replied: 3,
+        ended: Ok(()),
+    };
+    assert_run(&rt, &rt, keeping_nothing(&rt, new_books(&rt)), &run);
+}
+
+/// A store that answers by `Store` alone ends the run behind the client in hand.
+#[test]
+fn no_client_is_served_over_a_store_that_is_shut(rt: HostRuntime) {
+    let books = FailingBooks::new(new_books(&rt), BooksCall::Every, Fault::Store, 0);
+    let run = Run {
+        exchanges: &[[CLAIM[0], STORE], FROB_IS_FREE],
+        without_memory: None,
+        requests: 2,
+        replied: 1,
+        ended: Err(ServeEnd::Store),
+    };
+    assert_run(&rt, &rt, keeping_nothing(&rt, books), &run);
+}
