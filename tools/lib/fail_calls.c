@@ -1,4 +1,5 @@
-/* Preloaded before a program: counts its calls of the system by kind, and makes one of them fail, or all from that one on.
+/* Preloaded before a program: counts its calls of the system by kind, and makes one of them fail, or all from that one
+   on, or all for a while.
 
    FAIL_COUNTS   a file of 16 numbers of 8 bytes, which is shared: how many calls of each kind were made, in the order of
                  `enum kind`, and last how many were made to fail
@@ -7,6 +8,7 @@
    FAIL_AT       the number of the call of that kind that fails, the first being 1
    FAIL_HOW      a number of errno, or `short`: a part is done, or `none`: 0 is answered
    FAIL_ON       where it is set, each later call of the kind fails too
+   FAIL_FOR      where it is set, each later call of the kind fails too that comes within so many milliseconds
 
    read and write count for standard input and standard output alone. */
 #define _GNU_SOURCE
@@ -20,6 +22,7 @@
 #include <sys/socket.h>
 #include <sys/types.h>
 #include <sys/uio.h>
+#include <time.h>
 #include <unistd.h>
 
 enum kind { OPEN, PREAD, PWRITE, FSYNC, FDATASYNC, FTRUNCATE, READ, WRITE, RECV, SEND, ACCEPT, FAILED = 15 };
@@ -29,7 +32,7 @@ static unsigned long *counts;
 static char is_ours[4096];
 static const char *under, *how;
 static int fails = -1;
-static unsigned long at;
+static unsigned long at, until;
 
 #define NEXT(type, name) ((type (*)())dlsym(RTLD_NEXT, name))
 
@@ -51,11 +54,22 @@ __attribute__((constructor)) static void begin(void) {
     counts = shared;
 }
 
+/* The time in milliseconds since some moment. */
+static unsigned long now(void) {
+    struct timespec time;
+    clock_gettime(CLOCK_MONOTONIC, &time);
+    return 1000ul * time.tv_sec + time.tv_nsec / 1000000;
+}
+
+/* Whether a call fails that comes later than the first that does. */
+static int fails_later(void) { return getenv("FAIL_ON") != NULL || (until != 0 && now() < until); }
+
 /* Counts a call, and tells what becomes of it. Where it fails, errno is set. */
 static enum how called(enum kind kind) {
     if (counts == NULL) return DO;
     unsigned long number = ++counts[kind];
-    if ((int)kind != fails || number < at || (number > at && getenv("FAIL_ON") == NULL)) return DO;
+    if ((int)kind != fails || number < at || (number > at && !fails_later())) return DO;
+    if (number == at && getenv("FAIL_FOR") != NULL) until = now() + strtoul(getenv("FAIL_FOR"), NULL, 10);
     counts[FAILED]++;
     if (strcmp(how, "short") == 0) return PART;
     if (strcmp(how, "none") == 0) return NOTHING;

@@ -8,6 +8,15 @@ from running import built
 KINDS = ("open", "pread", "pwrite", "fsync", "fdatasync", "ftruncate", "read", "write", "recv", "send", "accept")
 FILE_KINDS, STREAM_KINDS, PEER_KINDS = KINDS[:6], KINDS[6:8], KINDS[8:]
 FAILED, COUNTS = 15, 16
+# what a second line may tell where such a call failed, or one failed so; a store that this shut is told as shut
+FAILED_DISK, FULL, SHUT = "the disk failed", "the disk or the file is full", "shut by an earlier failure of the disk"
+BESIDE = "it opens, but not with the log or journal beside it"
+NO_RIGHT, NOT_MADE = "no right to read and write it", "no such file, and none could be made"
+CAUSES = {
+    "open": (BESIDE, NO_RIGHT, NOT_MADE),
+    "fsync": (BESIDE,),
+    "ENOSPC": (FULL, SHUT),
+}
 # an interrupted call is tried again, and so it fails once
 ONCE_ONLY = ("EINTR",)
 HOWS = {
@@ -27,14 +36,23 @@ HOWS = {
 
 @dataclass(frozen=True)
 class Fault:
-    """The call of this kind with this number fails so, or does a part: once, or from then on."""
+    """The call of this kind with this number fails so, or does a part: once, from then on, or for so many
+    milliseconds."""
     kind: str
     at: int
     how: str
     is_lasting: bool
+    milliseconds: int = 0
 
     def __str__(self):
-        return f"{self.kind} {self.at} {self.how} {'from then on' if self.is_lasting else 'once'}"
+        once = f"for {self.milliseconds} ms" if self.milliseconds else "once"
+        return f"{self.kind} {self.at} {self.how} {'from then on' if self.is_lasting else once}"
+
+    def may_be_told(self, said, path):
+        """Whether these lines tell of it as `Store`, and of no cause on a second line, or of one that it may have."""
+        causes = CAUSES.get(self.kind) or CAUSES.get(self.how, (FAILED_DISK, SHUT))
+        second = [f"index: {path}: {cause}\n" for cause in causes]
+        return said.decode() in ("index: Store\n", *(f"index: Store\n{line}" for line in second))
 
     def is_harmless(self):
         """Whether nothing is lost by it: less was done than was asked for, or the call was interrupted."""
@@ -56,6 +74,7 @@ class Failing:
             how = fault.how if fault.how in ("short", "none") else str(getattr(errno, fault.how))
             more |= {"FAIL_KIND": str(KINDS.index(fault.kind)), "FAIL_AT": str(fault.at), "FAIL_HOW": how}
             more |= {"FAIL_ON": "1"} if fault.is_lasting else {}
+            more |= {"FAIL_FOR": str(fault.milliseconds)} if fault.milliseconds else {}
         return more
 
     def counted(self):

@@ -1,5 +1,6 @@
 """Calls that fail under `serve`: those of the database's files, and those on connections."""
 import json
+import re
 
 from failing import FILE_KINDS, PEER_KINDS, faults_of
 from judge import answers_are_right, kept_lines, seen_by_sqlite
@@ -32,8 +33,9 @@ class Served:
             while self.status and self.replies and not self.replies[-1]:
                 self.replies.pop()
         except SystemExit as end:
-            # it doesn't listen, and the reason stands in the text of this
-            self.said = b"index: Store\n" if "index: Store" in str(end) else str(end).encode()
+            # it doesn't listen, and the reason stands in the text of this, as Python writes bytes
+            found = re.search(r"b'(index: .*)'$", str(end))
+            self.said = (found[1].replace("\\n", "\n") if found else str(end)).encode()
 
     def ask(self, port):
         for message in MESSAGES:
@@ -128,7 +130,7 @@ def file_fault(bench, judged, fault, lines):
     judged.statuses_are_right()
     said = judged.served.said.replace(b"index: connection: Cut\n", b"")
     status = judged.served.status
-    judged.check("its end", (status, said) == (0, b"") or status == 1 and said.startswith(b"index: Store\n"),
+    judged.check("its end", (status, said) == (0, b"") or status == 1 and fault.may_be_told(said, bench.path),
                  (status, judged.served.said))
     judged.looks_are_right(kept_lines(lines, answers)[0])
     bench.is_kept(judged.name, lines, answers)

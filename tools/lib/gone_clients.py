@@ -46,9 +46,11 @@ def try_gone(program, check):
 
 
 def opened(index):
-    """The moment at which a case was opened just now, and the seconds of the clock before and behind."""
+    """The moment at which a case was opened just now, and the seconds of the clock before and behind. Requests came two
+    seconds before."""
     index.request(do="add_user", user="ann", office=False, token_sha256=sha256(b"abc"))
     index.claim("frob")
+    time.sleep(2)
     before = int(time.time())
     index.request("abc", do="open_case", name="frob", kind="reuse", contact="mail", work="a fork", why="unused")
     after = int(time.time())
@@ -58,7 +60,6 @@ def opened(index):
 def try_moments(program, check):
     """The moment of a request is that of the clock as it comes, or the one that the program was given."""
     with Index(program) as index:
-        time.sleep(2)
         moment, before, after = opened(index)
         check("a case has the clock's moment", before <= moment <= after, (moment, before, after))
     with Index(program, at=7) as index:

@@ -26,7 +26,8 @@ STATEMENTS = (
     "INSERT INTO files (file, name, rel, digest, size, requires, live) VALUES (?1, ?2, ?3, ?4, ?5, ?6, ?7) "
     "ON CONFLICT (file) DO UPDATE SET name = excluded.name, rel = excluded.rel, digest = excluded.digest, "
     "size = excluded.size, requires = excluded.requires, live = excluded.live",
-    "INSERT INTO blobs (file, body) VALUES (?1, ?2) ON CONFLICT (file) DO UPDATE SET body = excluded.body",
+    "DELETE FROM blobs WHERE file = ?1",
+    "INSERT INTO blobs (file, body) VALUES (?1, ?2)",
 )
 # the program opens its database so that each commit is synced twice
 SETTINGS = ("PRAGMA journal_mode = WAL", "PRAGMA synchronous = EXTRA", "PRAGMA foreign_keys = ON",
@@ -81,7 +82,8 @@ def statement_time(program, folder, number):
             database.execute("BEGIN")
             database.execute(STATEMENTS[0], ("frob", 1, "frob", 1 << 30, 3 * done, done, 1))
             database.execute(STATEMENTS[1], (file, "frob", f"1.{number}", digest, 3, "", 1))
-            database.execute(STATEMENTS[2], (file, b"abc"))
+            database.execute(STATEMENTS[2], (file,))
+            database.execute(STATEMENTS[3], (file, b"abc"))
             database.execute("COMMIT")
         return 1e6 * (time.process_time() - begun) / UPLOADS
 

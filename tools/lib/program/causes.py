@@ -2,9 +2,11 @@
 folder."""
 import os
 import shutil
+import sqlite3
 import subprocess
+from contextlib import closing
 
-from failing import Failing, Fault
+from failing import BESIDE, FAILED_DISK, FULL, Failing, Fault
 from old_version import make_old_version
 from running import by_sqlite, run
 from serving import OFFICE, Index, make_index, sha256
@@ -12,11 +14,14 @@ from serving import OFFICE, Index, make_index, sha256
 NOBODY = "setpriv", "--reuid=65534", "--regid=65534", "--clear-groups"
 WORKING = "apply", "serve", "report", "check"
 ALL = (*WORKING, "init")
+SUMS = "init --page-sums"
+PATHS = (*ALL, SUMS)
 NO_FILE, NO_FOLDER, NOT_MADE = "no such file", "no such folder", "no such file, and none could be made"
-NO_RIGHT, BESIDE = "no right to read and write it", "it opens, but not with the log or journal beside it"
+NO_RIGHT = "no right to read and write it"
 NO_DATABASE, OBJECT = "no database that this program can read", "an object that no index has: "
+UTF_16 = "PRAGMA encoding = 'UTF-16le'"
 OTHER_TABLES = "tables that are not as an index has them"
-DISK, FULL = "the disk failed", "the disk or the file is full"
+NOT_NEW = "not new, and only a new file gets page sums"
 MORE = (("an index", "frob", "CREATE INDEX frob ON names (shown)"), ("statistics", "sqlite_stat1", "ANALYZE"),
         ("a table", "notes", "CREATE TABLE notes (id INTEGER PRIMARY KEY, note TEXT)"),
         ("a view", "held", "CREATE VIEW held AS SELECT name FROM names"),
@@ -24,8 +29,9 @@ MORE = (("an index", "frob", "CREATE INDEX frob ON names (shown)"), ("statistics
 
 
 def words_of(job, path):
+    job, *flags = job.split()
     more = {"serve": ("--listen", "nowhere", "--requests", "1"), "init": OFFICE}
-    return job, "--db", path, *more.get(job, ())
+    return job, "--db", path, *more.get(job, ()), *flags
 
 
 class Causes:
@@ -73,6 +79,7 @@ class Causes:
     def all(self):
         self.paths()
         self.files()
+        self.sums()
         self.first_users()
         self.objects()
         self.users()
@@ -87,30 +94,30 @@ class Causes:
         self.leaves("no file", path)
         deep = f"{os.path.dirname(path)}/none/index.db"
         self.each("no folder", deep, NO_FILE)
-        self.each("no folder", deep, NO_FOLDER, ["init"])
+        self.each("no folder", deep, NO_FOLDER, ["init", SUMS])
         self.leaves("no folder", path)
         os.symlink("none.db", path)
         self.each("a link that leads nowhere", path, NO_FILE)
-        self.each("a link that leads nowhere", path, NOT_MADE, ["init"])
+        self.each("a link that leads nowhere", path, NOT_MADE, ["init", SUMS])
         self.leaves("a link that leads nowhere", path, "index.db")
-        self.each("a folder", os.path.dirname(path), "a folder", ALL)
-        self.each("a file as a folder", f"{self.new('file')}/index.db", NO_FOLDER, ALL)
+        self.each("a folder", os.path.dirname(path), "a folder", PATHS)
+        self.each("a file as a folder", f"{self.new('file')}/index.db", NO_FOLDER, PATHS)
         path = self.new("fifo", b"")
         os.mkfifo(path)
-        self.each("a pipe", path, "no regular file", ALL)
+        self.each("a pipe", path, "no regular file", PATHS)
         self.leaves("a pipe", path, "index.db")
         self.each("no path", ":memory:", NO_FILE)
-        self.each("no path", ":memory:", NOT_MADE, ["init"])
+        self.each("no path", ":memory:", NOT_MADE, ["init", SUMS])
         path = self.new("twice")
         os.link(path, f"{os.path.dirname(path)}/other.db")
-        self.each("a second name", path, "a file with a second name", ALL)
+        self.each("a second name", path, "a file with a second name", PATHS)
         path = self.new("log")
         os.mkdir(f"{path}-wal")
-        self.each("a folder in place of the log", path, BESIDE, ALL)
+        self.each("a folder in place of the log", path, BESIDE, PATHS)
         path = self.new("journal")
         with open(f"{path}-journal", "wb") as journal:
             journal.write(b"\xd9\xd5\x05\xf9\x20\xa1\x63\xd7")
-        self.each("a journal", path, BESIDE, ALL)
+        self.each("a journal", path, BESIDE, PATHS)
 
     def files(self):
         """A file is there, and no database that can be read."""
@@ -119,6 +126,31 @@ class Causes:
         self.each("a text", self.new("text", b"This is no database.\n" * 400), NO_DATABASE, ALL)
         for name, data, cause in damaged(whole):
             self.each(name, self.new(name.replace(" ", "-"), data), cause, ALL)
+        # sound, but written as no index is: the page of formats says so
+        for name, statements in (("auto_vacuum", "PRAGMA auto_vacuum = 1; VACUUM"), ("UTF-16", UTF_16)):
+            path = self.new(name, b"")
+            with closing(sqlite3.connect(path)) as database:
+                database.executescript(f"{statements}; CREATE TABLE notes (id INTEGER PRIMARY KEY, note TEXT)")
+            self.each(name, path, "damaged", ALL)
+
+    def sums(self):
+        """Only a new file gets page sums: the header then has 8 for what each page keeps at its end."""
+        opened = self.new("opened", b"")
+        open(opened, "wb").close()
+        ended = self.run("check", "--db", opened)
+        self.check("check: an empty file", ended.stderr == b"index: NotAnIndex\n", ended)
+        empty = by_sqlite(self.new("empty", b""), "PRAGMA user_version = 1")
+        for name, path in (("an empty database", empty), ("an empty file after a check", opened),
+                           ("an index", self.new("again")), ("a text", self.new("note", b"No database."))):
+            self.each(name, path, NOT_NEW, [SUMS])
+        missing, new = self.new("none", b""), self.new("new", b"")
+        open(new, "wb").close()
+        for name, path, job, kept in (("no file", missing, SUMS, 8), ("an empty file", new, SUMS, 8),
+                                      ("an empty database", empty, "init", 0)):
+            ended = self.run(*words_of(job, path))
+            is_well = (ended.returncode, ended.stdout, ended.stderr) == (0, b"created\n", b"")
+            self.check(f"{job}: {name}", is_well, ended)
+            self.check(f"{job}: {name}: page sums", bytes_at(path)[20] == kept, bytes_at(path)[:100])
 
     def first_users(self):
         """A user who can't be the first is refused before a file is made."""
@@ -161,26 +193,26 @@ class Causes:
         path = self.new("right")
         os.chmod(path, 0o000)
         self.check("a file of no rights", not can_read(path, by))
-        self.each("no right", path, NO_RIGHT, ALL, by=by)
+        self.each("no right", path, NO_RIGHT, PATHS, by=by)
         os.chmod(path, 0o444)
-        self.each("no right to write", path, NO_RIGHT, ALL, by=by)
+        self.each("no right to write", path, NO_RIGHT, PATHS, by=by)
         self.leaves("no right", path, "index.db")
         os.chmod(path, 0o666)
         os.chmod(os.path.dirname(path), 0o555)
-        self.each("no right to make a log", path, BESIDE, ALL, by=by)
+        self.each("no right to make a log", path, BESIDE, PATHS, by=by)
         none = f"{os.path.dirname(path)}/none.db"
-        self.each("no right to make a file", none, NOT_MADE, ["init"], by=by)
+        self.each("no right to make a file", none, NOT_MADE, ["init", SUMS], by=by)
         self.leaves("no right to make a log", path, "index.db")
         os.chmod(os.path.dirname(path), 0o000)
         if by:
-            self.each("no right to the folder", path, NO_RIGHT, ALL, by=by)
+            self.each("no right to the folder", path, NO_RIGHT, PATHS, by=by)
         os.chmod(os.path.dirname(path), 0o755)
         self.program = program
 
     def in_use(self):
         path = self.new("use")
         with Index(self.program, path=path):
-            self.each("a database in use", path, "in use by another program", ALL)
+            self.each("a database in use", path, "in use by another program", PATHS)
 
     def disks(self):
         """Calls of the system that fail."""
@@ -190,10 +222,19 @@ class Causes:
             ended = self.run(*words_of(job, path), setting=self.failing.setting(os.path.dirname(path), fault))
             self.ends(f"{job}, {fault}", ended, path, cause)
 
-        fails("pread", 1, "EIO", "check", DISK)
+        fails("pread", 1, "EIO", "check", FAILED_DISK)
         fails("pwrite", 1, "ENOSPC", "init", FULL, b"")
         fails("fdatasync", 1, "ENOSPC", "init", FULL, b"")
-        fails("fdatasync", 1, "EIO", "init", DISK, b"")
+        fails("fdatasync", 1, "EIO", "init", FAILED_DISK, b"")
+        fails("fsync", 1, "EIO", "check", BESIDE)
+        with open(make_old_version(self.new("first", b"")), "rb") as file:
+            first = file.read()
+        # of a database of version 1: its opening, the steps of the migration, and the close
+        for at in range(1, 14):
+            fails("pwrite", at, "ENOSPC", "check", FULL, first)
+            fails("fdatasync", at, "EIO", "check", FAILED_DISK, first)
+        fails("pwrite", 1, "ENOSPC", SUMS, FULL, b"")
+        fails("fdatasync", 1, "EIO", SUMS, FAILED_DISK, b"")
 
     def rows(self):
         """A row that is no record has no cause that is known."""

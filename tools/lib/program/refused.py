@@ -24,10 +24,12 @@ KEPT_BYTES = 320
 
 
 def transcript(file, *names):
-    """The requests and the answers of these texts of index_request_tests."""
+    """The requests and the answers of these texts of index_request_tests, in which `<abc>` stands for the digest of
+    `abc`."""
     with open(f"{TOP}/crates/index_request_tests/src/tests/{file}") as kept:
         texts = dict(re.findall(r'^const (\w+): &str = r#"\n(.*?)"#;', kept.read(), re.M | re.S))
-    lines = [line for name in names for line in texts[name].splitlines()]
+    lines = [re.sub('"<(.*?)>"', lambda found: f'"{sha256(found[1].encode())}"', line)
+             for name in names for line in texts[name].splitlines()]
     return [(line.encode() + b"\n", answer[2:].encode()) for line, answer in zip(lines[::2], lines[1::2])]
 
 

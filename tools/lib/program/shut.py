@@ -71,15 +71,17 @@ def before_and_after_a_claim(index):
 
 
 def try_accepting(program, folder, check):
-    """A connection that can't be accepted is tried again, and no client sees it."""
+    """A connection that can't be accepted is tried again, for most of a second too, and no client sees it."""
     under = f"{folder}/accepting"
     os.mkdir(under)
     failing = Failing(folder)
-    for how in ("EMFILE", "ENFILE", "ECONNABORTED"):
-        fault = Fault("accept", 2, how, False)
-        with Index(program, 3, f"{under}/{how}.db", setting=failing.setting(under, fault)) as index:
+    faults = [Fault("accept", 2, how, False) for how in ("EMFILE", "ENFILE", "ECONNABORTED")]
+    for fault in (*faults, Fault("accept", 2, "EMFILE", False, 500)):
+        path = f"{under}/{fault.how}-{fault.milliseconds}.db"
+        with Index(program, 3, path, setting=failing.setting(under, fault)) as index:
             seen = before_and_after_a_claim(index)
             check(f"{fault}: the clients", seen == [False, (200, ACCEPTED), True], seen)
             status = end_of(index)
             check(f"{fault}: its end", (status, index.errors()) == (0, b""), (status, index.errors()))
-        check(f"{fault}: it was met", failing.counted()["failed"] == 1)
+        failed = failing.counted()["failed"]
+        check(f"{fault}: it was met", failed > 1 if fault.milliseconds else failed == 1, failed)
