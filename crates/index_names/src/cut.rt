@@ -1,9 +1,8 @@
-//! The cut of a file name into what it spells.
+//! Cuts: of a file name into what it spells, and of a text at its first or last hyphen.
 ghost use Rattle.index_names.specs.FileName.{read_file_name, read_source};
-ghost use Rattle.index_names.specs.Cut.{IsCutOf};
+ghost use Rattle.index_names.specs.Cut.{CutsAtFirstHyphen, CutsAtLastHyphen, IsCutOf};
 
 use crate::file_name::FileKind;
-use crate::hyphens::split_at_last_hyphen;
 use crate::project::is_name;
 use crate::release::is_version;
 use crate::wheel::cut_wheel;
@@ -51,4 +50,20 @@ fn cut_source(stem: &[u8]) -> Option<Cut<'_>>
     } else {
         None
     }
+}
+
+/// What stands before the first hyphen of a text and after it.
+pub fn split_at_first_hyphen(text: &[u8]) -> Option<(&[u8], &[u8])>
+    ensures { CutsAtFirstHyphen text.now result }
+{
+    let hyphen = text.iter().position(|&byte| byte == b'-')?;
+    Some((&text[..hyphen], &text[hyphen + 1..]))
+}
+
+/// What stands before the last hyphen of a text and after it.
+pub fn split_at_last_hyphen(text: &[u8]) -> Option<(&[u8], &[u8])>
+    ensures { CutsAtLastHyphen text.now result }
+{
+    let hyphen = text.iter().rposition(|&byte| byte == b'-')?;
+    Some((&text[..hyphen], &text[hyphen + 1..]))
 }

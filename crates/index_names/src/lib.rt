@@ -8,7 +8,6 @@
 mod cut;
 mod fault;
 mod file_name;
-mod hyphens;
 pub mod laws;
 mod project;
 mod release;

@@ -16,7 +16,7 @@ use Rattle.index_rules.specs.Maps.{Bytes}
 use Rattle.index_rules.specs.Tables.{Tables}
 use Rattle.index_rules.specs.Requests.{read_file}
 use Rattle.index_rules.specs.Facts.{facts_in}
-use Rattle.index_rules.specs.Verdict.{Accept, verdict_now, held_project, is_held, is_prohibited, is_undeleted}
+use Rattle.index_rules.specs.Verdict.{Accept, verdict_now, held_project, is_held, is_undeleted}
 use Rattle.index_rules.specs.Effect.{or_empty, no_project, the_file, later, with_file, without_file, with_project, tables_with_call}
 use Rattle.index_rules.specs.History.{History, more, is_read_as}
 use Rattle.index_rules.specs.PastNames.{State, Free, Held, Prohibited, state_after, shown_after, quota_after, uploads_after, greatest, last_upload_after}
@@ -66,14 +66,6 @@ held_at T h n stands held = by (state_after h n) refl (sym (ap is_held stands) �
     by Free is held = absurd (false≢true (ap (λ s. is_held (record_of_state s (project_after h n))) (sym is) ∙ held))
     by Held is held = record { state = is; project = ap held_project stands ∙ ap (λ s. held_project (record_of_state s (project_after h n))) is }
     by Prohibited is held = absurd (false≢true (ap (λ s. is_held (record_of_state s (project_after h n))) (sym is) ∙ held))
-
-pub prohibited_at : (T : Tables) (h : History) (n : Bytes) → get T.names n ≡ name_after h n → is_prohibited (get T.names n) ≡ true → state_after h n ≡ Prohibited
-prohibited_at T h n stands prohibited = by (state_after h n) refl (sym (ap is_prohibited stands) ∙ prohibited)
-  where
-    by : (s : State) → state_after h n ≡ s → is_prohibited (record_of_state (state_after h n) (project_after h n)) ≡ true → state_after h n ≡ Prohibited
-    by Free is p = absurd (false≢true (ap (λ s. is_prohibited (record_of_state s (project_after h n))) (sym is) ∙ p))
-    by Held is p = absurd (false≢true (ap (λ s. is_prohibited (record_of_state s (project_after h n))) (sym is) ∙ p))
-    by Prohibited is p = is
 
 module _ (T : Tables) (h : History) (stands : (name : Bytes) → get T.names name ≡ name_after h name) (at : ℕ) (token actor : Bytes) where
   abbrev of : Request → Call

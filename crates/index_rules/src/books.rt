@@ -62,7 +62,8 @@ pub trait Books {
             may_leave self.old T ⊎ (IsHonest self.old × (T ≡ means change (tables self.old))) }
         ensures alone { IsHonest self.old → OnOk result ((T : Tables) → may_leave self.new T →
             T ≡ means change (tables self.old)) }
-        ensures call { WritesOrFails (model tables IsHonest IsClean may_leave (counts failures stores))
+        ensures call { WritesOrFails
+            (model tables IsHonest IsClean may_leave (counts failures stores))
             self.old self.new result };
 
     /// Whether a name is held. It changes no table.
