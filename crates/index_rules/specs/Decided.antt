@@ -11,7 +11,7 @@ use Rattle.index_rules.specs.declared.decision.Decision.{Decision}
 use Rattle.index_rules.specs.declared.decision.Decision.TheVariants as decision
 use Rattle.index_rules.specs.declared.decision.Stop.{Stop}
 use Rattle.index_rules.specs.declared.decision.Stop.TheVariants as stop
-use Rattle.index_rules.specs.declared.decision.Context.{Context}
+use Rattle.index_rules.specs.declared.decision.context.Context.{Context}
 use Rattle.index_rules.specs.declared.change.Change.{Change}
 use Rattle.index_rules.specs.Projects.{Project}
 use Rattle.index_rules.specs.Maps.{Bytes, same}

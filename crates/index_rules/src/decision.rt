@@ -1,21 +1,16 @@
 //! The decision on a call.
-ghost use Rattle.std.specs.Prelude.{◌≡◌, Some, option_copied, false};
-ghost use Rattle.std.specs.List.{list_all, list_any};
+ghost use Rattle.std.specs.Prelude.{◌≡◌, false};
 ghost use Rattle.index_rules.specs.Tables.{Tables};
-ghost use Rattle.index_rules.specs.Maps.{same};
 ghost use Rattle.index_rules.specs.Requests.{is_upload, keys_of};
-ghost use Rattle.index_rules.specs.Facts.{HasOneBearer, Sees, facts_in, facts_seen, is_one_of, is_only_one_of};
+ghost use Rattle.index_rules.specs.Facts.{HasOneBearer, Sees, facts_in, facts_seen};
 ghost use Rattle.index_rules.specs.Decided.{DecidesBy, DecidesIn};
-ghost use Rattle.index_rules.specs.Verdict.{held_project};
 
 use crate::answer::Refusal;
 use crate::call::{Call, Request};
 use crate::change::Change;
-use crate::project::Project;
-use crate::records::NameRecord;
-use crate::user::UserId;
-use crate::view::{Caller, View};
+use crate::view::View;
 use cases::{answer_case, close_case, open_case, record_attempt, transfer};
+use context::Context;
 use files::{ban_file, delete, upload};
 use names::{allow, claim, prohibit, relinquish, set_quota};
 use owners::{add_owner, remove_owner};
@@ -24,6 +19,7 @@ use std::alloc::{AllocError, Global};
 use users::{add_user, set_token};
 
 mod cases;
+mod context;
 mod files;
 mod names;
 mod owners;
@@ -55,65 +51,6 @@ impl From<AllocError> for Stop {
     fn from(_error: AllocError) -> Stop {
         Stop::OutOfMemory
     }
-}
-
-/// What a decision rests on beside its request. The caller is the one in view.
-#[derive(Clone, Copy)]
-pub struct Context<'a> {
-    pub alloc: Global,
-    /// When the call is made, in Unix seconds.
-    pub at: u64,
-    pub caller: &'a Caller,
-    /// The records that the keys of the call name.
-    pub view: &'a View,
-    ghost in_view: { view.now.caller ≡ Some caller.now },
-}
-
-impl<'a> Context<'a> {
-    /// The held name that the call speaks of, where it is held.
-    pub fn project(&self) -> Option<&'a Project>
-        ensures { option_copied result ≡ held_project self.now.view.now.name }
-    {
-        match &self.view.name {
-            Some(NameRecord::Held(project)) => Some(project),
-            Some(NameRecord::Prohibited) | None => None,
-        }
-    }
-
-    /// Whether the caller owns that name.
-    pub fn owns(&self) -> bool
-        ensures { result ≡ is_one_of self.now.view.now.owners (Some self.now.caller.now.user) }
-    {
-        self.is_owner(self.caller.user.text().as_bytes())
-    }
-
-    /// Whether the user with this id owns that name.
-    pub fn is_owner(&self, user: &[u8]) -> bool
-        ensures { result ≡ is_one_of self.now.view.now.owners (Some user.now) }
-    {
-        is_one(self.view.owners.as_slice(), user)
-    }
-
-    /// Whether the user with this id owns that name, and nobody else does.
-    pub fn is_sole_owner(&self, user: &[u8]) -> bool
-        ensures { result ≡ is_only_one_of self.now.view.now.owners (Some user.now) }
-    {
-        self.is_owner(user) && is_each(self.view.owners.as_slice(), user)
-    }
-}
-
-/// Whether one of the users has this id.
-fn is_one(users: &[UserId], user: &[u8]) -> bool
-    ensures { result ≡ list_any (same user.now) users.now }
-{
-    users.iter().any(|one| user == one.text().as_bytes())
-}
-
-/// Whether each of the users has this id.
-fn is_each(users: &[UserId], user: &[u8]) -> bool
-    ensures { result ≡ list_all (same user.now) users.now }
-{
-    users.iter().all(|one| user == one.text().as_bytes())
 }
 
 /// The decision on a call by the records that its keys name: `Already` where it is so already, else the change that the

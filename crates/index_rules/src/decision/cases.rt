@@ -7,7 +7,8 @@ ghost use Rattle.index_rules.specs.Verdict.{refusal_of};
 ghost use Rattle.index_rules.specs.Effect.{new_case};
 ghost use Rattle.index_rules.specs.Decided.{DecidesIn, is_candidate_seen};
 
-use super::{Context, Decision, Stop};
+use super::context::Context;
+use super::{Decision, Stop};
 use crate::answer::Refusal;
 use crate::bytes::Bytes;
 use crate::change::Change;

@@ -11,7 +11,8 @@ ghost use Rattle.index_rules.specs.Verdict.{is_other_file};
 ghost use Rattle.index_rules.specs.Effect.{as_deleted as deleted_lem, project_left as project_left_lem, new_file};
 ghost use Rattle.index_rules.specs.Decided.{DecidesIn, DecidesOnFile, FindsProject, Uploads};
 
-use super::{Context, Decision, Stop};
+use super::context::Context;
+use super::{Decision, Stop};
 use crate::answer::Refusal;
 use crate::bytes::Bytes;
 use crate::change::Change;

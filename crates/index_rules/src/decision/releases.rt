@@ -5,7 +5,8 @@ ghost use Rattle.index_rules.specs.declared.call.Request.TheVariants.{Unyank, Ya
 ghost use Rattle.index_rules.specs.Maps.{same};
 ghost use Rattle.index_rules.specs.Decided.{DecidesIn};
 
-use super::{Context, Decision, Stop};
+use super::context::Context;
+use super::{Decision, Stop};
 use crate::answer::Refusal;
 use crate::bytes::Bytes;
 use crate::change::Change;

@@ -4,7 +4,8 @@ ghost use Rattle.index_rules.specs.declared.call.Request.TheVariants.{AddUser, S
 ghost use Rattle.index_rules.specs.Verdict.{is_user_with as is_user_with_lem, is_taken as is_taken_lem};
 ghost use Rattle.index_rules.specs.Decided.{DecidesIn};
 
-use super::{Context, Decision, Stop};
+use super::context::Context;
+use super::{Decision, Stop};
 use crate::answer::Refusal;
 use crate::bytes::Bytes;
 use crate::change::Change;
