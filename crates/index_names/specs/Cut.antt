@@ -3,7 +3,7 @@ use Rattle.std.specs.Prelude.{◌≡◌, ℕ, false, List, [], ◌∷◌, Option
 use Rattle.std.specs.Prelude.{option_copied, IsTrue}
 use Rattle.std.specs.Borrow.{Bor}
 use Rattle.std.specs.List.{before_last, after_last, list_any, slice_split}
-use Rattle.index_names.specs.declared.cut.Cut.{Cut}
+use Rattle.index_names.specs.declared.file_name.Cut.{Cut}
 use Rattle.index_names.specs.declared.wheel.WheelParts.{WheelParts}
 use Rattle.index_names.specs.Project.{is_project_name, normal_form}
 use Rattle.index_names.specs.Release.{is_version_text, named_release}

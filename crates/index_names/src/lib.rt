@@ -5,7 +5,6 @@
 //! release and kind that it spells.
 #![tactic(auto)]
 
-mod cut;
 mod fault;
 mod file_name;
 pub mod laws;

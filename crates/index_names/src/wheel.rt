@@ -5,8 +5,7 @@ ghost use Rattle.index_names.specs.FileName.{wheel_cut_of, read_wheel};
 ghost use Rattle.index_names.specs.Spelling.{is_hyphen, is_distribution, is_tag_byte, is_tag, is_build_tag, is_wheel_cut};
 ghost use Rattle.index_names.specs.Cut.{IsCutOf, wheel_cut};
 
-use crate::cut::{Cut, split_at_first_hyphen};
-use crate::file_name::FileKind;
+use crate::file_name::{Cut, FileKind, split_at_first_hyphen};
 use crate::project::is_name;
 use crate::release::is_version;
 

@@ -1,7 +1,7 @@
 use Rattle.std.proofs.Common.{rules, ◌∙◌, sym}
 use Rattle.std.proofs.lemmas.List.{take_rest}
 use Rattle.index_names.proofs.HyphenLemmas.{before_last-at, after_last-at, list_any-none}
-use Rattle.index_names.proofs.cut.split_at_last_hyphen.Goals as goal
+use Rattle.index_names.proofs.file_name.split_at_last_hyphen.Goals as goal
 
 pub returns-in_err-hyphen : goal.returns-in_err-hyphen
 returns-in_err-hyphen c = rw c.from_residual.ensures (list_any-none c.args.text.now (search rules))
