@@ -43,10 +43,10 @@ use Rattle.index.specs.declared.database.Left.TheVariants as unused
 use Rattle.index.specs.declared.database.Unused.{Unused}
 use Rattle.index.specs.declared.end.End.{End}
 use Rattle.index.specs.Chains.{Run, InitRun, EndedRun, CutRun, UnusedRun, LeadsOn, LeadTo, ClosedLeadsOn, UnclosedLeadsOn, UnusedLeadsOn, WorkLeadsOn, InitLeadsOn}
-use Rattle.index.specs.Chains.{MayBecome, Carries, MayCarry, ComesByRun, ComesByRuns, StandByRuns, StandThrough}
+use Rattle.index.specs.Chains.{TellsByHistory, MayBecome, Carries, MayCarry, ComesByRun, ComesByRuns, StandByRuns, StandThrough}
 use Rattle.index.specs.Openings.{HoldsOnly, IsUnfound, IsUnmade, LeavesShut, LeavesUnused, OpensAgain}
 use Rattle.index.specs.Runs.{Created, CreatedInLog, EndsRunOn, FindsOnly, Holds, HoldsCurrent, HoldsNone, Interrupted, Ran}
-use Rattle.index.specs.Tasks.{Task, AnswerLines, AnswerConnections, WriteReport, CountWrong, Does, MayLeaveBy}
+use Rattle.index.specs.Tasks.{Task, AnswerLines, AnswerConnections, WriteReport, CountWrong, Does, MayLeaveBy, TellsBy}
 use Rattle.index.proofs.RunLemmas.{found_among, tables_of_found}
 
 -- ---- what each run leads to
@@ -70,11 +70,11 @@ module _ {D : Type 0} {g : Ghosts D} where
       let holds : HoldsCurrent next it.after = elim left [ inl now ↦ subst (λ image. HoldsCurrent image it.after) (sym now) it.left.seen | inr later ↦ it.left.crash next later ] in
       record { before = it.before; after = it.after; held = it.held; did = it.did; left = holds }
 
-  cut_leads : (task : Task) (result : Result ℕ End) (start : Image) (last : FileStore D g) → (IsClean (over_files.view last) → Interrupted (MayLeaveBy task result) start last)
+  cut_leads : (task : Task) (result : Result ℕ End) (start : Image) (last : FileStore D g) → (IsClean (over_files.view last) → Interrupted (TellsBy task result) (MayLeaveBy task result) start last)
       → UnclosedLeadsOn (CutRun task result) start last
   cut_leads task result start last interrupted clean =
       let it = interrupted clean in
-      (it.last, it.closed, λ next may. record { before = it.before; held = it.held; left = it.next next may })
+      (it.last, it.closed, λ next may. record { before = it.before; held = it.held; told = it.told; left = it.next next may })
 
   shut_leads : (run : Run) (start : Image) (left : Leftover D g) → ((next : Image) → FindsOnly next (Holds start) → LeadsOn run start next)
       → LeavesShut start left → UnusedLeadsOn run start (unused.Shut left)
@@ -179,6 +179,12 @@ may_carry (AnswerConnections at requests) result T T' it was =
 may_carry (WriteReport had has) result T T' it was = (same_for T T' it was, refl)
 may_carry CountWrong result T T' it was = (same_for T T' it was, refl)
 
+answered : (task : Task) (result : Result ℕ End) (T : Tables) → TellsBy task result T → (was : LegalFor T) → TellsByHistory task result was.0 T
+answered (AnswerLines given left had has) result T it was = (it.ended, it.is, it.history was.0 was.1 was.2)
+answered (AnswerConnections at requests) result T it was = it.history was.0 was.1 was.2
+answered (WriteReport had has) result T it was = tt
+answered CountWrong result T it was = tt
+
 -- ---- the history of any list of runs
 
 -- whatever index is found in two files, its tables stand for a legal history of this kind
@@ -196,7 +202,7 @@ stand_by_run Was (EndedRun task result) start next stand it T holds = ∥∥₁_
     (same_for it.after T (it.left.next T holds) then.0, (was.0.0, was.1, was.0.2, then.0.2, then.1)))
 stand_by_run Was (CutRun task result) start next stand it T holds = ∥∥₁_elim (it.left T holds) squash₁ (λ left. ∥∥₁_map (stand it.before it.held) (λ was.
     let then = may_carry task result it.before T left was.0 in
-    (then.0, (was.0.0, was.1, was.0.2, (T, then.0.2, then.1)))))
+    (then.0, (was.0.0, was.1, was.0.2, answered task result it.before it.told was.0, (T, then.0.2, then.1)))))
 stand_by_run Was UnusedRun start next stand it T holds = ∥∥₁_elim (it T holds) squash₁ (λ held. stand T held)
 
 stand_by_runs : (Was : History → Type 0) (runs : List Run) (start last : Image) → StandIn Was start → (leads : LeadTo runs start last)

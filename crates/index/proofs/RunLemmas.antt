@@ -127,11 +127,12 @@ module _ {D : Type 0} {g : Ghosts D} where
       ∥∥₁_map (found_among last.store again image may found holds) (λ allowed. left holds.db.trees allowed found (tables_of_found holds.db found holds.found))
 
   -- work between an opening and a close that failed
-  pub interrupted_by : (Left : Tables → Tables → Type 0) (start : Image) (first last : Held (FileStore D g)) (store : FileStore D g) → IsOpened first → FindsIn start (file_state first)
-      → Began Left (file_state first).now (file_state last).may_leave → IsClosed last store → OpensAgain last.store → Interrupted Left start store
-  interrupted_by Left start first last store opened finds began closed again = record {
+  pub interrupted_by : (Told : Tables → Type 0) (Left : Tables → Tables → Type 0) (start : Image) (first last : Held (FileStore D g)) (store : FileStore D g) → IsOpened first → FindsIn start (file_state first)
+      → Began Told Left (file_state first).now (file_state last).may_leave → IsClosed last store → OpensAgain last.store → Interrupted Told Left start store
+  interrupted_by Told Left start first last store opened finds began closed again = record {
     before = began.before;
     held = holds_of start first began.before opened finds began.found;
+    told = began.told;
     left = λ db may. began.left db (closed.quiet.outcomes db may);
     last = last;
     closed = closed;

@@ -17,9 +17,11 @@ use Rattle.sqlite_disk.specs.declared.Files.{Files}
 use Rattle.index_tables.specs.Reopened.{MayLeave}
 use Rattle.index_cli.specs.declared.end.LineEnd.{LineEnd}
 use Rattle.index_cli.specs.Ends.{EndsRun}
+use Rattle.index_cli.specs.ServesFront.{ServesFront}
 use Rattle.index_cli.specs.Serving.{Serves, ServesCalls}
 use Rattle.index_cli.specs.Telling.{TellsLines}
 use Rattle.index_cli.specs.TellsCalls.{TellsCalls}
+use Rattle.index_cli.specs.TellsFront.{TellsFront}
 use Rattle.index_desk.specs.Crashes.{LeavesOver}
 use Rattle.index_desk.specs.Rules.{by_history}
 use Rattle.index_rules.specs.declared.answer.Answer.{Answer}
@@ -40,7 +42,7 @@ use Rattle.index.specs.Ends.{end_of}
 use Rattle.index.specs.Openings.{OpensAgain}
 use Rattle.index.specs.Runs.{FindsOnly, Holds, HoldsCurrent, HoldsNone}
 use Rattle.index.specs.Tasks.{AnswerConnections, AnswerLines, CountWrong, Does, IsUpTo, MayLeaveBy}
-use Rattle.index.specs.Tasks.{Task, WriteReport}
+use Rattle.index.specs.Tasks.{Task, TellsBy, WriteReport}
 
 -- ---- one run, from the files that it finds to those that the next one finds
 
@@ -62,12 +64,13 @@ pub record EndsOn
   pub did : Does task result before after
   pub left : HoldsCurrent next after
 
--- the task was begun on the index that was there, and whatever index is found next has what may be
--- left of it
+-- the task was begun on the index that was there, and told this of it, and whatever index is found
+-- next has what may be left of the task
 pub record BreaksOff
     (task : Task) (result : Result ℕ End) (start next : Image) : Type 0 where
   pub before : Tables
   pub held : Holds start before
+  pub told : TellsBy task result before
   pub left : FindsOnly next (MayLeaveBy task result before)
 
 -- A run leads from the files that it found to the next ones. After an init whatever index is found
@@ -162,6 +165,16 @@ MayCarry (AnswerConnections at requests) result h h' T' =
 MayCarry (WriteReport had has) result h h' T' = h' ≡ h
 MayCarry CountWrong result h h' T' = h' ≡ h
 
+-- a task answered by a history up to a fault, if there was one
+abbrev pub TellsByHistory : Task → Result ℕ End → History → Tables → Type 0
+TellsByHistory (AnswerLines given left had has) result h T =
+    (ended : Result ℕ LineEnd) × (result ≡ end_of ended)
+    × EndsRun (TellsFront by_history h) T given left had has ended
+TellsByHistory (AnswerConnections at requests) result h T =
+    (count : ℕ) × IsUpTo requests result count × ServesFront by_history at count h
+TellsByHistory (WriteReport had has) result h T = Unit {0}
+TellsByHistory CountWrong result h T = Unit {0}
+
 -- A run made this history of one of a kind, or left it. The tables that the run found stood for
 -- the one, and those that it left stand for the other.
 abbrev pub ComesByRun : (run : Run) (start next : Image) → LeadsOn run start next
@@ -172,7 +185,7 @@ ComesByRun (EndedRun task result) start next it Was h' =
     (h : History) × Was h × StandsFor it.before h
     × StandsFor it.after h' × Carries task result h h' it.after
 ComesByRun (CutRun task result) start next it Was h' =
-    (h : History) × Was h × StandsFor it.before h
+    (h : History) × Was h × StandsFor it.before h × TellsByHistory task result h it.before
     × ((left : Tables) × StandsFor left h' × MayCarry task result h h' left)
 ComesByRun UnusedRun start next it Was h' = Was h'
 

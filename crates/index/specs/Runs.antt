@@ -34,7 +34,7 @@ use Rattle.index.specs.Ends.{is_fault}
 use Rattle.index.specs.Openings.{HasSumsAs, HoldsOnly, IsBadFirstUserByHex, IsCleanClosed}
 use Rattle.index.specs.Openings.{IsOpenedOn, IsUnfound, IsUnmade, IsWhyUnfound, IsWhyUnmade}
 use Rattle.index.specs.Openings.{IsWhyUnused, LeavesUnused}
-use Rattle.index.specs.Tasks.{Does, MayLeaveBy, Task}
+use Rattle.index.specs.Tasks.{Does, MayLeaveBy, Task, TellsBy}
 
 -- ---- two files
 
@@ -80,13 +80,15 @@ abbrev pub LeavesOnly : (Trees → Type 0) → (Tables → Type 0) → Type 0
 LeavesOnly may_leave Are =
     (db : Trees) → may_leave db → (T : Tables) → (AreCurrent db → T ≡ tables_in db) → Are T
 
--- They held an index with some tables, and a crash leaves what it may leave of the work on them.
--- So it does of some connection whose close left this store: whatever index the next run finds in
--- what a crash leaves of that, has such tables.
+-- They held an index with some tables, the work told this of them, and a crash leaves what it may
+-- leave of it. So it does of some connection whose close left this store: whatever index the next
+-- run finds in what a crash leaves of that, has such tables.
 pub record Interrupted {D : Type 0} {g : Ghosts D}
-    (Left : Tables → Tables → Type 0) (start : Image) (store : FileStore D g) : Type 0 where
+    (Told : Tables → Type 0) (Left : Tables → Tables → Type 0) (start : Image)
+    (store : FileStore D g) : Type 0 where
   pub before : Tables
   pub held : Holds start before
+  pub told : Told before
   pub left : LeavesOnly (over_files.recovers store) (Left before)
   pub last : Held (FileStore D g)
   pub closed : IsClosed last store
@@ -123,10 +125,11 @@ pub record EndsRunOn {D : Type 0} (g : Ghosts D) (task : Task) (start : Image)
   -- the files held an index, and hold what the work made of it
   pub ran : IfOk result (λ run. IfOk run.closed (λ files. AreClean g files.log files.db
       → Ran g (Does task run.end) start files))
-  -- where the log was not copied, a crash leaves what it may leave of the work
+  -- where the log was not copied, each answer up to the fault is right, and a crash leaves what it
+  -- may leave of the work
   pub interrupted : IfOk result (λ run. IfErr run.closed (λ it.
       IsClean (over_files.view it.store)
-      → Interrupted (MayLeaveBy task run.end) start it.store))
+      → Interrupted (TellsBy task run.end) (MayLeaveBy task run.end) start it.store))
   pub fault : IfOk result (λ run. IfErr run.closed (λ it. IsTrue (is_fault it.fault)))
   -- what is refused is as it was, or an index of version 1 became one of today
   pub refused : IfErr result (λ it. IfSome it.left (LeavesUnused IsUnfound start))
@@ -177,20 +180,23 @@ pub record Worked
   pub did : Does before after
   pub committed : IsCommitted now after
 
--- an index with some tables was found in a database, and a crash leaves what it may leave of the
--- work on them
-pub record Began
-    (Left : Tables → Tables → Type 0) (was : Database) (may_leave : Trees → Type 0) : Type 0 where
+-- an index with some tables was found in a database, the work told this of them, and a crash leaves
+-- what it may leave of it
+pub record Began (Told : Tables → Type 0) (Left : Tables → Tables → Type 0) (was : Database)
+    (may_leave : Trees → Type 0) : Type 0 where
   pub before : Tables
   pub found : IsFound was before
+  pub told : Told before
   pub left : LeavesOnly may_leave (Left before)
 
 -- how work on a connection ends; it works, or is clean, only where it was so before
-pub record EndsWork (Does Leaves : Tables → Tables → Type 0) (was now : State) : Type 0 where
+pub record EndsWork (Does : Tables → Tables → Type 0) (Tells : Tables → Type 0)
+    (Leaves : Tables → Tables → Type 0) (was now : State) : Type 0 where
   pub was_working : IsWorking now → IsWorking was
   pub was_clean : HasCleanDisk now → HasCleanDisk was
   pub worked : IsWorking now → Worked Does was.now now
-  pub began : HasCleanDisk now → IsTrue was.is_open → Began Leaves was.now now.may_leave
+  pub began : HasCleanDisk now → IsTrue was.is_open
+      → Began Tells Leaves was.now now.may_leave
 
 -- a new index with these tables was made where nothing of one was, on a connection that works, or
 -- is clean, only where it was so before; a crash leaves that index alone

@@ -1,17 +1,20 @@
--- What each kind of work makes of the tables of an index, and what a crash may leave of it.
+-- What each kind of work makes of the tables of an index, what it tells of them, and what a crash
+-- may leave of it.
 use Rattle.std.specs.Prelude.{◌≡◌, ◌⊎◌, ◌≤◌, ℕ, IsTrue, List, Option, Result, Ok, Err, IfOk, IfErr}
 use Rattle.index_cli.specs.declared.end.LineEnd.{LineEnd}
 use Rattle.index_cli.specs.declared.end.ServeEnd.{ServeEnd}
 use Rattle.index_cli.specs.Ends.{EndsRun}
+use Rattle.index_cli.specs.ServesFront.{ServesFront}
 use Rattle.index_cli.specs.Serving.{Serves, ServesCalls, ServesHistory}
 use Rattle.index_cli.specs.Telling.{TellsLines}
 use Rattle.index_cli.specs.TellsCalls.{TellsCalls}
+use Rattle.index_cli.specs.TellsFront.{TellsFront}
 use Rattle.index_cli.specs.TellsHistory.{TellsHistory}
 use Rattle.index_desk.specs.Checks.{wrong_charges_in}
 use Rattle.index_desk.specs.Crashes.{LeavesAll, LeavesAllOf}
 use Rattle.index_desk.specs.declared.desk.report.ReportFault.{ReportFault}
 use Rattle.index_desk.specs.Reports.{Reports, report_in}
-use Rattle.index_desk.specs.Rules.{by_tables}
+use Rattle.index_desk.specs.Rules.{by_history, by_tables}
 use Rattle.index_rules.specs.History.{History}
 use Rattle.index_rules.specs.Legal.{IsLegal}
 use Rattle.index_rules.specs.StandsFor.{StandsFor}
@@ -32,6 +35,16 @@ pub record AnswersLines
   pub tables : EndsRun (TellsLines by_tables T) T' given left had has ended
   pub history : (h : History) → IsLegal h → StandsFor T h
       → EndsRun (TellsHistory h) T' given left had has ended
+
+-- also where a fault has shut the store: the same of the answers to these lines, or to those up to
+-- a fault since which no call was accepted
+pub record AnswersFirstLines
+    (given left had has : Option (List ℕ)) (T : Tables) (result : Result ℕ End) : Type 0 where
+  pub ended : Result ℕ LineEnd
+  pub is : result ≡ end_of ended
+  pub tables : EndsRun (TellsFront by_tables T) T given left had has ended
+  pub history : (h : History) → IsLegal h → StandsFor T h
+      → EndsRun (TellsFront by_history h) T given left had has ended
 
 -- these tables may be left by the lines that were answered up to this end: what comes of the
 -- accepted calls, or of these and one to which a fault was answered since the last of them
@@ -78,6 +91,15 @@ pub record AnswersConnections
   pub history : (h : History) → IsLegal h → StandsFor T h
       → (count : ℕ) × IsUpTo requests result count × ServesHistory h at count T'
 
+-- also where a fault has shut the store: the same of the connections up to the last of which a call
+-- was accepted
+pub record AnswersFirstConnections
+    (at : Option ℕ) (requests : ℕ) (T : Tables) (result : Result ℕ End) : Type 0 where
+  pub ends : IsServingEnd result
+  pub tables : (count : ℕ) × IsUpTo requests result count × ServesFront by_tables at count T
+  pub history : (h : History) → IsLegal h → StandsFor T h
+      → (count : ℕ) × IsUpTo requests result count × ServesFront by_history at count h
+
 -- these tables may be left by the connections that were answered: the same of their calls
 pub record LeavesConnections
     (at : Option ℕ) (requests : ℕ) (T T' : Tables) (result : Result ℕ End) : Type 0 where
@@ -105,6 +127,13 @@ Does (AnswerConnections at requests) result T T' =
     AnswersConnections at requests T T' result
 Does (WriteReport had has) result T T' = WritesReport had has T T' result
 Does CountWrong result T T' = CountsWrong T T' result
+
+-- what it tells of them, where it ends so, also where a fault has shut the store
+abbrev pub TellsBy : Task → Result ℕ End → Tables → Type 0
+TellsBy (AnswerLines given left had has) result T = AnswersFirstLines given left had has T result
+TellsBy (AnswerConnections at requests) result T = AnswersFirstConnections at requests T result
+TellsBy (WriteReport had has) result T = WritesReport had has T T result
+TellsBy CountWrong result T = CountsWrong T T result
 
 -- what a crash may leave of it, where it ends so
 abbrev pub MayLeaveBy : Task → Result ℕ End → Tables → Tables → Type 0

@@ -23,7 +23,7 @@ ghost use Rattle.index.specs.Openings.{IsCleanClosed, IsOpenedOn, IsToldOf, IsUn
 ghost use Rattle.index.specs.Openings.{IsWhyUnmade, IsWhyUnused, LeavesUnused};
 ghost use Rattle.index.specs.Runs.{Created, CreatedInLog, EndsInitOn, EndsRunOn, EndsWork};
 ghost use Rattle.index.specs.Runs.{IsMadeNew, LeavesAsWas};
-ghost use Rattle.index.specs.Tasks.{Does, MayLeaveBy, Task};
+ghost use Rattle.index.specs.Tasks.{Does, MayLeaveBy, Task, TellsBy};
 
 use crate::cause::{Cause, cause_of_calls};
 use crate::end::End;
@@ -86,6 +86,9 @@ pub trait Work {
     fn run<B: Keeper>(&mut self, rt: &HostRuntime, desk: &mut Desk<B>) -> Result<u64, End>
         ensures done { B.IsHonest desk.new → HasOneBearer (B.tables desk.old) →
             Does (task self.old self.new) result (B.tables desk.old) (B.tables desk.new) }
+        ensures told { B.IsHonest desk.old → B.IsClean desk.new →
+            HasOneBearer (B.tables desk.old) →
+            TellsBy (task self.old self.new) result (B.tables desk.old) }
         ensures crash { B.IsHonest desk.old → B.IsClean desk.new →
             HasOneBearer (B.tables desk.old) → (T : Tables) → B.may_leave desk.new T →
             MayLeaveBy (task self.old self.new) result (B.tables desk.old) T }
@@ -268,7 +271,7 @@ fn work_in<S: Alter + Drop, W: Work>(
 ) -> Result<(Connection<S>, Result<u64, End>), Unopened<S>>
     requires outside { conn.in_transaction ≡ false }
     ensures worked { let task = W.task work.old work.new in IfOk result (λ done.
-        EndsWork (Does task done.1) (MayLeaveBy task done.1)
+        EndsWork (Does task done.1) (TellsBy task done.1) (MayLeaveBy task done.1)
         (state S.Store conn) (state S.Store done.0)) }
     ensures refused { IfErr result (λ left. HasCleanDisk (state S.Store left.conn)
         → LeavesAsWas IsRaised (state S.Store conn) (state S.Store left.conn)) }

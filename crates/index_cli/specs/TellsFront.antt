@@ -42,13 +42,13 @@ TellsFront {S} rules s lines text T =
 
 -- ---- where something is said of what was told also where a fault has shut the store
 
--- of the tables before and after, where the store was honest and is clean at the end
-abbrev pub FrontByTables : {S : Type 0} → Ghosts S → S → S → (Tables → Tables → Type 0) → Type 0
-FrontByTables g old new Holds = g.IsHonest old → g.IsClean new
-    → HasOneBearer (g.tables old) → Holds (g.tables old) (g.tables new)
+-- of the tables before, where the store was honest and is clean at the end
+abbrev pub FrontByTables : {S : Type 0} → Ghosts S → S → S → (Tables → Type 0) → Type 0
+FrontByTables g old new Holds =
+    g.IsHonest old → g.IsClean new → HasOneBearer (g.tables old) → Holds (g.tables old)
 
--- of each legal history for which they stood, and the tables after
+-- of each legal history for which they stood, and these tables
 abbrev pub FrontByHistory : {S : Type 0} → Ghosts S → S → S
     → (History → Tables → Type 0) → Type 0
 FrontByHistory g old new Holds = g.IsHonest old → g.IsClean new
-    → (h : History) → IsLegal h → StandsFor (g.tables old) h → Holds h (g.tables new)
+    → (h : History) → IsLegal h → StandsFor (g.tables old) h → Holds h (g.tables old)

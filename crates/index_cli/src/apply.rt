@@ -55,12 +55,12 @@ pub fn apply_lines<S: Source, K: Sink, B: Books>(
     // which no call was accepted.
     ensures told { FrontByTables B.Books desk.old desk.new (λ T. EndsBy
         (from_source S.Source source.old source.new) (to_sink K.Sink sink.old sink.new)
-        result (TellsFront by_tables T)) }
+        result (TellsFront by_tables T) T) }
 
     // By a legal history for which the tables stood: that too.
-    ensures told_history { FrontByHistory B.Books desk.old desk.new (λ h. EndsBy
+    ensures told_history { FrontByHistory B.Books desk.old desk.new (λ h T. EndsBy
         (from_source S.Source source.old source.new) (to_sink K.Sink sink.old sink.new)
-        result (TellsFront by_history h)) }
+        result (TellsFront by_history h) T) }
 
     // A crash leaves the tables after the accepted calls, or these with one call to which a fault
     // was answered since the last of them; also where a fault has shut the store.

@@ -61,7 +61,7 @@ pub fn serve_connections<B: Keeper>(
 
     // Also where a fault has shut the store: the same of the connections up to the last of which a
     // call was accepted.
-    ensures told { FrontByTables B.Books desk.old desk.new (λ T T'. (count : ℕ)
+    ensures told { FrontByTables B.Books desk.old desk.new (λ T. (count : ℕ)
         × IsCount requests result count × ServesFront by_tables at count T) }
 
     // By a legal history for which the tables stood: that too.

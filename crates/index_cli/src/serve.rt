@@ -60,7 +60,7 @@ pub fn answer_connections<C: Connections, B: Keeper>(
 
     // Also where a fault has shut the store: the same of the connections up to the last of which a
     // call was accepted.
-    ensures told { FrontByTables B.Books desk.old desk.new (λ T T'. (count : ℕ)
+    ensures told { FrontByTables B.Books desk.old desk.new (λ T. (count : ℕ)
         × IsCount requests result count
         × ServesFrontOn (AreOn C.coming C.replies connections.old connections.new)
         by_tables at count T) }

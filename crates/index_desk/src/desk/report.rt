@@ -39,7 +39,9 @@ impl<B: Books> Desk<B> {
     /// All of it is made before the first byte goes out. So after `OutOfMemory`, and after `Store` where the books
     /// fail, nothing was written, and after `WriteFault` so many bytes were.
     pub fn report<S: Sink>(&mut self, alloc: Global, sink: &mut S) -> Result<(), ReportFault>
-        ensures report { B.IsHonest self.new → Reports (report_in (B.tables self.old))
+        // Also where a fault has shut the store.
+        ensures report { B.IsHonest self.old → B.IsClean self.new
+            → Reports (report_in (B.tables self.old))
             (S.contents sink.old) (S.contents sink.new) result }
         ensures fails { ReportFailsOnly B.Books S.Sink self.old self.new sink.old sink.new result }
         ensures leaves { LeavesTables B.Books self.old self.new }

@@ -6,7 +6,7 @@ use Rattle.sqlite.specs.WalReads.{AreClean}
 use Rattle.index_tables.specs.Adopted.{IsRaised}
 use Rattle.index.specs.Openings.{IsUnfound, IsWhyUnfound}
 use Rattle.index.specs.Runs.{EndsWork}
-use Rattle.index.specs.Tasks.{Does, MayLeaveBy}
+use Rattle.index.specs.Tasks.{Does, MayLeaveBy, TellsBy}
 use Rattle.index.proofs.RunLemmas.{clean_before, interrupted_by, ran_by, refused_by, working_of}
 use Rattle.index.proofs.database.work_and_close.Goals as goal
 
@@ -17,7 +17,7 @@ returns-in-Ok g c = record {
       let worked = c.in-Ok.ensures.worked in
       let again = c.worked_on.ensures in
       let task = g.W.Work.task c.args.work.now c.work_in.new.work in
-      let then_worked = subst (λ held. EndsWork (Does task c.in-Ok.end) (MayLeaveBy task c.in-Ok.end) (file_state c.args.conn) (file_state held)) (sym again.same) worked in
+      let then_worked = subst (λ held. EndsWork (Does task c.in-Ok.end) (TellsBy task c.in-Ok.end) (MayLeaveBy task c.in-Ok.end) (file_state c.args.conn) (file_state held)) (sym again.same) worked in
       record {
         ran = IfOk-weaker c.close.result _ _ (λ files copied clean.
             let is = copied clean in
@@ -28,7 +28,7 @@ returns-in-Ok g c = record {
         interrupted = IfErr-weaker c.close.result _ _ (λ it closed clean.
             let then = clean_before c.worked_on.result it.store closed clean in
             let opening = first (then_worked.was_clean then) in
-            interrupted_by _ start c.args.conn c.worked_on.result it.store opening.0 opening.1 (then_worked.began then opening.0.0.is_open) closed (again.numbered then, again.databases then))
+            interrupted_by _ _ start c.args.conn c.worked_on.result it.store opening.0 opening.1 (then_worked.began then opening.0.0.is_open) closed (again.numbered then, again.databases then))
             c.close.ensures.kept;
         fault = c.close.ensures.fault;
         refused = tt;
