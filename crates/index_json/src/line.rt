@@ -1,6 +1,7 @@
 //! Lines of input, and requests alone.
-ghost use Rattle.std.specs.Prelude.{◌≡◌, IfOk, IfErr};
+ghost use Rattle.std.specs.Prelude.{◌≡◌, IfOk};
 ghost use Rattle.serde_json.specs.View.{view};
+ghost use Rattle.index_rules.specs.Memory.{OkOrNoMemory};
 ghost use Rattle.index_json.specs.Json.{json_of};
 ghost use Rattle.index_json.specs.Keys.{SaysLine, SaysRequest};
 ghost use Rattle.index_json.specs.Line.{call_row, line_of, line_row, row_of_word};
@@ -33,8 +34,7 @@ pub enum Line {
 pub fn read_line(alloc: Global, line: &[u8]) -> Result<Option<Line>, Fault>
     // Just the line whose keys the object has, or nothing where it has those of no line.
     ensures keys { IfOk result (SaysLine line.now) }
-    ensures line { IfOk result (λ read. read ≡ line_of line.now) }
-    ensures memory { IfErr result (λ fault. fault ≡ Fault.OutOfMemory) }
+    ensures line { OkOrNoMemory result (λ read. read ≡ line_of line.now) }
 {
     match line_read(alloc, line) {
         Ok(line) => Ok(Some(line)),
@@ -52,8 +52,7 @@ pub fn read_line(alloc: Global, line: &[u8]) -> Result<Option<Line>, Fault>
 pub fn read_request(alloc: Global, bytes: &[u8]) -> Result<Option<Request>, Fault>
     // Just the request whose keys the object has, or nothing where it has those of no request.
     ensures keys { IfOk result (SaysRequest bytes.now) }
-    ensures request { IfOk result (λ read. read ≡ request_of bytes.now) }
-    ensures memory { IfErr result (λ fault. fault ≡ Fault.OutOfMemory) }
+    ensures request { OkOrNoMemory result (λ read. read ≡ request_of bytes.now) }
 {
     match request_read(alloc, bytes) {
         Ok(request) => Ok(Some(request)),

@@ -2,9 +2,10 @@
 //!
 //! The members of an object are put into a map by functions that own nothing, and an object is made of it
 //! at one place: so no exit has a map to drop.
-ghost use Rattle.std.specs.Prelude.{◌≡◌, IfErr, IfOk, Ok, string_bytes};
+ghost use Rattle.std.specs.Prelude.{◌≡◌, IfOk, Ok, string_bytes};
 ghost use Rattle.serde_json.specs.Data.{object, put as put_lem, string};
 ghost use Rattle.serde_json.specs.View.{members_view, view};
+ghost use Rattle.index_rules.specs.Memory.{OkOrNoMemory};
 ghost use Rattle.index_json.specs.StandingText.{PutsMembers, case_value as case_value_lem, case_texts_put, case_put, held_put, kind_text as kind_text_lem, means_put, name_put, open_case_value as open_case_value_lem, project_put, standing_put, standing_text_of, standing_value as standing_value_lem, text_array, times_put};
 
 use index_desk::{HeldName, Standing};
@@ -20,8 +21,8 @@ use std::alloc::{AllocError, Global};
 ///
 /// `OutOfMemory`.
 pub fn standing_text(alloc: Global, standing: &Standing) -> Result<String, Fault>
-    ensures text { IfOk result (λ text. string_bytes text ≡ standing_text_of standing.now) }
-    ensures memory { IfErr result (λ fault. fault ≡ Fault.OutOfMemory) }
+    ensures text { OkOrNoMemory result
+        (λ text. string_bytes text ≡ standing_text_of standing.now) }
 {
     let value = standing_value(alloc, standing)?;
     let text = value.to_string(alloc);

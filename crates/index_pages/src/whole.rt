@@ -1,5 +1,6 @@
 //! Whole pages, for callers that have all rows.
-ghost use Rattle.std.specs.Prelude.{◌≡◌, ◌++◌, List, ◌∷◌, IfErr, IfOk, OnOk};
+ghost use Rattle.std.specs.Prelude.{◌≡◌, ◌++◌, List, ◌∷◌, OnOk};
+ghost use Rattle.index_rules.specs.Memory.{OkOrNoMemory};
 ghost use Rattle.index_pages.specs.Pages.{project_page_of, root_page_of};
 
 use crate::page::Page;
@@ -16,8 +17,7 @@ use std::alloc::{AllocError, Global};
 ///
 /// `OutOfMemory`.
 pub fn root_page(alloc: Global, rows: &[NameRow], served: Served) -> Result<Vec<u8>, Fault>
-    ensures page { IfOk result (λ text. text.items ≡ root_page_of served rows.now) }
-    ensures memory { IfErr result (λ fault. fault ≡ Fault.OutOfMemory) }
+    ensures page { OkOrNoMemory result (λ text. text.items ≡ root_page_of served rows.now) }
 {
     let mut text = Vec::new(alloc);
     let mut page = RootPage::new(served);
@@ -36,8 +36,8 @@ pub fn project_page(
     rows: &[FileRow],
     served: Served,
 ) -> Result<Vec<u8>, Fault>
-    ensures page { IfOk result (λ text. text.items ≡ project_page_of served name.now rows.now) }
-    ensures memory { IfErr result (λ fault. fault ≡ Fault.OutOfMemory) }
+    ensures page { OkOrNoMemory result
+        (λ text. text.items ≡ project_page_of served name.now rows.now) }
 {
     let mut text = Vec::new(alloc);
     let mut page = ProjectPage::new(alloc, served);

@@ -1,5 +1,6 @@
 pub mod Maps
 pub mod Results
+pub mod Memory
 pub mod Users
 pub mod Texts
 pub mod Refusals

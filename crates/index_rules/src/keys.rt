@@ -2,6 +2,7 @@
 ghost use Rattle.std.specs.Prelude.{◌≡◌, IfOk, IfErr, IsSome, option_map};
 ghost use Rattle.index_names.specs.FileName.{project_of};
 ghost use Rattle.index_rules.specs.declared.call.Request.TheVariants.{AddOwner, Claim, Delete, SetToken, Unyank};
+ghost use Rattle.index_rules.specs.Memory.{OkOrNoMemory};
 ghost use Rattle.index_rules.specs.Requests.{HasReadableKey, ReadsKeys, keys_of, keys_of_name};
 
 use crate::answer::Fault;
@@ -48,8 +49,7 @@ impl Keys {
     ///
     /// `OutOfMemory`.
     pub fn of_name(name: &NormalName) -> Result<Keys, Fault>
-        ensures keys { IfOk result (λ keys. keys ≡ keys_of_name name.now) }
-        ensures memory { IfErr result (λ fault. fault ≡ Fault.OutOfMemory) }
+        ensures { OkOrNoMemory result (λ keys. keys ≡ keys_of_name name.now) }
     {
         let name = name.clone()?;
         Ok(Keys {
@@ -70,8 +70,7 @@ impl Call {
     ///
     /// `OutOfMemory`.
     pub fn keys(&self, alloc: Global) -> Result<Keys, Fault>
-        ensures keys { IfOk result (λ keys. keys ≡ keys_of self.now) }
-        ensures memory { IfErr result (λ fault. fault ≡ Fault.OutOfMemory) }
+        ensures keys { OkOrNoMemory result (λ keys. keys ≡ keys_of self.now) }
         // Of a call with nothing to be looked up but its caller no memory is wanted.
         ensures readable { IfErr result (λ _. HasReadableKey self.now.request) }
     {

@@ -20,7 +20,7 @@ returns-in-Ok-text g c = record {
   lasts = λ honest clean. inl (c.in-Ok.ensures.look.lasts honest clean);
   leaves = search rules;
   causes = record {
-    told = standing_causes c.in-Ok.standing _ _ _ c.in-Ok-text.ensures.text c.in-Ok.ensures.look.once;
+    told = standing_causes c.in-Ok.standing _ _ _ c.in-Ok-text.ensures.text.value c.in-Ok.ensures.look.once;
     kept = search rules;
     memory = search rules;
   };

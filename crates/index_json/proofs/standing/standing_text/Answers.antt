@@ -27,6 +27,11 @@ standing-no_float (standing.Free name) = refl
 standing-no_float (standing.Prohibited name) = refl
 standing-no_float (standing.Held held) = rw (case-no_float held.case, texts-no_float held.owners) refl
 
-pub returns-clause-text : goal.returns-clause-text
+pub returns : goal.returns
 unfolding standing_text_of
-returns-clause-text c = grind (arith, common_steps, standing-no_float c.args.standing.now)
+returns c = record {
+  text = record {
+    value = grind (arith, common_steps, standing-no_float c.args.standing.now);
+    memory = tt;
+  };
+}
