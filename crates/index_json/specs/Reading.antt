@@ -1,7 +1,6 @@
 -- Reading the keys of a JSON object.
 use Rattle.std.specs.Prelude.{◌≡◌, ℕ, ◌==◌, Bool, List, if◌then◌else◌, Option, Some, None}
-use Rattle.std.specs.Prelude.{option_and_then, option_map, Result, Err, IfOk}
-use Rattle.std.specs.Borrow.{Bor}
+use Rattle.std.specs.Prelude.{option_and_then, option_map, Result, Err, IfOk, IfErr}
 use Rattle.serde_json.specs.Data.{Data}
 use Rattle.index_json.specs.declared.object_reader.ObjectReader.{ObjectReader}
 use Rattle.index_json.specs.declared.object_reader.Unread.{Unread}
@@ -73,8 +72,8 @@ abbrev pub ReadsTo : {A : Type 0} → ObjectReader → ObjectReader → Result A
 ReadsTo before after result reading =
     ReadsAs (λ found. (found, object_of after)) result (reading (object_of before))
 
--- the same of a text that is found where it stands
-abbrev pub ReadsTextTo : ObjectReader → ObjectReader → Result (Bor (List ℕ)) Unread
-    → Reading (List ℕ) → Type 0
-ReadsTextTo before after result reading =
-    ReadsAs (λ found. (found.now, object_of after)) result (reading (object_of before))
+-- the same of what is found where it stands, and seen so: no memory is wanted
+pub record FindsAs {A B : Type 0} (seen : A → B) (before after : ObjectReader)
+    (result : Result A Unread) (reading : Reading B) : Type 0 where
+  pub reads : ReadsAs (λ found. (seen found, object_of after)) result (reading (object_of before))
+  pub memory : IfErr result (λ unread. unread ≡ NotARequest)

@@ -1,10 +1,10 @@
 //! The keys of a JSON object.
-ghost use Rattle.std.specs.Prelude.{◌≡◌, IfErr, option_map};
+ghost use Rattle.std.specs.Prelude.{◌≡◌, option_map};
 ghost use Rattle.serde_json.specs.Find.{get};
 ghost use Rattle.serde_json.specs.View.{view};
 ghost use Rattle.index_json.specs.Json.{key_count};
 ghost use Rattle.index_json.specs.Object.{object_of, whole_object, with_key_read};
-ghost use Rattle.index_json.specs.Reading.{Reads, ReadsTextTo, ReadsTo, flag as flag_lem, if_whole, number as number_lem, text, texts};
+ghost use Rattle.index_json.specs.Reading.{FindsAs, Reads, ReadsTo, flag as flag_lem, if_whole, number as number_lem, text, texts};
 
 use index_rules::Bytes;
 use serde_json::Value;
@@ -48,8 +48,7 @@ impl<'v> ObjectReader<'v> {
 
     /// The text at a key.
     pub fn text(&mut self, key: &str) -> Result<&'v str, Unread>
-        ensures text { ReadsTextTo self.old self.new result (text key.now) }
-        ensures no_row { IfErr result (λ unread. unread ≡ Unread.NotARequest) }
+        ensures { FindsAs (λ text. text.now) self.old self.new result (text key.now) }
     {
         match self.value_at(key).and_then(Value::as_str) {
             Some(text) => Ok(text),
@@ -59,8 +58,7 @@ impl<'v> ObjectReader<'v> {
 
     /// The whole number of 64 bits at a key.
     pub fn number(&mut self, key: &str) -> Result<u64, Unread>
-        ensures number { ReadsTo self.old self.new result (number_lem key.now) }
-        ensures no_row { IfErr result (λ unread. unread ≡ Unread.NotARequest) }
+        ensures { FindsAs (λ number. number) self.old self.new result (number_lem key.now) }
     {
         match self.value_at(key).and_then(Value::as_u64) {
             Some(number) => Ok(number),
@@ -70,8 +68,7 @@ impl<'v> ObjectReader<'v> {
 
     /// True or false at a key.
     pub fn flag(&mut self, key: &str) -> Result<bool, Unread>
-        ensures flag { ReadsTo self.old self.new result (flag_lem key.now) }
-        ensures no_row { IfErr result (λ unread. unread ≡ Unread.NotARequest) }
+        ensures { FindsAs (λ flag. flag) self.old self.new result (flag_lem key.now) }
     {
         match self.value_at(key).and_then(Value::as_bool) {
             Some(flag) => Ok(flag),
