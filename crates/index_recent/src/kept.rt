@@ -1,9 +1,8 @@
 //! What is kept of the last looks.
 ghost use Rattle.std.specs.Prelude.{◌≡◌, ◌≤◌, ◌<◌, ◌+◌, IfOk, IfSome, true, filter, length, vec_len};
-ghost use Rattle.std.specs.List.{All, Contains};
+ghost use Rattle.std.specs.List.{Contains};
 ghost use Rattle.index_desk.specs.Pages.{project_of_page};
-ghost use Rattle.index_rules.specs.Tables.{Tables};
-ghost use Rattle.index_recent.specs.Kept.{IsKeptBody, body_bytes};
+ghost use Rattle.index_recent.specs.Kept.{AreLeft, body_bytes};
 ghost use Rattle.index_recent.specs.Spared.{spares_file, spares_body};
 
 use index_desk::PageKey;
@@ -67,8 +66,7 @@ pub(crate) fn body_bytes(bodies: &[KeptBody]) -> usize
 pub(crate) fn keep_newest(bodies: &mut Vec<KeptBody>, most_kept: usize, room: usize) -> usize
     requires some { 0 < most_kept }
     requires counted { body_bytes bodies.old.items < 18446744073709551616 }
-    ensures kept { (T : Tables) →
-        All (IsKeptBody T) bodies.old.items → All (IsKeptBody T) bodies.new.items }
+    ensures kept { AreLeft bodies.old.items bodies.new.items }
     ensures bytes { (result ≡ body_bytes bodies.new.items) × (result ≤ room) }
     ensures few { length bodies.new.items < most_kept }
 {
@@ -82,8 +80,7 @@ pub(crate) fn keep_newest(bodies: &mut Vec<KeptBody>, most_kept: usize, room: us
 /// Lets go of the first body, and returns how many bytes it had.
 fn remove_first(bodies: &mut Vec<KeptBody>) -> usize
     requires { 0 < vec_len bodies.old }
-    ensures kept { (T : Tables) →
-        All (IsKeptBody T) bodies.old.items → All (IsKeptBody T) bodies.new.items }
+    ensures kept { AreLeft bodies.old.items bodies.new.items }
     ensures bytes { body_bytes bodies.old.items ≡ result + body_bytes bodies.new.items }
     ensures fewer { length bodies.new.items + 1 ≡ length bodies.old.items }
 {

@@ -71,16 +71,6 @@ impl<B: Books> Recent<B> {
         books
     }
 
-    /// Lets go of all that is kept.
-    fn forget(&mut self)
-        ensures { (self.new.books ≡ self.old.books)
-            × ((self.new.bodies.items ≡ []) × (self.new.pages.items ≡ [])) }
-    {
-        self.bodies.clear();
-        self.pages.clear();
-        self.used = 0;
-    }
-
     /// Lets go of all that is kept if a look ran out of memory, so that the next one has it.
     fn forget_if(&mut self, is_out_of_memory: bool)
         ensures books { self.new.books ≡ self.old.books }
@@ -88,7 +78,9 @@ impl<B: Books> Recent<B> {
             (self.new.bodies.items ≡ []) × (self.new.pages.items ≡ []) }
     {
         if is_out_of_memory {
-            self.forget();
+            self.bodies.clear();
+            self.pages.clear();
+            self.used = 0;
         }
     }
 
