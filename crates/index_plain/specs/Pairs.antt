@@ -41,14 +41,24 @@ module _ {A B : Type 0} (P : A → A → Ordering) (Q : B → B → Ordering) wh
         → (FinMap by_both X → FinMap by_both X) → Type 0
     TurnsBy old new change = pairs_in new ≡ change (pairs_in old)
 
-    -- it has this value at the pair, or stays as it was where memory ran out
-    abbrev pub PutsPair : {T E : Type 0} → BTreeMap A (BTreeMap B X) → BTreeMap A (BTreeMap B X)
-        → A × B → X → Result T E → Type 0
-    PutsPair old new pair value result = Puts (pairs_in old) (pairs_in new) pair value result
+-- a map from pairs before a call and after it
+pub record PairsStep {A B : Type 0} (P : A → A → Ordering) (Q : B → B → Ordering)
+    (X : Type 0) : Type 0 where
+  pub old : FinMap (by_both P Q) X
+  pub new : FinMap (by_both P Q) X
 
-    -- so it has, and nothing else at the first key of the pair
-    abbrev pub PutsPairAlone : {T E : Type 0} → BTreeMap A (BTreeMap B X)
-        → BTreeMap A (BTreeMap B X) → A × B → X → Result T E → Type 0
-    PutsPairAlone old new pair value result =
-        TurnsTo (pairs_in old) (pairs_in new)
-        (insert (without_first pair.0 (pairs_in old)) pair value) result
+-- the one that an ordered map of ordered maps is
+abbrev pub as_pairs : {A B X : Type 0} (P : A → A → Ordering) (Q : B → B → Ordering)
+    → BTreeMap A (BTreeMap B X) → BTreeMap A (BTreeMap B X) → PairsStep P Q X
+as_pairs P Q old new = record { old = pairs_in P Q old; new = pairs_in P Q new }
+
+-- it has this value at the pair, or stays as it was where memory ran out
+abbrev pub PutsPair : {A B X T E : Type 0} {P : A → A → Ordering} {Q : B → B → Ordering}
+    → PairsStep P Q X → A × B → X → Result T E → Type 0
+PutsPair pairs pair value result = Puts pairs.old pairs.new pair value result
+
+-- so it has, and nothing else at the first key of the pair
+abbrev pub PutsPairAlone : {A B X T E : Type 0} {P : A → A → Ordering} {Q : B → B → Ordering}
+    → PairsStep P Q X → A × B → X → Result T E → Type 0
+PutsPairAlone {A} {B} {X} {T} {E} {P} {Q} pairs pair value result =
+    TurnsTo pairs.old pairs.new (insert (without_first P Q pair.0 pairs.old) pair value) result

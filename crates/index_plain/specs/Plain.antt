@@ -83,27 +83,38 @@ LooksUp old new succeeds =
     (calls.counts failures_of (λ books. 0)) in
     calls.LooksUp plain old new succeeds false
 
--- a look that fails for want of memory alone
-pub record LooksInMemory {A : Type 0} (old new : PlainBooks)
-    (result : Result A Fault) : Type 0 where
+-- a look that finds this in the tables, and fails for want of memory alone
+pub record LooksInMemory {A : Type 0} (old new : PlainBooks) (result : Result A Fault)
+    (Found : Tables → Type 0) : Type 0 where
+  pub found : Found (plain_tables old)
   pub look : LooksUp old new (is_ok result)
   pub memory : IfErr result (λ error. error ≡ fault.OutOfMemory)
 
+-- a taker of rows before a walk and after it, and what a row makes of it
+pub record TakerStep (K R : Type 0) : Type 1 where
+  pub takes : K → R → K → Type 0
+  pub stops : K → R → K → Type 0
+  pub old : K
+  pub new : K
+
+abbrev pub to_taker : {K R : Type 0} (takes stops : K → R → K → Type 0) → K → K → TakerStep K R
+to_taker takes stops old new = record { takes = takes; stops = stops; old = old; new = new }
+
 -- a walk over these rows, which no fault of a store ends
-pub record Hands {K R : Type 0} (takes stops : K → R → K → Type 0) (rows : List R)
-    (before after : K) (result : Result (Unit {0}) WalkEnd) : Type 0 where
-  pub walked : Walks takes stops rows before after result
+pub record Hands {K R : Type 0} (rows : List R) (taker : TakerStep K R)
+    (result : Result (Unit {0}) WalkEnd) : Type 0 where
+  pub walked : Walks taker.takes taker.stops rows taker.old taker.new result
   pub memory : IfErr result (λ end. end ≢ walk_end.Store)
 
 -- a walk over the held names of these books
-abbrev pub HandsNames : {K : Type 0} (takes stops : K → NameRow → K → Type 0) → PlainBooks → K → K
+abbrev pub HandsNames : {K : Type 0} → PlainBooks → TakerStep K NameRow
     → Result (Unit {0}) WalkEnd → Type 0
-HandsNames takes stops books = Hands takes stops (held_rows_in (plain_tables books))
+HandsNames books = Hands (held_rows_in (plain_tables books))
 
 -- a walk over the undeleted files of a name
-abbrev pub HandsFiles : {K : Type 0} (takes stops : K → FileRow → K → Type 0) → PlainBooks → Bytes
-    → K → K → Result (Unit {0}) WalkEnd → Type 0
-HandsFiles takes stops books name = Hands takes stops (file_rows_in (plain_tables books) name)
+abbrev pub HandsFiles : {K : Type 0} → PlainBooks → Bytes → TakerStep K FileRow
+    → Result (Unit {0}) WalkEnd → Type 0
+HandsFiles books name = Hands (file_rows_in (plain_tables books) name)
 
 -- the books of a new index, in which no call has failed, or why there are none
 pub record Opens (user token : Bytes) (result : Result PlainBooks OpenFault) : Type 0 where

@@ -1,7 +1,7 @@
 //! A table by pairs, as a map of maps: what stands at a first key goes with one call.
 ghost use Rattle.std.specs.Prelude.{◌≡◌, option_copied};
 ghost use Rattle.std.specs.FinMap.{get, remove};
-ghost use Rattle.index_plain.specs.Pairs.{PutsPair, PutsPairAlone, TurnsBy, pairs_in, without_first};
+ghost use Rattle.index_plain.specs.Pairs.{PutsPair, PutsPairAlone, TurnsBy, as_pairs, pairs_in, without_first};
 ghost use Rattle.index_plain.specs.Picked.{PicksSecond};
 
 use crate::key::Key;
@@ -52,7 +52,7 @@ pub fn put<A: Key, B: Key, V: Drop>(
     second: &B,
     value: V,
 ) -> Result<(), AllocError>
-    ensures { PutsPair A.cmp B.cmp map.old map.new (first.now, second.now) value result }
+    ensures { PutsPair (as_pairs A.cmp B.cmp map.old map.new) (first.now, second.now) value result }
 {
     match map.get_mut(first) {
         Some(inner) => table::put(inner, second, value),
@@ -68,7 +68,8 @@ pub fn put_alone<A: Key, B: Key, V: Drop>(
     second: &B,
     value: V,
 ) -> Result<(), AllocError>
-    ensures { PutsPairAlone A.cmp B.cmp map.old map.new (first.now, second.now) value result }
+    ensures { PutsPairAlone (as_pairs A.cmp B.cmp map.old map.new)
+        (first.now, second.now) value result }
 {
     let alone = table::one(alloc, second, value)?;
     table::put(map, first, alone)

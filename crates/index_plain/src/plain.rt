@@ -129,7 +129,7 @@ impl Books for PlainBooks {
     ghost use Rattle.index_rules.specs.Results.{Returns, ReturnsItems};
     ghost use Rattle.index_rules.specs.TableRows.{file_rows_in, name_rows_in};
     ghost use Rattle.index_rules.specs.Verdict.{is_held as is_held_lem};
-    ghost use Rattle.index_plain.specs.Plain.{HandsFiles, HandsNames, LooksInMemory, LooksUp, MakesOrCounts, failures_of, plain_tables};
+    ghost use Rattle.index_plain.specs.Plain.{HandsFiles, HandsNames, LooksInMemory, LooksUp, MakesOrCounts, failures_of, plain_tables, to_taker};
 
     ghost tables = { plain_tables };
 
@@ -148,8 +148,7 @@ impl Books for PlainBooks {
     }
 
     fn view(&mut self, alloc: Global, keys: &Keys) -> Result<View, Fault>
-        ensures found { IfOk result (Sees (plain_tables self.old) keys.now) }
-        ensures looks { LooksInMemory self.old self.new result }
+        ensures { LooksInMemory self.old self.new result (λ T. IfOk result (Sees T keys.now)) }
     {
         match self.look(alloc, keys) {
             Ok(view) => Ok(view),
@@ -167,16 +166,16 @@ impl Books for PlainBooks {
     }
 
     fn is_held(&mut self, _alloc: Global, name: &NormalName) -> Result<bool, Fault>
-        ensures found { Returns result (is_held_lem (get (plain_tables self.old).names name.now)) }
-        ensures looks { LooksInMemory self.old self.new result }
+        ensures { LooksInMemory self.old self.new result
+            (λ T. Returns result (is_held_lem (get T.names name.now))) }
     {
         let record = table::find(&self.names, name);
         Ok(matches!(record, Some(NameRecord::Held(_))))
     }
 
     fn bytes_of(&mut self, _alloc: Global, file: &FileName) -> Result<Option<Sealed>, Fault>
-        ensures found { Returns result (get (plain_tables self.old).bodies file.now) }
-        ensures looks { LooksInMemory self.old self.new result }
+        ensures { LooksInMemory self.old self.new result
+            (λ T. Returns result (get T.bodies file.now)) }
     {
         match table::copy_at(&self.bodies, file) {
             Ok(body) => Ok(body),
@@ -185,8 +184,8 @@ impl Books for PlainBooks {
     }
 
     fn names(&mut self, alloc: Global) -> Result<Vec<NameRow>, Fault>
-        ensures found { ReturnsItems result (name_rows_in (plain_tables self.old)) }
-        ensures looks { LooksInMemory self.old self.new result }
+        ensures { LooksInMemory self.old self.new result
+            (λ T. ReturnsItems result (name_rows_in T)) }
     {
         match self.name_rows(alloc) {
             Ok(rows) => Ok(rows),
@@ -195,8 +194,8 @@ impl Books for PlainBooks {
     }
 
     fn files_of(&mut self, alloc: Global, name: &NormalName) -> Result<Vec<FileRow>, Fault>
-        ensures found { ReturnsItems result (file_rows_in (plain_tables self.old) name.now) }
-        ensures looks { LooksInMemory self.old self.new result }
+        ensures { LooksInMemory self.old self.new result
+            (λ T. ReturnsItems result (file_rows_in T name.now)) }
     {
         match self.file_rows(alloc, name) {
             Ok(rows) => Ok(rows),
@@ -205,7 +204,7 @@ impl Books for PlainBooks {
     }
 
     fn walk_held<K: NameTaker>(&mut self, _alloc: Global, taker: &mut K) -> Result<(), WalkEnd>
-        ensures walked { HandsNames K.takes K.stops self.old taker.old taker.new result }
+        ensures walked { HandsNames self.old (to_taker K.takes K.stops taker.old taker.new) result }
         ensures looks { LooksUp self.old self.new (not (has_fault result)) }
     {
         let ended = self.hand_names(taker);
@@ -219,7 +218,8 @@ impl Books for PlainBooks {
         name: &NormalName,
         taker: &mut K,
     ) -> Result<(), WalkEnd>
-        ensures walked { HandsFiles K.takes K.stops self.old name.now taker.old taker.new result }
+        ensures walked { HandsFiles self.old name.now
+            (to_taker K.takes K.stops taker.old taker.new) result }
         ensures looks { LooksUp self.old self.new (not (has_fault result)) }
     {
         let ended = self.hand_files(name, taker);

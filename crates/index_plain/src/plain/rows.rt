@@ -3,7 +3,7 @@ ghost use Rattle.std.specs.Prelude.{◌≡◌};
 ghost use Rattle.index_rules.specs.Sound.{is_undeleted_of as is_undeleted_of_lem};
 ghost use Rattle.index_rules.specs.TableRows.{file_row_in, file_rows_in, name_row as name_row_lem, name_rows_in};
 ghost use Rattle.index_rules.specs.Results.{Returns, ReturnsItems};
-ghost use Rattle.index_plain.specs.Plain.{Hands, HandsFiles, HandsNames, plain_tables};
+ghost use Rattle.index_plain.specs.Plain.{Hands, HandsFiles, HandsNames, plain_tables, to_taker};
 ghost use Rattle.index_plain.specs.RowsOf.{rows_of_file, rows_of_name};
 
 use crate::pairs;
@@ -43,7 +43,7 @@ impl PlainBooks {
 
     /// Hands the held names to a taker, in byte order.
     pub(crate) fn hand_names<K: NameTaker>(&self, taker: &mut K) -> Result<(), WalkEnd>
-        ensures { HandsNames K.takes K.stops self.now taker.old taker.new result }
+        ensures { HandsNames self.now (to_taker K.takes K.stops taker.old taker.new) result }
     {
         for (name, known) in self.names.iter() {
             hand_name(taker, name, known)?;
@@ -57,7 +57,8 @@ impl PlainBooks {
         name: &NormalName,
         taker: &mut K,
     ) -> Result<(), WalkEnd>
-        ensures { HandsFiles K.takes K.stops self.now name.now taker.old taker.new result }
+        ensures { HandsFiles self.now name.now
+            (to_taker K.takes K.stops taker.old taker.new) result }
     {
         for (file, entry) in self.files.iter() {
             self.hand_file(name, file, entry, taker)?;
@@ -74,7 +75,7 @@ impl PlainBooks {
         taker: &mut K,
     ) -> Result<(), WalkEnd>
         ensures { let rows = rows_of_file (plain_tables self.now) name.now (file.now, known.now) in
-            Hands K.takes K.stops rows taker.old taker.new result }
+            Hands rows (to_taker K.takes K.stops taker.old taker.new) result }
     {
         if !is_undeleted_of(known, name) {
             return Ok(());
@@ -134,7 +135,8 @@ fn hand_name<K: NameTaker>(
     name: &NormalName,
     known: &NameRecord,
 ) -> Result<(), WalkEnd>
-    ensures { Hands K.takes K.stops (rows_of_name name.now known.now) taker.old taker.new result }
+    ensures { Hands (rows_of_name name.now known.now)
+        (to_taker K.takes K.stops taker.old taker.new) result }
 {
     if let NameRecord::Prohibited = known {
         return Ok(());
