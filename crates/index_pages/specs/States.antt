@@ -1,5 +1,5 @@
 -- A page that is written row by row, as contracts see it.
-use Rattle.std.specs.Prelude.{◌≡◌, ℕ, ◌<◌, List, [], ◌++◌, length, Option, Some, None, IsSome}
+use Rattle.std.specs.Prelude.{◌≡◌, ℕ, ◌<◌, List, ◌++◌, length, Option, Some, None, IsSome}
 use Rattle.std.specs.Prelude.{Result, Ok, Err, option_map}
 use Rattle.std.specs.Borrow.{MutBor}
 use Rattle.std.specs.Io.KnownBytes.{Appends}
@@ -37,10 +37,6 @@ abbrev pub page_state : {K P R X : Type 0} → Ghosts K → (P → Bytes → Res
     → TextState X
 page_state g rest page =
     text_state (rest page.page page.name.now) (state_of g page.sink.now) page.written page.end
-
--- how many bytes of a page were written
-abbrev pub bytes_written : {K P R : Type 0} → PageText K P R → ℕ
-bytes_written page = page.written
 
 -- the sink that a page is written to, as it is
 abbrev pub sink_of : {K P R : Type 0} → PageText K P R → K
@@ -122,6 +118,12 @@ abbrev pub IsSteady : {R : Type 0} → TextState R → Type 0
 IsSteady now =
     AfterRows now (λ start rows. now.end ≡ None → now.sink.failures ≡ start.sink.failures)
 
+-- a count of what was written, and what that is
+pub record CountsWritten {R : Type 0} (now : TextState R) (told : ℕ) : Type 0 where
+  pub count : told ≡ now.written
+  pub front : IsWritten now
+  pub steady : IsSteady now
+
 -- where a row was not taken: the end is told, and what was written is a front of the page
 abbrev pub StopsPage : {R : Type 0} → TextState R → SinkState → Result ℕ PageEnd → Type 0
 StopsPage {R} now after result =
@@ -157,17 +159,6 @@ abbrev pub PageStops : {K P R X : Type 0} → Ghosts K → (P → Bytes → Rest
 PageStops g rest before row after =
     (after.sink.ghost_name ≡ before.sink.ghost_name)
     × StopsText (page_state g rest before) row (page_state g rest after)
-
--- a text that follows the first bytes of a page went out to a sink, or a front of it
-abbrev pub ClosesInto : {K : Type 0} → Ghosts K → K → K → Bytes → ℕ → Result ℕ PageEnd → Type 0
-ClosesInto g before after text = Closes text (state_of g before) (state_of g after)
-
--- where it had not ended, so did what stands behind its rows
-abbrev pub PageCloses : {K P R X : Type 0} → Ghosts K → (P → Bytes → Rest X) → PageText K P R → K
-    → Result ℕ PageEnd → Type 0
-PageCloses g rest page after result =
-    page.end ≡ None
-    → ClosesInto g page.sink.now after (rest page.page page.name.now []) page.written result
 
 -- where it had ended, that end is told and the sink is as it was
 abbrev pub PageStaysEnded : {K P R : Type 0} → PageText K P R → K → Result ℕ PageEnd → Type 0
@@ -234,13 +225,7 @@ CountStops rest before row after = StopsText (count_state rest before) row (coun
 abbrev pub Counts : Bytes → ℕ → Result ℕ Fault → Type 0
 Counts text length result = Closes text no_sink no_sink length (ended_at length result)
 
--- where the count had not ended, what stands behind the rows was counted
-abbrev pub CountCloses : {P X : Type 0} → (P → Bytes → Rest X) → PageLength P
-    → Result ℕ Fault → Type 0
-CountCloses rest page result =
-    page.end ≡ None → Counts (rest page.page page.name.now []) page.length result
-
--- where it had ended, that fault is told
+-- where the count had ended, that fault is told
 abbrev pub CountStaysEnded : {P : Type 0} → PageLength P → Result ℕ Fault → Type 0
 CountStaysEnded page result = (end : Fault) → page.end ≡ Some end → result ≡ Err end
 

@@ -3,7 +3,7 @@ ghost use Rattle.std.specs.Prelude.{◌≡◌, [], false, Err, Some, IfErr, IfOk
 ghost use Rattle.index_rules.specs.Maps.{Bytes};
 ghost use Rattle.index_pages.specs.Left.{files_left, names_left};
 ghost use Rattle.index_pages.specs.Pages.{project_page_of, root_page_of};
-ghost use Rattle.index_pages.specs.States.{count_state, BeginsCount, CountCloses, CountCuts, Counts, CountSends, CountStaysEnded, CountStops, CountTakes, MeasuresGivenRows, StopsLength};
+ghost use Rattle.index_pages.specs.States.{count_state, BeginsCount, CountCuts, Counts, CountSends, CountStaysEnded, CountStops, CountTakes, MeasuresGivenRows, StopsLength};
 
 use crate::page::Page;
 use crate::pieces::Count;
@@ -71,14 +71,6 @@ impl<'p, P: Page> PageLength<'p, P> {
         ensures page { MeasuresGivenRows (count_state P.rest self.entry) result }
         ensures stopped { StopsLength (count_state P.rest self.entry) result }
         ensures ended { CountStaysEnded self.entry result }
-    {
-        self.close()
-    }
-
-    /// Counts what stands behind the rows, where the page has not ended.
-    fn close(self) -> Result<u64, Fault>
-        ensures ended { CountStaysEnded self.entry result }
-        ensures closed { CountCloses P.rest self.entry result }
     {
         let PageLength {
             name,

@@ -25,10 +25,12 @@ pub fn append_json_escaped<O: Pieces>(out: &mut O, text: &[u8]) -> Result<(), Al
     ensures { Adds O.holds out.old out.new result (escape text.now) }
 {
     if is_plain(text) {
-        out.put(text)
-    } else {
-        append_escapes(out, text)
+        return out.put(text);
     }
+    for byte in text {
+        append_json_byte(out, *byte)?;
+    }
+    Ok(())
 }
 
 /// Whether a text needs no escape. It looks at each byte, so that several can be tested at once.
@@ -40,16 +42,6 @@ fn is_plain(text: &[u8]) -> bool
         is_plain &= *byte != b'"' && *byte != b'\\' && *byte >= b' ';
     }
     is_plain
-}
-
-/// Appends the text as it stands between the quotes of a JSON string.
-fn append_escapes<O: Pieces>(out: &mut O, text: &[u8]) -> Result<(), AllocError>
-    ensures { Adds O.holds out.old out.new result (escape text.now) }
-{
-    for byte in text {
-        append_json_byte(out, *byte)?;
-    }
-    Ok(())
 }
 
 /// Appends a byte, or its escape in a JSON string (RFC 8259, section 7).

@@ -1,9 +1,9 @@
 //! A page that is written row by row.
 ghost use Rattle.std.specs.Prelude.{◌≡◌, ◌+◌, ◌<◌, ◌≤◌, [], false, None, IfErr, IfOk, IfSome, IsTrue};
-ghost use Rattle.index_pages.specs.Ends.{most_bytes};
+ghost use Rattle.index_pages.specs.Ends.{Closes, most_bytes};
 ghost use Rattle.index_pages.specs.Left.{files_left, names_left};
 ghost use Rattle.index_pages.specs.Pages.{project_page_of, root_page_of};
-ghost use Rattle.index_pages.specs.States.{bytes_written, page_state, sink_of, Begins, ClosesInto, IsSteady, IsWritten, PageCloses, PageCuts, PageEnds, PageEndsStopped, PageSends, PageStaysEnded, PageStops, PageTakes};
+ghost use Rattle.index_pages.specs.States.{page_state, sink_of, state_of, Begins, CountsWritten, PageCuts, PageEnds, PageEndsStopped, PageSends, PageStaysEnded, PageStops, PageTakes};
 
 use crate::end::PageEnd;
 use crate::page::Page;
@@ -82,9 +82,7 @@ impl<'a, 'p, K: Sink, P: Page> PageText<'a, 'p, K, P, Vec<u8>> {
     /// How many bytes were written: a front of the page of all rows that begin with those that were given. It takes no
     /// memory.
     pub fn written(&self) -> u64
-        ensures count { result ≡ bytes_written self.now }
-        ensures front { IsWritten (page_state K.Sink P.rest self.now) }
-        ensures steady { IsSteady (page_state K.Sink P.rest self.now) }
+        ensures written { CountsWritten (page_state K.Sink P.rest self.now) result }
     {
         self.written
     }
@@ -92,10 +90,8 @@ impl<'a, 'p, K: Sink, P: Page> PageText<'a, 'p, K, P, Vec<u8>> {
     /// Lets the page go before it is finished, and tells how many bytes were written, as `written` does. Nothing more is
     /// written.
     pub fn abandon(self) -> u64
-        ensures count { result ≡ bytes_written self.entry }
         ensures kept { self.exit.0.now ≡ sink_of self.entry }
-        ensures front { IsWritten (page_state K.Sink P.rest self.entry) }
-        ensures steady { IsSteady (page_state K.Sink P.rest self.entry) }
+        ensures written { CountsWritten (page_state K.Sink P.rest self.entry) result }
     {
         let PageText {
             sink: _sink,
@@ -119,14 +115,6 @@ impl<'a, 'p, K: Sink, P: Page> PageText<'a, 'p, K, P, Vec<u8>> {
         ensures page { PageEnds K.Sink P.rest self.entry self.exit.0.now result }
         ensures stopped { PageEndsStopped K.Sink P.rest self.entry self.exit.0.now result }
         ensures ended { PageStaysEnded self.entry self.exit.0.now result }
-    {
-        self.close()
-    }
-
-    /// Writes what stands behind the rows, where the page has not ended.
-    fn close(self) -> Result<u64, PageEnd>
-        ensures ended { PageStaysEnded self.entry self.exit.0.now result }
-        ensures closed { PageCloses K.Sink P.rest self.entry self.exit.0.now result }
     {
         let PageText {
             sink,
@@ -215,7 +203,7 @@ pub(crate) fn total(length: u64, more: usize) -> Option<u64>
 
 /// Writes a text that follows the first bytes of a page, of which so many were written.
 fn send<K: Sink>(sink: &mut K, written: u64, text: &[u8]) -> Result<u64, PageEnd>
-    ensures { ClosesInto K.Sink sink.old sink.new text.now written result }
+    ensures { Closes text.now (state_of K.Sink sink.old) (state_of K.Sink sink.new) written result }
 {
     let Some(sum) = total(written, text.len()) else {
         return Err(PageEnd::Store(written));
@@ -234,7 +222,8 @@ fn send_last<K: Sink, P: Page>(
     room: &mut Vec<u8>,
     written: u64,
 ) -> Result<u64, PageEnd>
-    ensures { ClosesInto K.Sink sink.old sink.new (P.rest page.now name.now []) written result }
+    ensures { Closes (P.rest page.now name.now []) (state_of K.Sink sink.old)
+        (state_of K.Sink sink.new) written result }
 {
     room.clear();
     match page.append_last(name, room) {

@@ -53,7 +53,7 @@ returns-else-unwrap_or g c =
     let passed = cut_project _ _
     (λ p. text_state (project_rest p.page.as_json p.name.now p.page.is_started p.page.releases.keys) (state_of g.K.Sink p.sink.now) p.written p.end)
     (λ p. p.sink.ghost_name) (λ before row after h. h) (λ before row after h. h)
-    page now walk.result fresh is_false c.abandon.ensures.front c.abandon.ensures.steady in
+    page now walk.result fresh is_false c.abandon.ensures.written.front c.abandon.ensures.written.steady in
     let given = walk.ensures.given in
     let all = passed given.0 given.1 in
     let back = c.sink-else-unwrap_or-1.given.1 (sym (all.0 ∙ c.project-page.ensures.sink)) in
@@ -61,7 +61,7 @@ returns-else-unwrap_or g c =
     record {
       sent = λ honest clean bytes is.
           let rows = some_mapped (project_page_of c.args.served c.args.name.now) held bytes is in
-          rw (c.abandon.ensures.count, back, c.abandon.ensures.kept, ← rows.2, ← c.project-page.ensures.kept, ← c.project-page.ensures.whole_page rows.0)
+          rw (c.abandon.ensures.written.count, back, c.abandon.ensures.kept, ← rows.2, ← c.project-page.ensures.kept, ← c.project-page.ensures.whole_page rows.0)
           ((passed held (walk.ensures.walked honest clean)).2 rows.0 rows.1);
       none = λ honest clean is. let free : held ≡ None = none_mapped (project_page_of c.args.served c.args.name.now) held is in search rules;
       sends = record {

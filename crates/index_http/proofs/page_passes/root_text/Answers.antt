@@ -45,7 +45,7 @@ returns-in-Err g c =
     let passed = cut_page _ _
     (λ p. text_state (root_rest p.page.as_json p.page.is_started) (state_of g.K.Sink p.sink.now) p.written p.end)
     (λ p. p.sink.ghost_name) (λ before row after h. h) (λ before row after h. h)
-    page walk.new.taker walk.result fresh fault c.abandon.ensures.front c.abandon.ensures.steady in
+    page walk.new.taker walk.result fresh fault c.abandon.ensures.written.front c.abandon.ensures.written.steady in
     let given = walk.ensures.given in
     let some = passed given.0 given.1 in
     let back = c.sink-in-Err-1.given.1 (sym (some.0 ∙ c.root-page.ensures.sink)) in
@@ -53,7 +53,7 @@ returns-in-Err g c =
     let rows = held_rows_in (g.B.Books.tables c.args.desk.now) in
     record {
       sent = λ honest clean bytes is. let e : root_page_of c.args.served rows ≡ bytes = cc is in
-          rw (c.abandon.ensures.count, back, c.abandon.ensures.kept, ← e)
+          rw (c.abandon.ensures.written.count, back, c.abandon.ensures.kept, ← e)
           (rw (c.root-page.ensures.whole_page rows, c.root-page.ensures.kept) at (passed rows (walk.ensures.walked honest clean)).1).sends;
       none = λ honest clean is. cc is;
       sends = record {

@@ -1,8 +1,6 @@
+use Rattle.std.proofs.Common.{refl}
 use Rattle.index_pages.proofs.TextLemmas.{front_of, steady_of}
 use Rattle.index_pages.proofs.text.PageText+K+P+Vec+u8.abandon.Goals as goal
 
-pub returns-clause-front : goal.returns-clause-front
-returns-clause-front g c = front_of _
-
-pub returns-clause-steady : goal.returns-clause-steady
-returns-clause-steady g c = steady_of _
+pub returns-clause-written : goal.returns-clause-written
+returns-clause-written g c = record { count = refl; front = front_of _; steady = steady_of _ }
