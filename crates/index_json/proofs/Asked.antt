@@ -9,15 +9,15 @@ use Rattle.index_digest.specs.Digest.{sha256}
 use Rattle.index_rules.specs.declared.call.Request.{Request}
 use Rattle.index_rules.specs.declared.call.Request.TheVariants.{Claim}
 use Rattle.index_json.specs.Json.{json_of, key_count, number_at, text_at}
-use Rattle.index_json.specs.Keys.{distinct_key_count, HasKeys, IsJson, IsLine, members_at, members_of, members_of_standing, SaysLine, SaysRequest}
+use Rattle.index_json.specs.Keys.{distinct_key_count, HasKeys, IsJson, IsLine, members_at, members_of, SaysLine, SaysRequest}
 use Rattle.index_json.specs.Line.{call_row, line_of, line_row, standing_row}
 use Rattle.index_json.specs.Object.{Object}
 use Rattle.index_json.specs.Reading.{if_whole, read_whole}
 use Rattle.index_json.specs.Requests.{request_of, request_row, request_on_user}
 use Rattle.index_json.specs.declared.line.Line.{Line}
 use Rattle.index_json.specs.declared.line.Line.TheVariants as line
-use Rattle.index_json.proofs.RequestsFound.{Found, found, left_of}
-use Rattle.index_json.proofs.RequestsRead.{Read, user_read}
+use Rattle.index_json.proofs.RequestsFound.{found, left_of}
+use Rattle.index_json.proofs.RequestsRead.{user_read}
 
 one_less : (n m : ℕ) → n ≤ m → n - 1 ≤ m - 1
 one_less n m few = omega (arith, few)

@@ -1,5 +1,5 @@
 -- An object with the keys of a request is read as that request.
-use Rattle.std.proofs.Common.{◌≡◌, ℕ, ◌-◌, ◌≤◌, Bool, false, List, Option, Some, refl, arith, codes}
+use Rattle.std.proofs.Common.{◌≡◌, ℕ, ◌-◌, ◌≤◌, false, List, Some, refl, arith, codes}
 use Rattle.std.specs.Prelude.{bytes_eq}
 use Rattle.serde_json.specs.Data.{Data}
 use Rattle.index_retention.specs.declared.attempts.CaseKind.{CaseKind}
