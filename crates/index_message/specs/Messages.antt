@@ -1,22 +1,21 @@
 -- The message that a connection begins with.
 use Rattle.std.specs.Prelude.{◌≡◌, ◌⊎◌, ℕ, ◌<◌, ◌≤◌, Bool, List, ◌++◌, drop, take, length}
 use Rattle.std.specs.Prelude.{if◌then◌else◌, nat_eq, nat_le, bytes_eq, codes, Option, Some, None}
-use Rattle.std.specs.Prelude.{Result, Ok, Err}
+use Rattle.std.specs.Prelude.{◌+◌, Result, Ok, Err, IfOk}
 use Rattle.std.specs.List.{starts_with}
 use Rattle.std.specs.Global.{Vec}
 use Rattle.std.specs.Io.KnownBytes.{Consumes, IsAtEnd}
 use Rattle.httparse.specs.Grammar.{RequestHead}
-use Rattle.httparse.specs.Spans.{span_bytes}
 use Rattle.httparse.specs.declared.spans.HeaderSpan.{HeaderSpan}
 use Rattle.httparse.specs.declared.spans.RequestSpans.{RequestSpans}
 use Rattle.index_io.specs.Bytes.{IsInput}
 use Rattle.index_io.specs.declared.source.Source.{Ghosts}
 use Rattle.index_rules.specs.Maps.{Bytes}
-use Rattle.index_message.specs.Heads.{AwaitsHead, HasHead, HasNoHead, IsHeadAt}
-use Rattle.index_message.specs.Fields.{Field, fields_at, fields_of}
-use Rattle.index_message.specs.Lengths.{body_length}
-use Rattle.index_message.specs.Reads.{GivesBytes, and_left}
-use Rattle.index_message.specs.Requests.{HttpRequest}
+use Rattle.index_message.specs.Heads.{AwaitsHead, HasHead, HasNoHead, IsHeadAt, longest_head}
+use Rattle.index_message.specs.Fields.{Field, fields_of}
+use Rattle.index_message.specs.Lengths.{body_length, longest_upload}
+use Rattle.index_message.specs.Reads.{GivesBytes, ReadsWithin, SourceStep, and_left}
+use Rattle.index_message.specs.Requests.{HeadParts, HttpRequest}
 use Rattle.index_message.specs.Resources.{allowed_of, allows, method_of, resource_of}
 use Rattle.index_message.specs.declared.fault.MessageFault.{MessageFault}
 use Rattle.index_message.specs.declared.fault.MessageFault.TheVariants.{BadHead, BadMethod, NoRoute}
@@ -66,6 +65,10 @@ with_fields fields (Ok target) = with_length target (body_length target.1 fields
 abbrev pub asked_by_head : Bytes → Bytes → List Field → Result Asked MessageFault
 asked_by_head name target fields = with_fields fields (target_by name (resource_of target))
 
+-- what a head as it came asks for
+abbrev pub asked_in : HeadParts → Result Asked MessageFault
+asked_in head = asked_by_head head.method head.target head.fields
+
 -- what a head asks for
 abbrev pub asked_of : RequestHead → Result Asked MessageFault
 asked_of head = asked_by_head head.method head.target (fields_of head)
@@ -97,6 +100,10 @@ message_by head rest (Ok asked) =
 -- the message that a head and the bytes behind it are
 abbrev pub message_of : RequestHead → Bytes → Message
 message_of head rest = message_by head rest (asked_of head)
+
+-- the most bytes that are read of a message
+abbrev pub longest_message : ℕ
+longest_message = longest_head + longest_upload
 
 -- the message that an input begins with; bytes behind it are none of it
 abbrev pub IsMessage : Bytes → Message → Type 0
@@ -142,26 +149,18 @@ FollowsHead head front old new message =
     (more : Bytes) × Consumes old new more
     × (message ≡ message_of head (and_left (front ++ more) new))
 
--- what a head asks for whose parts lie at these spans
-abbrev pub asked_at : Bytes → RequestSpans → List HeaderSpan → Result Asked MessageFault
-asked_at bytes spans fields =
-    asked_by_head
-    (span_bytes bytes spans.method) (span_bytes bytes spans.path) (fields_at bytes fields)
-
--- the message of the head that these bytes begin with, by what a source gave behind them
-abbrev pub Follows : {S : Type 0} → Ghosts S → S → S
-    → Vec ℕ → List HeaderSpan → RequestSpans → Message → Type 0
-Follows g old new bytes fields spans message = (found : IsHeadAt bytes.items fields spans)
-    → FollowsHead
-    found.head (drop spans.len bytes.items) (g.remaining old) (g.remaining new) message
-
--- where a read failed, what a source gave behind them is no body yet
-abbrev pub FailsInBody : {S A : Type 0} → Ghosts S → S → S
-    → Vec ℕ → List HeaderSpan → RequestSpans → Result A ReadEnd → Type 0
-FailsInBody g old new bytes fields spans result =
-    result ≡ Err ReadFault → (found : IsHeadAt bytes.items fields spans)
-    → (more : Bytes) × AwaitsBody found.head (drop spans.len bytes.items ++ more)
-    × GivesBytes g old new more
+-- what was read behind the head that these bytes begin with: with that they are the message, or a
+-- read failed, and what a source gave is no body yet
+pub record ReadsRest {S : Type 0} (source : SourceStep S) (bytes : Vec ℕ)
+    (fields : List HeaderSpan) (spans : RequestSpans)
+    (result : Result Message ReadEnd) : Type 0 where
+  pub message : IfOk result (λ message. (found : IsHeadAt bytes.items fields spans)
+      → FollowsHead found.head (drop spans.len bytes.items) (source.input.remaining source.old)
+      (source.input.remaining source.new) message)
+  pub prompt : result ≡ Err ReadFault → (found : IsHeadAt bytes.items fields spans)
+      → (more : Bytes) × AwaitsBody found.head (drop spans.len bytes.items ++ more)
+      × GivesBytes source.input source.old source.new more
+  pub reads : ReadsWithin source.input source.old source.new longest_upload result
 
 -- a body of this length, of the front that was there and what a source gave
 abbrev pub GivesBody : {S : Type 0} → Ghosts S → S → S → ℕ → Bytes → Option Bytes → Type 0

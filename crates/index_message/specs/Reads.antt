@@ -1,6 +1,7 @@
 -- What reading does to a source.
-use Rattle.std.specs.Prelude.{◌≡◌, ◌≢◌, ℕ, ◌+◌, ◌<◌, ◌≤◌, List, [], ◌++◌, length, Option, Result}
-use Rattle.std.specs.Prelude.{Err, unwrap_or}
+use Rattle.std.specs.Prelude.{◌≡◌, ◌≢◌, ℕ, ◌+◌, ◌-◌, ◌<◌, ◌≤◌, Bool, true, false, List, [], ◌++◌}
+use Rattle.std.specs.Prelude.{length, vec_len, Option, Result, Ok, Err, IfOk, OnOk, OnErr}
+use Rattle.std.specs.Prelude.{unwrap_or}
 use Rattle.std.specs.Global.{Vec}
 use Rattle.std.specs.Io.KnownBytes.{Consumes, IsAtEnd, Keeps}
 use Rattle.index_io.specs.Counts.{HasFailed}
@@ -38,17 +39,14 @@ abbrev pub GivesUpTo : {S : Type 0} → Ghosts S → S → S → ℕ → ℕ →
 GivesUpTo g old new before most =
     (taken : List ℕ) × (before + length taken ≤ most) × GivesBytes g old new taken
 
--- where a read failed, it gave fewer than are wanted
-abbrev pub FailsBelow : {S A : Type 0} → Ghosts S → S → S → ℕ → ℕ → Result A ReadEnd → Type 0
-FailsBelow g old new before wanted result =
-    result ≡ Err ReadFault
-    → (more : List ℕ) × (before + length more < wanted) × GivesBytes g old new more
+-- where a read failed, it gave fewer than were missing
+abbrev pub FailsBelow : {S A : Type 0} → Ghosts S → S → S → ℕ → Result A ReadEnd → Type 0
+FailsBelow g old new missing result =
+    result ≡ Err ReadFault → (more : List ℕ) × (length more < missing) × GivesBytes g old new more
 
--- where a read failed, it gave nothing, and what was held is as it was
-abbrev pub FailsAtOnce : {S A : Type 0} → Ghosts S → S → S
-    → List ℕ → List ℕ → Result A ReadEnd → Type 0
-FailsAtOnce g old new before after result =
-    result ≡ Err ReadFault → (after ≡ before) × Keeps (g.remaining old) (g.remaining new)
+-- where a read failed, it gave nothing
+abbrev pub FailsAtOnce : {S A : Type 0} → Ghosts S → S → S → Result A ReadEnd → Type 0
+FailsAtOnce g old new result = result ≡ Err ReadFault → Keeps (g.remaining old) (g.remaining new)
 
 -- what it gave was put behind what was held
 abbrev pub Fills : {S : Type 0} → Ghosts S → S → S → Vec ℕ → Vec ℕ → Type 0
@@ -64,3 +62,33 @@ pub record ReadsWithin {S A : Type 0} (g : Ghosts S) (old new : S) (most : ℕ)
     (result : Result A ReadEnd) : Type 0 where
   pub failures : ReadsOnly (g.failures old) (g.failures new) result
   pub limit : GivesAtMost g old new most
+
+-- a source before a call and after it, and what it tells of both
+pub record SourceStep (S : Type 0) : Type 1 where
+  pub input : Ghosts S
+  pub old : S
+  pub new : S
+
+abbrev pub from_source : {S : Type 0} → Ghosts S → S → S → SourceStep S
+from_source input old new = record { input = input; old = old; new = new }
+
+-- one read: what came was put behind what was held, up to so many bytes in all
+pub record ReadsOnce {S : Type 0} (source : SourceStep S) (before after : Vec ℕ) (most : ℕ)
+    (result : Result ℕ ReadEnd) : Type 0 where
+  pub came : IfOk result (λ count. vec_len after ≡ vec_len before + count)
+  pub within : vec_len after ≤ most
+  pub consumed : OnOk result (Fills source.input source.old source.new before after)
+  pub ended : result ≡ Ok 0 → HasEnded source.input source.new
+  pub same : OnErr result (after.items ≡ before.items)
+  pub kept : FailsAtOnce source.input source.old source.new result
+  pub reads : ReadsOnly (source.input.failures source.old) (source.input.failures source.new) result
+  pub limit : GivesUpTo source.input source.old source.new (vec_len before) most
+
+-- reads until so many bytes are held: the result tells whether they are, or the input ended before
+pub record FillsTo {S : Type 0} (source : SourceStep S) (before after : Vec ℕ) (wanted : ℕ)
+    (result : Result Bool ReadEnd) : Type 0 where
+  pub consumed : OnOk result (Fills source.input source.old source.new before after)
+  pub full : result ≡ Ok true → wanted ≤ vec_len after
+  pub ended : result ≡ Ok false → (vec_len after < wanted) × HasEnded source.input source.new
+  pub prompt : FailsBelow source.input source.old source.new (wanted - vec_len before) result
+  pub reads : ReadsWithin source.input source.old source.new wanted result

@@ -14,8 +14,8 @@ use Rattle.index_message.specs.declared.resource.Method.{Method}
 use Rattle.index_message.specs.declared.resource.Method.TheVariants.{Delete, Get, Head, Post, Put}
 use Rattle.index_message.specs.declared.resource.Resource.{Resource}
 use Rattle.index_message.specs.declared.resource.Resource.TheVariants as resource
-use Rattle.index_message.specs.declared.target.Route.{Route}
-use Rattle.index_message.specs.declared.target.Route.TheVariants as route
+use Rattle.index_message.specs.declared.resource.Route.{Route}
+use Rattle.index_message.specs.declared.resource.Route.TheVariants as route
 
 -- ---- methods
 

@@ -7,9 +7,10 @@ use Rattle.matchit.specs.Route.{Scan, parse_route}
 use Rattle.matchit.specs.Router.{RouteOf, route_from}
 use Rattle.matchit.specs.declared.error.InsertError.{InsertError}
 use Rattle.index_rules.specs.Maps.{Bytes}
-use Rattle.index_message.specs.declared.target.Route.{Route}
-use Rattle.index_message.specs.declared.target.Route.TheVariants.{Simple, Root, Project}
-use Rattle.index_message.specs.declared.target.Route.TheVariants.{ProjectPage, File, Name, Requests}
+use Rattle.index_message.specs.declared.resource.Route.{Route}
+use Rattle.index_message.specs.declared.resource.Route.TheVariants.{Simple, Root, Project}
+use Rattle.index_message.specs.declared.resource.Route.TheVariants.{ProjectPage, File, Name}
+use Rattle.index_message.specs.declared.resource.Route.TheVariants.{Requests}
 
 -- each pattern with its route
 abbrev pub patterns : List (Bytes × Route)

@@ -1,8 +1,8 @@
 //! The head of a request, read in whatever pieces it comes.
-ghost use Rattle.std.specs.Prelude.{◌≡◌, ◌≤◌, ◌<◌, ◌+◌, [], true, false, length, vec_len, None, Ok, Err, IfErr, IfOk, IfSome, OnOk};
+ghost use Rattle.std.specs.Prelude.{◌≡◌, ◌≤◌, ◌<◌, [], length, vec_len, None, Ok, Err, IfOk, IfSome, OnOk};
 ghost use Rattle.index_message.specs.Heads.{AwaitsHead, FailsInHead, HasNoHead, IsHeadAt, Tries, longest_head, most_fields};
 ghost use Rattle.index_message.specs.Messages.{begins_with_head};
-ghost use Rattle.index_message.specs.Reads.{FailsAtOnce, FailsBelow, Fills, GivesBytes, GivesUpTo, HasEnded, ReadsWithin, ReadsOnly, and_left};
+ghost use Rattle.index_message.specs.Reads.{GivesBytes, ReadsOnce, FillsTo, ReadsWithin, and_left, from_source};
 
 use httparse::Status;
 use httparse::spans::{HeaderSpan, RequestSpans, parse_request};
@@ -87,12 +87,7 @@ pub fn read_up_to<S: Source>(
     held: &mut Vec<u8>,
     wanted: usize,
 ) -> Result<bool, ReadEnd>
-    ensures consumed { OnOk result (Fills S.Source source.old source.new held.old held.new) }
-    ensures full { result ≡ Ok true → wanted ≤ vec_len held.new }
-    ensures ended { result ≡ Ok false →
-        (vec_len held.new < wanted) × HasEnded S.Source source.new }
-    ensures prompt { FailsBelow S.Source source.old source.new (vec_len held.old) wanted result }
-    ensures reads { ReadsWithin S.Source source.old source.new wanted result }
+    ensures { FillsTo (from_source S.Source source.old source.new) held.old held.new wanted result }
 {
     while held.len() < wanted {
         if read_more(source, held, wanted)? == 0 {
@@ -105,14 +100,7 @@ pub fn read_up_to<S: Source>(
 /// Reads once, up to so many bytes in all, and adds what came. None came only at the end of the input.
 fn read_more<S: Source>(source: &mut S, held: &mut Vec<u8>, most: usize) -> Result<usize, ReadEnd>
     requires room { vec_len held.old < most }
-    ensures came { IfOk result (λ count. vec_len held.new ≡ vec_len held.old + count) }
-    ensures most { vec_len held.new ≤ most }
-    ensures consumed { OnOk result (Fills S.Source source.old source.new held.old held.new) }
-    ensures end { result ≡ Ok 0 → HasEnded S.Source source.new }
-    ensures same { IfErr result (λ _. held.new.items ≡ held.old.items) }
-    ensures kept { FailsAtOnce S.Source source.old source.new held.old.items held.new.items result }
-    ensures reads { ReadsOnly (S.failures source.old) (S.failures source.new) result }
-    ensures limit { GivesUpTo S.Source source.old source.new (vec_len held.old) most }
+    ensures { ReadsOnce (from_source S.Source source.old source.new) held.old held.new most result }
 {
     let mut piece = [0u8; PIECE];
     let room = PIECE.min(most - held.len());

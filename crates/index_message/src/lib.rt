@@ -4,17 +4,12 @@
 mod fault;
 mod head;
 pub mod laws;
-mod length;
 mod message;
-mod read;
 mod request;
 mod resource;
-mod target;
 
 pub use fault::{Allowed, MessageFault};
 pub use head::ReadEnd;
-pub use message::Message;
-pub use read::read_message;
+pub use message::{Message, read_message};
 pub use request::HttpRequest;
-pub use resource::{Method, Resource};
-pub use target::Site;
+pub use resource::{Method, Resource, Site};

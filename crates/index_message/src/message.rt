@@ -1,7 +1,20 @@
-//! What a connection brings.
+//! One message, read from any source.
+ghost use Rattle.std.specs.Prelude.{◌≡◌, ◌≤◌, ◌-◌, length, IfErr, IfOk, All};
+ghost use Rattle.httparse.specs.Spans.{IsHeaderWithin, IsRequestWithin};
+ghost use Rattle.index_message.specs.Fields.{fields_at};
+ghost use Rattle.index_message.specs.Lengths.{longest_upload};
+ghost use Rattle.index_message.specs.Messages.{BeginsWith, FailsUnfinished, GivesBody, ReadsRest, asked_in, is_head_name, longest_message, whole_of};
+ghost use Rattle.index_message.specs.Reads.{FailsBelow, ReadsWithin, from_source};
+ghost use Rattle.index_message.specs.declared.message.Message.TheVariants.{Faulty};
+
 use crate::fault::MessageFault;
-use crate::request::HttpRequest;
+use crate::head::{MOST_FIELDS, ReadEnd, read_head, read_up_to};
+use crate::request::{Asked, Head, HttpRequest};
+use crate::resource::{Site, resolve_target};
+use httparse::spans::{EMPTY_HEADER_SPAN, HeaderSpan, RequestSpans};
+use index_io::Source;
 use index_rules::Bytes;
+use std::alloc::{AllocError, Global};
 
 /// What a connection brought.
 #[derive(Drop)]
@@ -10,4 +23,136 @@ pub enum Message {
     Faulty { fault: MessageFault, is_head: bool },
     /// A request, and its body.
     Whole { request: HttpRequest, body: Bytes },
+}
+
+/// Reads the message that an input begins with, and at most 16,384 bytes for its head and 16,777,216 for its body.
+///
+/// # Errors
+///
+/// `ReadFault` where a read fails, and `OutOfMemory` for want of memory.
+pub fn read_message<S: Source>(
+    alloc: Global,
+    site: &Site,
+    source: &mut S,
+) -> Result<Message, ReadEnd>
+    ensures message { IfOk result (BeginsWith (S.remaining source.old)) }
+    ensures prompt { FailsUnfinished S.Source source.old source.new result }
+    ensures reads { ReadsWithin S.Source source.old source.new longest_message result }
+{
+    let mut bytes = Vec::new(alloc);
+    let mut fields = [EMPTY_HEADER_SPAN; MOST_FIELDS];
+    let Some(spans) = read_head(source, &mut bytes, &mut fields)? else {
+        return Ok(Message::Faulty {
+            fault: MessageFault::BadHead,
+            is_head: bytes.as_slice().starts_with(b"HEAD "),
+        });
+    };
+    read_rest(alloc, site, source, bytes, &fields, spans)
+}
+
+/// Reads what follows a head.
+fn read_rest<S: Source>(
+    alloc: Global,
+    site: &Site,
+    source: &mut S,
+    bytes: Vec<u8>,
+    fields: &[HeaderSpan],
+    spans: RequestSpans,
+) -> Result<Message, ReadEnd>
+    requires within { IsRequestWithin bytes.items fields.now spans }
+    ensures { ReadsRest (from_source S.Source source.old source.new) bytes fields.now spans result }
+{
+    let came = bytes.as_slice();
+    let fields = &fields[..spans.headers];
+    let head = Head {
+        bytes: came,
+        spans: &spans,
+        fields,
+    };
+    let asked = match what_is_asked(alloc, site, &head)? {
+        Ok(asked) => asked,
+        Err(fault) => return Ok(faulty_message(&head, fault)),
+    };
+    match read_body(alloc, source, &came[spans.len..], asked.length)? {
+        Some(body) => whole_message(alloc, asked, bytes, fields, body),
+        None => Ok(faulty_message(&head, MessageFault::ShortBody)),
+    }
+}
+
+/// The message of a head with a fault, by the first of its faults.
+fn faulty_message(head: &Head<'_>, fault: MessageFault) -> Message
+    ensures { result ≡ Faulty fault (is_head_name head.now.method) }
+{
+    Message::Faulty {
+        fault,
+        is_head: head.spans.method.of(head.bytes) == b"HEAD".as_slice(),
+    }
+}
+
+/// What a head asks for, or its first fault.
+fn what_is_asked(
+    alloc: Global,
+    site: &Site,
+    head: &Head<'_>,
+) -> Result<Result<Asked, MessageFault>, AllocError>
+    ensures bound { IfOk result (λ asked. IfOk asked (λ asked. asked.length ≤ longest_upload)) }
+    ensures asked { IfOk result (λ asked. asked ≡ asked_in head.now) }
+{
+    let name = head.spans.method.of(head.bytes);
+    let target = head.spans.path.of(head.bytes);
+    let (resource, method) = match resolve_target(alloc, site, name, target)? {
+        Ok(target) => target,
+        Err(fault) => return Ok(Err(fault)),
+    };
+    match head.body_length(method) {
+        Ok(length) => Ok(Ok(Asked {
+            resource,
+            method,
+            length,
+        })),
+        Err(fault) => {
+            drop(resource);
+            Ok(Err(fault))
+        }
+    }
+}
+
+/// Reads a body of this length, of which the front came behind the head. `None` where the input ends before it.
+fn read_body<S: Source>(
+    alloc: Global,
+    source: &mut S,
+    front: &[u8],
+    size: u64,
+) -> Result<Option<Bytes>, ReadEnd>
+    ensures body { IfOk result (GivesBody S.Source source.old source.new size front.now) }
+    ensures prompt { FailsBelow S.Source source.old source.new (size - length front.now) result }
+    ensures reads { ReadsWithin S.Source source.old source.new size result }
+{
+    let size = size as usize;
+    let mut body = Vec::from_slice(alloc, front)?;
+    if !read_up_to(source, &mut body, size)? {
+        return Ok(None);
+    }
+    body.truncate(size);
+    Ok(Some(Bytes::new(body)))
+}
+
+/// The message of a request and its body.
+fn whole_message(
+    alloc: Global,
+    asked: Asked,
+    bytes: Vec<u8>,
+    fields: &[HeaderSpan],
+    body: Bytes,
+) -> Result<Message, ReadEnd>
+    requires within { All (IsHeaderWithin (length bytes.items)) fields.now }
+    ensures message { IfOk result (λ message.
+        message ≡ whole_of asked (fields_at bytes.items fields.now) body) }
+    ensures memory { IfErr result (λ end. end ≡ ReadEnd.OutOfMemory) }
+{
+    let fields = Vec::from_slice(alloc, fields)?;
+    Ok(Message::Whole {
+        request: HttpRequest::new(asked, bytes, fields),
+        body,
+    })
 }

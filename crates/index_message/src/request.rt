@@ -1,13 +1,21 @@
-//! The head of a request, and its header fields, where they lie in its bytes.
-ghost use Rattle.std.specs.Prelude.{◌≡◌, length, All, IfOk};
+//! The head of a request: its header fields, where they lie in its bytes, and the length of the body that they say.
+ghost use Rattle.std.specs.Prelude.{◌≡◌, ◌≤◌, length, All, IfOk};
 ghost use Rattle.httparse.specs.Spans.{IsHeaderWithin, header_bytes};
 ghost use Rattle.index_message.specs.Fields.{AreFound, AreValues, fields_at, is_named as is_named_lem, value_of, values_of};
+ghost use Rattle.index_message.specs.Lengths.{at_most as at_most_lem, body_length as body_length_lem, length_in as length_in_lem, length_value, longest_upload};
 ghost use Rattle.index_message.specs.Messages.{request_asked};
 
+use crate::fault::MessageFault;
 use crate::resource::{Method, Resource};
-use httparse::spans::HeaderSpan;
+use httparse::spans::{HeaderSpan, RequestSpans};
 use std::alloc::{AllocError, Global};
 use std::marker::Model;
+
+/// The most bytes of a file that is uploaded.
+const LONGEST_UPLOAD: u64 = 16_777_216;
+
+/// The most bytes of a request in JSON.
+const LONGEST_REQUEST: u64 = 65_536;
 
 /// What the request line and the fields of a head ask for.
 pub struct Asked {
@@ -82,14 +90,29 @@ impl HttpRequest {
     pub fn value(&self, name: &[u8]) -> &[u8]
         ensures { result.now ≡ value_of name.now self.now.fields }
     {
-        first_value(self.bytes.as_slice(), self.fields.as_slice(), name)
+        let bytes = self.bytes.as_slice();
+        let fields = self.fields.as_slice();
+        for field in fields {
+            if is_named(bytes, field, name) {
+                return field.value.of(bytes);
+            }
+        }
+        b""
     }
 
     /// The values of all fields with this name, in order.
     pub fn values(&self, alloc: Global, name: &[u8]) -> Result<Vec<&[u8]>, AllocError>
         ensures { IfOk result (AreValues (values_of name.now self.now.fields)) }
     {
-        each_value(alloc, self.bytes.as_slice(), self.fields.as_slice(), name)
+        let bytes = self.bytes.as_slice();
+        let fields = self.fields.as_slice();
+        let mut values = Vec::new(alloc);
+        for field in fields {
+            if is_named(bytes, field, name) {
+                values.push(field.value.of(bytes))?;
+            }
+        }
+        Ok(values)
     }
 
     /// The request that asks for this, with fields that lie in the bytes.
@@ -121,54 +144,114 @@ fn is_named(bytes: &[u8], field: &HeaderSpan, name: &[u8]) -> bool
     field.name.of(bytes).eq_ignore_ascii_case(name)
 }
 
-/// How often a field with this name stands among these.
-pub fn find<'a>(bytes: &'a [u8], fields: &[HeaderSpan], name: &[u8]) -> Found<'a>
-    requires { All (IsHeaderWithin (length bytes.now)) fields.now }
-    ensures { AreFound result (values_of name.now (fields_at bytes.now fields.now)) }
-{
-    let mut found = None;
-    for field in fields {
-        if is_named(bytes, field, name) {
-            if found.is_some() {
-                return Found::Again;
+/// A head, where its parts lie in the bytes that came. Contracts see it by these parts.
+#[derive(Drop)]
+pub struct Head<'a> {
+    pub bytes: &'a [u8],
+    pub spans: &'a RequestSpans,
+    pub fields: &'a [HeaderSpan],
+}
+
+impl<'a> Model for Head<'a> {
+    ghost use Rattle.std.specs.Prelude.{All, length, map};
+    ghost use Rattle.httparse.specs.Spans.{IsHeaderWithin, IsWithin, header_bytes, span_bytes};
+    ghost use Rattle.index_message.specs.Requests.{HeadParts};
+
+    ghost Value = { HeadParts };
+
+    ghost view = { λ h. record {
+      method = span_bytes h.bytes.now h.spans.now.method;
+      target = span_bytes h.bytes.now h.spans.now.path;
+      fields = map (header_bytes h.bytes.now) h.fields.now;
+    } };
+
+    ghost invariant = { λ h. IsWithin (length h.bytes.now) h.spans.now.method
+        × (IsWithin (length h.bytes.now) h.spans.now.path
+        × All (IsHeaderWithin (length h.bytes.now)) h.fields.now) };
+}
+
+impl<'a> Head<'a> {
+    /// The length of the body that is read, in bytes: `PUT` and `POST` have one.
+    #[tactic(auto, unfolding(crate::specs::Lengths::body_length))]
+    pub fn body_length(&self, method: Method) -> Result<u64, MessageFault>
+        ensures length { result ≡ body_length_lem method self.now.fields }
+        ensures bound { IfOk result (λ number. number ≤ longest_upload) }
+    {
+        match method {
+            Method::Put => self.length_in(LONGEST_UPLOAD),
+            Method::Post => self.length_in(LONGEST_REQUEST),
+            _ => Ok(0),
+        }
+    }
+
+    /// The length that the fields say, up to a limit.
+    fn length_in(&self, limit: u64) -> Result<u64, MessageFault>
+        ensures length { result ≡ length_in_lem limit self.now.fields }
+        ensures bound { IfOk result (λ number. number ≤ limit) }
+    {
+        match self.find(b"transfer-encoding") {
+            Found::Missing => {}
+            _ => return Err(MessageFault::BadLength),
+        }
+        match self.find(b"content-length") {
+            Found::Missing => Err(MessageFault::NoLength),
+            Found::Once(value) => at_most(limit, number_of(value)),
+            Found::Again => Err(MessageFault::BadLength),
+        }
+    }
+
+    /// How often a field with this name stands in the head.
+    fn find(&self, name: &[u8]) -> Found<'a>
+        ensures { AreFound result (values_of name.now self.now.fields) }
+    {
+        let bytes = self.bytes;
+        let fields = self.fields;
+        let mut found = None;
+        for field in fields {
+            if is_named(bytes, field, name) {
+                if found.is_some() {
+                    return Found::Again;
+                }
+                found = Some(field.value.of(bytes));
             }
-            found = Some(field.value.of(bytes));
         }
-    }
-    match found {
-        Some(value) => Found::Once(value),
-        None => Found::Missing,
+        match found {
+            Some(value) => Found::Once(value),
+            None => Found::Missing,
+        }
     }
 }
 
-/// The value of the first field with this name, or nothing where there is none.
-pub fn first_value<'a>(bytes: &'a [u8], fields: &[HeaderSpan], name: &[u8]) -> &'a [u8]
-    requires { All (IsHeaderWithin (length bytes.now)) fields.now }
-    ensures { result.now ≡ value_of name.now (fields_at bytes.now fields.now) }
+/// A number that was read, unless it is above the limit; where none was, the length is none.
+fn at_most(limit: u64, number: Option<u64>) -> Result<u64, MessageFault>
+    ensures length { result ≡ at_most_lem limit number }
+    ensures bound { IfOk result (λ number. number ≤ limit) }
 {
-    for field in fields {
-        if is_named(bytes, field, name) {
-            return field.value.of(bytes);
+    match number {
+        None => Err(MessageFault::BadLength),
+        Some(number) => {
+            if number > limit {
+                Err(MessageFault::BodyTooLarge)
+            } else {
+                Ok(number)
+            }
         }
     }
-    b""
 }
 
-/// The values of all fields with this name, in order.
-pub fn each_value<'a>(
-    alloc: Global,
-    bytes: &'a [u8],
-    fields: &[HeaderSpan],
-    name: &[u8],
-) -> Result<Vec<&'a [u8]>, AllocError>
-    requires { All (IsHeaderWithin (length bytes.now)) fields.now }
-    ensures { IfOk result (AreValues (values_of name.now (fields_at bytes.now fields.now))) }
+/// The number that 1 to 18 digits are.
+fn number_of(value: &[u8]) -> Option<u64>
+    ensures { result ≡ length_value value.now }
 {
-    let mut values = Vec::new(alloc);
-    for field in fields {
-        if is_named(bytes, field, name) {
-            values.push(field.value.of(bytes))?;
-        }
+    if value.is_empty() || value.len() > 18 {
+        return None;
     }
-    Ok(values)
+    let mut number = 0u64;
+    for digit in value {
+        if !digit.is_ascii_digit() {
+            return None;
+        }
+        number = number * 10 + u64::from(*digit - b'0');
+    }
+    Some(number)
 }

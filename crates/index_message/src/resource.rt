@@ -1,9 +1,18 @@
-//! What a request is about, and what it does there.
-ghost use Rattle.std.specs.Prelude.{◌≡◌};
-ghost use Rattle.index_message.specs.Resources.{allowed_of, allows, is_head, is_put, is_reading, method_of};
+//! What a request is about, and what it does there: the resource of its target, by the routes of the index, and its
+//! method.
+ghost use Rattle.std.specs.Prelude.{◌≡◌, ◌<◌, ◌==◌, [], Some, IfErr, IfOk, OnOk, IsSome};
+ghost use Rattle.std.specs.List.{after_first, before_first};
+ghost use Rattle.percent_encoding.specs.Percent.{percent_decode};
+ghost use Rattle.index_names.specs.FileName.{read_file_name};
+ghost use Rattle.index_message.specs.Messages.{target_by, to_resource};
+ghost use Rattle.index_message.specs.Resources.{allowed_of, allows, file_at, is_file_of_other as is_file_of_other_lem, is_head, is_put, is_reading, method_of, resource_at as resource_at_lem, resource_of as resource_of_lem, resource_on as resource_on_lem, tail_of as tail_of_lem};
+ghost use Rattle.index_message.specs.Routes.{route_of, site_rows};
 
-use crate::fault::Allowed;
-use index_rules::Bytes;
+use crate::fault::{Allowed, MessageFault};
+use index_names::{FileName, NameFault};
+use index_rules::{Bytes, Fault};
+use matchit::{InsertError, Router};
+use std::alloc::{AllocError, Global};
 
 /// What a path leads to. Segments are percent-decoded (RFC 3986, section 2.1), and nothing else is read of them.
 #[derive(Debug, Drop)]
@@ -97,5 +106,196 @@ impl Method {
             Allowed::Files => !matches!(self, Method::Post),
             Allowed::Requests => matches!(self, Method::Post),
         }
+    }
+}
+
+/// What a path matches.
+#[derive(Clone, Copy, Debug, PartialEq, Eq)]
+pub enum Route {
+    Simple,
+    Root,
+    Project,
+    ProjectPage,
+    File,
+    Name,
+    Requests,
+}
+
+/// The routes of the index, which are built once.
+#[derive(Drop)]
+pub struct Site {
+    router: Router<Route>,
+    ghost routes: { router ≡ site_rows },
+}
+
+impl Site {
+    /// The routes.
+    ///
+    /// # Errors
+    ///
+    /// `OutOfMemory`.
+    pub fn new(alloc: Global) -> Result<Site, Fault>
+        ensures memory { IfErr result (λ fault. fault ≡ Fault.OutOfMemory) }
+    {
+        match router(alloc) {
+            Ok(router) => Ok(Site { router }),
+            Err(_) => Err(Fault::OutOfMemory),
+        }
+    }
+
+    /// The route of a path.
+    pub(crate) fn route(&self, path: &str) -> Option<Route>
+        ensures { result ≡ route_of path.now }
+    {
+        match self.router.at(path) {
+            Ok(found) => Some(*found.value),
+            Err(_) => None,
+        }
+    }
+}
+
+/// A router with the patterns of the index.
+fn router(alloc: Global) -> Result<Router<Route>, InsertError>
+    ensures { IfOk result (λ router. router ≡ site_rows) }
+{
+    let mut router = Router::new(alloc);
+    add_patterns(&mut router)?;
+    Ok(router)
+}
+
+/// Adds the patterns of the index.
+fn add_patterns(router: &mut Router<Route>) -> Result<(), InsertError>
+    requires empty { router.old ≡ [] }
+    ensures { OnOk result (router.new ≡ site_rows) }
+{
+    router.insert("/simple", Route::Simple)?;
+    router.insert("/simple/", Route::Root)?;
+    router.insert("/simple/{project}", Route::Project)?;
+    router.insert("/simple/{project}/", Route::ProjectPage)?;
+    router.insert("/files/{project}/{file}", Route::File)?;
+    router.insert("/names/{name}", Route::Name)?;
+    router.insert("/requests", Route::Requests)?;
+    Ok(())
+}
+
+/// The resource of a target, with the method of this name: each error has its place in the order of the faults.
+pub fn resolve_target(
+    alloc: Global,
+    site: &Site,
+    method: &[u8],
+    target: &[u8],
+) -> Result<Result<(Resource, Method), MessageFault>, AllocError>
+    ensures { IfOk result (λ found. found ≡ target_by method.now (resource_of_lem target.now)) }
+{
+    let Some(resource) = resource_of(alloc, site, target)? else {
+        return Ok(Err(MessageFault::NoRoute));
+    };
+    match allowed_method(&resource, method) {
+        Ok(method) => Ok(Ok((resource, method))),
+        Err(fault) => {
+            drop(resource);
+            Ok(Err(fault))
+        }
+    }
+}
+
+/// The method of this name, where the resource has it.
+fn allowed_method(resource: &Resource, name: &[u8]) -> Result<Method, MessageFault>
+    ensures { target_by name.now (Some resource.now) ≡ to_resource resource.now result }
+{
+    let allowed = resource.allowed();
+    match Method::named(name) {
+        Some(method) if method.is_in(allowed) => Ok(method),
+        _ => Err(MessageFault::BadMethod(allowed)),
+    }
+}
+
+/// What a target leads to.
+#[tactic(auto, unfolding(crate::specs::Resources::resource_of))]
+fn resource_of(alloc: Global, site: &Site, target: &[u8]) -> Result<Option<Resource>, AllocError>
+    ensures { IfOk result (λ found. found ≡ resource_of_lem target.now) }
+{
+    let Ok(target) = std::str::from_utf8(target) else {
+        return Ok(None);
+    };
+    resource_at(alloc, site, cut_at(target, '?').0)
+}
+
+/// What a path leads to.
+fn resource_at(alloc: Global, site: &Site, path: &str) -> Result<Option<Resource>, AllocError>
+    ensures { IfOk result (λ found. found ≡ resource_at_lem path.now) }
+{
+    match site.route(path) {
+        Some(route) => resource_on(alloc, route, tail_of(path)),
+        None => Ok(None),
+    }
+}
+
+/// What a route leads to, with the segments behind the path's first word.
+fn resource_on(alloc: Global, route: Route, tail: &str) -> Result<Option<Resource>, AllocError>
+    ensures { IfOk result (λ found. found ≡ resource_on_lem route tail.now) }
+{
+    let (first, second) = cut_at(tail, '/');
+    Ok(Some(match route {
+        Route::Simple => Resource::Simple,
+        Route::Root => Resource::Root,
+        Route::Project => Resource::Project(percent_decoded(alloc, first)?),
+        Route::ProjectPage => Resource::ProjectPage(percent_decoded(alloc, first)?),
+        Route::File => return file_of_project(alloc, first, second),
+        Route::Name => Resource::Name(percent_decoded(alloc, first)?),
+        Route::Requests => Resource::Requests,
+    }))
+}
+
+/// A file of a project, by the segments of both.
+fn file_of_project(alloc: Global, project: &str, file: &str) -> Result<Option<Resource>, AllocError>
+    ensures { IfOk result (λ found. found ≡ file_at project.now file.now) }
+{
+    let project = percent_decoded(alloc, project)?;
+    let file = percent_decoded(alloc, file)?;
+    if is_file_of_other(alloc, project.as_slice(), file.as_slice())? {
+        Ok(None)
+    } else {
+        Ok(Some(Resource::File(file)))
+    }
+}
+
+/// Whether these bytes are a file name that spells another project than this.
+fn is_file_of_other(alloc: Global, project: &[u8], file: &[u8]) -> Result<bool, AllocError>
+    ensures other { IfOk result (λ other. other ≡ is_file_of_other_lem project.now file.now) }
+    ensures readable { IfErr result (λ _. IsSome (read_file_name file.now)) }
+{
+    match FileName::read(alloc, file) {
+        Ok(file) => Ok(file.project().text().as_bytes() != project),
+        Err(NameFault::OutOfMemory) => Err(AllocError),
+        Err(_) => Ok(false),
+    }
+}
+
+/// A segment with its escapes read (RFC 3986, section 2.1).
+fn percent_decoded(alloc: Global, segment: &str) -> Result<Bytes, AllocError>
+    ensures { IfOk result (λ bytes. bytes ≡ percent_decode segment.now) }
+{
+    let mut bytes = Vec::new(alloc);
+    percent_encoding::percent_decode(segment.as_bytes()).append_to(&mut bytes)?;
+    Ok(Bytes::new(bytes))
+}
+
+/// What stands behind the first word of a path.
+fn tail_of(path: &str) -> &str
+    ensures { result.now ≡ tail_of_lem path.now }
+{
+    cut_at(cut_at(path, '/').1, '/').1
+}
+
+/// The text before the first such mark and the text behind it: all of it and nothing where there is none.
+fn cut_at(text: &str, mark: char) -> (&str, &str)
+    requires { mark < 128 }
+    ensures before { result.0.now ≡ before_first (λ b. b == mark) text.now }
+    ensures after { result.1.now ≡ after_first (λ b. b == mark) text.now }
+{
+    match text.split_once(mark) {
+        Some(parts) => parts,
+        None => (text, ""),
     }
 }

@@ -2,7 +2,7 @@ use Rattle.std.proofs.Common.{◌≡◌, List, ℕ, Bool, true, false, refl, sym
 use Rattle.std.specs.Str.{is_utf8, IsUtf8}
 use Rattle.std.proofs.lemmas.Str.{is_utf8-from_IsUtf8, IsUtf8-from_is_utf8}
 use Rattle.index_message.specs.Resources.{resource_of}
-use Rattle.index_message.proofs.target.resource_of.Goals as goal
+use Rattle.index_message.proofs.resource.resource_of.Goals as goal
 
 false_where : (t : Bool) → (t ≡ true → ⊥) → t ≡ false
 false_where true refuted = absurd (refuted refl)

@@ -2,7 +2,7 @@ use Rattle.std.proofs.Common.{◌≡◌, ◌<◌, ◌^◌, drop}
 use Rattle.std.specs.List.{list_all}
 use Rattle.std.specs.Char.{is_ascii_digit}
 use Rattle.std.specs.Str.Parse.{digits_value, digits_value_after}
-use Rattle.index_message.proofs.length.number_of.Given as goal
+use Rattle.index_message.proofs.request.number_of.Given as goal
 
 -- the digits so far
 abbrev pub invariant-loop-digit : goal.invariant-loop-digit

@@ -1,7 +1,7 @@
 use Rattle.std.proofs.Common.{refl}
 use Rattle.matchit.proofs.OnLiterals.{matchit_on_literals}
 use Rattle.index_message.specs.Routes.{site_rows}
-use Rattle.index_message.proofs.target.add_patterns.Goals as goal
+use Rattle.index_message.proofs.resource.add_patterns.Goals as goal
 
 pub returns : goal.returns
 unfolding matchit_on_literals site_rows

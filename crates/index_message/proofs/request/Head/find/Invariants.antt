@@ -2,7 +2,7 @@ use Rattle.std.proofs.Common.{◌≡◌, ◌++◌, map}
 use Rattle.httparse.specs.Spans.{header_bytes}
 use Rattle.index_message.specs.Fields.{values_of}
 use Rattle.index_message.proofs.FieldLemmas.{found_values, values_from}
-use Rattle.index_message.proofs.request.find.Given as goal
+use Rattle.index_message.proofs.request.Head.find.Given as goal
 
 -- what was found, and what is left
 abbrev pub invariant-loop-field : goal.invariant-loop-field

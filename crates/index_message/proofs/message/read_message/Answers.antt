@@ -1,4 +1,4 @@
-use Rattle.std.proofs.Common.{arith, inl, ap, sym, ◌∙◌, Ok, ◌++◌, [], length, ◌≤◌, length-append}
+use Rattle.std.proofs.Common.{arith, rules, inl, ap, sym, ◌∙◌, Ok, ◌++◌, [], length, ◌≤◌, length-append}
 use Rattle.std.specs.Prelude.{unwrap_or}
 use Rattle.std.proofs.KnownBytes.{Consumes-trans}
 use Rattle.std.proofs.lemmas.Result.{IfOk-weaker}
@@ -7,7 +7,7 @@ use Rattle.index_message.specs.Messages.{begins_with_head}
 use Rattle.index_message.specs.declared.fault.MessageFault.TheVariants.{BadHead}
 use Rattle.index_message.specs.declared.message.Message.TheVariants.{Faulty}
 use Rattle.index_message.proofs.MessageLemmas.{input_is, message_read, unfinished}
-use Rattle.index_message.proofs.read.read_message.Goals as goal
+use Rattle.index_message.proofs.message.read_message.Goals as goal
 
 pub returns-in_default-clause-message : goal.returns-in_default-clause-message
 returns-in_default-clause-message g c = (
@@ -23,13 +23,17 @@ returns-clause-message g c =
     IfOk-weaker c.read_rest.result _ _
     (λ message follows. message_read _ _ _ _ _ _ found message short c.in_ok-spans.ensures.consumed (follows found)) c.read_rest.ensures.message
 
-pub returns-clause-limit : goal.returns-clause-limit
-returns-clause-limit g c =
-    let rest = c.read_rest.ensures.reads.limit in (
-      c.read_head.new.held.items ++ rest.0,
-      rw length-append (omega (arith, rest.1, c.in_ok-spans.ensures.short, c.read_head.new.held.ok.0)),
-      Consumes-trans _ _ _ _ _ c.in_ok-spans.ensures.consumed rest.2,
-    )
+pub returns-clause-reads : goal.returns-clause-reads
+returns-clause-reads g c =
+    let rest = c.read_rest.ensures.reads.limit in
+    record {
+      failures = search rules;
+      limit = (
+        c.read_head.new.held.items ++ rest.0,
+        rw length-append (omega (arith, rest.1, c.in_ok-spans.ensures.short, c.read_head.new.held.ok.0)),
+        Consumes-trans _ _ _ _ _ c.in_ok-spans.ensures.consumed rest.2,
+      );
+    }
 
 pub returns-clause-prompt : goal.returns-clause-prompt
 returns-clause-prompt g c is =
