@@ -1,5 +1,8 @@
 -- What the ends of the program print, and the causes of a failed database.
-use Rattle.std.specs.Prelude.{ℕ, List, [], codes, ◌++◌, string_bytes}
+use Rattle.std.specs.Prelude.{ℕ, false, List, [], codes, chars, ◌++◌, encode_utf8, flat_map}
+use Rattle.std.specs.Prelude.{if◌then◌else◌, string_bytes}
+use Rattle.std.specs.Char.{is_control}
+use Rattle.std.specs.Fmt.{digits}
 use Rattle.index_cli.specs.Printed.{line_end_text, serve_end_text}
 use Rattle.index_rules.specs.Printed.{open_fault_text}
 use Rattle.index.specs.declared.cause.Cause.{Cause}
@@ -42,6 +45,16 @@ abbrev pub object_in : Cause → List ℕ
 object_in (cause.Object name) = string_bytes name
 object_in _ = []
 
+-- a character as it is printed: a control character (0 to 31 and 127 to 159) by its number, in hex
+-- digits
+abbrev pub escaped_char : ℕ → List ℕ
+escaped_char c =
+    if is_control c then codes "\\u{" ++ (digits 16 false c ++ codes "}") else encode_utf8 c
+
+-- a text as it is printed
+abbrev pub escaped : List ℕ → List ℕ
+escaped text = flat_map escaped_char (chars text)
+
 -- each cause prints its words, and the object behind them
 abbrev pub cause_text : Cause → List ℕ
-cause_text cause = cause_words cause ++ object_in cause
+cause_text cause = cause_words cause ++ escaped (object_in cause)

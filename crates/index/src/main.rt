@@ -4,6 +4,7 @@
 mod cause;
 mod database;
 mod end;
+mod escaped;
 mod job;
 mod laws;
 mod new_file;
@@ -18,6 +19,7 @@ ghost use Rattle.index_words.specs.Reading.{ReadsJob};
 ghost use Rattle.index.specs.Jobs.{EndsByWords, EndsJob, IsShown, path_of};
 
 use crate::end::End;
+use crate::escaped::{Escaped, Mistake};
 use crate::job::ServeWords;
 use index_words::{Job, WordsEnd, read_words};
 use sqlite::{FileFrom, Start, Wary};
@@ -61,9 +63,18 @@ fn show(rt: &HostRuntime, error: &clap::Error) -> ExitCode
         → (exit_status result ≡ 0) ⊎ (exit_status result ≡ 1) }
     ensures mistake { (¬ IsShown error.now) → exit_status result ≡ 2 }
 {
-    match error.print(rt) {
+    match print(rt, error) {
         Err(_) if !error.use_stderr() => tell_fault(rt, None, End::WriteFault),
         _ => ExitCode::from(error.exit_code() as u8),
+    }
+}
+
+/// Prints the help or the version on standard output, and a mistake on standard error.
+fn print(rt: &HostRuntime, error: &clap::Error) -> io::Result<()> {
+    if error.use_stderr() {
+        eprint!(rt; "{}", Mistake { error })
+    } else {
+        error.print(rt)
     }
 }
 
@@ -130,6 +141,7 @@ fn tell_fault(rt: &HostRuntime, db: Option<&str>, end: End) -> ExitCode
 {
     let _ = eprintln!(rt; "index: {end}");
     if let (Some(path), Some(cause)) = (db, end.cause()) {
+        let path = Escaped { text: path };
         let _ = eprintln!(rt; "index: {path}: {cause}");
     }
     ExitCode::from(1)
