@@ -3,9 +3,7 @@
 #![tactic(auto)]
 
 mod connection;
-mod query;
 pub mod statement_texts;
 pub mod table_texts;
 
-pub use connection::IndexConnection;
-pub use query::{fault_of, look};
+pub use connection::{IndexConnection, fault_of, look};

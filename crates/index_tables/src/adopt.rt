@@ -12,8 +12,8 @@ ghost use Rattle.index_sql_reads.specs.ConnectionTables.{tables_of};
 ghost use Rattle.index_tables.specs.Opened.{AreOpened, HaveMeta, HaveTables, IsFault, IsRefusedAs, IsUnopened, RefusesFound, StoreForRefusal};
 ghost use Rattle.index_tables.specs.Adopted.{AreHandedOn, HasSchema, IsFound, IsOfKind, IsOurs, IsRaised, IsReason, IsReasonOfKind, TellsFirst, refusal_by, foreign_tables_fault};
 
+use crate::books::SqlBooks;
 use crate::opening::{Unopened, open_fault_of};
-use crate::tables::SqlBooks;
 use index_rules::OpenFault;
 use index_sql_opening::{
     expose_invariants, has_meta, has_table, has_version_1_tables, is_first_version, is_ours,

@@ -1,8 +1,11 @@
-//! The tables as `Books`: each call is done by the connection, and then counted.
-ghost use Rattle.std.specs.Prelude.{◌≡◌, ◌⊎◌, Err, IfErr, IfOk, OnErr, OnOk, is_ok};
+//! The tables of the index over a connection to it, as `Books`: each call is done by the connection, and then counted.
+ghost use Rattle.std.specs.Prelude.{◌≡◌, ◌⊎◌, Err, IfErr, IfOk, OnErr, OnOk, false, is_ok};
 ghost use Rattle.std.specs.FinMap.{get};
+ghost use Rattle.sqlite.specs.Held.{state};
+ghost use Rattle.index_io.specs.Counts.{next_count};
 ghost use Rattle.index_sql_schema.specs.Faults.{fault_by};
 ghost use Rattle.index_sql_schema.specs.Reasons.{FailsForReason};
+ghost use Rattle.index_sql_reads.specs.ConnectionTables.{tables_of};
 ghost use Rattle.index_sql_reads.specs.Sealed.{IsBoundTo, digest_in};
 ghost use Rattle.index_sql_reads.specs.Steps.{to_taker};
 ghost use Rattle.index_rules.specs.Effect.{means};
@@ -12,19 +15,60 @@ ghost use Rattle.index_rules.specs.Tables.{Tables};
 ghost use Rattle.index_rules.specs.StoreFaults.{ends_by_store, fails_by_store};
 ghost use Rattle.index_rules.specs.Verdict.{is_held as is_held_lem};
 ghost use Rattle.index_rules.specs.Walks.{has_fault};
+ghost use Rattle.index_tables.specs.Adopted.{IsCommitted};
+ghost use Rattle.index_tables.specs.BooksState.{IsHonest, IsWorking};
 ghost use Rattle.index_tables.specs.LooksUp.{Calls, KeepsLimit, KeepsMeta, KeepsRecords, LooksFor, LooksUp, WalksBooks, with_books};
 ghost use Rattle.index_tables.specs.Written.{FailsToWrite};
 
-use crate::tables::{SqlBooks, next_count};
 use index_digest::Sealed;
 use index_names::{FileName, NormalName};
 use index_rules::{
     Books, Change, Fault, FileRow, FileTaker, Keys, NameRow, NameTaker, View, WalkEnd,
 };
-use index_sql_schema::fault_of;
+use index_sql_schema::{IndexConnection, fault_of};
 use index_sql_writes::make_change;
-use sqlite::{Alter, Error};
+use sqlite::{Alter, Connection, Error};
 use std::alloc::Global;
+use std::marker::Model;
+
+/// The tables in a database of SQLite. Contracts see the connection and how many calls answered a fault.
+///
+/// A call looks at the database, or makes one transaction. After a fault of the store the connection may be shut, and
+/// no later write succeeds. It has no drop: `into_connection` gives the connection back, to be closed.
+pub struct SqlBooks<S: Alter> {
+    pub(crate) conn: IndexConnection<S>,
+    pub(crate) failures: u64,
+    pub(crate) stores: u64,
+}
+
+impl<S: Alter> Model for SqlBooks<S> {
+    ghost use Rattle.index_tables.specs.BooksState.{BooksState, books_state_code};
+
+    ghost Value = { BooksState S };
+
+    ghost coded = { books_state_code S.code };
+
+    ghost view = { λ books. record { conn = books.conn; failures = books.failures; stores = books.stores } };
+}
+
+impl<S: Alter> SqlBooks<S> {
+    /// The connection, outside a transaction. While it works it is one to an index, all of which is committed.
+    pub fn into_connection(self) -> Connection<S>
+        ensures same { result ≡ self.conn }
+        ensures ended { result.in_transaction ≡ false }
+        ensures honest { IsWorking (state S.Store result) → IsHonest (state S.Store result) }
+        ensures committed { IsHonest (state S.Store result)
+            → IsCommitted (state S.Store result) (tables_of S.Store self.conn) }
+    {
+        let SqlBooks {
+            conn,
+            failures: _,
+            stores: _,
+        } = self;
+        let IndexConnection { conn } = conn;
+        conn
+    }
+}
 
 impl<S: Alter> Books for SqlBooks<S> {
     ghost use Rattle.sqlite.specs.Held.{state};
@@ -163,6 +207,17 @@ impl<S: Alter> Books for SqlBooks<S> {
 
     ghost settled = { λ books honest T left.
         settled_at honest (S.Store.settled books.conn.store) T left };
+}
+
+/// The count of failures after one more call, up to 18,446,744,073,709,551,615.
+fn next_count(failures: u64, is_right: bool) -> u64
+    ensures { result ≡ next_count failures is_right }
+{
+    if is_right {
+        failures
+    } else {
+        failures.saturating_add(1)
+    }
 }
 
 /// An error of the database as a fault.

@@ -13,8 +13,8 @@ ghost use Rattle.index_sql_opening.specs.Created.{one_user};
 ghost use Rattle.index_sql_opening.specs.Making.{IsAtRest};
 ghost use Rattle.index_tables.specs.Opened.{AreNew, HasOthers, HaveTables, IsAmongOthers, IsFault, IsNotMade, IsRefusedAs, IsTaken, RefusesNew};
 
+use crate::books::SqlBooks;
 use crate::opening::{Unopened, open_fault_of};
-use crate::tables::SqlBooks;
 use index_digest::Digest256;
 use index_rules::{OpenFault, UserId, UserRecord, first_user};
 use index_sql_opening::{expose_invariants, fill_new, has_any_table, is_blank};

@@ -10,8 +10,8 @@ ghost use Rattle.index_rules.specs.Tables.{Tables};
 ghost use Rattle.index_tables.specs.BooksState.{IsHonest, Leaves};
 ghost use Rattle.index_tables.specs.Reopened.{MayLeave, IsLeft, IsOpenedOver, LeavesEither, OpensOnly};
 
+use crate::books::SqlBooks;
 use crate::opening::Unopened;
-use crate::tables::SqlBooks;
 use index_sql_schema::IndexConnection;
 use sqlite::{Alter, Connection, FileStore};
 use sqlite_disk::Disk;

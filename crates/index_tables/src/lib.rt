@@ -6,7 +6,6 @@ mod books;
 mod create;
 pub mod laws;
 mod opening;
-mod tables;
 
+pub use books::SqlBooks;
 pub use opening::Unopened;
-pub use tables::SqlBooks;

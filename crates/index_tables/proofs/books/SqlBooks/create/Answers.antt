@@ -10,7 +10,7 @@ use Rattle.index_sql_opening.specs.NewAsks.{asks_of_new}
 use Rattle.index_sql_opening.specs.Created.{one_user}
 use Rattle.index_tables.specs.Opened.{AreNew, IsNotMade}
 use Rattle.index_tables.proofs.OpenedLemmas.{refused_at_once}
-use Rattle.index_tables.proofs.tables.SqlBooks.create.Goals as goal
+use Rattle.index_tables.proofs.books.SqlBooks.create.Goals as goal
 
 pub returns-in-Ok-clause-sound : goal.returns-in-Ok-clause-sound
 returns-in-Ok-clause-sound g c =

@@ -4,7 +4,7 @@ use Rattle.index_sql_schema.specs.Index.{IsIndex}
 use Rattle.index_sql_schema.specs.Looks.{QueriesOnly}
 use Rattle.index_sql_schema.specs.Reasons.{HasReason}
 use Rattle.index_sql_schema.proofs.LookLemmas.{index_shown, looks_shown, looks_refused, looks_kept, reasoned}
-use Rattle.index_sql_schema.proofs.query.look.Goals as goal
+use Rattle.index_sql_schema.proofs.connection.look.Goals as goal
 
 -- what the query leaves of the connection inside
 refused : (g : _) (c : goal.After-fault_of g) → QueriesOnly g.S.Store c.conn.inside.conn c.query_all.new.self false

@@ -7,7 +7,7 @@ use Rattle.index_tables.proofs.AdoptLemmas.{fault_alone, reason_of_kind}
 use Rattle.index_tables.proofs.OpenedLemmas.{refused_at_once, unopened_by}
 use Rattle.index_tables.specs.Adopted.{IsRaised, IsReason}
 use Rattle.index_tables.specs.Opened.{AreOpened, IsUnopened}
-use Rattle.index_tables.proofs.tables.SqlBooks.adopt.Goals as goal
+use Rattle.index_tables.proofs.books.SqlBooks.adopt.Goals as goal
 
 pub returns-then-not-has_meta-clause-refused : goal.returns-then-not-has_meta-clause-refused
 returns-then-not-has_meta-clause-refused g c =
