@@ -1,14 +1,15 @@
 -- The tables of a new index, made as SQL answers.
 use Rattle.std.proofs.Common.{◌≡◌, ◌∙◌, ℕ, true, List, [], ◌∷◌, ◌++◌, None, Ok, Err, Result, IsTrue, refl}
-use Rattle.std.specs.Borrow.{MutBor}
 use Rattle.sqlite_trees.specs.declared.store.Store.{Ghosts}
 use Rattle.sqlite_schema.specs.declared.schema.Schema.{Schema}
 use Rattle.sqlite.specs.declared.error.Error.{Error}
+use Rattle.sqlite.specs.declared.transaction.Transaction.{Transaction}
 use Rattle.sqlite.specs.Held.{Held, state}
 use Rattle.sqlite.specs.State.{State, ExecutesInside}
 use Rattle.index_rules.specs.declared.records.UserRecord.{UserRecord}
 use Rattle.index_rules.specs.Maps.{Bytes}
 use Rattle.index_sql_schema.specs.Index.{same_meta}
+use Rattle.index_sql_schema.specs.OnStore.{on_store}
 use Rattle.index_sql_schema.specs.CreateSteps.{IsStage, no_tables}
 use Rattle.index_sql_writes.specs.Asks.{Ask, CanAsk}
 use Rattle.index_sql_writes.specs.Transaction.{MakesInTransaction}
@@ -31,10 +32,10 @@ begins_blank g old blank opened unlimited =
     (record { is_open = opened; inside = refl; schema = it.schema; sound = it.sound; empty = tt }, unlimited)
 
 -- a statement without parameters, on tables of such a schema, is a step of its text
-pub text_taken : {S : Type 0} (g : Ghosts S) (Begins : State → Type 0) (Does : State → State → Type 0) (schema : Schema) (sql : List ℕ) (old new : MutBor (Held S)) (r : Result (Unit {0}) Error) → IsWrite schema sql 0
-    → (Begins (state g old.now) → IsTrue (state g old.now).is_open × ((state g old.now).in_transaction ≡ true) × ((state g old.now).now.schema ≡ schema))
-    → ((count : ℕ) → Begins (state g old.now) → ExecutesInside 0 sql [] (state g old.now) (state g new.now) (Ok count) → Does (state g old.now) (state g new.now))
-    → RunsStatement g sql [] old new r → StepsFrom g Begins Does (text_ask sql ∷ []) old new r
+pub text_taken : {S : Type 0} (g : Ghosts S) (Begins : State → Type 0) (Does : State → State → Type 0) (schema : Schema) (sql : List ℕ) (old new : Transaction S) (r : Result (Unit {0}) Error) → IsWrite schema sql 0
+    → (Begins (state g old.conn.now) → IsTrue (state g old.conn.now).is_open × ((state g old.conn.now).in_transaction ≡ true) × ((state g old.conn.now).now.schema ≡ schema))
+    → ((count : ℕ) → Begins (state g old.conn.now) → ExecutesInside 0 sql [] (state g old.conn.now) (state g new.conn.now) (Ok count) → Does (state g old.conn.now) (state g new.conn.now))
+    → RunsStatement sql [] (on_store g old new) r → StepsFrom Begins Does (text_ask sql ∷ []) (on_store g old new) r
 text_taken g Begins Does schema sql old new (Ok done) sure fit does run = record {
   uncommitted = run.uncommitted;
   made = λ clean begins.
@@ -43,19 +44,19 @@ text_taken g Begins Does schema sql old new (Ok done) sure fit does run = record
   asked = λ clean can.
       let it = fit can.0 in
       let ran = run.ran clean it.1 in
-      goes_alone (text_ask sql) (state g old.now) (state g new.now) (Ok ran.0) (goes schema sql [] sure (state g old.now) (state g new.now) it.2 it.0 can.1 (Ok ran.0) ran.1);
+      goes_alone (text_ask sql) (state g old.conn.now) (state g new.conn.now) (Ok ran.0) (goes schema sql [] sure (state g old.conn.now) (state g new.conn.now) it.2 it.0 can.1 (Ok ran.0) ran.1);
 }
 text_taken g Begins Does schema sql old new (Err e) sure fit does run = record {
   uncommitted = run.uncommitted;
   made = λ clean. tt;
   asked = λ clean can.
       let it = fit can.0 in
-      goes_alone {A = ℕ} (text_ask sql) (state g old.now) (state g new.now) (Err e) (goes schema sql [] sure (state g old.now) (state g new.now) it.2 it.0 can.1 (Err e) (run.ran clean it.1));
+      goes_alone {A = ℕ} (text_ask sql) (state g old.conn.now) (state g new.conn.now) (Err e) (goes schema sql [] sure (state g old.conn.now) (state g new.conn.now) it.2 it.0 can.1 (Err e) (run.ran clean it.1));
 }
 
 -- more tables are made after these
-pub more_tables : {S A B : Type 0} (g : Ghosts S) {n m k : ℕ} (xs ys : List Ask) {first mid last : MutBor (Held S)} {a : A} → StepsFrom g (IsStage n) (Advances m) xs first mid (Ok a)
-    → (r : Result B Error) → StepsFrom g (IsStage m) (Advances k) ys mid last r → StepsFrom g (IsStage n) (Advances k) (xs ++ ys) first last r
+pub more_tables : {S A B : Type 0} (g : Ghosts S) {n m k : ℕ} (xs ys : List Ask) {first mid last : Transaction S} {a : A} → StepsFrom (IsStage n) (Advances m) xs (on_store g first mid) (Ok a)
+    → (r : Result B Error) → StepsFrom (IsStage m) (Advances k) ys (on_store g mid last) r → StepsFrom (IsStage n) (Advances k) (xs ++ ys) (on_store g first last) r
 more_tables g {k = k} xs ys one = steps_then g xs (Advances k) ys (λ can. can.0) (λ did. did.0) (λ can did limit. (did.0, limit ∙ can.1)) (λ did more. (more.0, more.1 ∙ did.1)) one
 
 -- then rows can be put
@@ -63,11 +64,11 @@ can_put : (s : State) → IsStage 9 s → s.step_limit ≡ None → CanAsk s
 can_put s made unlimited = record { ready = (made_all s s refl made).ready; records = no_rows s made; unlimited = unlimited }
 
 -- and the first user
-pub first_user : {S A B : Type 0} (g : Ghosts S) (user : Bytes) (account : UserRecord) {first mid last : MutBor (Held S)} {a : A} → CreatesTables g 0 9 first mid (Ok a) → (r : Result B Error)
-    → TakesStep g (puts_user user account) (put_user_ask user account) mid last r
-    → StepsFrom g (IsStage 0) (MakesInTransaction (λ _. one_user user account) (λ _. [])) (table_asks 0 9 ++ (put_user_ask user account ∷ [])) first last r
+pub first_user : {S A B : Type 0} (g : Ghosts S) (user : Bytes) (account : UserRecord) {first mid last : Transaction S} {a : A} → CreatesTables 0 9 (on_store g first mid) (Ok a) → (r : Result B Error)
+    → TakesStep (puts_user user account) (put_user_ask user account) (on_store g mid last) r
+    → StepsFrom (IsStage 0) (MakesInTransaction (λ _. one_user user account) (λ _. [])) (table_asks 0 9 ++ (put_user_ask user account ∷ [])) (on_store g first last) r
 first_user g user account {first = first} {mid = mid} {last = last} made r put =
-    let empty = λ (did : Advances 9 (state g first.now) (state g mid.now)). made_all (state g first.now) (state g mid.now) did.1 did.0 in
-    steps_then g (table_asks 0 9) (MakesInTransaction (λ _. one_user user account) (λ _. [])) (put_user_ask user account ∷ []) (λ can. can.0) (λ did. (empty did).ready) (λ can did limit. can_put (state g mid.now) did.0 (limit ∙ can.1))
+    let empty = λ (did : Advances 9 (state g first.conn.now) (state g mid.conn.now)). made_all (state g first.conn.now) (state g mid.conn.now) did.1 did.0 in
+    steps_then g (table_asks 0 9) (MakesInTransaction (λ _. one_user user account) (λ _. [])) (put_user_ask user account ∷ []) (λ can. can.0) (λ did. (empty did).ready) (λ can did limit. can_put (state g mid.conn.now) did.0 (limit ∙ can.1))
     (λ did more. makes_then (λ _. no_tables) (puts_user user account) (λ _. []) same_meta _ _ _ (empty did) more) made r
     (step_alone g (puts_user user account) (put_user_ask user account) mid last r put)

@@ -13,6 +13,7 @@ use Rattle.index_rules.specs.Tables.{Tables}
 use Rattle.index_sql_schema.specs.CreateSteps.{stage}
 use Rattle.index_sql_schema.specs.FirstVersion.{IsFirstVersion, without_bans}
 use Rattle.index_sql_schema.specs.Index.{raised}
+use Rattle.index_sql_schema.specs.OnStore.{ConnectionStep}
 use Rattle.index_sql_writes.specs.Asks.{Ask}
 use Rattle.index_sql_writes.specs.Changed.{IsMade, IsUndone, LeavesWholeChange}
 use Rattle.index_sql_writes.specs.StepAsks.{FailsForRefusal}
@@ -40,53 +41,53 @@ IsBySchema g schema IsKind held =
 
 -- Of an open database of such a kind an index is made: `change` says with which tables, `rows` with
 -- which rows of meta, and `asks` which statements make it.
-pub record MakesIndex {S A : Type 0} (g : Ghosts S)
+pub record MakesIndex {S A : Type 0}
     (IsKind : Database → Type 0)
     (change : Tables → Tables)
     (rows : List Row → List Row)
     (asks : List Ask)
-    (old new : Held S)
+    (conn : ConnectionStep S)
     (result : Result A Error) : Type 0 where
   -- where it succeeds on a clean disk, the index is there, and committed
-  pub made : HasCleanDisk (state g new)
-      → OnOk result
-      (IsTrue (state g old).is_open
-      → IsKind (state g old).now
-      → IsMade change rows (state g old) (state g new))
+  pub made : let old = state conn.store conn.old in
+      let new = state conn.store conn.new in
+      HasCleanDisk new
+      → OnOk result (IsTrue old.is_open → IsKind old.now → IsMade change rows old new)
   -- after an error, while the connection is open, the database is as it was committed
-  pub unchanged : HasCleanDisk (state g new)
-      → IsTrue (state g new).is_open
-      → IsKind (state g old).now
-      → OnErr result (IsUndone (state g old) (state g new))
-  pub outside : new.in_transaction ≡ false
-  pub was_clean : HasCleanDisk (state g new) → HasCleanDisk (state g old)
-  pub was_open : HasCleanDisk (state g new)
-      → IsTrue (state g new).is_open
-      → IsTrue (state g old).is_open
+  pub unchanged : let old = state conn.store conn.old in
+      let new = state conn.store conn.new in
+      HasCleanDisk new → IsTrue new.is_open → IsKind old.now → OnErr result (IsUndone old new)
+  pub outside : conn.new.in_transaction ≡ false
+  pub was_clean : HasCleanDisk (state conn.store conn.new)
+      → HasCleanDisk (state conn.store conn.old)
+  pub was_open : HasCleanDisk (state conn.store conn.new)
+      → IsTrue (state conn.store conn.new).is_open
+      → IsTrue (state conn.store conn.old).is_open
   -- a crash leaves what it could leave before, or the whole index
-  pub crash : IsTrue (state g old).is_open → IsKind (state g old).now
-      → LeavesWholeChange change rows (state g old) (state g new)
+  pub crash : let old = state conn.store conn.old in
+      IsTrue old.is_open → IsKind old.now
+      → LeavesWholeChange change rows old (state conn.store conn.new)
   -- it fails by the store only for a reason of the store, or where SQL refuses a statement
-  pub reason : HasCleanDisk (state g new)
-      → (IsTrue (state g old).is_open → IsKind (state g old).now)
-      → IfErr result (FailsForRefusal asks (state g old) (state g new))
+  pub reason : let old = state conn.store conn.old in
+      let new = state conn.store conn.new in
+      HasCleanDisk new
+      → (IsTrue old.is_open → IsKind old.now)
+      → IfErr result (FailsForRefusal asks old new)
 
 -- a new index is made of a blank database: one user with this record, and nothing else
-abbrev pub MakesNewIndex : {S A : Type 0} → Ghosts S
-    → Bytes → UserRecord → Held S → Held S → Result A Error → Type 0
-MakesNewIndex g user account =
-    MakesIndex g IsBlank (λ _. one_user user account) one_version_row (asks_of_new user account)
+abbrev pub MakesNewIndex :
+    {S A : Type 0} → Bytes → UserRecord → ConnectionStep S → Result A Error → Type 0
+MakesNewIndex user account =
+    MakesIndex IsBlank (λ _. one_user user account) one_version_row (asks_of_new user account)
 
 -- an index of today is made of a database of version 1: the same tables, and no bans
-abbrev pub MakesOfFirstVersion :
-    {S A : Type 0} → Ghosts S → Held S → Held S → Result A Error → Type 0
-MakesOfFirstVersion g = MakesIndex g IsFirstVersion without_bans raised asks_of_migration
+abbrev pub MakesOfFirstVersion : {S A : Type 0} → ConnectionStep S → Result A Error → Type 0
+MakesOfFirstVersion = MakesIndex IsFirstVersion without_bans raised asks_of_migration
 
 -- so many tables are made of an open blank database, if it succeeds on a clean disk
-abbrev pub MakesTables : {S A E : Type 0} → Ghosts S → ℕ → Held S → Held S → Result A E → Type 0
-MakesTables g n old new result =
-    HasCleanDisk (state g new)
-    → OnOk result
-    (IsTrue (state g old).is_open
-    → IsBlank (state g old).now
-    → (state g new).now.schema ≡ stage n)
+abbrev pub MakesTables : {S A E : Type 0} → ℕ → ConnectionStep S → Result A E → Type 0
+MakesTables n conn result =
+    let old = state conn.store conn.old in
+    let new = state conn.store conn.new in
+    HasCleanDisk new
+    → OnOk result (IsTrue old.is_open → IsBlank old.now → new.now.schema ≡ stage n)

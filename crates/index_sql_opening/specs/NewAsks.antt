@@ -1,17 +1,17 @@
 -- What the making of a new index asks of SQL.
-use Rattle.std.specs.Prelude.{◌≡◌, ℕ, List, [], ◌∷◌, ◌++◌, None, Result, map, take, drop}
-use Rattle.std.specs.Borrow.{MutBor}
-use Rattle.sqlite_trees.specs.declared.store.Store.{Ghosts}
+use Rattle.std.specs.Prelude.{◌≡◌, ℕ, suc, List, [], ◌∷◌, ◌++◌, None, Some, Result, map, take}
+use Rattle.std.specs.Prelude.{drop, slice_get}
 use Rattle.sqlite.specs.declared.error.Error.{Error}
-use Rattle.sqlite.specs.Held.{Held}
 use Rattle.sqlite.specs.State.{State}
 use Rattle.index_rules.specs.declared.records.UserRecord.{UserRecord}
 use Rattle.index_rules.specs.Maps.{Bytes}
 use Rattle.index_sql_schema.specs.CreateSteps.{IsStage, all_texts}
+use Rattle.index_sql_schema.specs.OnStore.{TransactionStep}
 use Rattle.index_sql_schema.specs.StatementTexts.{put_version_text}
 use Rattle.index_sql_writes.specs.Asks.{Ask, Statement, AnswersAll}
 use Rattle.index_sql_writes.specs.Statements.{put_user_ask}
 use Rattle.index_sql_writes.specs.Steps.{TakesSteps}
+use Rattle.index_sql_writes.specs.Transaction.{IsUncommitted}
 use Rattle.index_sql_opening.specs.Created.{Advances}
 
 -- one text, without parameters
@@ -35,14 +35,19 @@ abbrev pub Unlimited : (State → Type 0) → State → Type 0
 Unlimited Is s = Is s × (s.step_limit ≡ None)
 
 -- steps on a transaction that is such, which make this of it and ask these of SQL
-abbrev pub StepsFrom : {S A : Type 0} → Ghosts S
-    → (State → Type 0)
+abbrev pub StepsFrom : {S A : Type 0} → (State → Type 0)
     → (State → State → Type 0)
     → List Ask
-    → MutBor (Held S) → MutBor (Held S) → Result A Error → Type 0
-StepsFrom g Begins Makes asks = TakesSteps g Begins Makes (Unlimited Begins) (AnswersAll asks)
+    → TransactionStep S → Result A Error → Type 0
+StepsFrom Begins Makes asks = TakesSteps Begins Makes (Unlimited Begins) (AnswersAll asks)
 
 -- so many tables are made where so many were
-abbrev pub CreatesTables : {S A : Type 0} → Ghosts S
-    → ℕ → ℕ → MutBor (Held S) → MutBor (Held S) → Result A Error → Type 0
-CreatesTables g from to = StepsFrom g (IsStage from) (Advances to) (table_asks from to)
+abbrev pub CreatesTables : {S A : Type 0} → ℕ → ℕ → TransactionStep S → Result A Error → Type 0
+CreatesTables from to = StepsFrom (IsStage from) (Advances to) (table_asks from to)
+
+-- the next table is made by this statement; where it is refused, none is
+pub record CreatesNext {S A : Type 0} (sql : List ℕ) (tx : TransactionStep S)
+    (result : Result A Error) : Type 0 where
+  pub uncommitted : IsUncommitted tx.store tx.old.conn tx.new.conn
+  pub made : (n : ℕ) → slice_get all_texts n ≡ Some sql
+      → StepsFrom (IsStage n) (Advances (suc n)) (text_ask sql ∷ []) tx result

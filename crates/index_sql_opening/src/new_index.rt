@@ -2,6 +2,7 @@
 ghost use Rattle.std.specs.Prelude.{◌≡◌, [], ◌∷◌, false};
 ghost use Rattle.index_sql_schema.specs.CreateSteps.{IsStage};
 ghost use Rattle.index_sql_schema.specs.Index.{with_version_2};
+ghost use Rattle.index_sql_schema.specs.OnStore.{on_store};
 ghost use Rattle.index_sql_writes.specs.Transaction.{IsInTransaction, MakesInTransaction};
 ghost use Rattle.index_sql_opening.specs.NewAsks.{StepsFrom, asks_of_new, put_version_ask};
 ghost use Rattle.index_sql_opening.specs.Created.{one_user, one_version_row};
@@ -15,8 +16,8 @@ use sqlite::{Alter, Connection, Error, Transaction};
 
 /// Puts the row of the version among those of `meta`.
 fn put_version<S: Alter>(tx: &mut Transaction<'_, S>) -> Result<(), Error>
-    ensures { StepsFrom S.Store IsInTransaction (MakesInTransaction (λ T. T) with_version_2)
-        (put_version_ask ∷ []) tx.old.conn tx.new.conn result }
+    ensures { StepsFrom IsInTransaction (MakesInTransaction (λ T. T) with_version_2)
+        (put_version_ask ∷ []) (on_store S.Store tx.old tx.new) result }
 {
     run_statement(tx, PUT_VERSION, &[])
 }
@@ -27,9 +28,9 @@ fn make_all<S: Alter>(
     user: &UserId,
     account: &UserRecord,
 ) -> Result<(), Error>
-    ensures { StepsFrom S.Store (IsStage 0)
+    ensures { StepsFrom (IsStage 0)
         (MakesInTransaction (λ _. one_user user.now account.now) one_version_row)
-        (asks_of_new user.now account.now) tx.old.conn tx.new.conn result }
+        (asks_of_new user.now account.now) (on_store S.Store tx.old tx.new) result }
 {
     make_tables(tx)?;
     put_user(tx, user, account)?;
@@ -48,7 +49,7 @@ pub fn fill_new<S: Alter>(
     account: &UserRecord,
 ) -> Result<(), Error>
     requires { conn.old.in_transaction ≡ false }
-    ensures made { MakesNewIndex S.Store user.now account.now conn.old conn.new result }
+    ensures made { MakesNewIndex user.now account.now (on_store S.Store conn.old conn.new) result }
 {
     let mut tx = conn.transaction();
     make_all(&mut tx, user, account)?;

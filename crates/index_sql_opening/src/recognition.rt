@@ -4,6 +4,7 @@ ghost use Rattle.sqlite.specs.Steps.{over_memory};
 ghost use Rattle.index_sql_opening.specs.Making.{IsOfSchema, MakesTables};
 ghost use Rattle.index_sql_schema.specs.Schema.{index_schema, no_schema};
 ghost use Rattle.index_sql_schema.specs.FirstVersion.{first_version_schema};
+ghost use Rattle.index_sql_schema.specs.OnStore.{on_store};
 
 use crate::same::Same;
 use crate::tables::{make_first_version, make_tables};
@@ -68,7 +69,7 @@ fn first_version_in_memory(alloc: Global) -> Result<Connection<MemStore>, Error>
 /// Makes the tables of an index.
 fn commit_tables<S: Alter>(conn: &mut Connection<S>) -> Result<(), Error>
     requires { conn.old.in_transaction ≡ false }
-    ensures made { MakesTables S.Store 9 conn.old conn.new result }
+    ensures made { MakesTables 9 (on_store S.Store conn.old conn.new) result }
 {
     let mut tx = conn.transaction();
     make_tables(&mut tx)?;
@@ -79,7 +80,7 @@ fn commit_tables<S: Alter>(conn: &mut Connection<S>) -> Result<(), Error>
 /// Makes the tables of version 1.
 fn commit_first_version<S: Alter>(conn: &mut Connection<S>) -> Result<(), Error>
     requires { conn.old.in_transaction ≡ false }
-    ensures made { MakesTables S.Store 8 conn.old conn.new result }
+    ensures made { MakesTables 8 (on_store S.Store conn.old conn.new) result }
 {
     let mut tx = conn.transaction();
     make_first_version(&mut tx)?;

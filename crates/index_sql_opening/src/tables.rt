@@ -1,9 +1,6 @@
 //! The nine tables of an index, made one after another.
-ghost use Rattle.std.specs.Prelude.{◌≡◌, ℕ, suc, [], ◌∷◌, Some, slice_get};
-ghost use Rattle.index_sql_schema.specs.CreateSteps.{IsStage, all_texts};
-ghost use Rattle.index_sql_writes.specs.Transaction.{IsUncommitted};
-ghost use Rattle.index_sql_opening.specs.NewAsks.{CreatesTables, StepsFrom, text_ask};
-ghost use Rattle.index_sql_opening.specs.Created.{Advances};
+ghost use Rattle.index_sql_schema.specs.OnStore.{on_store};
+ghost use Rattle.index_sql_opening.specs.NewAsks.{CreatesNext, CreatesTables};
 
 use index_sql_schema::table_texts::{BANS, BLOBS, CASES, FILES, META, NAMES, OWNERS, USERS, YANKS};
 use index_sql_writes::run_statement;
@@ -11,17 +8,14 @@ use sqlite::{Alter, Error, Transaction};
 
 /// Makes the next table. Where the statement is refused, none is made.
 fn make_table<S: Alter>(tx: &mut Transaction<'_, S>, sql: &str) -> Result<(), Error>
-    ensures uncommitted { IsUncommitted S.Store tx.old.conn tx.new.conn }
-    ensures made { (n : ℕ) → slice_get all_texts n ≡ Some sql.now
-        → StepsFrom S.Store (IsStage n) (Advances (suc n)) (text_ask sql.now ∷ [])
-        tx.old.conn tx.new.conn result }
+    ensures { CreatesNext sql.now (on_store S.Store tx.old tx.new) result }
 {
     run_statement(tx, sql, &[])
 }
 
 /// Makes the tables of the version, the users, the names and the owners.
 fn make_first_four<S: Alter>(tx: &mut Transaction<'_, S>) -> Result<(), Error>
-    ensures { CreatesTables S.Store 0 4 tx.old.conn tx.new.conn result }
+    ensures { CreatesTables 0 4 (on_store S.Store tx.old tx.new) result }
 {
     make_table(tx, META)?;
     make_table(tx, USERS)?;
@@ -31,7 +25,7 @@ fn make_first_four<S: Alter>(tx: &mut Transaction<'_, S>) -> Result<(), Error>
 
 /// Makes the tables of the files, their bytes, the yanks and the cases.
 fn make_next_four<S: Alter>(tx: &mut Transaction<'_, S>) -> Result<(), Error>
-    ensures { CreatesTables S.Store 4 8 tx.old.conn tx.new.conn result }
+    ensures { CreatesTables 4 8 (on_store S.Store tx.old tx.new) result }
 {
     make_table(tx, FILES)?;
     make_table(tx, BLOBS)?;
@@ -41,7 +35,7 @@ fn make_next_four<S: Alter>(tx: &mut Transaction<'_, S>) -> Result<(), Error>
 
 /// Makes the tables of version 1, which has none of bans.
 pub(crate) fn make_first_version<S: Alter>(tx: &mut Transaction<'_, S>) -> Result<(), Error>
-    ensures { CreatesTables S.Store 0 8 tx.old.conn tx.new.conn result }
+    ensures { CreatesTables 0 8 (on_store S.Store tx.old tx.new) result }
 {
     make_first_four(tx)?;
     make_next_four(tx)
@@ -49,7 +43,7 @@ pub(crate) fn make_first_version<S: Alter>(tx: &mut Transaction<'_, S>) -> Resul
 
 /// Makes the tables of an index.
 pub(crate) fn make_tables<S: Alter>(tx: &mut Transaction<'_, S>) -> Result<(), Error>
-    ensures { CreatesTables S.Store 0 9 tx.old.conn tx.new.conn result }
+    ensures { CreatesTables 0 9 (on_store S.Store tx.old tx.new) result }
 {
     make_first_version(tx)?;
     make_table(tx, BANS)

@@ -1,15 +1,4 @@
--- What a connection and a taker of rows were before a call, and what they are after it.
-use Rattle.sqlite_trees.specs.declared.store.Store.{Ghosts}
-use Rattle.sqlite.specs.Held.{Held}
-
--- a connection over a store of this kind
-pub record ConnectionStep (S : Type 0) : Type 1 where
-  pub store : Ghosts S
-  pub old : Held S
-  pub new : Held S
-
-abbrev pub on_store : {S : Type 0} → Ghosts S → Held S → Held S → ConnectionStep S
-on_store store old new = record { store = store; old = old; new = new }
+-- What a taker of rows was before a call, and what it is after it.
 
 -- a taker, with what a row makes of it: one that it takes, and one that it stops at
 pub record TakerStep (K R : Type 0) : Type 1 where

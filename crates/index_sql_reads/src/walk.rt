@@ -9,11 +9,12 @@ ghost use Rattle.sqlite.specs.Values.{bound};
 ghost use Rattle.index_sql_schema.specs.Schema.{index_schema};
 ghost use Rattle.index_sql_schema.specs.Faults.{fault_by};
 ghost use Rattle.index_sql_schema.specs.Looks.{IsIndexConnection, QueriesOnly};
+ghost use Rattle.index_sql_schema.specs.OnStore.{on_store};
 ghost use Rattle.index_sql_schema.specs.Sure.{IsSure};
 ghost use Rattle.index_rules.specs.TableRows.{file_rows_in, held_rows_in};
 ghost use Rattle.index_rules.specs.Walks.{Walks, has_fault, walk_end_of};
 ghost use Rattle.index_sql_reads.specs.Handed.{HasHanded, IsOf, QueryEndsForReason};
-ghost use Rattle.index_sql_reads.specs.Steps.{on_store, to_taker};
+ghost use Rattle.index_sql_reads.specs.Steps.{to_taker};
 ghost use Rattle.index_sql_reads.specs.WalkReasons.{HandsRows};
 
 use crate::from_row::FromRow;

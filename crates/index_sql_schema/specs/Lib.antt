@@ -13,3 +13,4 @@ pub mod FirstVersion
 pub mod Faults
 pub mod Looks
 pub mod Reasons
+pub mod OnStore

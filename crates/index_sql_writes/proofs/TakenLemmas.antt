@@ -6,6 +6,7 @@ use Rattle.std.proofs.lemmas.Bool.{cases_Bool}
 use Rattle.sqlite_value.specs.Order.{Row}
 use Rattle.sqlite_trees.specs.declared.store.Store.{Ghosts}
 use Rattle.sqlite.specs.declared.error.Error.{Error}
+use Rattle.sqlite.specs.declared.transaction.Transaction.{Transaction}
 use Rattle.sqlite.specs.declared.error.Error.TheVariants.{IntegralValueOutOfRange}
 use Rattle.sqlite.specs.Held.{Held, state}
 use Rattle.sqlite.specs.State.{State, Executes, ExecutesInside, HasCleanDisk, Survives}
@@ -15,6 +16,7 @@ use Rattle.index_rules.specs.Maps.{Bytes}
 use Rattle.index_rules.specs.Projects.{Project}
 use Rattle.index_rules.specs.Tables.{Tables}
 use Rattle.index_sql_schema.specs.Index.{IsIndex, Changes, same_meta}
+use Rattle.index_sql_schema.specs.OnStore.{on_store}
 use Rattle.index_sql_schema.specs.Schema.{index_schema}
 use Rattle.index_sql_schema.specs.StatementTexts.{put_name_text}
 use Rattle.index_sql_writes.specs.Asks.{AnswersAll, Ask, CanAsk, HasTooMuch, Statement, WithNumbers}
@@ -22,7 +24,7 @@ use Rattle.index_sql_writes.specs.Transaction.{IsInTransaction, IsUncommitted, M
 use Rattle.index_sql_writes.specs.Steps.{RunsStatement, TakesStep, TakesSteps}
 use Rattle.index_sql_writes.specs.Statements.{hold_name_ask, project_numbers}
 use Rattle.index_sql_writes.specs.Writes.{held_numbers, name_cells, name_of, puts_name}
-use Rattle.index_sql_writes.specs.declared.put.NameNumbers.{NameNumbers}
+use Rattle.index_sql_writes.specs.declared.statements.NameNumbers.{NameNumbers}
 use Rattle.index_sql_writes.proofs.PutRecords.{held_again}
 use Rattle.index_sql_writes.proofs.AskLemmas.{IsWrite, fits, step_goes}
 use Rattle.index_sql_writes.proofs.GoingLemmas.{all_stop, all_then, fault_since, goes_alone}
@@ -54,123 +56,123 @@ module _ {S : Type 0} (g : Ghosts S) where
   told (Ok count) = Ok tt
   told (Err e) = Err e
 
-  pub runs_statement : (sql : List ℕ) (params : Row) (old new : MutBor (Held S)) (r : Result ℕ Error) (fault : Error) → new.ghost_name ≡ old.ghost_name
-      → (old.now.in_transaction ≡ false → (r ≡ Err fault) × (new.now ≡ old.now))
-      → (HasCleanDisk (state g new.now) → IsTrue old.now.in_transaction → ExecutesInside 0 sql params (state g old.now) (state g new.now) r)
-      → Survives (state g old.now) (state g new.now) (λ _. ⊥) → RunsStatement g sql params old new (told r)
+  pub runs_statement : (sql : List ℕ) (params : Row) (old new : Transaction S) (r : Result ℕ Error) (fault : Error) → new.conn.ghost_name ≡ old.conn.ghost_name
+      → (old.conn.now.in_transaction ≡ false → (r ≡ Err fault) × (new.conn.now ≡ old.conn.now))
+      → (HasCleanDisk (state g new.conn.now) → IsTrue old.conn.now.in_transaction → ExecutesInside 0 sql params (state g old.conn.now) (state g new.conn.now) r)
+      → Survives (state g old.conn.now) (state g new.conn.now) (λ _. ⊥) → RunsStatement sql params (on_store g old new) (told r)
   runs_statement sql params old new r fault same ended runs survives = by_result r ended runs
     where
-      by_result : (r : Result ℕ Error) → (old.now.in_transaction ≡ false → (r ≡ Err fault) × (new.now ≡ old.now))
-          → (HasCleanDisk (state g new.now) → IsTrue old.now.in_transaction → ExecutesInside 0 sql params (state g old.now) (state g new.now) r) → RunsStatement g sql params old new (told r)
+      by_result : (r : Result ℕ Error) → (old.conn.now.in_transaction ≡ false → (r ≡ Err fault) × (new.conn.now ≡ old.conn.now))
+          → (HasCleanDisk (state g new.conn.now) → IsTrue old.conn.now.in_transaction → ExecutesInside 0 sql params (state g old.conn.now) (state g new.conn.now) r) → RunsStatement sql params (on_store g old new) (told r)
       by_result (Ok count) ended runs = record {
-        uncommitted = record { same_reference = same; kept = λ clean. keeps_by g old.now new.now sql params (Ok count) (λ out. (ended out).1) (runs clean); survives = survives };
-        opened = λ clean. elim (cases_Bool old.now.in_transaction) [ inl within ↦ (runs clean within).1.was_open | inr without ↦ absurd (let e = (ended without).0 in cc) ];
+        uncommitted = record { same_reference = same; kept = λ clean. keeps_by g old.conn.now new.conn.now sql params (Ok count) (λ out. (ended out).1) (runs clean); survives = survives };
+        opened = λ clean. elim (cases_Bool old.conn.now.in_transaction) [ inl within ↦ (runs clean within).1.was_open | inr without ↦ absurd (let e = (ended without).0 in cc) ];
         ran = λ clean within. (count, runs clean within);
       }
       by_result (Err e) ended runs = record {
-        uncommitted = record { same_reference = same; kept = λ clean. keeps_by g old.now new.now sql params (Err e) (λ out. (ended out).1) (runs clean); survives = survives };
+        uncommitted = record { same_reference = same; kept = λ clean. keeps_by g old.conn.now new.conn.now sql params (Err e) (λ out. (ended out).1) (runs clean); survives = survives };
         opened = λ clean. tt;
         ran = λ clean within. runs clean within;
       }
 
   -- a statement that changes an index so is a step of it; `cells` are its parameters
-  pub step_of : (sql : List ℕ) (cells params : Row) (change : Tables → Tables) (old new : MutBor (Held S)) (r : Result (Unit {0}) Error) → IsWrite index_schema sql (length cells)
-      → ((count : ℕ) → IsIndex (state g old.now).now → Executes sql cells (state g old.now) (state g new.now) (Ok count) → Changes change (state g old.now).now (state g new.now).now)
-      → params ≡ cells → RunsStatement g sql params old new r → TakesStep g change (Statement sql cells) old new r
+  pub step_of : (sql : List ℕ) (cells params : Row) (change : Tables → Tables) (old new : Transaction S) (r : Result (Unit {0}) Error) → IsWrite index_schema sql (length cells)
+      → ((count : ℕ) → IsIndex (state g old.conn.now).now → Executes sql cells (state g old.conn.now) (state g new.conn.now) (Ok count) → Changes change (state g old.conn.now).now (state g new.conn.now).now)
+      → params ≡ cells → RunsStatement sql params (on_store g old new) r → TakesStep change (Statement sql cells) (on_store g old new) r
   step_of sql cells params change old new (Ok done) write changes given run = record {
     uncommitted = run.uncommitted;
     made = λ clean ready.
         let ran = run.ran clean ready.inside in
-        makes sql cells change same_meta params (state g old.now) (state g new.now) ran.0 (changes ran.0) ready ran.1 given;
+        makes sql cells change same_meta params (state g old.conn.now) (state g new.conn.now) ran.0 (changes ran.0) ready ran.1 given;
     opened = run.opened;
     asked = λ clean can.
         let ran = run.ran clean can.ready.inside in
-        step_goes g sql cells params write old.now new.now (Ok ran.0) can.ready can.unlimited (λ _. ran.1) given;
+        step_goes g sql cells params write old.conn.now new.conn.now (Ok ran.0) can.ready can.unlimited (λ _. ran.1) given;
   }
   step_of sql cells params change old new (Err e) write changes given run = record {
     uncommitted = run.uncommitted;
     made = λ clean. tt;
     opened = λ clean. tt;
-    asked = λ clean can. step_goes g sql cells params write old.now new.now (Err e) can.ready can.unlimited (run.ran clean) given;
+    asked = λ clean can. step_goes g sql cells params write old.conn.now new.conn.now (Err e) can.ready can.unlimited (run.ran clean) given;
   }
 
   module _ {A : Type 0} (change : Tables → Tables) (numbers : List ℕ) where
     -- a step with numbers is one of its statement, where these fit
-    pub fitting : (sql : List ℕ) (given cells : Row) (old new : MutBor (Held S)) (r : Result A Error) → given ≡ cells → TakesStep g change (Statement sql given) old new r
-        → TakesStep g change (WithNumbers numbers (Statement sql cells)) old new r
+    pub fitting : (sql : List ℕ) (given cells : Row) (old new : Transaction S) (r : Result A Error) → given ≡ cells → TakesStep change (Statement sql given) (on_store g old new) r
+        → TakesStep change (WithNumbers numbers (Statement sql cells)) (on_store g old new) r
     fitting sql given cells old new r same step = record {
       uncommitted = step.uncommitted;
       made = step.made;
       opened = step.opened;
-      asked = λ clean can. fits numbers sql given cells (state g old.now) (state g new.now) r same (step.asked clean can);
+      asked = λ clean can. fits numbers sql given cells (state g old.conn.now) (state g new.conn.now) r same (step.asked clean can);
     }
 
     -- and is refused before it, where one does not
-    pub too_much : (ask : Ask) (it : MutBor (Held S)) (r : Result A Error) (e : Error) → IsErrAnd r (λ it. it ≡ e) → HasTooMuch numbers → TakesStep g change (WithNumbers numbers ask) it it r
-    too_much ask it r e failed much = at_exit r e (TakesStep g change (WithNumbers numbers ask) it it) failed (record {
-      uncommitted = uncommitted_none it;
+    pub too_much : (ask : Ask) (it : Transaction S) (r : Result A Error) (e : Error) → IsErrAnd r (λ it. it ≡ e) → HasTooMuch numbers → TakesStep change (WithNumbers numbers ask) (on_store g it it) r
+    too_much ask it r e failed much = at_exit r e (TakesStep change (WithNumbers numbers ask) (on_store g it it)) failed (record {
+      uncommitted = uncommitted_none it.conn;
       made = λ clean. tt;
       opened = λ clean. tt;
       asked = λ clean can store. inr (Some (IntegralValueOutOfRange 0), inl (much, refl));
     })
 
 -- a step that puts the columns that a call has holds the name with its project
-pub held_step : {S A : Type 0} (g : Ghosts S) (name : Bytes) (project : Project) (shown : Bytes) (numbers : NameNumbers) → shown ≡ project.shown → numbers ≡ held_numbers project → (old new : MutBor (Held S)) (r : Result A Error)
-    → TakesStep g (puts_name name (name_of shown numbers)) (Statement put_name_text (name_cells name shown numbers)) old new r
-    → TakesStep g (puts_name name (known.Held project)) (hold_name_ask name project) old new r
+pub held_step : {S A : Type 0} (g : Ghosts S) (name : Bytes) (project : Project) (shown : Bytes) (numbers : NameNumbers) → shown ≡ project.shown → numbers ≡ held_numbers project → (old new : Transaction S) (r : Result A Error)
+    → TakesStep (puts_name name (name_of shown numbers)) (Statement put_name_text (name_cells name shown numbers)) (on_store g old new) r
+    → TakesStep (puts_name name (known.Held project)) (hold_name_ask name project) (on_store g old new) r
 held_step g name project shown numbers s n old new r step =
     let cells = name_cells name project.shown (held_numbers project) in
     let put = rw (s, n) at step in
     fitting g (puts_name name (known.Held project)) (project_numbers project) put_name_text cells cells old new r refl
-    (subst (λ it. TakesStep g (puts_name name it) (Statement put_name_text cells) old new r) (held_again project) put)
+    (subst (λ it. TakesStep (puts_name name it) (Statement put_name_text cells) (on_store g old new) r) (held_again project) put)
 
 -- ---- steps in turn
 
 -- a step is steps
-pub step_alone : {S A : Type 0} (g : Ghosts S) (change : Tables → Tables) (ask : Ask) (old new : MutBor (Held S)) (r : Result A Error) → TakesStep g change ask old new r
-    → TakesSteps g IsInTransaction (MakesInTransaction change same_meta) CanAsk (AnswersAll (ask ∷ [])) old new r
+pub step_alone : {S A : Type 0} (g : Ghosts S) (change : Tables → Tables) (ask : Ask) (old new : Transaction S) (r : Result A Error) → TakesStep change ask (on_store g old new) r
+    → TakesSteps IsInTransaction (MakesInTransaction change same_meta) CanAsk (AnswersAll (ask ∷ [])) (on_store g old new) r
 step_alone g change ask old new r step = record {
   uncommitted = step.uncommitted;
   made = step.made;
-  asked = λ clean can. goes_alone ask (state g old.now) (state g new.now) r (step.asked clean can);
+  asked = λ clean can. goes_alone ask (state g old.conn.now) (state g new.conn.now) r (step.asked clean can);
 }
 
-module _ {S A B : Type 0} (g : Ghosts S) {Begins CanAsk : State → Type 0} {One : State → State → Type 0} (xs : List Ask) {first mid : MutBor (Held S)} where
+module _ {S A B : Type 0} (g : Ghosts S) {Begins CanAsk : State → Type 0} {One : State → State → Type 0} (xs : List Ask) {first mid : Transaction S} where
   -- where some fail, so do all
-  pub exits : (zs : List Ask) (Both : State → State → Type 0) (r : Result B Error) (e : Error) → IsErrAnd r (λ it. it ≡ e) → TakesSteps {A = A} g Begins One CanAsk (AnswersAll xs) first mid (Err e)
-      → TakesSteps g Begins Both CanAsk (AnswersAll (xs ++ zs)) first mid r
-  exits zs Both r e failed some = at_exit r e (TakesSteps g Begins Both CanAsk (AnswersAll (xs ++ zs)) first mid) failed (record {
+  pub exits : (zs : List Ask) (Both : State → State → Type 0) (r : Result B Error) (e : Error) → IsErrAnd r (λ it. it ≡ e) → TakesSteps {A = A} Begins One CanAsk (AnswersAll xs) (on_store g first mid) (Err e)
+      → TakesSteps Begins Both CanAsk (AnswersAll (xs ++ zs)) (on_store g first mid) r
+  exits zs Both r e failed some = at_exit r e (TakesSteps Begins Both CanAsk (AnswersAll (xs ++ zs)) (on_store g first mid)) failed (record {
     uncommitted = some.uncommitted;
     made = λ clean. tt;
     asked = λ clean can store. elim (some.asked clean can store) [
       | inl fault ↦ inl fault
-      | inr refuses ↦ inr (refuses.0, all_stop xs zs (state g first.now).now refuses.0 refuses.1)
+      | inr refuses ↦ inr (refuses.0, all_stop xs zs (state g first.conn.now).now refuses.0 refuses.1)
     ];
   })
 
-  module _ {Goes AsksOn : State → Type 0} {Two : State → State → Type 0} (Both : State → State → Type 0) (ys : List Ask) {last : MutBor (Held S)} {a : A} (begins : CanAsk (state g first.now) → Begins (state g first.now))
-      (goes : One (state g first.now) (state g mid.now) → Goes (state g mid.now)) (asks_on : CanAsk (state g first.now) → One (state g first.now) (state g mid.now) → (state g mid.now).step_limit ≡ (state g first.now).step_limit → AsksOn (state g mid.now))
-      (both : One (state g first.now) (state g mid.now) → Two (state g mid.now) (state g last.now) → Both (state g first.now) (state g last.now)) (one : TakesSteps g Begins One CanAsk (AnswersAll xs) first mid (Ok a)) where
+  module _ {Goes AsksOn : State → Type 0} {Two : State → State → Type 0} (Both : State → State → Type 0) (ys : List Ask) {last : Transaction S} {a : A} (begins : CanAsk (state g first.conn.now) → Begins (state g first.conn.now))
+      (goes : One (state g first.conn.now) (state g mid.conn.now) → Goes (state g mid.conn.now)) (asks_on : CanAsk (state g first.conn.now) → One (state g first.conn.now) (state g mid.conn.now) → (state g mid.conn.now).step_limit ≡ (state g first.conn.now).step_limit → AsksOn (state g mid.conn.now))
+      (both : One (state g first.conn.now) (state g mid.conn.now) → Two (state g mid.conn.now) (state g last.conn.now) → Both (state g first.conn.now) (state g last.conn.now)) (one : TakesSteps Begins One CanAsk (AnswersAll xs) (on_store g first mid) (Ok a)) where
     -- steps, and those after them
-    pub steps_then : (r : Result B Error) → TakesSteps g Goes Two AsksOn (AnswersAll ys) mid last r → TakesSteps g Begins Both CanAsk (AnswersAll (xs ++ ys)) first last r
+    pub steps_then : (r : Result B Error) → TakesSteps Goes Two AsksOn (AnswersAll ys) (on_store g mid last) r → TakesSteps Begins Both CanAsk (AnswersAll (xs ++ ys)) (on_store g first last) r
     steps_then (Ok b) two = record {
-      uncommitted = uncommitted_then g first mid last one.uncommitted two.uncommitted;
+      uncommitted = uncommitted_then g first.conn mid.conn last.conn one.uncommitted two.uncommitted;
       made = λ clean can.
           let did = one.made (omega (arith, two.uncommitted.survives.clean)) can in
           both did (two.made clean (goes did));
       asked = λ clean can.
-          let before : HasCleanDisk (state g mid.now) = omega (arith, two.uncommitted.survives.clean) in
+          let before : HasCleanDisk (state g mid.conn.now) = omega (arith, two.uncommitted.survives.clean) in
           let on = asks_on can (one.made before (begins can)) one.uncommitted.survives.limit in
-          all_then xs ys (state g first.now).now (state g mid.now).now (Ok (state g last.now).now) (one.asked before can) (two.asked clean on);
+          all_then xs ys (state g first.conn.now).now (state g mid.conn.now).now (Ok (state g last.conn.now).now) (one.asked before can) (two.asked clean on);
     }
     steps_then (Err e) two = record {
-      uncommitted = uncommitted_then g first mid last one.uncommitted two.uncommitted;
+      uncommitted = uncommitted_then g first.conn mid.conn last.conn one.uncommitted two.uncommitted;
       made = λ clean. tt;
       asked = λ clean can store.
-          let before : HasCleanDisk (state g mid.now) = omega (arith, two.uncommitted.survives.clean) in
+          let before : HasCleanDisk (state g mid.conn.now) = omega (arith, two.uncommitted.survives.clean) in
           let on = asks_on can (one.made before (begins can)) one.uncommitted.survives.limit in
           elim (two.asked clean on store) [
-            | inl fault ↦ inl (fault_since (state g first.now) (state g mid.now) (state g last.now) one.uncommitted.survives.counts fault)
-            | inr refuses ↦ inr (refuses.0, all_then xs ys (state g first.now).now (state g mid.now).now (Err refuses.0) (one.asked before can) refuses.1)
+            | inl fault ↦ inl (fault_since (state g first.conn.now) (state g mid.conn.now) (state g last.conn.now) one.uncommitted.survives.counts fault)
+            | inr refuses ↦ inr (refuses.0, all_then xs ys (state g first.conn.now).now (state g mid.conn.now).now (Err refuses.0) (one.asked before can) refuses.1)
           ];
     }

@@ -1,15 +1,14 @@
 -- What steps do in a transaction, and one statement of them.
 use Rattle.std.specs.Prelude.{ℕ, IsTrue, List, OnOk, Ok, Err, MatchResult, Result}
-use Rattle.std.specs.Borrow.{MutBor}
 use Rattle.sqlite_value.specs.Order.{Row}
-use Rattle.sqlite_trees.specs.declared.store.Store.{Ghosts}
 use Rattle.sqlite.specs.declared.error.Error.{Error}
 use Rattle.sqlite.specs.Effect.{Database}
-use Rattle.sqlite.specs.Held.{Held, state}
+use Rattle.sqlite.specs.Held.{state}
 use Rattle.sqlite.specs.Rows.{Part}
 use Rattle.sqlite.specs.State.{State, ExecutesInside, HasCleanDisk}
 use Rattle.index_rules.specs.Tables.{Tables}
 use Rattle.index_sql_schema.specs.Index.{same_meta}
+use Rattle.index_sql_schema.specs.OnStore.{TransactionStep}
 use Rattle.index_sql_writes.specs.Asks.{Ask, GoesAs, GoesByAsk}
 use Rattle.index_sql_writes.specs.Changed.{deletion_by, put_by, step_by}
 use Rattle.index_sql_writes.specs.StepAsks.{deletion_ask, put_ask, step_ask}
@@ -20,65 +19,66 @@ use Rattle.index_sql_writes.specs.Transaction.{IsInTransaction, IsUncommitted, M
 use Rattle.index_sql_writes.specs.Transaction.{MakesIfOk, WasOpenIfOk}
 
 -- a step that makes this change of the tables, and asks this of SQL
-pub record TakesStep {S A : Type 0} (g : Ghosts S)
+pub record TakesStep {S A : Type 0}
     (change : Tables → Tables)
     (ask : Ask)
-    (old new : MutBor (Held S))
+    (tx : TransactionStep S)
     (result : Result A Error) : Type 0 where
-  pub uncommitted : IsUncommitted g old new
-  pub made : MakesIfOk g change old.now new.now result
-  pub opened : WasOpenIfOk g old.now new.now result
-  pub asked : GoesByAsk g ask old.now new.now result
+  pub uncommitted : IsUncommitted tx.store tx.old.conn tx.new.conn
+  pub made : MakesIfOk tx.store change tx.old.conn.now tx.new.conn.now result
+  pub opened : WasOpenIfOk tx.store tx.old.conn.now tx.new.conn.now result
+  pub asked : GoesByAsk tx.store ask tx.old.conn.now tx.new.conn.now result
 
 -- this step
-abbrev pub RunsStep : {S A : Type 0} → Ghosts S
-    → Step → MutBor (Held S) → MutBor (Held S) → Result A Error → Type 0
-RunsStep g step = TakesStep g (step_by step) (step_ask step)
+abbrev pub RunsStep :
+    {S A : Type 0} → Step → TransactionStep S → Result A Error → Type 0
+RunsStep step = TakesStep (step_by step) (step_ask step)
 
 -- one that puts this
-abbrev pub TakesPut : {S A : Type 0} → Ghosts S
-    → Put → MutBor (Held S) → MutBor (Held S) → Result A Error → Type 0
-TakesPut g put = TakesStep g (put_by put) (put_ask put)
+abbrev pub TakesPut :
+    {S A : Type 0} → Put → TransactionStep S → Result A Error → Type 0
+TakesPut put = TakesStep (put_by put) (put_ask put)
 
 -- one by which this goes
-abbrev pub TakesDeletion : {S A : Type 0} → Ghosts S
-    → Deletion → MutBor (Held S) → MutBor (Held S) → Result A Error → Type 0
-TakesDeletion g deletion = TakesStep g (deletion_by deletion) (deletion_ask deletion)
+abbrev pub TakesDeletion :
+    {S A : Type 0} → Deletion → TransactionStep S → Result A Error → Type 0
+TakesDeletion deletion = TakesStep (deletion_by deletion) (deletion_ask deletion)
 
 -- any number of steps: where a transaction is such that they can, they make this of it; and where
 -- they can be asked, they go as SQL answers
-pub record TakesSteps {S A : Type 0} (g : Ghosts S)
+pub record TakesSteps {S A : Type 0}
     (CanMake : State → Type 0)
     (MakesInTransaction : State → State → Type 0)
     (CanAsk : State → Type 0)
     (Answered : Database → Part Database)
-    (old new : MutBor (Held S))
+    (tx : TransactionStep S)
     (result : Result A Error) : Type 0 where
-  pub uncommitted : IsUncommitted g old new
-  pub made : HasCleanDisk (state g new.now)
+  pub uncommitted : IsUncommitted tx.store tx.old.conn tx.new.conn
+  pub made : HasCleanDisk (state tx.store tx.new.conn.now)
       → OnOk result
-      (CanMake (state g old.now) → MakesInTransaction (state g old.now) (state g new.now))
-  pub asked : GoesAs g CanAsk Answered old.now new.now result
+      (CanMake (state tx.store tx.old.conn.now)
+      → MakesInTransaction (state tx.store tx.old.conn.now) (state tx.store tx.new.conn.now))
+  pub asked : GoesAs tx.store CanAsk Answered tx.old.conn.now tx.new.conn.now result
 
 -- any number of them on an index, which make this change of its tables
-abbrev pub ChangesIndex : {S A : Type 0} → Ghosts S
-    → (Tables → Tables)
+abbrev pub ChangesIndex : {S A : Type 0} → (Tables → Tables)
     → (State → Type 0)
     → (Database → Part Database)
-    → MutBor (Held S) → MutBor (Held S) → Result A Error → Type 0
-ChangesIndex g change = TakesSteps g IsInTransaction (MakesInTransaction change same_meta)
+    → TransactionStep S → Result A Error → Type 0
+ChangesIndex change = TakesSteps IsInTransaction (MakesInTransaction change same_meta)
 
 -- one statement with these parameters
-pub record RunsStatement {S : Type 0} (g : Ghosts S)
+pub record RunsStatement {S : Type 0}
     (sql : List ℕ)
     (params : Row)
-    (old new : MutBor (Held S))
+    (tx : TransactionStep S)
     (result : Result (Unit {0}) Error) : Type 0 where
-  pub uncommitted : IsUncommitted g old new
-  pub opened : WasOpenIfOk g old.now new.now result
-  pub ran : HasCleanDisk (state g new.now)
-      → IsTrue (state g old.now).in_transaction
+  pub uncommitted : IsUncommitted tx.store tx.old.conn tx.new.conn
+  pub opened : WasOpenIfOk tx.store tx.old.conn.now tx.new.conn.now result
+  pub ran : let old = state tx.store tx.old.conn.now in
+      let new = state tx.store tx.new.conn.now in
+      HasCleanDisk new
+      → IsTrue old.in_transaction
       → MatchResult result
-      (λ _. (count : ℕ)
-      × ExecutesInside 0 sql params (state g old.now) (state g new.now) (Ok count))
-      (λ e. ExecutesInside 0 sql params (state g old.now) (state g new.now) (Err e))
+      (λ _. (count : ℕ) × ExecutesInside 0 sql params old new (Ok count))
+      (λ e. ExecutesInside 0 sql params old new (Err e))

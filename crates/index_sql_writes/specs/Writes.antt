@@ -18,7 +18,7 @@ use Rattle.index_rules.specs.Tables.{Tables}
 use Rattle.index_rules.specs.Effect.{without_name, as_deleted_of, is_file_of}
 use Rattle.index_sql_schema.specs.Records.{number_in, number_if_any, name_by}
 use Rattle.index_sql_schema.specs.ShownRows.{file_shown}
-use Rattle.index_sql_writes.specs.declared.put.NameNumbers.{NameNumbers}
+use Rattle.index_sql_writes.specs.declared.statements.NameNumbers.{NameNumbers}
 
 -- ---- a record at its key, in place of the one that is there
 

@@ -1,13 +1,14 @@
 //! The statement that puts an open case.
 ghost use Rattle.std.specs.Prelude.{◌≡◌, IfErr, IfOk, OnOk};
 ghost use Rattle.index_retention.specs.Attempts.{IsTally};
+ghost use Rattle.index_sql_schema.specs.OnStore.{on_store};
 ghost use Rattle.index_sql_writes.specs.Asks.{HasTooMuch, IsOutOfRange};
 ghost use Rattle.index_sql_writes.specs.Steps.{TakesPut};
 ghost use Rattle.index_sql_writes.specs.declared.step.Put.{Put};
 ghost use Rattle.index_sql_writes.specs.Writes.{kind_number};
 ghost use Rattle.index_sql_writes.specs.Statements.{case_numbers, integers_of};
 
-use crate::statement::{run_statement, sql_integer, sql_integer_if_any};
+use crate::statements::{run_statement, sql_integer, sql_integer_if_any};
 use index_names::NormalName;
 use index_retention::CaseKind;
 use index_rules::CaseRecord;
@@ -33,7 +34,7 @@ pub(crate) fn put_case<S: Alter>(
     name: &NormalName,
     case: &CaseRecord,
 ) -> Result<(), Error>
-    ensures { TakesPut S.Store (Put.Case name.entry case.entry) tx.old.conn tx.new.conn result }
+    ensures { TakesPut (Put.Case name.entry case.entry) (on_store S.Store tx.old tx.new) result }
 {
     let numbers = numbers_of(case)?;
     run_statement(

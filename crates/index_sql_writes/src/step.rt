@@ -1,20 +1,18 @@
 //! The steps of a change.
 ghost use Rattle.std.specs.Prelude.{◌≡◌, ◌<◌, [], ◌∷◌, ◌++◌, length};
+ghost use Rattle.index_sql_schema.specs.OnStore.{on_store};
 ghost use Rattle.index_sql_writes.specs.Transaction.{WasOpenIfOk};
 ghost use Rattle.index_sql_writes.specs.Asks.{AnswersAll, CanAsk};
 ghost use Rattle.index_sql_writes.specs.Steps.{ChangesIndex, RunsStep, TakesDeletion, TakesPut};
 ghost use Rattle.index_sql_writes.specs.StepAsks.{asks_by};
 ghost use Rattle.index_sql_writes.specs.Changed.{all_of};
 
-use crate::bodies::delete_bodies;
-use crate::delete::{
-    delete_body, delete_case, delete_name, delete_owner, delete_owners, delete_yank, delete_yanks,
-    mark_files,
-};
-use crate::put::{
-    hold_name, prohibit_name, put_ban, put_body, put_file, put_owner, put_user, put_yank,
-};
 use crate::put_case::put_case;
+use crate::statements::{
+    delete_bodies, delete_body, delete_case, delete_name, delete_owner, delete_owners, delete_yank,
+    delete_yanks, hold_name, mark_files, prohibit_name, put_ban, put_body, put_file, put_owner,
+    put_user, put_yank,
+};
 use index_names::{FileName, NormalName, Release};
 use index_rules::{CaseRecord, FileRecord, Project, UserId, UserRecord};
 use sqlite::{Alter, Error, Transaction};
@@ -133,7 +131,7 @@ impl<'a> Steps<'a> {
 
 /// Puts a record.
 fn take_put<S: Alter>(tx: &mut Transaction<'_, S>, put: Put<'_>) -> Result<(), Error>
-    ensures { TakesPut S.Store put.entry tx.old.conn tx.new.conn result }
+    ensures { TakesPut put.entry (on_store S.Store tx.old tx.new) result }
 {
     match put {
         Put::User(user, account) => put_user(tx, user, account),
@@ -150,7 +148,7 @@ fn take_put<S: Alter>(tx: &mut Transaction<'_, S>, put: Put<'_>) -> Result<(), E
 
 /// Takes out what goes.
 fn take_deletion<S: Alter>(tx: &mut Transaction<'_, S>, deletion: Deletion<'_>) -> Result<(), Error>
-    ensures { TakesDeletion S.Store deletion.entry tx.old.conn tx.new.conn result }
+    ensures { TakesDeletion deletion.entry (on_store S.Store tx.old tx.new) result }
 {
     match deletion {
         Deletion::Name(name) => delete_name(tx, name),
@@ -166,7 +164,7 @@ fn take_deletion<S: Alter>(tx: &mut Transaction<'_, S>, deletion: Deletion<'_>) 
 
 /// Takes one step.
 fn take_step<S: Alter>(tx: &mut Transaction<'_, S>, step: &Step<'_>) -> Result<(), Error>
-    ensures { RunsStep S.Store step.now tx.old.conn tx.new.conn result }
+    ensures { RunsStep step.now (on_store S.Store tx.old tx.new) result }
 {
     match *step {
         Step::Put(put) => take_put(tx, put),
@@ -180,8 +178,8 @@ pub(crate) fn take_steps<S: Alter>(
     tx: &mut Transaction<'_, S>,
     steps: &[Step<'_>],
 ) -> Result<(), Error>
-    ensures taken { ChangesIndex S.Store (all_of steps.now)
-        CanAsk (AnswersAll (asks_by steps.now)) tx.old.conn tx.new.conn result }
+    ensures taken { ChangesIndex (all_of steps.now) CanAsk (AnswersAll (asks_by steps.now))
+        (on_store S.Store tx.old tx.new) result }
     ensures opened { 0 < length steps.now →
         WasOpenIfOk S.Store tx.old.conn.now tx.new.conn.now result }
 {

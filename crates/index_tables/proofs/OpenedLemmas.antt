@@ -11,6 +11,7 @@ use Rattle.index_sql_opening.specs.Making.{IsAtRest, MakesIndex}
 use Rattle.index_sql_schema.specs.Faults.{fault_by}
 use Rattle.index_sql_schema.specs.Index.{IsIndex, meta_in, version_in, version_among}
 use Rattle.index_sql_schema.specs.Looks.{IsIndexConnection, QueriesOnly}
+use Rattle.index_sql_schema.specs.OnStore.{on_store}
 use Rattle.index_sql_schema.specs.RecordRows.{AreRecords}
 use Rattle.index_sql_schema.specs.Records.{tables_in}
 use Rattle.index_sql_writes.specs.Asks.{Ask}
@@ -74,7 +75,7 @@ module _ {S : Type 0} (g : Ghosts S) (Made : Database → Trees → Type 0) (old
       (kind : HasCleanDisk (state g old) → IsTrue (state g old).is_open → IsKind (state g old).now)
       (tells : HasCleanDisk (state g old) → IsTrue (state g old).is_open → version_among (rows (meta_in (state g old).now.trees)) ≡ Some 2)
       (comes : IsWorking (state g old) → (db : Trees) → IsKind (state g old).now → AreCurrent db → tables_in db ≡ change (tables_in (state g old).now.trees) → meta_in db ≡ rows (meta_in (state g old).now.trees) → Made (state g old).now db) where
-    made_crash : (result : Result A Error) → MakesIndex g IsKind change rows asks old new result → LeavesOr Made (state g old) (state g new)
+    made_crash : (result : Result A Error) → MakesIndex IsKind change rows asks (on_store g old new) result → LeavesOr Made (state g old) (state g new)
     made_crash result it working clean db may =
         let fit = kind working.clean working.is_open in
         elim ((it.crash working.is_open fit).crash clean db may) [
@@ -82,12 +83,12 @@ module _ {S : Type 0} (g : Ghosts S) (Made : Database → Trees → Type 0) (old
           | inr made ↦ inr (comes working db fit (record { index = made.2; version = ap version_among made.1 ∙ tells working.clean working.is_open }) made.0 made.1)
         ]
 
-    made_limit : (result : Result A Error) → MakesIndex g IsKind change rows asks old new result → IsWorking (state g new) → KeepsLimit (state g old) (state g new)
+    made_limit : (result : Result A Error) → MakesIndex IsKind change rows asks (on_store g old new) result → IsWorking (state g new) → KeepsLimit (state g old) (state g new)
     made_limit result it working =
         let was = it.was_open working.clean working.is_open in
         (it.crash was (kind (it.was_clean working.clean) was)).limit
 
-    pub made_opened : (done : A) → MakesIndex g IsKind change rows asks old new (Ok done) → IsSettled (state g new) → AreOpened g Made old (record { conn = new; failures = 0; stores = 0 })
+    pub made_opened : (done : A) → MakesIndex IsKind change rows asks (on_store g old new) (Ok done) → IsSettled (state g new) → AreOpened g Made old (record { conn = new; failures = 0; stores = 0 })
     made_opened done it settled = opened_by settled it.was_clean it.was_open honest (made_crash (Ok done) it) (made_limit (Ok done) it) records
       where
         records : AreRecords (state g old).now → IsWorking (state g new) → AreRecords (state g new).now
@@ -100,7 +101,7 @@ module _ {S : Type 0} (g : Ghosts S) (Made : Database → Trees → Type 0) (old
             let made = it.made clean working.is_open (kind working.clean working.is_open) in
             record { clean = clean; is_open = made.is_open; index = made.index; committed = sym made.committed; version = ap version_among made.meta ∙ tells working.clean working.is_open }
 
-    pub made_refused : {Reason : Held S → Held S → OpenFault → Type 0} (e : Error) → MakesIndex {A = A} g IsKind change rows asks old new (Err e) → IsAtRest g old
+    pub made_refused : {Reason : Held S → Held S → OpenFault → Type 0} (e : Error) → MakesIndex {A = A} IsKind change rows asks (on_store g old new) (Err e) → IsAtRest g old
         → (why : OpenFault) → why ≡ open_fault_by (fault_by e) → (StoreForRefusal g asks old new why → Reason old new why) → IsUnopened g Made Reason old (record { why = why; conn = new })
     made_refused e it rest why is weaker =
         let fit = λ (clean : HasCleanDisk (state g new)) (o : IsTrue (state g old).is_open). kind (it.was_clean clean) o in
@@ -121,7 +122,7 @@ module _ {S : Type 0} (g : Ghosts S) (Made : Database → Trees → Type 0) (old
 pub made_index : {S A : Type 0} (g : Ghosts S) {IsKind : Database → Type 0} {change : Tables → Tables} {rows : List Row → List Row} {asks : List Ask} (old new : Held S)
     → (HasCleanDisk (state g old) → IsTrue (state g old).is_open → IsKind (state g old).now)
     → (HasCleanDisk (state g old) → IsTrue (state g old).is_open → version_among (rows (meta_in (state g old).now.trees)) ≡ Some 2)
-    → (done : A) → MakesIndex g IsKind change rows asks old new (Ok done) → IsIndexConnection g new
+    → (done : A) → MakesIndex IsKind change rows asks (on_store g old new) (Ok done) → IsIndexConnection g new
 made_index g old new kind tells done it =
     let was = λ (clean : HasCleanDisk (state g new)) (o : IsTrue (state g new).is_open). it.was_open clean o in
     let made = λ (clean : HasCleanDisk (state g new)) (o : IsTrue (state g new).is_open). it.made clean (was clean o) (kind (it.was_clean clean) (was clean o)) in

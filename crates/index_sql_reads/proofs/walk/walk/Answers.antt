@@ -7,7 +7,7 @@ use Rattle.index_sql_schema.specs.Faults.{fault_by}
 use Rattle.index_sql_schema.specs.Looks.{IsIndexConnection, QueriesOnly}
 use Rattle.index_sql_schema.proofs.LookLemmas.{clean_before, looks_kept, looks_refused, reasoned}
 use Rattle.index_sql_reads.specs.Handed.{IsGiving, IsOf, QueryEndsForReason}
-use Rattle.index_sql_reads.specs.Steps.{on_store}
+use Rattle.index_sql_schema.specs.OnStore.{on_store}
 use Rattle.index_sql_reads.proofs.WalkLemmas.{fault_told, faulted_as}
 use Rattle.index_sql_reads.proofs.QueryLemmas.{begins, ends_by, handed_looks, handed_of, looks_faulty}
 use Rattle.index_sql_reads.proofs.walk.walk.Goals as goal

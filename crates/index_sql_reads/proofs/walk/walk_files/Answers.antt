@@ -8,7 +8,7 @@ use Rattle.index_sql_schema.proofs.SelectFiles.{is_plain, records, selects, sure
 use Rattle.index_sql_schema.proofs.ShownRecords.{known_records}
 use Rattle.index_sql_schema.specs.Sure.{IsSure}
 use Rattle.index_sql_reads.specs.Handed.{IsOf, QueryEndsForReason}
-use Rattle.index_sql_reads.specs.Steps.{on_store}
+use Rattle.index_sql_schema.specs.OnStore.{on_store}
 use Rattle.index_sql_reads.proofs.EndLemmas.{files_ends}
 use Rattle.index_sql_reads.proofs.QueryLemmas.{ends_for, walks_all}
 use Rattle.index_sql_reads.proofs.WalkLemmas.{read_walks}

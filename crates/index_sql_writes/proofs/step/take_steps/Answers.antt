@@ -3,6 +3,7 @@ use Rattle.std.proofs.Math.Seq.{drop-cons}
 use Rattle.sqlite.specs.Held.{state}
 use Rattle.index_sql_writes.specs.Changed.{step_by, all_of}
 use Rattle.index_sql_schema.specs.Index.{meta_in}
+use Rattle.index_sql_schema.specs.OnStore.{on_store}
 use Rattle.index_sql_schema.specs.Records.{tables_in}
 use Rattle.index_sql_schema.specs.RecordRows.{AreRecords}
 use Rattle.index_sql_writes.specs.Transaction.{IsInTransaction}
@@ -58,7 +59,7 @@ returns-in_err-take_step-clause-taken g c =
     let split : drop c.loop-step.step-index steps ≡ c.step-item.result ∷ rest = search (rules, drop-cons) in
     let before = c.loop-step.invariant in
     let did = c.take_step.ensures in
-    at_exit c.from_residual.result c.in_err-take_step.field-0.0 (TakesSteps g.S.Store IsInTransaction (MakesInTransaction (all_of steps) same_meta) CanAsk (AnswersAll (asks_by steps)) c.args.tx.now.conn c.take_step.new.tx.conn) c.from_residual.ensures.1 (record {
+    at_exit c.from_residual.result c.in_err-take_step.field-0.0 (TakesSteps IsInTransaction (MakesInTransaction (all_of steps) same_meta) CanAsk (AnswersAll (asks_by steps)) (on_store g.S.Store c.args.tx.now c.take_step.new.tx)) c.from_residual.ensures.1 (record {
       uncommitted = uncommitted_then g.S.Store c.args.tx.now.conn c.loop-step.tx.conn c.take_step.new.tx.conn before.uncommitted did.uncommitted;
       made = λ clean. tt;
       asked = λ clean can store.

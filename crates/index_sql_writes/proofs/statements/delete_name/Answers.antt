@@ -1,0 +1,10 @@
+use Rattle.std.proofs.Common.{[], ◌∷◌, rules}
+use Rattle.sqlite_value.specs.declared.value.Value.TheVariants.{Text}
+use Rattle.index_sql_schema.specs.StatementTexts.{delete_name_text}
+use Rattle.index_sql_schema.proofs.DeleteName.{deletes}
+use Rattle.index_sql_writes.proofs.TakenLemmas.{step_of}
+use Rattle.index_sql_writes.proofs.SureWrites.{delete_name_sure}
+use Rattle.index_sql_writes.proofs.statements.delete_name.Goals as goal
+
+pub returns : goal.returns
+returns g c = step_of g.S.Store delete_name_text (Text c.args.name.now ∷ []) _ _ _ _ _ delete_name_sure (λ count. deletes c.args.name.now _ _ count) (search rules) c.run_statement.ensures
