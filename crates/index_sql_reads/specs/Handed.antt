@@ -15,9 +15,9 @@ use Rattle.index_sql_schema.specs.Reasons.{HasReason}
 use Rattle.index_rules.specs.declared.answer.Fault.TheVariants as fault
 use Rattle.index_rules.specs.declared.rows.WalkEnd.{WalkEnd}
 use Rattle.index_rules.specs.declared.rows.WalkEnd.TheVariants.{Store}
-use Rattle.index_rules.specs.Walks.{Walks, has_fault}
+use Rattle.index_rules.specs.Walks.{has_fault}
 use Rattle.index_sql_schema.specs.OnStore.{ConnectionStep}
-use Rattle.index_sql_reads.specs.Steps.{TakerStep}
+use Rattle.index_sql_reads.specs.Steps.{TakerStep, WalksTo}
 
 -- not each of these rows can be read, or there are more than a walk counts
 abbrev pub IsUnread : (Row → Type 0) → List Row → Type 0
@@ -85,7 +85,7 @@ module _ {S : Type 0} (g : Ghosts S) where
 pub record HasHanded {S K : Type 0} (IsRow : Row → Type 0) (conn : ConnectionStep S)
     (taker : TakerStep K Row) (result : Result (Unit {0}) WalkEnd) : Type 0 where
   pub rows : List Row
-  pub walks : Walks taker.takes taker.stops rows taker.old taker.new result
+  pub walks : WalksTo taker rows result
   -- the connection as it was when the last of them had been given
   pub last : Held S
   pub gives : Gives conn.store conn.old last rows
@@ -94,6 +94,14 @@ pub record HasHanded {S K : Type 0} (IsRow : Row → Type 0) (conn : ConnectionS
       → HasGiven conn.store sql params last rows
       → IfErr result (λ end. end ≡ Store
       → FailsAfter conn.store IsRow sql params last conn.new rows)
+
+-- some rows were handed over, and on a clean disk those of a query, or a front of them
+pub record HandsQuery {S K : Type 0} (sql : List ℕ) (params : Row) (conn : ConnectionStep S)
+    (taker : TakerStep K Row) (result : Result (Unit {0}) WalkEnd) : Type 0 where
+  pub rows : List Row
+  pub walks : WalksTo taker rows result
+  pub shown : HasCleanDisk (state conn.store conn.new)
+      → IsOf conn.store sql params conn.old rows result
 
 -- on a clean disk a query and its walk ended by a fault of the store only for a reason of a look,
 -- or since the first rows of its answer are not read

@@ -7,12 +7,12 @@ use Rattle.index_sql_schema.specs.Reasons.{HasReason}
 use Rattle.index_rules.specs.declared.rows.WalkEnd.{WalkEnd}
 use Rattle.index_rules.specs.declared.rows.WalkEnd.TheVariants.{Store}
 use Rattle.index_rules.specs.Tables.{Tables}
-use Rattle.index_rules.specs.Walks.{Walks, has_fault}
+use Rattle.index_rules.specs.Walks.{has_fault}
 use Rattle.index_sql_schema.specs.Looks.{QueriesOnly}
 use Rattle.index_sql_schema.specs.RecordRows.{AreRecords}
 use Rattle.index_sql_reads.specs.ConnectionTables.{tables_of}
 use Rattle.index_sql_schema.specs.OnStore.{ConnectionStep}
-use Rattle.index_sql_reads.specs.Steps.{TakerStep}
+use Rattle.index_sql_reads.specs.Steps.{TakerStep, WalksTo}
 
 -- on a clean disk, where all rows are those of records, a walk over these rows ends by `Store` only
 -- for a reason of a look, or since they are more than it counts
@@ -27,9 +27,8 @@ EndsForReason g old new rows result =
 pub record HandsRows {S K R A : Type 0} (rows_in : Tables → List R) (conn : ConnectionStep S)
     (taker : TakerStep K R) (result : Result A WalkEnd) : Type 0 where
   pub walked : let rows = rows_in (tables_of conn.store conn.old) in
-      HasCleanDisk (state conn.store conn.new)
-      → Walks taker.takes taker.stops rows taker.old taker.new result
-  pub given : (rows : List R) × Walks taker.takes taker.stops rows taker.old taker.new result
+      HasCleanDisk (state conn.store conn.new) → WalksTo taker rows result
+  pub given : (rows : List R) × WalksTo taker rows result
   pub looks : QueriesOnly conn.store conn.old conn.new (not (has_fault result))
   pub reason : let rows = rows_in (tables_of conn.store conn.old) in
       EndsForReason conn.store conn.old conn.new rows result

@@ -1,10 +1,8 @@
 //! Walks over the tables, which hand the rows of one query to a taker as the port reads them.
-ghost use Rattle.std.specs.Prelude.{◌≡◌, ◌≢◌, ◌∷◌, [], not, IfErr, List};
+ghost use Rattle.std.specs.Prelude.{◌≡◌, ◌≢◌, ◌∷◌, [], not, IfErr};
 ghost use Rattle.sqlite_value.specs.Order.{Row as RowData};
 ghost use Rattle.sqlite.specs.Given.{IsPlain};
-ghost use Rattle.sqlite.specs.Held.{state};
 ghost use Rattle.sqlite.specs.Listing.{understood};
-ghost use Rattle.sqlite.specs.State.{HasCleanDisk};
 ghost use Rattle.sqlite.specs.Values.{bound};
 ghost use Rattle.index_sql_schema.specs.Schema.{index_schema};
 ghost use Rattle.index_sql_schema.specs.Faults.{fault_by};
@@ -12,9 +10,9 @@ ghost use Rattle.index_sql_schema.specs.Looks.{IsIndexConnection, QueriesOnly};
 ghost use Rattle.index_sql_schema.specs.OnStore.{on_store};
 ghost use Rattle.index_sql_schema.specs.Sure.{IsSure};
 ghost use Rattle.index_rules.specs.TableRows.{file_rows_in, held_rows_in};
-ghost use Rattle.index_rules.specs.Walks.{Walks, has_fault, walk_end_of};
-ghost use Rattle.index_sql_reads.specs.Handed.{HasHanded, IsOf, QueryEndsForReason};
-ghost use Rattle.index_sql_reads.specs.Steps.{to_taker};
+ghost use Rattle.index_rules.specs.Walks.{has_fault, walk_end_of};
+ghost use Rattle.index_sql_reads.specs.Handed.{HandsQuery, HasHanded, QueryEndsForReason};
+ghost use Rattle.index_sql_reads.specs.Steps.{WalksTo, to_taker};
 ghost use Rattle.index_sql_reads.specs.WalkReasons.{HandsRows};
 
 use crate::from_row::FromRow;
@@ -79,9 +77,8 @@ pub(crate) fn walk<S: Alter, K, H: Hand<K>>(
 ) -> Result<(), WalkEnd>
     requires plain { IsPlain (understood index_schema query.now) }
     ensures kept { IsIndexConnection S.Store conn.old }
-    ensures handed { (rows : List RowData) × Walks H.takes H.stops rows taker.old taker.new result
-        × (HasCleanDisk (state S.Store conn.new)
-        → IsOf S.Store query.now (bound params.now) conn.old rows result) }
+    ensures handed { HandsQuery query.now (bound params.now)
+        (on_store S.Store conn.old conn.new) (to_taker H.takes H.stops taker.old taker.new) result }
     ensures looks { QueriesOnly S.Store conn.old conn.new (not (has_fault result)) }
     ensures reason { IsSure query.now (bound params.now) → QueryEndsForReason H.is_row
         query.now (bound params.now) (on_store S.Store conn.old conn.new) result }
@@ -136,7 +133,7 @@ pub(crate) trait Hand<K> {
 
     /// Hands a row over.
     fn hand(alloc: Global, row: &Row, taker: &mut K) -> Result<(), WalkEnd>
-        ensures walks { Walks takes stops (row.now ∷ []) taker.old taker.new result }
+        ensures walks { WalksTo (to_taker takes stops taker.old taker.new) (row.now ∷ []) result }
         ensures complete { is_row row.now → IfErr result (λ end. end ≢ WalkEnd.Store) };
 }
 

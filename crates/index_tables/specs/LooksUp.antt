@@ -6,14 +6,14 @@ use Rattle.sqlite.specs.Effect.{Database}
 use Rattle.sqlite.specs.Held.{state}
 use Rattle.sqlite.specs.State.{HasCleanDisk}
 use Rattle.index_sql_reads.specs.ConnectionTables.{tables_of}
-use Rattle.index_sql_reads.specs.Steps.{TakerStep}
+use Rattle.index_sql_reads.specs.Steps.{TakerStep, WalksTo}
 use Rattle.index_sql_reads.specs.WalkReasons.{EndsForReason}
 use Rattle.index_rules.specs.Calls as calls
 use Rattle.index_rules.specs.declared.answer.Fault.{Fault}
 use Rattle.index_rules.specs.declared.rows.WalkEnd.{WalkEnd}
 use Rattle.index_rules.specs.Tables.{Tables}
 use Rattle.index_rules.specs.StoreFaults.{fails_by_store, ends_by_store}
-use Rattle.index_rules.specs.Walks.{Walks, has_fault}
+use Rattle.index_rules.specs.Walks.{has_fault}
 use Rattle.index_sql_schema.specs.Index.{meta_in}
 use Rattle.index_sql_schema.specs.Reasons.{FailsForReason}
 use Rattle.index_sql_schema.specs.RecordRows.{AreRecords}
@@ -89,8 +89,8 @@ pub record WalksBooks {S K R A : Type 0} (rows_in : Tables → List R) (books : 
   pub walked : let rows = rows_in (tables_of books.store books.old.conn) in
       IsHonest (state books.store books.old.conn)
       → HasCleanDisk (state books.store books.new.conn)
-      → Walks taker.takes taker.stops rows taker.old taker.new result
-  pub given : (rows : List R) × Walks taker.takes taker.stops rows taker.old taker.new result
+      → WalksTo taker rows result
+  pub given : (rows : List R) × WalksTo taker rows result
   pub looks :
       LooksUp books.store books.old books.new (not (has_fault result)) (ends_by_store result)
   pub reason : let rows = rows_in (tables_of books.store books.old.conn) in

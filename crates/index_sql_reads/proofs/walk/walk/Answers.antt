@@ -39,7 +39,11 @@ returns-clause-handed g c =
     let it = c.hand_all.ensures.handed in
     let result = c.hand_all.result in
     let of : HasCleanDisk (state g.S.Store now) → IsOf g.S.Store query params old it.rows result = handed_of g.S.Store query params c.requires.plain old c.conn.invariant it.last now it.rows result (given g c) it.looks in
-    (it.rows, it.walks, λ clean. subst (λ held. IsOf g.S.Store query params held it.rows result) c.conn.view_is (of (search rules)))
+    record {
+      rows = it.rows;
+      walks = it.walks;
+      shown = λ clean. subst (λ held. IsOf g.S.Store query params held it.rows result) c.conn.view_is (of (search rules));
+    }
 
 pub returns-clause-looks : goal.returns-clause-looks
 returns-clause-looks g c =
@@ -74,8 +78,11 @@ pub invariant_of-conn : goal.invariant_of-conn
 invariant_of-conn g c = looks_kept g.S.Store _ _ _ c.conn.invariant (refused g c)
 
 pub returns-in-Err-clause-handed : goal.returns-in-Err-clause-handed
-returns-in-Err-clause-handed g c =
-    ([], faulted_as g.H.Hand.takes g.H.Hand.stops (fault_by c.in-Err.error) c.end_of.result c.end_of.ensures [] c.args.taker.now c.args.taker.now refl, λ clean. inl refl)
+returns-in-Err-clause-handed g c = record {
+  rows = [];
+  walks = faulted_as g.H.Hand.takes g.H.Hand.stops (fault_by c.in-Err.error) c.end_of.result c.end_of.ensures [] c.args.taker.now c.args.taker.now refl;
+  shown = λ clean. inl refl;
+}
 
 pub returns-in-Err-clause-looks : goal.returns-in-Err-clause-looks
 returns-in-Err-clause-looks g c = subst (λ held. QueriesOnly g.S.Store held c.query.follows.lender-at-none (not (is_fault c.end_of.result))) c.conn.view_is (refused g c)

@@ -25,10 +25,10 @@ returns g c =
     let new = c.walk.new.conn in
     record {
       walked = λ clean.
-          let told = subst (λ params. IsOf g.S.Store select_files_text params old it.0 c.walk.result) (search rules) (it.2 clean) in
+          let told = subst (λ params. IsOf g.S.Store select_files_text params old it.rows c.walk.result) (search rules) (it.shown clean) in
           walks_all g.S.Store select_files_text (Text name ∷ []) files_ends old c.walk.ensures.kept (c.walk.ensures.looks.was_clean clean) file_row_shown (λ T. file_rows_in T name) (selects name)
-          g.K.FileTaker.takes g.K.FileTaker.stops it.0 c.args.taker.now c.walk.new.taker c.walk.result told it.1;
-      given = (map file_row_shown it.0, read_walks g.K.FileTaker.takes g.K.FileTaker.stops file_row_shown it.0 c.args.taker.now c.walk.new.taker c.walk.result it.1);
+          g.K.FileTaker.takes g.K.FileTaker.stops it.rows c.args.taker.now c.walk.new.taker c.walk.result told it.walks;
+      given = (map file_row_shown it.rows, read_walks g.K.FileTaker.takes g.K.FileTaker.stops file_row_shown it.rows c.args.taker.now c.walk.new.taker c.walk.result it.walks);
       looks = c.walk.ensures.looks;
       reason = λ clean are.
           let told = subst (λ params. IsSure select_files_text params → QueryEndsForReason IsListedRow select_files_text params (on_store g.S.Store old new) c.walk.result) (search rules) c.walk.ensures.reason in

@@ -20,8 +20,8 @@ returns g c =
     record {
       walked = λ clean.
           walks_all g.S.Store select_held_text [] held_ends old c.walk.ensures.kept (c.walk.ensures.looks.was_clean clean) name_row_in held_rows_in selects_held
-          g.K.NameTaker.takes g.K.NameTaker.stops it.0 c.args.taker.now c.walk.new.taker c.walk.result (it.2 clean) it.1;
-      given = (map name_row_in it.0, read_walks g.K.NameTaker.takes g.K.NameTaker.stops name_row_in it.0 c.args.taker.now c.walk.new.taker c.walk.result it.1);
+          g.K.NameTaker.takes g.K.NameTaker.stops it.rows c.args.taker.now c.walk.new.taker c.walk.result (it.shown clean) it.walks;
+      given = (map name_row_in it.rows, read_walks g.K.NameTaker.takes g.K.NameTaker.stops name_row_in it.rows c.args.taker.now c.walk.new.taker c.walk.result it.walks);
       looks = c.walk.ensures.looks;
       reason = λ clean are.
           ends_for g.S.Store select_held_text [] held_ends old c.walk.ensures.kept (c.walk.ensures.looks.was_clean clean) name_row_in held_rows_in selects_held
