@@ -6,7 +6,7 @@ use Rattle.sqlite_trees.specs.declared.store.Store.{Ghosts}
 use Rattle.sqlite.specs.declared.error.Error.{Error}
 use Rattle.sqlite.specs.Effect.{Database}
 use Rattle.sqlite.specs.Held.{Held, state}
-use Rattle.sqlite.specs.State.{HasCleanDisk}
+use Rattle.sqlite.specs.State.{State, HasCleanDisk}
 use Rattle.index_rules.specs.declared.records.UserRecord.{UserRecord}
 use Rattle.index_rules.specs.Maps.{Bytes}
 use Rattle.index_rules.specs.Tables.{Tables}
@@ -27,6 +27,11 @@ pub record IsAtRest {S : Type 0} (g : Ghosts S) (held : Held S) : Type 0 where
   pub settled : HasCleanDisk (state g held)
       → IsTrue (state g held).is_open
       → (state g held).now ≡ (state g held).committed
+
+-- so it is, and its state is of this kind
+pub record RestsAs {S : Type 0} (g : Ghosts S) (Is : State → Type 0) (held : Held S) : Type 0 where
+  pub rest : IsAtRest g held
+  pub is : Is (state g held)
 
 -- it has this schema
 abbrev pub IsOfSchema : {S : Type 0} → Ghosts S → Held S → Schema → Type 0

@@ -3,7 +3,7 @@ ghost use Rattle.std.specs.Prelude.{◌≡◌, true, false, is_ok, IsTrue, IfOk}
 ghost use Rattle.sqlite.specs.Held.{state};
 ghost use Rattle.sqlite.specs.State.{HasCleanDisk};
 ghost use Rattle.sqlite_value.specs.Order.{column};
-ghost use Rattle.index_sql_opening.specs.Making.{IsAtRest};
+ghost use Rattle.index_sql_opening.specs.Making.{IsAtRest, RestsAs};
 ghost use Rattle.index_sql_opening.specs.Versions.{AnswersVersion, begun, first_number};
 ghost use Rattle.index_sql_schema.specs.Looks.{QueriesOnly};
 ghost use Rattle.index_sql_schema.specs.Reasons.{StoreForReason};
@@ -25,9 +25,7 @@ use sqlite::{Alter, Connection, Row, Transaction};
 ///
 /// `OutOfMemory` for want of memory, and `Store` where the store fails.
 pub fn read_version<S: Alter>(conn: &mut Connection<S>) -> Result<Option<u64>, Fault>
-    requires rest { IsAtRest S.Store conn.old }
-    requires version { IsTrue (state S.Store conn.old).is_open
-        → IsAnyVersion (state S.Store conn.old).now }
+    requires { RestsAs S.Store (λ s. IsTrue s.is_open → IsAnyVersion s.now) conn.old }
     ensures found { HasCleanDisk (state S.Store conn.new)
         → IfOk result (λ version. version ≡ version_in (state S.Store conn.old).now.trees) }
     ensures looks { QueriesOnly S.Store conn.old conn.new (is_ok result) }

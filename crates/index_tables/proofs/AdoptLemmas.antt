@@ -21,12 +21,13 @@ use Rattle.index_sql_schema.proofs.SelectVersion.{selects}
 use Rattle.index_sql_schema.proofs.VersionLemmas.{raised_tells}
 use Rattle.index_sql_schema.specs.FirstVersion.{IsAnyVersion, IsFirstVersion}
 use Rattle.index_sql_schema.specs.Index.{meta_in, raised, version_among, version_in}
+use Rattle.index_sql_reads.specs.ConnectionTables.{tables_of}
 use Rattle.index_sql_writes.proofs.GoingLemmas.{fault_since}
 use Rattle.index_tables.specs.declared.opening.Unopened.{Unopened}
 use Rattle.index_tables.specs.BooksState.{IsWorking, BooksState}
 use Rattle.index_tables.specs.declared.adopt.Kind.{Kind}
 use Rattle.index_tables.specs.declared.adopt.Kind.TheVariants.{FirstVersion}
-use Rattle.index_tables.specs.Adopted.{FailsToOpen, IsOurs, IsRaised, IsReason, IsReasonOfKind, TellsFirst, TellsVersion, refusal_in, version_of}
+use Rattle.index_tables.specs.Adopted.{Adopts, AreHandedOn, FailsToOpen, IsFound, IsOurs, IsRaised, IsReason, IsReasonOfKind, TellsFirst, TellsVersion, refusal_in, version_of}
 use Rattle.index_tables.specs.Opened.{AreOpened, IsFault, IsUnopened, LeavesOr, StoreForRefusal, open_fault_by}
 
 -- one of version 1 tells version 2, where its row of meta is raised
@@ -173,7 +174,20 @@ module _ {S : Type 0} (g : Ghosts S) where
       crash = raised_after refused.conn it.was_clean it.crash;
     }
 
--- two facts of a refusal make a third
-pub both_refused : {A E : Type 0} {P Q R : E → Type 0} (r : Result A E) → ((e : E) → P e → Q e → R e) → IfErr r P → IfErr r Q → IfErr r R
-both_refused (Ok a) third p q = tt
-both_refused (Err e) third p q = third e p q
+    -- a database of version 1 is adopted so after a look at its version
+    pub adopted_after : (result : Result (BooksState S) (Unopened S)) → (IsTrue (state g a).is_open → IsFirstVersion (state g a).now) → (HasCleanDisk (state g b) → version_in (state g a).now.trees ≡ Some 1)
+        → IfErr result (λ refused. IsFault refused.why) → Adopts g (StoreForRefusal g asks_of_migration) b result → Adopts g (IsReasonOfKind g FirstVersion) a result
+    adopted_after (Ok books) first told fault it = record {
+      found = λ working. subst (λ db. IsFound db (tables_of g books.conn)) (looks.same refl (it.opened.was_working working).clean) (it.found working);
+      meta = λ working. subst (λ db. AreHandedOn db (meta_in (state g books.conn).now.trees)) (looks.same refl (it.opened.was_working working).clean) (it.meta working);
+      opened = opened_after books it.opened;
+      why = tt;
+      refused = tt;
+    }
+    adopted_after (Err refused) first told fault it = record {
+      found = tt;
+      meta = tt;
+      opened = tt;
+      why = it.why;
+      refused = refused_after refused first told fault it.refused;
+    }

@@ -1,6 +1,6 @@
 -- What a database that is there is taken for.
 use Rattle.std.specs.Prelude.{◌≡◌, ◌≢◌, ◌⊎◌, ℕ, ◌==◌, Bool, ◌&&◌, false, if◌then◌else◌, Option}
-use Rattle.std.specs.Prelude.{Some, None, codes, IsTrue, List, ⊤}
+use Rattle.std.specs.Prelude.{Some, None, codes, IsTrue, List, ⊤, IfErr, IfOk, Result}
 use Rattle.sqlite_value.specs.Order.{Row}
 use Rattle.sqlite_trees.specs.Tree.{Trees}
 use Rattle.sqlite_trees.specs.declared.store.Store.{Ghosts}
@@ -24,7 +24,9 @@ use Rattle.index_sql_schema.specs.Records.{tables_in}
 use Rattle.index_sql_schema.specs.Schema.{index_schema}
 use Rattle.index_tables.specs.declared.adopt.Kind.{Kind}
 use Rattle.index_tables.specs.declared.adopt.Kind.TheVariants as kind
-use Rattle.index_tables.specs.BooksState.{AreCurrent}
+use Rattle.index_tables.specs.declared.opening.Unopened.{Unopened}
+use Rattle.index_tables.specs.BooksState.{AreCurrent, BooksState}
+use Rattle.index_tables.specs.Opened.{AreOpened, HaveMeta, HaveTables, IsUnopened, RefusesFound}
 
 -- it is an index that tells version 2, with these tables
 pub record IsCurrent (db : Database) (T : Tables) : Type 0 where
@@ -150,3 +152,13 @@ IsReason g old new Store =
     IsTrue (has_meta (state g old).now.schema)
     × (IsRefusedByVersion g old Store ⊎ FailsToOpen g old new)
 IsReason g old new why = IsRefusedByVersion g old why
+
+-- What comes of the adoption of a database: where books are opened, they are the index that is
+-- found in it; else no index is opened, for a reason of this kind.
+pub record Adopts {S : Type 0} (g : Ghosts S) (Reason : Held S → Held S → OpenFault → Type 0)
+    (old : Held S) (result : Result (BooksState S) (Unopened S)) : Type 0 where
+  pub found : IfOk result (HaveTables g (IsFound (state g old).now))
+  pub meta : IfOk result (HaveMeta g (AreHandedOn (state g old).now))
+  pub opened : IfOk result (AreOpened g IsRaised old)
+  pub why : IfErr result (λ refused. RefusesFound refused.why)
+  pub refused : IfErr result (IsUnopened g IsRaised Reason old)

@@ -49,6 +49,11 @@ RefusesNew why = (why ≡ open_fault.BadFirstUser) ⊎ ((why ≡ open_fault.NotE
 abbrev pub RefusesFound : OpenFault → Type 0
 RefusesFound why = (why ≡ open_fault.NotAnIndex) ⊎ ((why ≡ open_fault.OtherVersion) ⊎ IsFault why)
 
+-- it is refused for this, which is such a reason
+pub record IsRefusal (found told : OpenFault) : Type 0 where
+  pub is : told ≡ found
+  pub why : RefusesFound told
+
 -- the first user will do, and a table has the name of one of ours
 abbrev pub IsTaken : Bytes → Bytes → Schema → Type 0
 IsTaken user token schema =

@@ -3,14 +3,15 @@ ghost use Rattle.std.specs.Prelude.{◌≡◌, false, IfOk, IfErr, IfSome, IsTru
 ghost use Rattle.sqlite.specs.Held.{state};
 ghost use Rattle.sqlite.specs.State.{HasCleanDisk};
 ghost use Rattle.index_rules.specs.Facts.{HasOneBearer};
-ghost use Rattle.index_sql_schema.specs.FirstVersion.{first_version_schema, without_bans};
-ghost use Rattle.index_sql_schema.specs.Index.{meta_in, raised};
-ghost use Rattle.index_sql_opening.specs.Making.{IsAtRest};
+ghost use Rattle.index_sql_opening.specs.Making.{RestsAs};
 ghost use Rattle.index_sql_opening.specs.Migrated.{asks_of_migration};
 ghost use Rattle.index_sql_opening.specs.Names.{has_meta};
-ghost use Rattle.index_sql_reads.specs.ConnectionTables.{tables_of};
-ghost use Rattle.index_tables.specs.Opened.{AreOpened, HaveMeta, HaveTables, IsFault, IsRefusedAs, IsUnopened, RefusesFound, StoreForRefusal};
-ghost use Rattle.index_tables.specs.Adopted.{AreHandedOn, HasSchema, IsFound, IsOfKind, IsOurs, IsRaised, IsReason, IsReasonOfKind, TellsFirst, refusal_by, foreign_tables_fault};
+ghost use Rattle.index_tables.specs.Opened.{AreOpened, HaveMeta, HaveTables, IsFault};
+ghost use Rattle.index_tables.specs.Opened.{IsRefusal, IsRefusedAs, IsUnopened, RefusesFound};
+ghost use Rattle.index_tables.specs.Opened.{StoreForRefusal};
+ghost use Rattle.index_tables.specs.Adopted.{Adopts, AreHandedOn, HasSchema, IsFound, IsOfKind};
+ghost use Rattle.index_tables.specs.Adopted.{IsOurs, IsRaised, IsReason, IsReasonOfKind};
+ghost use Rattle.index_tables.specs.Adopted.{TellsFirst, foreign_tables_fault, refusal_by};
 
 use crate::books::SqlBooks;
 use crate::opening::{Unopened, open_fault_of};
@@ -91,15 +92,9 @@ fn kind_of<S: Alter>(alloc: Global, conn: &Connection<S>) -> Result<Option<Kind>
 
 /// The index on a connection to one, or the one that comes of a database of version 1.
 fn adopt_kind<S: Alter>(conn: Connection<S>, kind: Kind) -> Result<SqlBooks<S>, Unopened<S>>
-    requires rest { IsAtRest S.Store conn }
-    requires kind { IsTrue (state S.Store conn).is_open → IsOfKind (state S.Store conn).now kind }
-    ensures found { IfOk result (HaveTables S.Store (IsFound (state S.Store conn).now)) }
-    ensures meta { IfOk result (HaveMeta S.Store (AreHandedOn (state S.Store conn).now)) }
-    ensures opened { IfOk result (AreOpened S.Store IsRaised conn) }
-    ensures why { IfErr result (λ refused. RefusesFound refused.why) }
+    requires { RestsAs S.Store (λ s. IsTrue s.is_open → IsOfKind s.now kind) conn }
     // One that tells the version of its kind is opened, unless the store or SQL fails.
-    ensures refused { let Reason = IsReasonOfKind S.Store kind in
-        IfErr result (IsUnopened S.Store IsRaised Reason conn) }
+    ensures { Adopts S.Store (IsReasonOfKind S.Store kind) conn result }
 {
     let has_first = has_version_1_tables(conn.schema());
     let has_bans = has_table(conn.schema(), b"bans");
@@ -124,8 +119,7 @@ fn adopt_kind<S: Alter>(conn: Connection<S>, kind: Kind) -> Result<SqlBooks<S>, 
 
 /// Why a database is refused that tells this version, and has all tables of version 1 by name, and that of the bans.
 fn refusal(version: Option<u64>, has_first: bool, has_bans: bool) -> OpenFault
-    ensures is { result ≡ refusal_by version has_first has_bans }
-    ensures why { RefusesFound result }
+    ensures { IsRefusal (refusal_by version has_first has_bans) result }
 {
     match version {
         None => OpenFault::NotAnIndex,
@@ -137,8 +131,7 @@ fn refusal(version: Option<u64>, has_first: bool, has_bans: bool) -> OpenFault
 
 /// Tables that are there by name, but are not as an index has them.
 fn foreign_tables_fault(has_all: bool) -> OpenFault
-    ensures is { result ≡ foreign_tables_fault has_all }
-    ensures why { RefusesFound result }
+    ensures { IsRefusal (foreign_tables_fault has_all) result }
 {
     if has_all {
         OpenFault::Store
@@ -149,8 +142,7 @@ fn foreign_tables_fault(has_all: bool) -> OpenFault
 
 /// A database whose tables others made, refused by the version that it tells.
 fn refuse_other<S: Alter>(conn: Connection<S>) -> Unopened<S>
-    requires rest { IsAtRest S.Store conn }
-    requires meta { IsTrue (has_meta (state S.Store conn).now.schema) }
+    requires { RestsAs S.Store (λ s. IsTrue (has_meta s.now.schema)) conn }
     ensures why { RefusesFound result.why }
     ensures refused { IsUnopened S.Store IsRaised (IsReason S.Store) conn result }
 {
@@ -171,17 +163,10 @@ fn refuse_other<S: Alter>(conn: Connection<S>) -> Unopened<S>
 
 /// Makes the index of a database of version 1.
 fn migrate_and_adopt<S: Alter>(conn: Connection<S>) -> Result<SqlBooks<S>, Unopened<S>>
-    requires rest { IsAtRest S.Store conn }
-    requires first { HasCleanDisk (state S.Store conn) → IsTrue (state S.Store conn).is_open
-        → TellsFirst (state S.Store conn).now }
-    ensures made { IfOk result (HaveTables S.Store
-        (λ T. T ≡ without_bans (tables_of S.Store conn))) }
-    ensures meta { IfOk result (HaveMeta S.Store
-        (λ rows. rows ≡ raised (meta_in (state S.Store conn).now.trees))) }
-    ensures why { IfErr result (λ refused. IsFault refused.why) }
-    ensures opened { IfOk result (AreOpened S.Store IsRaised conn) }
-    ensures refused { let Reason = StoreForRefusal S.Store asks_of_migration in
-        IfErr result (IsUnopened S.Store IsRaised Reason conn) }
+    requires { RestsAs S.Store
+        (λ s. HasCleanDisk s → IsTrue s.is_open → TellsFirst s.now) conn }
+    ensures adopts { Adopts S.Store (StoreForRefusal S.Store asks_of_migration) conn result }
+    ensures fault { IfErr result (λ refused. IsFault refused.why) }
 {
     let mut conn = conn;
     match migrate(&mut conn) {

@@ -10,7 +10,7 @@ ghost use Rattle.index_sql_schema.specs.Schema.{index_schema};
 ghost use Rattle.index_sql_opening.specs.Names.{has_any_of};
 ghost use Rattle.index_sql_opening.specs.NewAsks.{asks_of_new};
 ghost use Rattle.index_sql_opening.specs.Created.{one_user};
-ghost use Rattle.index_sql_opening.specs.Making.{IsAtRest};
+ghost use Rattle.index_sql_opening.specs.Making.{RestsAs};
 ghost use Rattle.index_tables.specs.Opened.{AreNew, HasOthers, HaveTables, IsAmongOthers, IsFault, IsNotMade, IsRefusedAs, IsTaken, RefusesNew};
 
 use crate::books::SqlBooks;
@@ -69,8 +69,7 @@ fn fill_blank<S: Alter>(
     user: &UserId,
     account: &UserRecord,
 ) -> Result<SqlBooks<S>, Unopened<S>>
-    requires rest { IsAtRest S.Store conn }
-    requires live { IsLive (state S.Store conn) }
+    requires { RestsAs S.Store IsLive conn }
     ensures made { IfOk result (AreNew S.Store (one_user user.now account.now) conn) }
     ensures why { IfErr result (λ refused.
         (refused.why ≡ OpenFault.NotEmpty) ⊎ IsFault refused.why) }

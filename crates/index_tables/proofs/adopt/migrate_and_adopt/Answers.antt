@@ -1,22 +1,42 @@
-use Rattle.std.proofs.Common.{rules}
+use Rattle.std.proofs.Common.{rules, inr}
 use Rattle.sqlite.specs.Held.{state}
 use Rattle.index_tables.specs.Adopted.{IsRaised}
+use Rattle.index_tables.specs.BooksState.{IsWorking}
+use Rattle.index_tables.specs.Opened.{AreOpened}
 use Rattle.index_tables.proofs.AdoptLemmas.{raised_told}
 use Rattle.index_tables.proofs.OpenedLemmas.{made_index, made_opened, made_refused}
 use Rattle.index_tables.proofs.adopt.migrate_and_adopt.Goals as goal
 
 pub invariant_of-result : goal.invariant_of-result
 invariant_of-result g c =
-    let first = c.requires.first in
+    let first = c.requires.is in
     made_index g.S.Store c.args.conn c.migrate.new.conn (λ clean o. (first clean o).0) (λ clean o. raised_told (state g.S.Store c.args.conn).now (first clean o)) _ c.in-Ok.ensures.made
 
-pub returns-in-Ok-clause-opened : goal.returns-in-Ok-clause-opened
-returns-in-Ok-clause-opened g c =
-    let first = c.requires.first in
+pub returns-in-Ok-clause-adopts : goal.returns-in-Ok-clause-adopts
+returns-in-Ok-clause-adopts g c =
+    let first = c.requires.is in
+    let old = c.args.conn in
     let new = c.migrate.new.conn in
-    made_opened g.S.Store IsRaised c.args.conn new (λ clean o. (first clean o).0) (λ clean o. raised_told (state g.S.Store c.args.conn).now (first clean o)) (λ working db _ current is meta. (first working.clean working.is_open, current, is, meta)) _ c.in-Ok.ensures.made (g.met.S.Store.settled new.store)
+    let opened : AreOpened g.S.Store IsRaised old (record { conn = new; failures = 0; stores = 0 }) =
+    made_opened g.S.Store IsRaised old new (λ clean o. (first clean o).0) (λ clean o. raised_told (state g.S.Store old).now (first clean o)) (λ working db _ current is meta. (first working.clean working.is_open, current, is, meta)) _ c.in-Ok.ensures.made (g.met.S.Store.settled new.store) in
+    let was = λ (working : IsWorking (state g.S.Store new)). opened.was_working working in
+    let tells = λ (working : IsWorking (state g.S.Store new)). first (was working).clean (was working).is_open in
+    let made = λ (working : IsWorking (state g.S.Store new)). c.in-Ok.ensures.made.made working.clean (was working).is_open (tells working).0 in
+    record {
+      found = λ working. inr (record { first = (tells working).0; version = (tells working).1; tables = (made working).tables });
+      meta = λ working. inr (tells working, (made working).meta);
+      opened = opened;
+      why = tt;
+      refused = tt;
+    }
 
-pub returns-in-Err-clause-refused : goal.returns-in-Err-clause-refused
-returns-in-Err-clause-refused g c =
-    let first = c.requires.first in
-    made_refused g.S.Store IsRaised c.args.conn c.migrate.new.conn (λ clean o. (first clean o).0) (λ clean o. raised_told (state g.S.Store c.args.conn).now (first clean o)) (λ working db _ current is meta. (first working.clean working.is_open, current, is, meta)) c.in-Err.error c.in-Err.ensures.made c.requires.rest c.open_fault_of.result (search rules) (λ reason. reason)
+pub returns-in-Err-clause-adopts : goal.returns-in-Err-clause-adopts
+returns-in-Err-clause-adopts g c =
+    let first = c.requires.is in
+    record {
+      found = tt;
+      meta = tt;
+      opened = tt;
+      why = inr (inr c.open_fault_of.ensures.fault);
+      refused = made_refused g.S.Store IsRaised c.args.conn c.migrate.new.conn (λ clean o. (first clean o).0) (λ clean o. raised_told (state g.S.Store c.args.conn).now (first clean o)) (λ working db _ current is meta. (first working.clean working.is_open, current, is, meta)) c.in-Err.error c.in-Err.ensures.made c.requires.rest c.open_fault_of.result (search rules) (λ reason. reason);
+    }
