@@ -1,1 +1,2 @@
+pub mod ClientLemmas
 mod WalkLemmas

@@ -1,6 +1,11 @@
 //! Clients in memory, one after the other: each gets the reply of docs/HTTP.md, and nothing else.
-ghost use Rattle.std.specs.Prelude.{◌≡◌, None};
-ghost use Rattle.index_cli.specs.Connections.{AddsReply, unknown};
+ghost use Rattle.std.specs.Prelude.{◌≡◌, ℕ, [], ◌∷◌, ◌++◌, map, Some};
+ghost use Rattle.std.specs.Slice.Iter.{iter_rest};
+ghost use Rattle.index_desk.specs.Rules.{by_tables};
+ghost use Rattle.index_desk.specs.Takes.{ByTables};
+ghost use Rattle.index_cli.specs.Connections.{AddsReply};
+ghost use Rattle.index_cli.specs.Serving.{IsCount, ServesOn};
+ghost use Rattle.index_fault_tests.specs.Clients.{AreNamed};
 
 use super::fakes::{BooksCall, FailingBooks};
 use super::new_books;
@@ -12,16 +17,17 @@ use index_recent::Recent;
 use index_rules::{Books, Fault};
 use std::alloc::AllocGlobal;
 use std::process::Abort;
+use std::slice;
 
 /// A message, and the whole reply to it.
-type Exchange = [&'static str; 2];
+type Exchange = (&'static str, &'static str);
 
-/// Clients of whom each sends its message and no more, in order. What they are sent is kept. For one of them there may be
-/// no memory. Behind the last none can be accepted.
+/// Clients of whom each sends its message and no more, in order. What they are sent is kept, so a clause of a run over them
+/// names each message and what went out for it. For one of them there may be no memory. Behind the last none can be
+/// accepted.
 struct Clients<'a, R: Abort> {
     rt: &'a R,
-    coming: &'a [Exchange],
-    accepted: usize,
+    coming: slice::Iter<'a, Exchange>,
     without_memory: Option<usize>,
     replies: Vec<Vec<u8>>,
 }
@@ -31,23 +37,32 @@ impl<R: Abort> Drop for Clients<'_, R> {
         let Clients {
             rt: _rt,
             coming: _coming,
-            accepted: _accepted,
             without_memory: _without_memory,
             replies: _replies,
         } = self;
     }
 }
 
+impl<R: Abort> Clients<'_, R> {
+    /// Keeps what went out on one more connection.
+    fn keep(&mut self, reply: Vec<u8>)
+        ensures reply { self.new.replies.items ≡ self.old.replies.items ++ reply ∷ [] }
+        ensures coming { self.new.coming ≡ self.old.coming }
+    {
+        self.replies.push(reply).expect(self.rt, "room");
+    }
+}
+
 impl<R: Abort> Connections for Clients<'_, R> {
-    ghost use Rattle.std.specs.Prelude.{⊤};
+    ghost use Rattle.std.specs.Prelude.{map, Some, ⊤};
 
     type ReadHalf = Input<&'static [u8]>;
 
     type WriteHalf = Output<Vec<u8>>;
 
-    ghost coming = { λ _. unknown };
+    ghost coming = { λ clients. Some (map (λ exchange. exchange.0.now) (iter_rest clients.coming)) };
 
-    ghost replies = { λ _. unknown };
+    ghost replies = { λ clients. Some (map (λ reply. reply.items) clients.replies.items) };
 
     ghost IsOpen = { λ _. ⊤ };
 
@@ -56,13 +71,11 @@ impl<R: Abort> Connections for Clients<'_, R> {
         rt: &HostRuntime,
         _left: u32,
     ) -> Result<Option<Connection<Input<&'static [u8]>, Output<Vec<u8>>>>, Failed> {
-        let Some([message, _]) = self.coming.get(self.accepted) else {
+        let Some((message, _)) = self.coming.next() else {
             return Err(Failed);
         };
-        self.accepted = self.accepted.saturating_add(1);
         if self.without_memory == Some(self.replies.len()) {
-            let nothing = Vec::new(rt.alloc());
-            self.replies.push(nothing).expect(self.rt, "room");
+            self.keep(Vec::new(rt.alloc()));
             return Ok(None);
         }
         Ok(Some(Connection {
@@ -75,16 +88,38 @@ impl<R: Abort> Connections for Clients<'_, R> {
         &mut self,
         connection: Connection<Input<&'static [u8]>, Output<Vec<u8>>>,
     ) -> Result<(), Failed>
-        ensures closed { AddsReply unknown unknown None }
-        ensures kept { unknown ≡ unknown }
+        ensures closed { AddsReply (Some (map (λ reply. reply.items) self.old.replies.items))
+            (Some (map (λ reply. reply.items) self.new.replies.items))
+            (Some connection.entry.sink.writer.items) }
+        ensures kept { Some (map (λ exchange. exchange.0.now) (iter_rest self.new.coming))
+            ≡ Some (map (λ exchange. exchange.0.now) (iter_rest self.old.coming)) }
     {
         let Connection {
             source: _source,
             sink,
         } = connection;
-        self.replies.push(sink.writer).expect(self.rt, "room");
+        self.keep(sink.writer);
         Ok(())
     }
+}
+
+/// Answers so many of these clients, of whom none was answered yet.
+fn answer_clients<R: Abort, B: Keeper>(
+    host: &HostRuntime,
+    clients: &mut Clients<'_, R>,
+    requests: u32,
+    site: &Site,
+    desk: &mut Desk<B>,
+) -> Result<(), ServeEnd>
+    requires new { clients.old.replies.items ≡ [] }
+    // By the tables: what became of them by the messages of these very clients, and which replies
+    // went out.
+    ensures named { ByTables B.Books desk.old desk.new (λ T T'. (count : ℕ)
+        × IsCount requests result count
+        × ServesOn (AreNamed (map (λ it. it.0.now) (iter_rest clients.old.coming))
+        (map (λ it. it.items) clients.new.replies.items)) by_tables (Some 2) count T T') }
+{
+    answer_connections(host, clients, requests, Some(2), site, desk)
 }
 
 /// A message without a body: its method and target, and its header lines.
@@ -133,24 +168,24 @@ macro_rules! json_reply {
 
 const ACCEPTED: &str = json_reply!("200 OK", "21", r#"{"answer":"accepted"}"#);
 
-const ADD_ANN: Exchange = [
+const ADD_ANN: Exchange = (
     post!(
         "office",
         "127",
         r#"{"do":"add_user","user":"ann","office":false,"token_sha256":"ba7816bf8f01cfea414140de5dae2223b00361a396177a9cb410ff61f20015ad"}"#
     ),
     ACCEPTED,
-];
+);
 
-const CLAIM: Exchange = [
+const CLAIM: Exchange = (
     post!("abc", "28", r#"{"do":"claim","name":"Frob"}"#),
     ACCEPTED,
-];
+);
 
-const FROB_IS_FREE: Exchange = [
+const FROB_IS_FREE: Exchange = (
     look!("GET /names/frob"),
     json_reply!("200 OK", "30", r#"{"name":"frob","state":"free"}"#),
-];
+);
 
 const STORE: &str = json_reply!(
     "500 Internal Server Error",
@@ -162,15 +197,15 @@ const STORE: &str = json_reply!(
 const EXAMPLES: &[Exchange] = &[
     ADD_ANN,
     CLAIM,
-    [
+    (
         concat!(
             "PUT /files/frob/frob-1.0.tar.gz HTTP/1.1\r\nX-Index-Token: abc\r\nX-Index-SHA256: ",
             "ba7816bf8f01cfea414140de5dae2223b00361a396177a9cb410ff61f20015ad",
             "\r\nContent-Length: 3\r\n\r\nabc"
         ),
         json_reply!("201 Created", "21", r#"{"answer":"accepted"}"#),
-    ],
-    [
+    ),
+    (
         look!("GET /files/frob/frob-1.0.tar.gz"),
         reply!(
             "200 OK",
@@ -178,17 +213,17 @@ const EXAMPLES: &[Exchange] = &[
             "3",
             "abc"
         ),
-    ],
+    ),
     // a client that is gone in the midst of its head
-    [
+    (
         "GET /simple/ HTTP/1.1\r\nHo",
         json_reply!(
             "400 Bad Request",
             "37",
             r#"{"answer":"message","name":"BadHead"}"#
         ),
-    ],
-    [
+    ),
+    (
         look!("GET /simple/frob/" "Accept: application/vnd.pypi.simple.v1+json"),
         reply!(
             "200 OK",
@@ -196,16 +231,16 @@ const EXAMPLES: &[Exchange] = &[
             "236",
             r#"{"files":[{"filename":"frob-1.0.tar.gz","hashes":{"sha256":"ba7816bf8f01cfea414140de5dae2223b00361a396177a9cb410ff61f20015ad"},"size":3,"url":"/files/frob/frob-1.0.tar.gz"}],"meta":{"api-version":"1.1"},"name":"frob","versions":["1.0"]}"#
         ),
-    ],
-    [
+    ),
+    (
         look!("GET /names/FROB"),
         json_reply!(
             "200 OK",
             "104",
             r#"{"case":null,"charge":3,"name":"frob","owners":["ann"],"quota":1073741824,"shown":"Frob","state":"held"}"#
         ),
-    ],
-    [
+    ),
+    (
         look!("DELETE /files/frob/frob-1.0.tar.gz"),
         reply!(
             "401 Unauthorized",
@@ -213,8 +248,8 @@ const EXAMPLES: &[Exchange] = &[
             "47",
             r#"{"answer":"refused","code":2,"name":"BadToken"}"#
         ),
-    ],
-    [
+    ),
+    (
         look!("GET /simple/Frob"),
         reply!(
             "301 Moved Permanently",
@@ -222,7 +257,7 @@ const EXAMPLES: &[Exchange] = &[
             "0",
             ""
         ),
-    ],
+    ),
 ];
 
 /// A run over so many connections of clients: how many of them get a reply, and how it ends.
@@ -245,12 +280,11 @@ fn assert_run<R: Abort + AllocGlobal, B: Keeper + Drop>(
     let mut desk = Desk::new(books);
     let mut clients = Clients {
         rt,
-        coming: run.exchanges,
-        accepted: 0,
+        coming: run.exchanges.iter(),
         without_memory: run.without_memory,
         replies: Vec::new(rt.alloc()),
     };
-    let ended = answer_connections(host, &mut clients, run.requests, Some(2), &site, &mut desk);
+    let ended = answer_clients(host, &mut clients, run.requests, &site, &mut desk);
     assert!(rt; ended == run.ended);
     assert_eq!(rt; clients.replies.len(), run.replied);
     assert_replies(rt, clients.replies.as_slice(), run.exchanges);
@@ -258,7 +292,7 @@ fn assert_run<R: Abort + AllocGlobal, B: Keeper + Drop>(
 
 /// These are the replies to the first of these messages.
 fn assert_replies(rt: &impl Abort, replies: &[Vec<u8>], exchanges: &[Exchange]) {
-    for (told, [message, reply]) in replies.iter().zip(exchanges) {
+    for (told, (message, reply)) in replies.iter().zip(exchanges) {
         let is_reply = told.as_slice() == reply.as_bytes();
         assert!(rt; is_reply, "{message}");
     }
@@ -306,7 +340,7 @@ fn a_run_ends_behind_so_many_clients(rt: HostRuntime) {
 #[test]
 fn a_client_without_memory_is_passed_over(rt: HostRuntime) {
     let run = Run {
-        exchanges: &[ADD_ANN, [CLAIM[0], ""], FROB_IS_FREE],
+        exchanges: &[ADD_ANN, (CLAIM.0, ""), FROB_IS_FREE],
         without_memory: Some(1),
         requests: 3,
         replied: 3,
@@ -320,7 +354,7 @@ fn a_client_without_memory_is_passed_over(rt: HostRuntime) {
 fn no_client_is_served_over_a_store_that_is_shut(rt: HostRuntime) {
     let books = FailingBooks::new(new_books(&rt), BooksCall::Every, Fault::Store, 0);
     let run = Run {
-        exchanges: &[[CLAIM[0], STORE], FROB_IS_FREE],
+        exchanges: &[(CLAIM.0, STORE), FROB_IS_FREE],
         without_memory: None,
         requests: 2,
         replied: 1,
