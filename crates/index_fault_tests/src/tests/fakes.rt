@@ -107,6 +107,39 @@ fn hand_file<K: FileTaker>(taker: &mut K, row: &FileRow, fault: Fault) -> Result
     }
 }
 
+/// A walk over the held names that this fault ends behind the first row.
+fn hand_first_name<B: Books, K: NameTaker>(
+    books: &mut B,
+    alloc: Global,
+    taker: &mut K,
+    fault: Fault,
+) -> Result<(), WalkEnd>
+    ensures { WalksSome K.takes K.stops taker.old taker.new result }
+{
+    let rows = books.names(alloc)?;
+    match rows.first() {
+        Some(row) => hand_name(taker, row, fault),
+        None => Err(WalkEnd::from(fault)),
+    }
+}
+
+/// A walk over the files of a name that this fault ends behind the first row.
+fn hand_first_file<B: Books, K: FileTaker>(
+    books: &mut B,
+    alloc: Global,
+    name: &NormalName,
+    taker: &mut K,
+    fault: Fault,
+) -> Result<(), WalkEnd>
+    ensures { WalksSome K.takes K.stops taker.old taker.new result }
+{
+    let rows = books.files_of(alloc, name)?;
+    match rows.first() {
+        Some(row) => hand_file(taker, row, fault),
+        None => Err(WalkEnd::from(fault)),
+    }
+}
+
 /// Books of which one call fails, after so many that didn't. They count the calls that answered a fault. No contract knows
 /// what they hold.
 pub(super) struct FailingBooks<B: Books + Drop> {
@@ -174,45 +207,16 @@ impl<B: Books + Drop> FailingBooks<B> {
         }
     }
 
-    /// A walk over the held names that fails behind its first row.
-    fn hand_first_name<K: NameTaker>(&mut self, alloc: Global, taker: &mut K) -> Result<(), WalkEnd>
-        ensures given { WalksSome K.takes K.stops taker.old taker.new result }
-        ensures uncounted { self.new.failures ≡ self.old.failures }
-    {
-        let rows = self.books.names(alloc)?;
-        match rows.first() {
-            Some(row) => hand_name(taker, row, self.fault),
-            None => Err(WalkEnd::from(self.fault)),
-        }
-    }
-
-    /// A walk over the files of a name that fails behind its first row.
-    fn hand_first_file<K: FileTaker>(
-        &mut self,
-        alloc: Global,
-        name: &NormalName,
-        taker: &mut K,
-    ) -> Result<(), WalkEnd>
-        ensures given { WalksSome K.takes K.stops taker.old taker.new result }
-        ensures uncounted { self.new.failures ≡ self.old.failures }
-    {
-        let rows = self.books.files_of(alloc, name)?;
-        match rows.first() {
-            Some(row) => hand_file(taker, row, self.fault),
-            None => Err(WalkEnd::from(self.fault)),
-        }
-    }
-
     /// A walk over the held names, which is not counted.
     fn hand_names<K: NameTaker>(&mut self, alloc: Global, taker: &mut K) -> Result<(), WalkEnd>
-        ensures given { WalksSome K.takes K.stops taker.old taker.new result }
-        ensures uncounted { self.new.failures ≡ self.old.failures }
+        ensures { WalksSome K.takes K.stops taker.old taker.new result
+            × (self.new.failures ≡ self.old.failures) }
     {
         if self.fails(BooksCall::WalkHeld) {
             return Err(WalkEnd::from(self.fault));
         }
         if self.fails(BooksCall::HeldRow) {
-            return self.hand_first_name(alloc, taker);
+            return hand_first_name(&mut self.books, alloc, taker, self.fault);
         }
         self.books.walk_held(alloc, taker)
     }
@@ -224,14 +228,14 @@ impl<B: Books + Drop> FailingBooks<B> {
         name: &NormalName,
         taker: &mut K,
     ) -> Result<(), WalkEnd>
-        ensures given { WalksSome K.takes K.stops taker.old taker.new result }
-        ensures uncounted { self.new.failures ≡ self.old.failures }
+        ensures { WalksSome K.takes K.stops taker.old taker.new result
+            × (self.new.failures ≡ self.old.failures) }
     {
         if self.fails(BooksCall::WalkFiles) {
             return Err(WalkEnd::from(self.fault));
         }
         if self.fails(BooksCall::FilesRow) {
-            return self.hand_first_file(alloc, name, taker);
+            return hand_first_file(&mut self.books, alloc, name, taker, self.fault);
         }
         self.books.walk_files(alloc, name, taker)
     }
