@@ -275,6 +275,8 @@ def many_names(method, path, *_):
 
 def try_interrupt(place):
     """Ctrl-C ends a walk at once, and a reader that has had enough ends it without a complaint."""
+    # in the background of a shell this run ignores Ctrl-C, and what it starts would too
+    signal.signal(signal.SIGINT, signal.default_int_handler)
     with scripted(slow_names) as server:
         by = Control(place.folder, server.url)
         walk = by.start("names")
