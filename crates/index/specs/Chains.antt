@@ -165,7 +165,7 @@ MayCarry (AnswerConnections at requests) result h h' T' =
 MayCarry (WriteReport had has) result h h' T' = h' ≡ h
 MayCarry CountWrong result h h' T' = h' ≡ h
 
--- a task answered by a history up to a fault, if there was one
+-- a task answered by a history, up to the last accepted call at least
 abbrev pub TellsByHistory : Task → Result ℕ End → History → Tables → Type 0
 TellsByHistory (AnswerLines given left had has) result h T =
     (ended : Result ℕ LineEnd) × (result ≡ end_of ended)

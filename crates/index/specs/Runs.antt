@@ -125,8 +125,8 @@ pub record EndsRunOn {D : Type 0} (g : Ghosts D) (task : Task) (start : Image)
   -- the files held an index, and hold what the work made of it
   pub ran : IfOk result (λ run. IfOk run.closed (λ files. AreClean g files.log files.db
       → Ran g (Does task run.end) start files))
-  -- where the log was not copied, each answer up to the fault is right, and a crash leaves what it
-  -- may leave of the work
+  -- where the log was not copied, what was answered up to the last accepted call is right, and a
+  -- crash leaves what it may leave of the work
   pub interrupted : IfOk result (λ run. IfErr run.closed (λ it.
       IsClean (over_files.view it.store)
       → Interrupted (TellsBy task run.end) (MayLeaveBy task run.end) start it.store))
