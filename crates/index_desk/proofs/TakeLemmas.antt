@@ -81,6 +81,7 @@ module _ {S : Type 0} (g : Ghosts S) (old now new : S) (call : Call) (answer : A
         nothing_new = λ T left. elim (settles.nothing_new T left) [ inl was ↦ inl (look.crash T was) | inr honest ↦ inr (look.honest honest) ];
         store = λ is. subst (λ n. HasFailed n (g.failures new)) look.kept (settles.store is);
         failures = subst (λ n. FailsAtMostOnce n (g.failures new)) look.kept settles.failures;
+        kept = λ none. settles.kept none ∙ look.kept;
         stores = subst (λ n. CountsStoreFault n (g.stores new) (answers_store_fault answer)) look.stores settles.stores;
         honest = λ honest. look.honest (settles.honest honest);
         clean = λ clean. look.clean (settles.clean clean);

@@ -1,8 +1,8 @@
 -- What a desk does that takes calls.
-use Rattle.std.specs.Prelude.{◌≡◌, ◌≢◌, ◌⊎◌, List, Contains}
+use Rattle.std.specs.Prelude.{◌≡◌, ◌≢◌, ◌⊎◌, Bool, true, false, List, Contains}
 use Rattle.index_io.specs.Counts.{FailsAtMostOnce, HasFailed}
 use Rattle.index_rules.specs.declared.answer.Answer.{Answer}
-use Rattle.index_rules.specs.declared.answer.Answer.TheVariants.{Accepted, Fault}
+use Rattle.index_rules.specs.declared.answer.Answer.TheVariants.{Accepted, Already, Refused, Fault}
 use Rattle.index_rules.specs.declared.answer.Fault.TheVariants.{Store}
 use Rattle.index_rules.specs.declared.books.Books.{Ghosts}
 use Rattle.index_rules.specs.declared.call.Call.{Call}
@@ -46,15 +46,24 @@ CrashByHistory g old new Holds = g.IsHonest old → g.IsClean new
 
 -- ---- calls
 
+-- an answer that is a fault
+abbrev pub answers_fault : Answer → Bool
+answers_fault Accepted = false
+answers_fault Already = false
+answers_fault (Refused refusal) = false
+answers_fault (Fault fault) = true
+
 -- what an answer alone says: no table changed unless it is an acceptance; after that the store is
 -- honest, where it is still clean, and after another answer but a fault if it was; of a store that
 -- was not honest a crash leaves nothing new; a fault `Store` is a failure of the books, of which
--- there is one at most, and a fault of their store is told as `Store`
+-- there is one at most, and none after an answer that is no fault; a fault of their store is told
+-- as `Store`
 pub record Settles {S : Type 0} (g : Ghosts S) (old new : S) (answer : Answer) : Type 0 where
   pub unchanged : g.IsHonest new → answer ≢ Accepted → g.tables new ≡ g.tables old
   pub lasts : g.IsClean new → Lasts answer (g.IsHonest old) (g.IsHonest new)
   pub nothing_new : (T : Tables) → g.may_leave new T → g.may_leave old T ⊎ g.IsHonest old
   pub store : answer ≡ Fault Store → HasFailed (g.failures old) (g.failures new)
+  pub kept : answers_fault answer ≡ false → g.failures new ≡ g.failures old
   pub stores : CountsStoreFault (g.stores old) (g.stores new) (answers_store_fault answer)
   pub failures : FailsAtMostOnce (g.failures old) (g.failures new)
   pub honest : g.IsHonest new → g.IsHonest old
