@@ -5,7 +5,6 @@ use Rattle.index_rules.specs.Tables.{Tables}
 use Rattle.index_rules.specs.StoreFaults.{CountsStoreFault, is_store_fault}
 use Rattle.index_rules.specs.declared.answer.Fault.{Fault}
 use Rattle.index_rules.specs.declared.answer.Fault.TheVariants.{Store, OutOfMemory as NoMemory}
-use Rattle.index_io.specs.Counts.{HasFailed}
 use Rattle.index_http.specs.Ends.{Ends}
 use Rattle.index_http.specs.Exchanges.{store_reply}
 use Rattle.index_http.specs.Replies.{Reply, reply_text}
@@ -68,7 +67,7 @@ ends_map P Q U V before after (Err OutOfMemory) f g ends = (g ends.0, ends.1)
 ends_map P Q U V before after (Err (WriteFault count)) f g ends = (ends.0, f ends.0 ends.1, ends.2)
 ends_map P Q U V before after (Err (Cut count)) f g ends = (ends.0, f ends.0 ends.1, ends.2)
 
-shown_map : (is_head : Bool) (P Q : Reply → Type 0) (Cause : Type 0) → ((reply : Reply) → P reply → Q reply)
+pub shown_map : (is_head : Bool) (P Q : Reply → Type 0) (Cause : Type 0) → ((reply : Reply) → P reply → Q reply)
     → (text : Bytes) → IsTextOfLook is_head P Cause text → IsTextOfLook is_head Q Cause text
 shown_map is_head P Q Cause f text (reply, is, inl shows) = (reply, is, inl (f reply shows))
 shown_map is_head P Q Cause f text (reply, is, inr failed) = (reply, is, inr failed)

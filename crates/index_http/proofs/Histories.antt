@@ -21,7 +21,7 @@ use Rattle.index_message.specs.declared.resource.Resource.{Resource}
 use Rattle.index_message.specs.declared.resource.Resource.TheVariants as resource
 use Rattle.index_pages.specs.declared.served.Served.{Served}
 use Rattle.index_http.specs.Ends.{Ends, EndsAfter}
-use Rattle.index_http.specs.Exchanges.{Acts, Replies, RepliesTo, RepliesToInput, Shows, ShowsAt, ShowsFile, ShowsName, ShowsProject, ShowsRoot, ShowsSpelling, call_of}
+use Rattle.index_http.specs.Exchanges.{Acts, IsFaultless, Replies, RepliesTo, RepliesToInput, Shows, ShowsAt, ShowsFile, ShowsName, ShowsProject, ShowsRoot, ShowsSpelling, call_of}
 use Rattle.index_http.specs.Replies.{Reply}
 use Rattle.index_http.specs.declared.end.IoEnd.{IoEnd}
 use Rattle.index_http.specs.declared.end.IoEnd.TheVariants.{ReadFault, OutOfMemory, WriteFault, Cut}
@@ -106,6 +106,12 @@ input_after : (Cause : Type 0) (at : ℕ) (h : History) → IsLegal h → (T T' 
 input_after Cause at h legal T T' stands given text (input, message, is_input, is_message, replies) =
     let one = message_after Cause at h legal T T' stands message text replies in
     record { later = one.later; is = (input, message, is_input, is_message, one.is); legal = one.legal; stands = one.stands }
+
+-- where nothing fails
+pub faultless_after : (at : ℕ) (h : History) → IsLegal h → (T : Tables) → StandsFor T h → (given : Option Bytes) (text : Bytes)
+    → IsFaultless by_tables at given T text → IsFaultless by_history at given h text
+faultless_after at h legal T stands given text reply =
+    let one = input_after ⊥ at h legal T reply.0 stands given text reply.1 in (one.later, one.is)
 
 -- ---- the end of a connection by the tables is that by a history for which they stood
 

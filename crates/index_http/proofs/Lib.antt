@@ -7,3 +7,5 @@ pub mod PageLemmas
 pub mod ShowLemmas
 pub mod AnswerLemmas
 pub mod AskLemmas
+pub mod Failures
+pub mod RestLemmas

@@ -1,24 +1,19 @@
 -- Pages: what is known of their length, and that head and text are the reply.
-use Rattle.std.proofs.Common.{◌≡◌, ◌⊎◌, ℕ, ◌+◌, ◌≤◌, true, false, inl, inr, refl, sym, subst, ◌++◌, length, take, Option, Some, None, Result, Ok, Err, arith, length-append}
+use Rattle.std.proofs.Common.{◌≡◌, ◌⊎◌, ℕ, ◌+◌, ◌≤◌, inl, inr, refl, sym, subst, ◌++◌, length, take, Option, Some, None, Result, Ok, Err, arith, length-append}
 use Rattle.std.specs.Prelude.{min}
-use Rattle.std.specs.FinMap.{get}
 use Rattle.std.specs.Io.KnownBytes.{Appends}
 use Rattle.std.proofs.KnownBytes.{Appends-trans}
 use Rattle.std.proofs.Math.Seq.{take-append-add}
 use Rattle.index_io.specs.Counts.{HasFailed, last_count}
 use Rattle.index_rules.specs.Maps.{Bytes}
-use Rattle.index_rules.specs.Tables.{Tables}
-use Rattle.index_rules.specs.TableRows.{file_rows_in}
-use Rattle.index_rules.specs.Verdict.{is_held}
 use Rattle.index_rules.specs.declared.answer.Fault.TheVariants as fault
-use Rattle.index_desk.specs.Projects.{project_rows_in}
 use Rattle.index_pages.specs.Ends.{most_bytes}
 use Rattle.index_pages.specs.declared.served.Served.{Served}
 use Rattle.index_http.specs.Exchanges.{store_reply}
 use Rattle.index_http.specs.PagePasses.{IsMeasured, MeasuresProject}
 use Rattle.index_http.specs.PageShows.{ShowsWhole, after_head}
 use Rattle.index_http.specs.Replies.{page_reply}
-use Rattle.index_http.specs.Sends.{SendsFirst, SendsText}
+use Rattle.index_http.specs.Sends.{SendsFirst, SendsLess, SendsText}
 use Rattle.index_http.specs.declared.end.IoEnd.{IoEnd}
 use Rattle.index_http.specs.declared.end.IoEnd.TheVariants.{ReadFault, OutOfMemory, WriteFault, Cut}
 
@@ -60,6 +55,14 @@ sends_behind head page count before mid after (Err ReadFault) is within short fr
 sends_behind head page count before mid after (Err OutOfMemory) is within short front sends = absurd sends
 sends_behind head page count before mid after (Err (WriteFault n)) is within short front sends = first_behind head page count n before mid after is within short front sends
 sends_behind head page count before mid after (Err (Cut n)) is within short front sends = first_behind head page count n before mid after is within short front sends
+
+-- not all of the text behind the head is not all of the reply
+pub less_behind : (head page : Bytes) (before mid after : Option Bytes) → Appends before mid head → SendsLess page mid after → SendsLess (head ++ page) before after
+less_behind head page before mid after front less = (
+  length head + less.0,
+  rw length-append (omega (arith, less.1)),
+  rw (take-append-add head page less.0) (Appends-trans before mid after head (take less.0 page) front less.2),
+)
 
 -- ---- a text that was gathered
 

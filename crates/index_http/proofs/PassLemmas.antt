@@ -1,5 +1,5 @@
 -- A pass over the rows of a page, from the walk to its end.
-use Rattle.std.proofs.Common.{◌≡◌, ℕ, [], ◌++◌, List, length, take, true, false, ◌∙◌, ap, refl, subst, sym, arith, length-append, Ok, Err, inl, inr}
+use Rattle.std.proofs.Common.{◌≡◌, ℕ, [], ◌++◌, ◌∷◌, ◌<◌, ◌⊎◌, List, append_assoc, append-nil, length, take, true, false, ◌∙◌, ap, refl, subst, sym, arith, length-append, Ok, Err, inl, inr}
 use Rattle.std.specs.Prelude.{IfErr, Result, Option, None, Some, Bool, option_map}
 use Rattle.std.proofs.Math.Seq.{take-append_seam}
 use Rattle.std.specs.Result.{result_unwrap_or}
@@ -23,9 +23,10 @@ use Rattle.index_pages.specs.declared.end.PageEnd.TheVariants as page_end
 use Rattle.index_pages.proofs.TakerLemmas.{walks_by}
 use Rattle.index_pages.proofs.TextLemmas.{taken_of}
 use Rattle.index_http.specs.PagePasses.{MeasuresPage, MeasuresProject, io_end_of, sent_by, without_stop}
-use Rattle.index_http.specs.Sends.{SendsFirst, SendsText, is_write_fault}
+use Rattle.index_http.specs.Sends.{SendsFirst, SendsLess, SendsText, is_write_fault}
 use Rattle.index_http.specs.declared.end.IoEnd.{IoEnd}
 use Rattle.index_http.specs.declared.end.IoEnd.TheVariants.{Cut}
+use Rattle.index_http.proofs.RestLemmas.{IsOpen}
 
 -- a walk that a fault did not end
 pub no_fault : {A : Type 0} (at_stop done : A) (walked : Result A WalkEnd) → without_stop at_stop walked ≡ Ok done → has_fault walked ≡ false
@@ -123,6 +124,39 @@ cut start now rows (Err walk.Stopped) fresh among faulty written steady = cc fau
 cut start now rows (Err walk.OutOfMemory) fresh front faulty written steady = cut_off start now rows front.0 front.1 fresh front.2 front.3 written steady
 cut start now rows (Err walk.Store) fresh front faulty written steady = cut_off start now rows front.0 front.1 fresh front.2 front.3 written steady
 
+-- ---- not all of a page
+
+some_left : (text : Bytes) → (text ≡ [] → ⊥) → 0 < length text
+some_left [] none = absurd (none refl)
+some_left (byte ∷ text) none = omega arith
+
+-- what is a front of the page whatever rows follow is not all of it
+less_first : {R : Type 0} (rest : Rest R) (rows given left : List R) (before after : Option Bytes) (count : ℕ)
+    → IsOpen rest → rows ≡ given ++ left → IsFront rest given before after count → SendsLess (rest rows) before after
+less_first rest rows given left before after count is_open split front =
+    let last = is_open.row ∷ [] in
+    let more = front.begins left in
+    let longer = front.begins (left ++ last) in
+    let whole : rest rows ≡ front.bytes ++ more.0 = ap rest split ∙ more.1 in
+    let sent : take count (rest rows) ≡ front.bytes = rw (whole, front.size) (take-append_seam front.bytes more.0) in
+    let long = ap length whole ∙ length-append front.bytes more.0 in
+    let rows_on : rest (rows ++ last) ≡ front.bytes ++ longer.0 = ap (λ l. rest (l ++ last)) split ∙ ap rest (append_assoc given left last) ∙ longer.1 in
+    let some = some_left more.0 (λ none.
+    let all : rest rows ≡ front.bytes = whole ∙ ap (λ x. front.bytes ++ x) none ∙ append-nil front.bytes in
+    is_open.grows rows longer.0 (rows_on ∙ ap (λ x. x ++ longer.0) (sym all))) in
+    (count, omega (arith, long, front.size, some), rw sent front.wrote)
+
+-- a walk that a fault ends
+less_cut : {R A : Type 0} (start now : TextState R) (rows : List R) (walked : Result A WalkEnd) → IsOpen start.rest
+    → IsFresh start → Walks TakesText StopsText rows start now walked → has_fault walked ≡ true → IsWritten now
+    → SendsLess (start.rest rows) start.sink.contents now.sink.contents
+less_cut start now rows (Ok done) is_open fresh took faulty written = cc faulty
+less_cut start now rows (Err walk.Stopped) is_open fresh among faulty written = cc faulty
+less_cut start now rows (Err walk.OutOfMemory) is_open fresh front faulty written =
+    less_first start.rest rows front.0 front.1 _ _ _ is_open front.2 (written start front.0 fresh (inl front.3))
+less_cut start now rows (Err walk.Store) is_open fresh front faulty written =
+    less_first start.rest rows front.0 front.1 _ _ _ is_open front.2 (written start front.0 fresh (inl front.3))
+
 -- ---- by the taker of the rows
 
 module _ {R K N A : Type 0} (takes stops : K → R → K → Type 0) (state : K → TextState R) (same : K → N)
@@ -142,6 +176,13 @@ module _ {R K N A : Type 0} (takes stops : K → R → K → Type 0) (state : K 
   cut_page page now walked fresh fault written steady rows walks =
       let by = walks_by takes stops TakesText StopsText state same step stop rows page now walked walks in
       (by.0, cut (state page) (state now) rows walked fresh by.1 fault written steady)
+
+  -- and then not all of the page was sent
+  pub less_page : (page now : K) (walked : Result A WalkEnd) → IsOpen (state page).rest → IsFresh (state page) → has_fault walked ≡ true → IsWritten (state now)
+      → (rows : List R) → Walks takes stops rows page now walked → SendsLess ((state page).rest rows) (state page).sink.contents (state now).sink.contents
+  less_page page now walked is_open fresh fault written rows walks =
+      let by = walks_by takes stops TakesText StopsText state same step stop rows page now walked walks in
+      less_cut (state page) (state now) rows walked is_open fresh by.1 fault written
 
 -- ---- a page that is gathered
 
@@ -196,6 +237,18 @@ module _ {K N : Type 0} (takes stops : K → FileRow → K → Type 0) (state : 
   cut_project page now (Err walk.Stopped) fresh is written steady (Some rows) h = cc is
   cut_project page now (Err walk.OutOfMemory) fresh is written steady (Some rows) h = cut_rows page now (Err walk.OutOfMemory) fresh refl written steady rows h.0
   cut_project page now (Err walk.Store) fresh is written steady (Some rows) h = cut_rows page now (Err walk.Store) fresh refl written steady rows h.0
+
+  -- where a fault ended the walk, not all of the page was sent
+  pub less_project : (page now : K) (walked : Result Bool WalkEnd) → IsOpen (state page).rest → IsFresh (state page) → IsWritten (state now)
+      → (rows : Option (List FileRow)) → WalksProject takes stops rows page now walked → (has_fault walked ≡ false)
+      ⊎ ((there : List FileRow) → rows ≡ Some there → SendsLess ((state page).rest there) (state page).sink.contents (state now).sink.contents)
+  less_project page now walked is_open fresh written None h = inr (λ there held. cc held)
+  less_project page now (Ok found) is_open fresh written (Some rows) h = inl refl
+  less_project page now (Err walk.Stopped) is_open fresh written (Some rows) h = inl refl
+  less_project page now (Err walk.OutOfMemory) is_open fresh written (Some rows) h = inr (λ there held.
+      let e : rows ≡ there = cc held in rw (← e) (less_page {A = Bool} takes stops state same step stop page now (Err walk.OutOfMemory) is_open fresh refl written rows h.0))
+  less_project page now (Err walk.Store) is_open fresh written (Some rows) h = inr (λ there held.
+      let e : rows ≡ there = cc held in rw (← e) (less_page {A = Bool} takes stops state same step stop page now (Err walk.Store) is_open fresh refl written rows h.0))
 
 pub is_there : (read : Result Bool Fault) → result_unwrap_or read false ≡ true → read ≡ Ok true
 is_there (Ok found) is = ap Ok is

@@ -1,16 +1,26 @@
 -- What was found first and then sent is shown.
-use Rattle.std.proofs.Common.{◌≡◌, ◌∙◌, Bool, true, false, refl, Result, Ok}
-use Rattle.std.specs.Prelude.{◌&&◌, not}
+use Rattle.std.proofs.Common.{◌≡◌, ◌∙◌, Bool, true, false, refl, List, Option, Some, None, Result, Ok}
+use Rattle.std.specs.Prelude.{◌&&◌, not, option_map}
+use Rattle.index_rules.specs.Maps.{Bytes}
 use Rattle.index_rules.specs.Tables.{Tables}
+use Rattle.index_rules.specs.declared.rows.FileRow.{FileRow}
 use Rattle.index_rules.specs.declared.books.Books.{Ghosts}
 use Rattle.index_desk.specs.Looks.{LooksAt}
+use Rattle.index_desk.specs.Pages.{text_in}
+use Rattle.index_desk.specs.Projects.{project_rows_in}
+use Rattle.index_desk.specs.Rules.{by_tables}
+use Rattle.index_pages.specs.Pages.{project_page_of}
+use Rattle.index_pages.specs.declared.served.Served.{Served}
+use Rattle.index_http.specs.Exchanges.{ShowsProject, ShowsRows}
+use Rattle.index_http.specs.PageShows.{ShowsWhole}
 use Rattle.index_http.specs.Replies.{Reply}
 use Rattle.index_http.specs.Shown.{LeadsTo, ShowsFound, is_page_to_show, look_for}
 use Rattle.index_http.specs.Shows.{ShowsBy}
 use Rattle.index_http.specs.Steps.{SinkStep, at_desk}
 use Rattle.index_http.specs.declared.end.IoEnd.{IoEnd}
 use Rattle.index_http.specs.declared.get.ToShow.{ToShow}
-use Rattle.index_http.proofs.EndLemmas.{ends_shown_map}
+use Rattle.index_http.proofs.EndLemmas.{ends_shown_map, shown_map}
+use Rattle.index_http.proofs.Failures.{lasts_map}
 
 -- what is no page has none in its reply
 no_page : (a b is_head : Bool) → (a ≡ true → b ≡ true) → (b && not is_head) ≡ false → (a && not is_head) ≡ false
@@ -39,4 +49,16 @@ found_and_sent g old mid new sink is_head is_page what IsReply result looks show
     whole = λ none. shows.sends.whole (no_page (is_page_to_show what) is_page is_head page none);
   };
   stores = λ is. shows.stores is ∙ looks.look.stores;
+  lasts = λ honest clean.
+      let then = looks.look.lasts honest (shows.leaves.clean clean) in
+      lasts_map _ _ _ _ (shown_map is_head _ _ ⊥ (looks.found then)) _ (rw (looks.look.unchanged then, looks.look.kept) at (shows.lasts then clean));
 }
+
+-- the page of a project, or that there is none
+pub project_shown : (served : Served) (T : Tables) (name : Bytes) (reply : Reply) → ShowsWhole served (text_in T served (Some name)) reply
+    → ShowsProject by_tables T name (Some served) reply
+project_shown served T name reply shows = (project_rows_in T name, refl, which (project_rows_in T name) shows)
+  where
+    which : (rows : Option (List FileRow)) → ShowsWhole served (option_map (project_page_of served name) rows) reply → ShowsRows name (Some served) rows reply
+    which None shows = shows
+    which (Some rows) shows = shows

@@ -5,6 +5,7 @@ use Rattle.index_io.specs.Bytes.{IsInput}
 use Rattle.index_rules.specs.declared.answer.Answer.{Answer}
 use Rattle.index_rules.specs.declared.call.Call.{Call}
 use Rattle.index_rules.specs.Maps.{Bytes}
+use Rattle.index_rules.specs.Tables.{Tables}
 use Rattle.index_desk.specs.Invariants.{KeepsInvariants}
 use Rattle.index_desk.specs.Looks.{LeavesTables}
 use Rattle.index_desk.specs.Rules.{by_tables}
@@ -13,7 +14,7 @@ use Rattle.index_message.specs.Messages.{IsMessage}
 use Rattle.index_message.specs.Resources.{is_head, is_put, is_reading}
 use Rattle.index_message.specs.declared.message.Message.{Message}
 use Rattle.index_message.specs.declared.message.Message.TheVariants.{Faulty, Whole}
-use Rattle.index_http.specs.Ends.{Ends, RepliesBy}
+use Rattle.index_http.specs.Ends.{Ends, LastsOrShows, RepliesBy}
 use Rattle.index_http.specs.Exchanges.{RepliesTo, call_of}
 use Rattle.index_http.specs.Replies.{answer_reply, reply_text}
 use Rattle.index_http.specs.Sends.{SendsOnly, is_cut, is_silent}
@@ -63,8 +64,8 @@ AsksDesk at given desk sink result = Asks at given
 
 -- a message was answered: the reply is that to the message by the tables, and the text of the
 -- answer, where it makes a call and that was taken; where memory ran out nothing was asked of the
--- desk, or it was a look, and no fault of the store is told as that; and only a page is cut short,
--- when no table changed
+-- desk, or it was a look, and no fault of the store is told as that; only a page is cut short, when
+-- no table changed; and a failure shows
 pub record AnswersBy {S K : Type 0} (at : ℕ) (message : Message) (desk : DeskStep S)
     (sink : SinkStep K)
     (result : Result (Unit {0}) IoEnd) : Type 0 where
@@ -74,6 +75,8 @@ pub record AnswersBy {S K : Type 0} (at : ℕ) (message : Message) (desk : DeskS
       (sink.out.contents sink.old) (sink.out.contents sink.new) result
   pub memory : result ≡ Err OutOfMemory → (desk.new ≡ desk.old) ⊎ (is_look message ≡ true)
   pub stores : result ≡ Err OutOfMemory → desk.books.stores desk.new ≡ desk.books.stores desk.old
+  pub lasts : LastsOrShows
+      (λ T text. (later : Tables) × RepliesTo by_tables ⊥ at T message text later) desk sink
   pub cut : is_cut result ≡ true → LeavesTables desk.books desk.old desk.new
   pub sends : SendsOnly sink.out sink.old sink.new (asks_page message) result
   pub keeps : KeepsInvariants desk.books desk.old desk.new

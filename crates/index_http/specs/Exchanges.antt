@@ -206,3 +206,12 @@ abbrev pub RepliesToInput : {S : Type 0} → Rules S → Type 0 → ℕ → S �
 RepliesToInput rules Cause at s given text s' =
     (input : Bytes) × (message : Message) × IsInput given input × IsMessage input message
     × RepliesTo rules Cause at s message text s'
+
+-- the text of the reply to the message that an input begins with, where nothing fails
+abbrev pub IsFaultless : {S : Type 0} → Rules S → ℕ → Option Bytes → S → Bytes → Type 0
+IsFaultless {S} rules at given s text = (s' : S) × RepliesToInput rules ⊥ at s given text s'
+
+-- a whole message came
+abbrev pub HasMessage : Option Bytes → Type 0
+HasMessage given =
+    (input : Bytes) × (message : Message) × IsInput given input × IsMessage input message

@@ -15,8 +15,8 @@ use Rattle.index_desk.specs.Looks.{ReadsTables}
 use Rattle.index_pages.specs.Ends.{most_bytes}
 use Rattle.index_pages.specs.declared.end.PageEnd.{PageEnd}
 use Rattle.index_pages.specs.declared.end.PageEnd.TheVariants as page_end
-use Rattle.index_http.specs.Sends.{SendsOnly, SendsText, is_cut, is_silent}
-use Rattle.index_http.specs.Steps.{DeskStep, SinkStep}
+use Rattle.index_http.specs.Sends.{SendsLess, SendsOnly, SendsText, is_cut, is_silent}
+use Rattle.index_http.specs.Steps.{DeskStep, SinkStep, StaysHonest}
 use Rattle.index_http.specs.declared.end.IoEnd.{IoEnd}
 use Rattle.index_http.specs.declared.end.IoEnd.TheVariants.{WriteFault, Cut}
 
@@ -92,7 +92,7 @@ pub record IsMeasured (page : Option Bytes) (count : ℕ) : Type 0 where
   pub within : count ≤ most_bytes
 
 -- the page of the tables is sent, where there is one, and else nothing; the end tells how much of
--- it went out; no table changes
+-- it went out; no table changes; where a call of the books failed, not all of the page went out
 pub record SendsPage {S K : Type 0} (page_of : Tables → Option Bytes)
     (desk : DeskStep S) (sink : SinkStep K) (result : Result (Unit {0}) IoEnd) : Type 0 where
   pub sent : desk.books.IsHonest desk.old → desk.books.IsClean desk.new
@@ -103,6 +103,9 @@ pub record SendsPage {S K : Type 0} (page_of : Tables → Option Bytes)
       → Keeps (sink.out.contents sink.old) (sink.out.contents sink.new) × (result ≡ Err (Cut 0))
   pub sends : SendsOnly sink.out sink.old sink.new true result
   pub told : is_silent result ≡ false
+  pub lasts : desk.books.IsHonest desk.old → desk.books.IsClean desk.new → StaysHonest desk
+      ⊎ ((page : Bytes) → page_of (desk.books.tables desk.old) ≡ Some page
+      → SendsLess page (sink.out.contents sink.old) (sink.out.contents sink.new))
   pub keeps : KeepsTables desk.books desk.old desk.new (is_cut result)
 
 -- a text that was gathered is that of the page of the tables, none of which changes

@@ -28,6 +28,11 @@ abbrev pub SendsBytes : {K : Type 0} → Outs K → K → K → Bytes → Result
 SendsBytes out before after text result =
     SendsText text (out.contents before) (out.contents after) result
 
+-- some of a text's first bytes were sent, and not all
+abbrev pub SendsLess : Bytes → Option Bytes → Option Bytes → Type 0
+SendsLess text before after =
+    (count : ℕ) × (count < length text) × Appends before after (take count text)
+
 -- the store, memory or the length of the page cut the page short
 abbrev pub is_cut : {A : Type 0} → Result A IoEnd → Bool
 is_cut (Ok done) = false

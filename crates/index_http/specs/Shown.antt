@@ -6,7 +6,6 @@ use Rattle.index_rules.specs.Tables.{Tables}
 use Rattle.index_desk.specs.Rules.{by_tables}
 use Rattle.index_message.specs.declared.resource.Resource.{Resource}
 use Rattle.index_message.specs.declared.resource.Resource.TheVariants as resource
-use Rattle.index_pages.specs.declared.served.Served.{Served}
 use Rattle.index_http.specs.Exchanges.{ShowsFile, ShowsProject, ShowsRoot, refusal_reply}
 use Rattle.index_http.specs.Replies.{Reply, json_reply, message_reply}
 use Rattle.index_http.specs.Replies.{redirect_to_project, redirect_to_root}

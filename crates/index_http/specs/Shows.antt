@@ -17,7 +17,7 @@ use Rattle.index_rules.specs.Tables.{Tables}
 use Rattle.index_rules.specs.declared.answer.Fault.{Fault}
 use Rattle.index_rules.specs.declared.answer.Fault.TheVariants.{Store, OutOfMemory as NoMemory}
 use Rattle.index_desk.specs.Looks.{LeavesTables}
-use Rattle.index_http.specs.Ends.{Ends}
+use Rattle.index_http.specs.Ends.{Ends, LastsOrShows}
 use Rattle.index_http.specs.Exchanges.{store_reply}
 use Rattle.index_http.specs.Replies.{Reply, reply_text}
 use Rattle.index_http.specs.Sends.{SendsOnly, SendsText}
@@ -66,8 +66,8 @@ look_of request = record { is_page = is_page request.resource; is_head = is_head
 
 -- a look at the desk, and the reply that went to the sink: of a store that was honest, and is clean
 -- after it, the reply is of this kind by the tables; no table changed; only a page can be cut
--- short, which no reply to `HEAD` has; and a fault of the store of the books is not told as want of
--- memory
+-- short, which no reply to `HEAD` has; a fault of the store of the books is not told as want of
+-- memory; and a failure shows
 pub record ShowsBy {S K : Type 0} (look : Look) (IsReply : Tables → Reply → Type 0)
     (desk : DeskStep S) (sink : SinkStep K) (result : Result (Unit {0}) IoEnd) : Type 0 where
   pub shown : desk.books.IsHonest desk.old → desk.books.IsClean desk.new
@@ -77,6 +77,7 @@ pub record ShowsBy {S K : Type 0} (look : Look) (IsReply : Tables → Reply → 
   pub leaves : LeavesTables desk.books desk.old desk.new
   pub sends : SendsOnly sink.out sink.old sink.new (look.is_page && not look.is_head) result
   pub stores : result ≡ Err OutOfMemory → desk.books.stores desk.new ≡ desk.books.stores desk.old
+  pub lasts : LastsOrShows (λ T. IsTextOfLook look.is_head (IsReply T) ⊥) desk sink
 
 -- a look that failed: a fault of the store is replied, and where memory ran out nothing went out
 abbrev pub EndsFault : Bool → Fault → Option Bytes → Option Bytes → Result (Unit {0}) IoEnd → Type 0

@@ -1,4 +1,5 @@
 -- A call seen from outside: a desk and a sink before it and after it, and what is known of them.
+use Rattle.std.specs.Prelude.{◌≡◌}
 use Rattle.index_io.specs.declared.sink.Sink.{Ghosts as Outs}
 use Rattle.index_rules.specs.declared.books.Books.{Ghosts}
 
@@ -19,3 +20,8 @@ at_desk books old new = record { books = books; old = old; new = new }
 
 abbrev pub to_sink : {K : Type 0} → Outs K → K → K → SinkStep K
 to_sink out old new = record { out = out; old = old; new = new }
+
+-- the store of the desk is honest, and no call of its books failed meanwhile
+abbrev pub StaysHonest : {S : Type 0} → DeskStep S → Type 0
+StaysHonest desk = desk.books.IsHonest desk.new
+    × (desk.books.failures desk.new ≡ desk.books.failures desk.old)

@@ -8,7 +8,7 @@ ghost use Rattle.index_message.specs.Lengths.{longest_upload};
 ghost use Rattle.index_message.specs.Messages.{EndsUnfinished};
 ghost use Rattle.index_message.specs.Reads.{TakesAtMost};
 ghost use Rattle.index_http.specs.Asks.{AnswersBy, AsksDesk};
-ghost use Rattle.index_http.specs.Ends.{RepliesBy, RepliesByHistory};
+ghost use Rattle.index_http.specs.Ends.{LastsOrFails, RepliesBy, RepliesByHistory};
 ghost use Rattle.index_http.specs.Exchanges.{RepliesToInput};
 ghost use Rattle.index_http.specs.Sends.{FailsOnly, is_cut};
 ghost use Rattle.index_http.specs.Shows.{GivesMessage, asks_page, is_look};
@@ -58,6 +58,10 @@ pub fn answer_one<S: Source, K: Sink, B: Keeper>(
     // Where memory ran out nothing was asked of the desk, or it was a look: an answer to a call is always replied.
     ensures memory { result ≡ Err IoEnd.OutOfMemory → (desk.new ≡ desk.old)
         ⊎ GivesMessage is_look (S.remaining source.old) }
+
+    // Where a fault shuts the store or a call of the books fails, a whole message came, and what went out shows it.
+    ensures lasts { LastsOrFails at (S.remaining source.old)
+        (at_desk B.Books desk.old desk.new) (to_sink K.Sink sink.old sink.new) }
 
     // A fault of the store is no want of memory.
     ensures stores { result ≡ Err IoEnd.OutOfMemory → B.stores desk.new ≡ B.stores desk.old }

@@ -1,13 +1,13 @@
 //! Pages, whose head tells their length before their text is sent.
-ghost use Rattle.std.specs.Prelude.{◌≡◌, None, true, false, not};
+ghost use Rattle.std.specs.Prelude.{◌≡◌, ◌⊎◌, None, true, false, not};
 ghost use Rattle.index_desk.specs.Looks.{LeavesTables};
 ghost use Rattle.index_desk.specs.Pages.{page_in};
 ghost use Rattle.index_http.specs.PagePasses.{Gathers, IsMeasured, MeasuresText, SendsPage};
 ghost use Rattle.index_http.specs.PageShows.{ShowsWhole, after_head};
 ghost use Rattle.index_http.specs.Replies.{page_reply, reply_text};
-ghost use Rattle.index_http.specs.Sends.{SendsBytes, SendsOnly, is_cut, is_silent, is_write_fault};
+ghost use Rattle.index_http.specs.Sends.{SendsBytes, SendsLess, SendsOnly, is_cut, is_silent, is_write_fault};
 ghost use Rattle.index_http.specs.Shows.{ShowsBy, look_at_page};
-ghost use Rattle.index_http.specs.Steps.{at_desk, to_sink};
+ghost use Rattle.index_http.specs.Steps.{StaysHonest, at_desk, to_sink};
 
 use crate::end::IoEnd;
 use crate::gather::{gathered_project, gathered_root};
@@ -112,6 +112,11 @@ fn send_page<K: Sink, B: Books>(
         (there : IsMeasured (page_in (B.tables desk.old) served page.entry) size) →
         SendsBytes K.Sink sink.old sink.new
         (reply_text is_head (page_reply served there.bytes)) result }
+    ensures lasts { B.IsHonest desk.old → B.IsClean desk.new →
+        (there : IsMeasured (page_in (B.tables desk.old) served page.entry) size) →
+        StaysHonest (at_desk B.Books desk.old desk.new) ⊎ SendsLess
+        (reply_text is_head (page_reply served there.bytes))
+        (K.contents sink.old) (K.contents sink.new) }
     ensures leaves { LeavesTables B.Books desk.old desk.new }
     ensures sends { SendsOnly K.Sink sink.old sink.new (not is_head) result }
     ensures told { is_silent result ≡ false }

@@ -1,4 +1,4 @@
-use Rattle.std.proofs.Common.{◌≡◌, ◌∙◌, ap, rules, sym, refl, Some, None}
+use Rattle.std.proofs.Common.{◌≡◌, ◌∙◌, ap, inl, rules, subst, sym, refl, Some, None}
 use Rattle.index_rules.specs.Runs.{Answers, tables_after}
 use Rattle.index_rules.specs.Verdict.{Verdict}
 use Rattle.index_rules.specs.declared.answer.Answer.{Answer}
@@ -7,7 +7,9 @@ use Rattle.index_desk.specs.Crashes.{Lasts}
 use Rattle.index_message.specs.Resources.{is_head, is_put}
 use Rattle.index_http.specs.Exchanges.{call_of}
 use Rattle.index_http.specs.Replies.{answer_reply, reply_of, reply_text}
+use Rattle.index_http.specs.Sends.{SendsBytes}
 use Rattle.index_http.proofs.EndLemmas.{sent_ends, sent_memory}
+use Rattle.index_http.proofs.Failures.{answer_lasts}
 use Rattle.index_http.proofs.change.act.Goals as goal
 
 -- a store that was honest is so after an answer that is no fault
@@ -33,6 +35,7 @@ returns-in_default g c =
       asks = rw (c.requires, none) (record { unchanged = λ _. refl; honest = λ h. h; clean = λ h. h; crash = λ _ left. left });
       memory = λ none. absurd (sent_memory _ _ _ _ c.send_reply.ensures.sent none);
       stores = λ none. refl;
+      lasts = λ honest clean. inl (honest, refl);
       cut = search rules;
       sends = rw c.requires c.send_reply.ensures.sends;
       keeps = search rules;
@@ -58,6 +61,9 @@ returns g c =
       asks = rw (c.requires, call) (sent_ends _ _ _ _ _ _ (c.apply-answer.result, text ∙ ap (reply_text (is_head c.args.request.now.method)) reply, took) c.send_reply-2.ensures.sent);
       memory = λ none. absurd (sent_memory _ _ _ _ c.send_reply-2.ensures.sent none);
       stores = λ none. absurd (sent_memory _ _ _ _ c.send_reply-2.ensures.sent none);
+      lasts = λ honest clean.
+          answer_lasts _ _ _ c.apply-answer.result _ _ _ _ _ _ _ (took.settles.lasts clean) honest took.settles.kept
+          (subst (λ r. SendsBytes g.K.Sink c.args.sink.now c.send_reply-2.new.sink (reply_text c.is_head-2.result r) c.send_reply-2.result) c.answer_reply.ensures c.send_reply-2.ensures.sent);
       cut = search rules;
       sends = rw c.requires c.send_reply-2.ensures.sends;
       keeps = search rules;

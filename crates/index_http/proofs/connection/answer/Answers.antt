@@ -1,9 +1,10 @@
-use Rattle.std.proofs.Common.{◌≡◌, ◌∙◌, ap, refl, rules, sym, true}
+use Rattle.std.proofs.Common.{◌≡◌, ◌∙◌, ap, inl, refl, rules, sym, true}
 use Rattle.index_message.specs.Resources.{is_reading}
 use Rattle.index_http.specs.Ends.{Stands}
 use Rattle.index_http.specs.Replies.{reply_text}
 use Rattle.index_http.proofs.AnswerLemmas.{look_ends}
 use Rattle.index_http.proofs.EndLemmas.{sent_ends}
+use Rattle.index_http.proofs.Failures.{look_lasts}
 use Rattle.index_http.proofs.connection.answer.Goals as goal
 
 pub returns-in-Faulty : goal.returns-in-Faulty
@@ -14,6 +15,7 @@ returns-in-Faulty g c = record {
   asks = rw c.in-Faulty.is (record { unchanged = λ _. refl; honest = λ h. h; clean = λ h. h; crash = λ _ left. left });
   memory = search rules;
   stores = λ none. refl;
+  lasts = λ honest clean. inl (honest, refl);
   cut = search rules;
   sends = search rules;
   keeps = search rules;
@@ -29,6 +31,7 @@ returns-then-is_reading g c =
       asks = rw (c.in-Whole.is, reads) c.show.ensures.shown.leaves;
       memory = search rules;
       stores = c.show.ensures.shown.stores;
+      lasts = λ honest clean. rw c.in-Whole.is (look_lasts _ _ _ _ _ _ _ reads (c.show.ensures.shown.lasts honest clean));
       cut = search rules;
       sends = rw (c.in-Whole.is, reads) c.show.ensures.shown.sends;
       keeps = search rules;

@@ -1,6 +1,7 @@
 use Rattle.std.proofs.Common.{inl, inr}
 use Rattle.index_rules.proofs.StandsOn.{sound_when_legal}
 use Rattle.index_http.proofs.EndLemmas.{ends_map, has_page, stands_ends}
+use Rattle.index_http.proofs.Failures.{failure_map}
 use Rattle.index_http.proofs.Histories.{EndsAfter-Ends}
 use Rattle.index_http.proofs.connection.answer_one.Goals as goal
 
@@ -34,3 +35,15 @@ returns-clause-cut g c = λ is.
     let read = c.in_ok-message.ensures.message in
     let page = has_page _ _ c.answer.ensures.sends.whole is in
     (c.answer.ensures.cut is, (read.0, c.in_ok-message.message, read.1, read.2, page))
+
+pub returns-clause-lasts : goal.returns-clause-lasts
+returns-clause-lasts g c = λ honest clean.
+    let read = c.in_ok-message.ensures.message in
+    let message = c.in_ok-message.message in
+    elim (c.answer.ensures.lasts honest clean) [
+      | inl stays ↦ inl stays
+      | inr shows ↦ inr (
+        (read.0, message, read.1, read.2),
+        failure_map _ _ _ _ (λ text it. (it.0, (read.0, message, read.1, read.2, it.1))) shows,
+      )
+    ]

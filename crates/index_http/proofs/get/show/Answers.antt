@@ -1,6 +1,7 @@
 use Rattle.std.proofs.Common.{◌≡◌, ◌∙◌, ap, inr, rules}
 use Rattle.index_message.specs.Resources.{is_head}
 use Rattle.index_http.proofs.EndLemmas.{fault_ends, fault_stores}
+use Rattle.index_http.proofs.Failures.{look_failed}
 use Rattle.index_http.proofs.ShowLemmas.{found_and_sent}
 use Rattle.index_http.proofs.get.show.Goals as goal
 
@@ -19,4 +20,5 @@ returns-in-Err-clause-shown g c =
       leaves = search rules;
       sends = search rules;
       stores = fault_stores _ _ _ _ _ _ _ c.send_fault.ensures.told c.in-Err.ensures.shows.look.stores;
+      lasts = λ honest clean. inr (look_failed _ _ _ _ _ _ c.send_fault.ensures.told);
     }

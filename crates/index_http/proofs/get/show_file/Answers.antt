@@ -1,6 +1,7 @@
-use Rattle.std.proofs.Common.{◌∙◌, ap, inr, sym, refl, Some, None, rules}
+use Rattle.std.proofs.Common.{◌∙◌, ap, inl, inr, sym, refl, Some, None, rules}
 use Rattle.index_http.specs.Replies.{file_reply}
 use Rattle.index_http.proofs.EndLemmas.{fault_ends, fault_stores, sent_memory, shown_ends}
+use Rattle.index_http.proofs.Failures.{look_failed}
 use Rattle.index_http.proofs.get.show_file.Goals as goal
 
 pub returns-in-Some : goal.returns-in-Some
@@ -10,6 +11,7 @@ returns-in-Some g c = record {
   leaves = search rules;
   sends = search rules;
   stores = λ is. absurd (sent_memory _ _ _ _ c.send_reply.ensures.sent is);
+  lasts = λ honest clean. inl (honest, refl);
 }
 
 pub returns-in-Ok-Some : goal.returns-in-Ok-Some
@@ -20,6 +22,9 @@ returns-in-Ok-Some g c = record {
   leaves = search rules;
   sends = search rules;
   stores = λ is. absurd (sent_memory _ _ _ _ c.send_reply-sent.ensures.sent is);
+  lasts = λ honest clean.
+      let then = c.in-Ok-Some.ensures.look.lasts honest (c.keep_body.ensures.clean clean) in
+      inl (c.keep_body.ensures.lasts then clean, c.keep_body.ensures.kept ∙ c.in-Ok-Some.ensures.look.kept);
 }
 
 pub returns-in-Ok-None : goal.returns-in-Ok-None
@@ -30,6 +35,7 @@ returns-in-Ok-None g c = record {
   leaves = search rules;
   sends = search rules;
   stores = λ is. absurd (sent_memory _ _ _ _ c.send_reply-in-Ok-None.ensures.sent is);
+  lasts = λ honest clean. inl (c.in-Ok-None.ensures.look.lasts honest clean, c.in-Ok-None.ensures.look.kept);
 }
 
 pub returns-in-Err : goal.returns-in-Err
@@ -39,4 +45,5 @@ returns-in-Err g c = record {
   leaves = search rules;
   sends = search rules;
   stores = fault_stores _ _ _ _ _ _ _ c.send_fault.ensures.told c.in-Err.ensures.look.stores;
+  lasts = λ honest clean. inr (look_failed _ _ _ _ _ _ c.send_fault.ensures.told);
 }

@@ -1,4 +1,4 @@
-use Rattle.std.proofs.Common.{◌≡◌, ◌∙◌, ap, rules, sym, None, Ok, true, false}
+use Rattle.std.proofs.Common.{◌≡◌, ◌∙◌, ap, inl, inr, rules, sym, None, Ok, true, false}
 use Rattle.std.specs.Prelude.{option_map}
 use Rattle.std.specs.Result.{result_unwrap_or}
 use Rattle.index_desk.specs.Projects.{project_rows_in}
@@ -6,7 +6,8 @@ use Rattle.index_pages.specs.Pages.{project_page_of}
 use Rattle.index_pages.specs.Parts.{project_rest}
 use Rattle.index_pages.specs.States.{state_of, text_state}
 use Rattle.index_http.specs.PagePasses.{without_stop}
-use Rattle.index_http.proofs.PassLemmas.{cut_project, is_there, none_mapped, rows_given, sent_page, some_mapped}
+use Rattle.index_http.proofs.PassLemmas.{cut_project, is_there, less_project, none_mapped, rows_given, sent_page, some_mapped}
+use Rattle.index_http.proofs.RestLemmas.{project_open}
 use Rattle.index_http.proofs.page_passes.project_text.Goals as goal
 
 pub returns-then-unwrap_or : goal.returns-then-unwrap_or
@@ -40,6 +41,7 @@ returns-then-unwrap_or g c =
         whole = λ no. cc no;
       };
       told = search rules;
+      lasts = λ honest clean. inl (walk.ensures.look.lasts some.3 honest clean, walk.ensures.look.kept some.3);
       keeps = search rules;
     }
 
@@ -54,6 +56,10 @@ returns-else-unwrap_or g c =
     (λ p. text_state (project_rest p.page.as_json p.name.now p.page.is_started p.page.releases.keys) (state_of g.K.Sink p.sink.now) p.written p.end)
     (λ p. p.sink.ghost_name) (λ before row after h. h) (λ before row after h. h)
     page now walk.result fresh is_false c.abandon.ensures.written.front c.abandon.ensures.written.steady in
+    let less = less_project _ _
+    (λ p. text_state (project_rest p.page.as_json p.name.now p.page.is_started p.page.releases.keys) (state_of g.K.Sink p.sink.now) p.written p.end)
+    (λ p. p.sink.ghost_name) (λ before row after h. h) (λ before row after h. h)
+    page now walk.result (project_open page.page.as_json page.name.now page.page.is_started page.page.releases.keys) fresh c.abandon.ensures.written.front in
     let given = walk.ensures.given in
     let all = passed given.0 given.1 in
     let back = c.sink-else-unwrap_or-1.given.1 (sym (all.0 ∙ c.project-page.ensures.sink)) in
@@ -71,5 +77,11 @@ returns-else-unwrap_or g c =
         whole = λ no. cc no;
       };
       told = search rules;
+      lasts = λ honest clean. elim (less held (walk.ensures.walked honest clean)) [
+        | inl right ↦ inl (walk.ensures.look.lasts right honest clean, walk.ensures.look.kept right)
+        | inr part ↦ inr (λ bytes is.
+            let rows = some_mapped (project_page_of c.args.served c.args.name.now) held bytes is in
+            rw (back, c.abandon.ensures.kept, ← rows.2, ← c.project-page.ensures.kept, ← c.project-page.ensures.whole_page rows.0) (part rows.0 rows.1))
+      ];
       keeps = search rules;
     }

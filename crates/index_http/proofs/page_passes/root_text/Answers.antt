@@ -1,9 +1,10 @@
-use Rattle.std.proofs.Common.{◌≡◌, ◌∙◌, refl, rules, sym}
+use Rattle.std.proofs.Common.{◌≡◌, ◌∙◌, inl, inr, refl, rules, sym}
 use Rattle.index_rules.specs.TableRows.{held_rows_in}
 use Rattle.index_pages.specs.Pages.{root_page_of}
 use Rattle.index_pages.specs.Parts.{root_rest}
 use Rattle.index_pages.specs.States.{state_of, text_state}
-use Rattle.index_http.proofs.PassLemmas.{cut_page, faulty, no_fault, sent_page}
+use Rattle.index_http.proofs.PassLemmas.{cut_page, faulty, less_page, no_fault, sent_page}
+use Rattle.index_http.proofs.RestLemmas.{root_open}
 use Rattle.index_http.proofs.page_passes.root_text.Goals as goal
 
 pub returns-in-Ok : goal.returns-in-Ok
@@ -33,6 +34,7 @@ returns-in-Ok g c =
         whole = λ no. cc no;
       };
       told = search rules;
+      lasts = λ honest clean. inl (walk.ensures.look.lasts right honest clean, walk.ensures.look.kept right);
       keeps = search rules;
     }
 
@@ -46,6 +48,10 @@ returns-in-Err g c =
     (λ p. text_state (root_rest p.page.as_json p.page.is_started) (state_of g.K.Sink p.sink.now) p.written p.end)
     (λ p. p.sink.ghost_name) (λ before row after h. h) (λ before row after h. h)
     page walk.new.taker walk.result fresh fault c.abandon.ensures.written.front c.abandon.ensures.written.steady in
+    let less = less_page _ _
+    (λ p. text_state (root_rest p.page.as_json p.page.is_started) (state_of g.K.Sink p.sink.now) p.written p.end)
+    (λ p. p.sink.ghost_name) (λ before row after h. h) (λ before row after h. h)
+    page walk.new.taker walk.result (root_open page.page.as_json page.page.is_started) fresh fault c.abandon.ensures.written.front in
     let given = walk.ensures.given in
     let some = passed given.0 given.1 in
     let back = c.sink-in-Err-1.given.1 (sym (some.0 ∙ c.root-page.ensures.sink)) in
@@ -63,5 +69,8 @@ returns-in-Err g c =
         whole = λ no. cc no;
       };
       told = search rules;
+      lasts = λ honest clean. inr (λ bytes is. let e : root_page_of c.args.served rows ≡ bytes = cc is in
+          rw (back, c.abandon.ensures.kept, ← e)
+          (rw (c.root-page.ensures.whole_page rows, c.root-page.ensures.kept) at (less rows (walk.ensures.walked honest clean))));
       keeps = search rules;
     }

@@ -1,6 +1,6 @@
-use Rattle.std.proofs.Common.{◌≤◌, sym, length}
+use Rattle.std.proofs.Common.{◌≤◌, inl, inr, refl, sym, length}
 use Rattle.index_pages.specs.Ends.{most_bytes}
-use Rattle.index_http.proofs.PageLemmas.{sends_behind}
+use Rattle.index_http.proofs.PageLemmas.{less_behind, sends_behind}
 use Rattle.index_http.proofs.page_replies.send_page.Goals as goal
 
 pub returns-clause-sent : goal.returns-clause-sent
@@ -9,3 +9,16 @@ returns-clause-sent g c = λ honest clean there.
     rw (c.after_head.ensures.end, sym there.size, c.if-is_head.false)
     (sends_behind _ _ _ _ _ _ _ c.in-Ok.ensures.whole.0 short c.in-Ok.ensures.short c.in-Ok.ensures.whole.1
     (c.send_text.ensures.sent honest clean there.bytes there.is))
+
+pub returns-clause-lasts : goal.returns-clause-lasts
+returns-clause-lasts g c = λ honest clean there.
+    elim (c.send_text.ensures.lasts honest clean) [
+      | inl stays ↦ inl stays
+      | inr part ↦ inr (rw (sym there.size, c.if-is_head.false) (less_behind _ _ _ _ _ c.in-Ok.ensures.whole.1 (part there.bytes there.is)))
+    ]
+
+pub returns-in-Err-clause-lasts : goal.returns-in-Err-clause-lasts
+returns-in-Err-clause-lasts g c = λ honest clean there. inl (honest, refl)
+
+pub returns-then-is_head-clause-lasts : goal.returns-then-is_head-clause-lasts
+returns-then-is_head-clause-lasts g c = λ honest clean there. inl (honest, refl)

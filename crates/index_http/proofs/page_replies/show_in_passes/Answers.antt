@@ -1,9 +1,10 @@
-use Rattle.std.proofs.Common.{◌≡◌, ap, false, refl, rules, subst, Ok, Err}
+use Rattle.std.proofs.Common.{◌≡◌, ◌∙◌, ap, false, inl, inr, refl, rules, subst, Ok, Err}
 use Rattle.std.specs.Prelude.{is_err}
 use Rattle.index_desk.specs.Pages.{page_in}
 use Rattle.index_http.specs.Replies.{page_reply}
 use Rattle.index_http.specs.PagePasses.{MeasuresProject}
 use Rattle.index_http.proofs.EndLemmas.{fault_ends, fault_memory, sent_memory, shown_ends}
+use Rattle.index_http.proofs.Failures.{less_shows, look_failed}
 use Rattle.index_http.proofs.PageLemmas.{measured, shows_measured, unmeasurable, unmeasured}
 use Rattle.index_http.proofs.page_replies.show_in_passes.Goals as goal
 
@@ -22,6 +23,18 @@ returns-in-Ok-Some g c = record {
   leaves = search rules;
   sends = search rules;
   stores = λ is. let told = rw is at c.send_page.ensures.told in cc told;
+  lasts = λ honest clean.
+      let then = c.send_page.ensures.leaves.clean clean in
+      let there = measured _ _ _ _
+      (subst (λ o. MeasuresProject (page_in (g.B.Books.tables c.args.desk.now) c.args.served c.args.page) (g.B.Books.failures c.args.desk.now) (g.B.Books.failures c.length_of.new.desk) (Ok o))
+      c.in-Ok-Some.field-0-is (c.in-Ok-Some.ensures.measured honest then)) in
+      let right : is_err c.length_of.result ≡ false = search rules in
+      let after = c.length_of.ensures.keeps.lasts right honest then in
+      let same = c.length_of.ensures.keeps.unchanged after in
+      elim (c.send_page.ensures.lasts after clean (record { bytes = there.bytes; is = rw same there.is; size = there.size; within = there.within })) [
+        | inl stays ↦ inl (stays.0, stays.1 ∙ c.length_of.ensures.keeps.kept right)
+        | inr part ↦ inr (less_shows _ _ (page_reply c.args.served there.bytes) _ _ (shows_measured c.args.served _ _ there) part)
+      ];
 }
 
 pub returns-in-Ok-None : goal.returns-in-Ok-None
@@ -32,6 +45,9 @@ returns-in-Ok-None g c = record {
   leaves = search rules;
   sends = search rules;
   stores = λ is. absurd (sent_memory _ _ _ _ c.send_reply.ensures.sent is);
+  lasts = λ honest clean.
+      let right : is_err c.length_of.result ≡ false = search rules in
+      inl (c.length_of.ensures.keeps.lasts right honest clean, c.length_of.ensures.keeps.kept right);
 }
 
 pub returns-in-Err : goal.returns-in-Err
@@ -42,4 +58,5 @@ returns-in-Err g c = record {
   leaves = search rules;
   sends = search rules;
   stores = λ is. c.in-Err.ensures.stores (ap Err (fault_memory _ _ _ _ _ c.send_fault.ensures.told is));
+  lasts = λ honest clean. inr (look_failed _ _ _ _ _ _ c.send_fault.ensures.told);
 }

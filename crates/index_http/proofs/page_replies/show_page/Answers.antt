@@ -1,6 +1,7 @@
-use Rattle.std.proofs.Common.{◌∙◌, ap, inr, rules}
+use Rattle.std.proofs.Common.{◌∙◌, ap, inl, inr, refl, rules}
 use Rattle.index_http.specs.Replies.{page_reply}
 use Rattle.index_http.proofs.EndLemmas.{fault_ends, fault_stores, sent_memory, shown_ends}
+use Rattle.index_http.proofs.Failures.{look_failed}
 use Rattle.index_http.proofs.PageLemmas.{shows_gathered}
 use Rattle.index_http.proofs.page_replies.show_page.Goals as goal
 
@@ -11,6 +12,7 @@ returns-in-Some g c = record {
   leaves = search rules;
   sends = search rules;
   stores = λ is. absurd (sent_memory _ _ _ _ c.send_reply.ensures.sent is);
+  lasts = λ honest clean. inl (honest, refl);
 }
 
 pub returns-in-Ok-Some : goal.returns-in-Ok-Some
@@ -21,6 +23,9 @@ returns-in-Ok-Some g c = record {
   leaves = search rules;
   sends = search rules;
   stores = λ is. absurd (sent_memory _ _ _ _ c.send_reply-sent.ensures.sent is);
+  lasts = λ honest clean.
+      let then = c.in-Ok-Some.ensures.look.lasts honest (c.keep_page.ensures.clean clean) in
+      inl (c.keep_page.ensures.lasts then clean, c.keep_page.ensures.kept ∙ c.in-Ok-Some.ensures.look.kept);
 }
 
 pub returns-in-Ok-None : goal.returns-in-Ok-None
@@ -31,6 +36,9 @@ returns-in-Ok-None g c = record {
   leaves = search rules;
   sends = search rules;
   stores = λ is. c.show_in_passes.ensures.stores is ∙ c.in-Ok-None.ensures.look.stores;
+  lasts = λ honest clean.
+      let after = c.in-Ok-None.ensures.look.lasts honest (c.show_in_passes.ensures.leaves.clean clean) in
+      rw (c.in-Ok-None.ensures.look.unchanged after, c.in-Ok-None.ensures.look.kept) at (c.show_in_passes.ensures.lasts after clean);
 }
 
 pub returns-in-Err : goal.returns-in-Err
@@ -40,4 +48,5 @@ returns-in-Err g c = record {
   leaves = search rules;
   sends = search rules;
   stores = fault_stores _ _ _ _ _ _ _ c.send_fault.ensures.told c.in-Err.ensures.look.stores;
+  lasts = λ honest clean. inr (look_failed _ _ _ _ _ _ c.send_fault.ensures.told);
 }
