@@ -1,5 +1,5 @@
 -- From the states of a connection to the files that it was opened on and closed to.
-use Rattle.std.proofs.Common.{◌≡◌, ◌⊎◌, ◌↔◌, ◌∙◌, Bool, List, [], ◌∷◌, false, sym, ap, subst, subst₂, if◌then◌else◌, inl, inr, ℕ, Some, Result, Ok, Err, IfErr, IfOk, IsTrue, true≢false, arith}
+use Rattle.std.proofs.Common.{◌≡◌, ◌⊎◌, ◌↔◌, ◌∙◌, Bool, List, [], ◌∷◌, false, sym, ap, subst, subst₂, if◌then◌else◌, inl, inr, ℕ, Some, Result, Ok, Err, IfErr, IfOk, arith}
 use Rattle.std.proofs.lemmas.Bool.{cases_Bool}
 use Rattle.std.proofs.Math.Logic.{∥∥₁_elim, ∥∥₁_map}
 use Rattle.sqlite.specs.Closing.{HoldsAlone, IsCopied}

@@ -1,6 +1,6 @@
 -- Runs of the program one after the other, each of which finds what the one before left, and the
 -- one history that they carry on.
-use Rattle.std.specs.Prelude.{◌≡◌, ◌⊎◌, ℕ, List, [], ◌∷◌, Option, Result, IfOk, IfErr, IfSome}
+use Rattle.std.specs.Prelude.{◌≡◌, ◌⊎◌, ℕ, List, [], ◌∷◌, Result, IfOk, IfErr, IfSome}
 use Rattle.sqlite.specs.declared.FileStore.{FileStore}
 use Rattle.sqlite.specs.declared.file.Leftover.{Leftover}
 use Rattle.sqlite.specs.declared.file.Leftover.TheVariants as leftover
@@ -165,7 +165,7 @@ MayCarry (AnswerConnections at requests) result h h' T' =
 MayCarry (WriteReport had has) result h h' T' = h' ≡ h
 MayCarry CountWrong result h h' T' = h' ≡ h
 
--- a task answered by a history, up to the last accepted call at least
+-- a task answered by a history, up to a fault since which no call was accepted
 abbrev pub TellsByHistory : Task → Result ℕ End → History → Tables → Type 0
 TellsByHistory (AnswerLines given left had has) result h T =
     (ended : Result ℕ LineEnd) × (result ≡ end_of ended)

@@ -1,6 +1,6 @@
 -- A run of the program: what it finds in a database file and its log, and what is left in the
 -- files, at the end of the run and by a crash.
-use Rattle.std.specs.Prelude.{◌≡◌, ◌⊎◌, ◌↔◌, Bool, false, IsTrue, Option, None, Some, IfSome}
+use Rattle.std.specs.Prelude.{◌≡◌, ◌⊎◌, ◌↔◌, Bool, false, IsTrue, None, Some, IfSome}
 use Rattle.std.specs.Prelude.{Result, IfOk, IfErr, IsErrOf}
 use Rattle.sqlite.specs.Closing.{HoldsAlone}
 use Rattle.sqlite.specs.Effect.{Database}
@@ -125,8 +125,8 @@ pub record EndsRunOn {D : Type 0} (g : Ghosts D) (task : Task) (start : Image)
   -- the files held an index, and hold what the work made of it
   pub ran : IfOk result (λ run. IfOk run.closed (λ files. AreClean g files.log files.db
       → Ran g (Does task run.end) start files))
-  -- where the log was not copied, what was answered up to the last accepted call is right, and a
-  -- crash leaves what it may leave of the work
+  -- where the log was not copied, what was answered is right up to a fault since which no call was
+  -- accepted, and a crash leaves what it may leave of the work
   pub interrupted : IfOk result (λ run. IfErr run.closed (λ it.
       IsClean (over_files.view it.store)
       → Interrupted (TellsBy task run.end) (MayLeaveBy task run.end) start it.store))

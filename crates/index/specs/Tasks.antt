@@ -91,8 +91,8 @@ pub record AnswersConnections
   pub history : (h : History) → IsLegal h → StandsFor T h
       → (count : ℕ) × IsUpTo requests result count × ServesHistory h at count T'
 
--- also where a fault has shut the store: the same of the connections up to the last of which a call
--- was accepted
+-- also where a fault has shut the store: the same of these connections, or of those up to one that
+-- shows a failure, since which no call was accepted
 pub record AnswersFirstConnections
     (at : Option ℕ) (requests : ℕ) (T : Tables) (result : Result ℕ End) : Type 0 where
   pub ends : IsServingEnd result

@@ -33,7 +33,7 @@ abbrev pub NotAccepted : {H : Type 0} → H ⊎ Unit {0} → Call → Answer →
 NotAccepted (inl honest) call answer = Unit {0}
 NotAccepted (inr none) call answer = answer ≢ Accepted
 
-pub honest_or_other : (H H' : Type 0) (call : Call) (answer : Answer) → Lasts answer H H' → (it : H' ⊎ Unit {0}) × NotAccepted it call answer
+honest_or_other : (H H' : Type 0) (call : Call) (answer : Answer) → Lasts answer H H' → (it : H' ⊎ Unit {0}) × NotAccepted it call answer
 honest_or_other H H' call Accepted lasts = (inl lasts, tt)
 honest_or_other H H' call Already lasts = (inr tt, λ is. cc is)
 honest_or_other H H' call (Refused refusal) lasts = (inr tt, λ is. cc is)

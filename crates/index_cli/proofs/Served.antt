@@ -61,6 +61,7 @@ unasked g s at given = record {
     legal = legal;
     stands = stands;
   };
+  lasts = λ honest clean one. inl (honest, refl);
   asks = record {
     ended = Err OutOfMemory;
     asks = inl (record { unchanged = λ _. refl; honest = λ it. it; clean = λ it. it; crash = λ _ left. left }, refl, refl);

@@ -1,8 +1,11 @@
--- Connections up to the last of which a call was accepted.
+-- Connections that were answered up to one that shows a failure.
 use Rattle.std.proofs.Common.{◌≡◌, ◌⊎◌, ℕ, ◌+◌, inl, inr, refl, subst, sym, arith, List, [], ◌∷◌, length, Option}
 use Rattle.std.specs.Prelude.{IfSome}
 use Rattle.std.specs.List.{AllByRecursion}
+use Rattle.index_rules.specs.declared.answer.Answer.{Answer}
+use Rattle.index_rules.specs.declared.answer.Answer.TheVariants.{Accepted, Already, Refused, Fault}
 use Rattle.index_rules.specs.declared.books.Books.{Ghosts}
+use Rattle.index_rules.specs.declared.call.Call.{Call}
 use Rattle.index_rules.specs.Facts.{HasOneBearer}
 use Rattle.index_rules.specs.History.{History}
 use Rattle.index_rules.specs.Legal.{IsLegal}
@@ -12,75 +15,94 @@ use Rattle.index_desk.specs.Invariants.{KeepsInvariants}
 use Rattle.index_desk.specs.Looks.{LeavesTables}
 use Rattle.index_desk.specs.Rules.{by_history, by_tables}
 use Rattle.index_desk.specs.Takes.{Takes}
-use Rattle.index_http.proofs.Histories.{EndsAfter-Ends}
+use Rattle.index_http.specs.Exchanges.{IsFaultless}
+use Rattle.index_http.specs.Steps.{StaysHonest, at_desk}
+use Rattle.index_http.proofs.Failures.{failure_map}
+use Rattle.index_http.proofs.Histories.{EndsAfter-Ends, faultless_after}
 use Rattle.index_cli.specs.Connections.{Exchange}
-use Rattle.index_cli.specs.ServesFront.{AcceptsNothing, AnswersFront, ServesFrontOn}
-use Rattle.index_cli.specs.Serving.{AnswersEach, AnswersMessage, AnswersOne, AsksOne, OneHistory}
+use Rattle.index_cli.specs.ServesFront.{AcceptsNothing, AnswersFront, AnswersUpToFault, ServesFrontOn}
+use Rattle.index_cli.specs.Serving.{AnswersEach, AnswersMessage, AnswersOne, AsksOne, FailsOne, OneHistory}
 use Rattle.index_cli.proofs.Choices.{AsksOne-choice}
-use Rattle.index_cli.proofs.Fronts.{NotAccepted, honest_or_other}
+use Rattle.index_cli.proofs.Fronts.{NotAccepted}
 
-module _ {S : Type 0} (g : Ghosts S) where
-  honest_or_nothing : (now new : S) (exchange : Exchange) → g.IsClean new → AsksOne exchange (LeavesTables g now new) (Takes g now new)
-      → g.IsHonest new ⊎ AcceptsNothing exchange
-  honest_or_nothing now new exchange clean asks =
-      let it = AsksOne-choice (g.IsHonest new ⊎ Unit {0}) (LeavesTables g now new) (λ it. Unit {0}) (Takes g now new) NotAccepted
-      (λ looked. (inr tt, tt)) (λ call answer took. honest_or_other (g.IsHonest now) (g.IsHonest new) call answer (took.settles.lasts clean)) exchange asks in
+-- where a call was accepted the store stays honest, and else none was
+module _ {S : Type 0} (g : Ghosts S) (now new : S) where
+  abbrev Stays : Type 0
+  Stays = StaysHonest (at_desk g now new)
+
+  stays_or_other : (call : Call) (answer : Answer) → Takes g now new call answer → g.IsClean new → (it : Stays ⊎ Unit {0}) × NotAccepted it call answer
+  stays_or_other call Accepted took clean = (inl (took.settles.lasts clean, took.settles.kept refl), tt)
+  stays_or_other call Already took clean = (inr tt, λ is. cc is)
+  stays_or_other call (Refused refusal) took clean = (inr tt, λ is. cc is)
+  stays_or_other call (Fault fault) took clean = (inr tt, λ is. cc is)
+
+  stays_or_nothing : (exchange : Exchange) → g.IsClean new → AsksOne exchange (LeavesTables g now new) (Takes g now new) → Stays ⊎ AcceptsNothing exchange
+  stays_or_nothing exchange clean asks =
+      let it = AsksOne-choice (Stays ⊎ Unit {0}) (LeavesTables g now new) (λ it. Unit {0}) (Takes g now new) NotAccepted
+      (λ looked. (inr tt, tt)) (λ call answer took. stays_or_other call answer took clean) exchange asks in
       which it.0 it.1
     where
-      which : (it : g.IsHonest new ⊎ Unit {0}) → AsksOne exchange (Unit {0}) (NotAccepted it) → g.IsHonest new ⊎ AcceptsNothing exchange
-      which (inl honest) asks = inl honest
+      which : (it : Stays ⊎ Unit {0}) → AsksOne exchange (Unit {0}) (NotAccepted it) → Stays ⊎ AcceptsNothing exchange
+      which (inl stays) asks = inl stays
       which (inr none) asks = inr asks
 
+module _ {S : Type 0} (g : Ghosts S) where
   -- the connections so far, since the desk was as it was first
   pub record ServedSoFar (Are : List Exchange → Type 0) (given : Option ℕ) (first now : S) (count : ℕ) : Type 0 where
     pub exchanges : List Exchange
     pub are : Are exchanges
     pub told : g.IsHonest now → AnswersEach by_tables exchanges (g.tables first) (g.tables now)
-    pub front : AnswersFront by_tables exchanges (g.tables first)
+    pub front : g.IsHonest now ⊎ AnswersUpToFault by_tables exchanges (g.tables first)
     pub counted : length exchanges ≡ count
     pub are_given : AllByRecursion (λ exchange. IfSome given (λ it. exchange.at ≡ it)) exchanges
 
-  pub served_none : (Are : List Exchange → Type 0) → Are [] → (given : Option ℕ) (first : S) → ServedSoFar Are given first first 0
-  served_none Are none given first = record { exchanges = []; are = none; told = λ _. refl; front = tt; counted = refl; are_given = tt }
+  pub served_none : (Are : List Exchange → Type 0) → Are [] → (given : Option ℕ) (first : S) → g.IsHonest first → ServedSoFar Are given first first 0
+  served_none Are none given first honest =
+      record { exchanges = []; are = none; told = λ _. refl; front = inl honest; counted = refl; are_given = tt }
 
-  -- one more connection
+  -- one more connection, and a look after it, which is made only where a call failed meanwhile
   pub served_push : (Are Are' : List Exchange → Type 0) (exchange : Exchange) → ((earlier : List Exchange) → Are earlier → Are' (exchange ∷ earlier))
       → (given : Option ℕ) → IfSome given (λ it. exchange.at ≡ it)
-      → (first now new : S) (count : ℕ) → KeepsInvariants g first now → AnswersMessage g now new exchange → g.IsClean new → HasOneBearer (g.tables first)
+      → (first now mid new : S) (count : ℕ) → KeepsInvariants g first now → AnswersMessage g now mid exchange → LeavesTables g mid new
+      → (g.failures mid ≡ g.failures now → new ≡ mid) → g.IsClean new → HasOneBearer (g.tables first)
       → ServedSoFar Are given first now count → ServedSoFar Are' given first new (count + 1)
-  served_push Are Are' exchange more given is_given first now new count before answers clean one it =
-      let told : g.IsHonest new → AnswersEach by_tables (exchange ∷ it.exchanges) (g.tables first) (g.tables new) = λ honest.
-      let then = answers.keeps.honest honest in
-      (g.tables now, it.told then, answers.tables honest (before.one_bearer then one)) in
+  served_push Are Are' exchange more given is_given first now mid new count before answers looked idle clean one it =
+      let clean_then = looked.clean clean in
+      let stays = λ (is : StaysHonest (at_desk g now mid)). subst g.IsHonest (sym (idle is.1)) is.0 in
       record {
         exchanges = exchange ∷ it.exchanges;
         are = more it.exchanges it.are;
-        told = told;
-        front = elim (honest_or_nothing now new exchange clean answers.asks) [
-          | inl honest ↦ inl (g.tables new, told honest)
-          | inr none ↦ inr (none, it.front)
+        told = λ honest.
+            let then = looked.honest honest in
+            let was = answers.keeps.honest then in
+            (g.tables now, it.told was, rw (looked.unchanged honest) (answers.tables then (before.one_bearer was one)));
+        front = elim it.front [
+          | inl honest ↦ elim (answers.lasts honest clean_then (before.one_bearer honest one)) [
+            | inl is ↦ inl (stays is)
+            | inr fails ↦ inr (inl (g.tables now, it.told honest, fails))
+          ]
+          | inr shut ↦ elim (stays_or_nothing g now mid exchange clean_then answers.asks) [
+            | inl is ↦ inl (stays is)
+            | inr none ↦ inr (inr (none, shut))
+          ]
         ];
         counted = omega (arith, it.counted);
         are_given = (is_given, it.are_given);
       }
 
-  -- a look after them
-  pub served_look : (Are : List Exchange → Type 0) (given : Option ℕ) (first now new : S) (count : ℕ) → LeavesTables g now new
-      → ServedSoFar Are given first now count → ServedSoFar Are given first new count
-  served_look Are given first now new count looked it = record {
-    exchanges = it.exchanges;
-    are = it.are;
-    told = λ honest. subst (λ T. AnswersEach by_tables it.exchanges (g.tables first) T) (sym (looked.unchanged honest)) (it.told (looked.honest honest));
-    front = it.front;
-    counted = it.counted;
-    are_given = it.are_given;
-  }
-
   -- at an end
   pub served_front : (Are Are' : List Exchange → Type 0) → ((exchanges : List Exchange) → Are exchanges → Are' exchanges)
       → (given : Option ℕ) (first now : S) (count : ℕ) → ServedSoFar Are given first now count → ServesFrontOn Are' by_tables given count (g.tables first)
-  served_front Are Are' f given first now count it =
-      record { exchanges = it.exchanges; are = f it.exchanges it.are; answered = it.front; counted = it.counted; are_given = it.are_given }
+  served_front Are Are' f given first now count it = record {
+    exchanges = it.exchanges;
+    are = f it.exchanges it.are;
+    answered = elim it.front [
+      | inl honest ↦ inl (g.tables now, it.told honest)
+      | inr shut ↦ inr shut
+    ];
+    counted = it.counted;
+    are_given = it.are_given;
+  }
 
 -- ---- by a history for which the tables stood
 
@@ -109,12 +131,30 @@ each_history h legal T stands (exchange ∷ earlier) T' (between, each, one) =
     let it = one_history before.later before.legal between T' before.stands exchange one in
     record { later = it.later; answers = (before.later, before.answers, it.answers); legal = it.legal; stands = it.stands }
 
+fails_history : (h : History) → IsLegal h → (T : Tables) → StandsFor T h → (exchange : Exchange) → FailsOne by_tables exchange T → FailsOne by_history exchange h
+fails_history h legal T stands exchange it =
+    let one = one_history h legal T it.later stands exchange it.answers in
+    record {
+      later = one.later;
+      answers = one.answers;
+      asked = it.asked;
+      shows = failure_map _ (IsFaultless by_history exchange.at exchange.given h) exchange.had exchange.has
+          (faultless_after exchange.at h legal T stands exchange.given) it.shows;
+    }
+
+shut_history : (h : History) → IsLegal h → (T : Tables) → StandsFor T h → (exchanges : List Exchange)
+    → AnswersUpToFault by_tables exchanges T → AnswersUpToFault by_history exchanges h
+shut_history h legal T stands [] shut = shut
+shut_history h legal T stands (exchange ∷ earlier) (inl (between, each, fails)) =
+    let before = each_history h legal T stands earlier between each in
+    inl (before.later, before.answers, fails_history before.later before.legal between before.stands exchange fails)
+shut_history h legal T stands (exchange ∷ earlier) (inr none) = inr (none.0, shut_history h legal T stands earlier none.1)
+
 front_history : (h : History) → IsLegal h → (T : Tables) → StandsFor T h → (exchanges : List Exchange)
     → AnswersFront by_tables exchanges T → AnswersFront by_history exchanges h
-front_history h legal T stands [] front = front
-front_history h legal T stands (exchange ∷ earlier) (inl told) =
-    let it = each_history h legal T stands (exchange ∷ earlier) told.0 told.1 in inl (it.later, it.answers)
-front_history h legal T stands (exchange ∷ earlier) (inr none) = inr (none.0, front_history h legal T stands earlier none.1)
+front_history h legal T stands exchanges (inl told) =
+    let it = each_history h legal T stands exchanges told.0 told.1 in inl (it.later, it.answers)
+front_history h legal T stands exchanges (inr shut) = inr (shut_history h legal T stands exchanges shut)
 
 pub served_front_history : (h : History) → IsLegal h → (T : Tables) → StandsFor T h → (Are : List Exchange → Type 0) (given : Option ℕ) (count : ℕ)
     → ServesFrontOn Are by_tables given count T → ServesFrontOn Are by_history given count h

@@ -7,8 +7,8 @@ use Rattle.index_io.specs.Counts.{HasFailed}
 use Rattle.index_io.specs.declared.sink.Sink.{Ghosts as Outs}
 use Rattle.index_rules.specs.Tables.{Tables}
 use Rattle.index_http.specs.Steps.{SinkStep}
+use Rattle.index_message.specs.Reads.{SourceStep}
 use Rattle.index_cli.specs.Lines.{lines_of, Charges, TakesLines, TakesWithin}
-use Rattle.index_cli.specs.Steps.{SourceStep}
 use Rattle.index_cli.specs.declared.end.LineEnd.{LineEnd}
 use Rattle.index_cli.specs.declared.end.LineEnd.TheVariants.{ReadFault, WriteFault, OutOfMemory}
 
@@ -69,7 +69,7 @@ EndsRun tells T given left had has (Err OutOfMemory) = TellsBefore tells T given
 abbrev pub EndsBy : {S K : Type 0} → SourceStep S → SinkStep K → Result ℕ LineEnd
     → Telling → Tables → Type 0
 EndsBy source sink result tells T = EndsRun tells T
-    (source.ins.remaining source.old) (source.ins.remaining source.new)
+    (source.input.remaining source.old) (source.input.remaining source.new)
     (sink.out.contents sink.old) (sink.out.contents sink.new) result
 
 -- a read failed, or as many bytes were read as may be, or a write failed or took no byte, just
@@ -77,12 +77,12 @@ EndsBy source sink result tells T = EndsRun tells T
 pub record RunFailsOnly {S K : Type 0} (most : ℕ) (source : SourceStep S) (sink : SinkStep K)
     (result : Result ℕ LineEnd) : Type 0 where
   pub read_fault : result ≡ Err ReadFault
-      → HasFailed (source.ins.failures source.old) (source.ins.failures source.new)
-      ⊎ Charges most 0 (source.ins.remaining source.old) (source.ins.remaining source.new)
+      → HasFailed (source.input.failures source.old) (source.input.failures source.new)
+      ⊎ Charges most 0 (source.input.remaining source.old) (source.input.remaining source.new)
   pub write_fault : result ≡ Err WriteFault
       → HasFailed (sink.out.failures sink.old) (sink.out.failures sink.new)
   pub reads : result ≢ Err ReadFault
-      → source.ins.failures source.new ≡ source.ins.failures source.old
+      → source.input.failures source.new ≡ source.input.failures source.old
   pub writes : result ≢ Err WriteFault
       → sink.out.failures sink.new ≡ sink.out.failures sink.old
 

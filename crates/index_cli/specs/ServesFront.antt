@@ -4,22 +4,28 @@ use Rattle.std.specs.List.{AllByRecursion}
 use Rattle.index_rules.specs.declared.answer.Answer.TheVariants.{Accepted}
 use Rattle.index_desk.specs.Rules.{Rules}
 use Rattle.index_cli.specs.Connections.{Exchange}
-use Rattle.index_cli.specs.Serving.{AnswersEach, AsksOne}
+use Rattle.index_cli.specs.Serving.{AnswersEach, AsksOne, FailsOne}
 
 -- a connection of which no call was accepted
 abbrev pub AcceptsNothing : Exchange → Type 0
 AcceptsNothing exchange = AsksOne exchange (Unit {0}) (λ call answer. answer ≢ Accepted)
 
--- connections, of which the newest comes first: those up to the last of which a call was accepted
--- were answered by the rules
+-- connections, of which the newest comes first, were answered by the rules up to one that shows a
+-- failure, since which no call was accepted
+abbrev pub AnswersUpToFault : {S : Type 0} → Rules S → List Exchange → S → Type 0
+AnswersUpToFault rules [] s = ⊥
+AnswersUpToFault {S} rules (exchange ∷ earlier) s =
+    ((between : S) × AnswersEach rules earlier s between × FailsOne rules exchange between)
+    ⊎ (AcceptsNothing exchange × AnswersUpToFault rules earlier s)
+
+-- all of them were answered by the rules, or those up to such a failure
 abbrev pub AnswersFront : {S : Type 0} → Rules S → List Exchange → S → Type 0
-AnswersFront rules [] s = Unit {0}
-AnswersFront {S} rules (exchange ∷ earlier) s =
-    ((s' : S) × AnswersEach rules (exchange ∷ earlier) s s')
-    ⊎ (AcceptsNothing exchange × AnswersFront rules earlier s)
+AnswersFront {S} rules exchanges s =
+    ((s' : S) × AnswersEach rules exchanges s s') ⊎ AnswersUpToFault rules exchanges s
 
 -- so many connections of this kind, each at the moment that is given, or at some moment where none
--- is given: those up to the last of which a call was accepted were answered by the rules
+-- is given: all of them were answered by the rules, or those up to one that shows a failure, since
+-- which no call was accepted
 pub record ServesFrontOn {S : Type 0} (Are : List Exchange → Type 0) (rules : Rules S)
     (given : Option ℕ) (count : ℕ) (s : S) : Type 0 where
   pub exchanges : List Exchange

@@ -1,12 +1,13 @@
 -- What is made of the tables by the messages of connections, one after the other, by rules over any
 -- state.
-use Rattle.std.specs.Prelude.{◌≡◌, ◌<◌, ℕ, List, [], ◌∷◌, ◌++◌, length, Option, IfSome, Result, Ok}
-use Rattle.std.specs.Prelude.{Err}
+use Rattle.std.specs.Prelude.{◌≡◌, ◌<◌, ◌⊎◌, ℕ, List, [], ◌∷◌, ◌++◌, length, Option, IfSome}
+use Rattle.std.specs.Prelude.{Result, Ok, Err}
 use Rattle.std.specs.List.{AllByRecursion}
 use Rattle.index_io.specs.Counts.{HasFailed}
 use Rattle.index_rules.specs.declared.answer.Answer.{Answer}
 use Rattle.index_rules.specs.declared.books.Books.{Ghosts}
 use Rattle.index_rules.specs.declared.call.Call.{Call}
+use Rattle.index_rules.specs.Facts.{HasOneBearer}
 use Rattle.index_rules.specs.Tables.{Tables}
 use Rattle.index_rules.specs.History.{History}
 use Rattle.index_rules.specs.Legal.{IsLegal}
@@ -16,10 +17,10 @@ use Rattle.index_desk.specs.Looks.{LeavesTables}
 use Rattle.index_desk.specs.Rules.{Rules, by_history, by_tables}
 use Rattle.index_desk.specs.Takes.{ByHistory, ByTables, Takes}
 use Rattle.index_http.specs.Asks.{Asks}
-use Rattle.index_http.specs.Ends.{Ends}
-use Rattle.index_http.specs.Exchanges.{RepliesToInput}
+use Rattle.index_http.specs.Ends.{Ends, ShowsFailure}
+use Rattle.index_http.specs.Exchanges.{HasMessage, IsFaultless, RepliesToInput}
 use Rattle.index_http.specs.declared.end.IoEnd.{IoEnd}
-use Rattle.index_http.specs.Steps.{DeskStep}
+use Rattle.index_http.specs.Steps.{DeskStep, StaysHonest, at_desk}
 use Rattle.index_cli.specs.Connections.{AddsReply, Exchange, IsUnsent, TakesFirst}
 use Rattle.index_cli.specs.Steps.{ConnectionsStep}
 use Rattle.index_cli.specs.declared.end.ServeEnd.{ServeEnd}
@@ -33,6 +34,16 @@ pub record AnswersOne {S : Type 0} (rules : Rules S) (exchange : Exchange) (s s'
   pub ends : Ends (λ text.
       RepliesToInput rules (HasFailed failures later_failures) exchange.at s exchange.given text s')
       (s' ≡ s) exchange.had exchange.has ended
+
+-- a connection on which a whole message came was answered, and what went out shows a failure: the
+-- reply to a fault, a front of it or nothing, or not all of the reply that it gets where nothing
+-- fails
+pub record FailsOne {S : Type 0} (rules : Rules S) (exchange : Exchange) (s : S) : Type 0 where
+  pub later : S
+  pub answers : AnswersOne rules exchange s later
+  pub asked : HasMessage exchange.given
+  pub shows : ShowsFailure (IsFaultless rules exchange.at exchange.given s)
+      exchange.had exchange.has
 
 -- connections, of which the newest comes first
 abbrev pub AnswersEach : {S : Type 0} → Rules S → List Exchange → S → S → Type 0
@@ -81,12 +92,15 @@ pub record AsksOne (exchange : Exchange) (Looked : Type 0) (Took : Call → Answ
   pub asks : Asks exchange.at exchange.given Looked Took exchange.had exchange.has ended
 
 -- the message of a connection is answered: by the tables, by a legal history for which they stood,
--- and by what it asked of the desk
+-- and by what it asked of the desk; a store that was honest, and is clean, is honest still and none
+-- of its calls failed, or the connection shows a failure
 pub record AnswersMessage {S : Type 0} (g : Ghosts S) (old new : S) (exchange : Exchange)
     : Type 0 where
   pub tables : ByTables g old new (AnswersOne by_tables exchange)
   pub history : ByHistory g old new (λ h. OneHistory h exchange)
   pub asks : AsksOne exchange (LeavesTables g old new) (Takes g old new)
+  pub lasts : g.IsHonest old → g.IsClean new → HasOneBearer (g.tables old)
+      → StaysHonest (at_desk g old new) ⊎ FailsOne by_tables exchange (g.tables old)
   pub keeps : KeepsInvariants g old new
 
 -- the message of the next connection is answered, at the moment that is given, and the connection

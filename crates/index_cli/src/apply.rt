@@ -8,11 +8,11 @@ ghost use Rattle.index_http.specs.Steps.{to_sink};
 ghost use Rattle.index_cli.specs.Causes.{HaveFailed, TellsFaults};
 ghost use Rattle.index_cli.specs.Ends.{EndsBy, RunFailsOnly};
 ghost use Rattle.index_cli.specs.Lines.{Charges};
-ghost use Rattle.index_cli.specs.Steps.{from_source};
 ghost use Rattle.index_cli.specs.Telling.{TellsLines};
 ghost use Rattle.index_cli.specs.TellsCalls.{TellsCalls};
 ghost use Rattle.index_cli.specs.TellsFront.{FrontByHistory, FrontByTables, TellsFront};
 ghost use Rattle.index_cli.specs.TellsHistory.{TellsHistory};
+ghost use Rattle.index_message.specs.Reads.{from_source};
 
 use crate::end::LineEnd;
 use crate::input::next_line;

@@ -59,8 +59,8 @@ pub fn serve_connections<B: Keeper>(
     ensures history { ByHistory B.Books desk.old desk.new (λ h T. (count : ℕ)
         × IsCount requests result count × ServesHistory h at count T) }
 
-    // Also where a fault has shut the store: the same of the connections up to the last of which a
-    // call was accepted.
+    // Also where a fault has shut the store: the same of the connections, or of those up to one that
+    // shows a failure, since which no call was accepted.
     ensures told { FrontByTables B.Books desk.old desk.new (λ T. (count : ℕ)
         × IsCount requests result count × ServesFront by_tables at count T) }
 

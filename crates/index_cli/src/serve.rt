@@ -58,8 +58,8 @@ pub fn answer_connections<C: Connections, B: Keeper>(
         × ServesHistoryOn (AreOn C.coming C.replies connections.old connections.new)
         h at count T) }
 
-    // Also where a fault has shut the store: the same of the connections up to the last of which a
-    // call was accepted.
+    // Also where a fault has shut the store: the same of the connections, or of those up to one that
+    // shows a failure, since which no call was accepted.
     ensures told { FrontByTables B.Books desk.old desk.new (λ T. (count : ℕ)
         × IsCount requests result count
         × ServesFrontOn (AreOn C.coming C.replies connections.old connections.new)
@@ -178,13 +178,13 @@ fn answer_accepted<C: Connections, B: Keeper>(
 
 /// Whether a fault has shut the store: one was answered since there were so many, and looks at two
 /// names are answered by one too. A row that is no record, which another program wrote, shuts
-/// nothing.
+/// nothing. Where none was answered nothing is asked of the store.
 fn is_shut<B: Keeper>(alloc: Global, desk: &mut Desk<B>, failures: u64) -> bool
     ensures leaves { LeavesTables B.Books desk.old desk.new }
+    ensures idle { B.failures desk.old ≡ failures → desk.new ≡ desk.old }
     ensures store { result ≡ true → 0 < B.failures desk.new }
 {
-    let now = desk.failure_count();
-    if now == failures && now != u64::MAX {
+    if desk.failure_count() == failures {
         return false;
     }
     fails_at(alloc, desk, b"x") && fails_at(alloc, desk, b"is-the-store-shut")

@@ -2,7 +2,6 @@ use Rattle.std.proofs.Common.{IfErr, IfOk, refl, subst, sym}
 use Rattle.std.proofs.lemmas.Result.{IfErr-weaker, IfOk-weaker}
 use Rattle.sqlite.specs.Closing.{IsCopied}
 use Rattle.sqlite.specs.Files.{IsClosed, file_state, over_files}
-use Rattle.sqlite.specs.State.{HasCleanDisk}
 use Rattle.sqlite.specs.WalReads.{AreClean}
 use Rattle.index_rules.specs.FirstTables.{first_tables}
 use Rattle.index_tables.specs.Opened.{IsCreated}

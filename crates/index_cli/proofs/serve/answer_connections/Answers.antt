@@ -1,11 +1,11 @@
-use Rattle.std.proofs.Common.{◌≡◌, ◌<◌, ℕ, ◌∷◌, Result, Err, arith, inl, refl, rules, subst, sym}
+use Rattle.std.proofs.Common.{◌≡◌, ◌∙◌, ◌<◌, ℕ, ◌∷◌, Result, Err, arith, inl, refl, rules, subst, sym}
 use Rattle.index_rules.proofs.StandsOn.{sound_when_legal}
 use Rattle.index_desk.proofs.InvariantLemmas.{keeps_on, looks_keep}
 use Rattle.index_cli.specs.declared.end.ServeEnd.{ServeEnd}
 use Rattle.index_cli.specs.Serving.{IsCount}
 use Rattle.index_cli.proofs.Crashes.{serves_crash, serves_crash_history, serves_look, serves_push}
 use Rattle.index_cli.proofs.Served.{are_on, are_push, calls_are}
-use Rattle.index_cli.proofs.ServedFronts.{served_front, served_front_history, served_look, served_push}
+use Rattle.index_cli.proofs.ServedFronts.{served_front, served_front_history, served_push}
 use Rattle.index_cli.proofs.serve.answer_connections.Goals as goal
 
 -- a connection is answered, and then a look is made, which changes no table
@@ -19,6 +19,7 @@ loop-count-preserved g c =
     let more = are_push C.coming C.replies B _ _ c.args.connections.now _ _ _ next in
     let kept = next.answers.keeps in
     let mid = λ (honest : B.IsHonest c.is_shut-was_shut.new.desk). kept.honest (looked.honest honest) in
+    let idle = λ (same : B.failures c.answer_next.new.desk ≡ B.failures c.loop-count.desk). c.is_shut-was_shut.ensures.idle (same ∙ sym c.failure_count-failures.ensures) in
     record {
       tables = λ honest one.
           let before = invariant.tables (mid honest) one in
@@ -44,10 +45,9 @@ loop-count-preserved g c =
             legal = it.legal;
             stands = it.stands;
           });
-      fronts = λ clean one.
-          served_look B _ _ _ _ _ _ looked
-          (served_push B _ _ next.exchange more _ next.is_given _ _ _ _ invariant.keeps next.answers (looked.clean clean) one
-          (invariant.fronts (kept.clean (looked.clean clean)) one));
+      fronts = λ honest clean one.
+          served_push B _ _ next.exchange more _ next.is_given _ _ _ _ _ invariant.keeps next.answers looked idle clean one
+          (invariant.fronts honest (kept.clean (looked.clean clean)) one);
       called =
           serves_look B _ _ _ _ (B.tables c.answer_next.new.desk) _ _ _ looked
           (serves_push B _ _ next.exchange more _ _ _ _ _ _ _ next.is_given next.answers.asks invariant.called);
@@ -69,7 +69,7 @@ returns-then-was_shut-clause-told g c = λ honest clean one.
       c.loop-count.count,
       less,
       served_front B _ _ (are_on C.coming C.replies _ _ c.loop-count.connections (inl refl) refl) _ _ _ _
-          (c.loop-count.invariant.fronts clean one),
+          (c.loop-count.invariant.fronts honest clean one),
     )
 
 pub returns-then-was_shut-clause-told_history : goal.returns-then-was_shut-clause-told_history
@@ -87,7 +87,7 @@ returns-in_err-answer_next-clause-told g c = λ honest clean one.
       c.loop-count.count,
       early _ _ _ _ is less,
       served_front B _ _ (are_on C.coming C.replies _ _ c.answer_next.new.connections failed.rest failed.unsent) _ _ _ _
-          (c.loop-count.invariant.fronts (subst B.IsClean failed.unasked clean) one),
+          (c.loop-count.invariant.fronts honest (subst B.IsClean failed.unasked clean) one),
     )
 
 pub returns-in_err-answer_next-clause-told_history : goal.returns-in_err-answer_next-clause-told_history
@@ -103,7 +103,7 @@ returns-clause-told g c = λ honest clean one.
       c.loop-count.count,
       all,
       served_front B _ _ (are_on C.coming C.replies _ _ c.loop-count.connections (inl refl) refl) _ _ _ _
-          (c.loop-count.invariant.fronts clean one),
+          (c.loop-count.invariant.fronts honest clean one),
     )
 
 pub returns-clause-told_history : goal.returns-clause-told_history

@@ -21,7 +21,7 @@ invariant-loop-count g l =
     record {
       tables : honest → HasOneBearer before → ServesOn are by_tables l.fn.at l.count before now;
       history : honest → (h : History) → IsLegal h → StandsFor before h → ServesHistoryOn are h l.fn.at l.count now;
-      fronts : g.B.Books.IsClean l.desk → HasOneBearer before → ServedSoFar g.B.Books are l.fn.at l.fn.desk l.desk l.count;
+      fronts : g.B.Books.IsHonest l.fn.desk → g.B.Books.IsClean l.desk → HasOneBearer before → ServedSoFar g.B.Books are l.fn.at l.fn.desk l.desk l.count;
       called : ServesCallsOn are (by_taken g.B.Books l.fn.desk l.desk) l.fn.at l.count now;
       keeps : KeepsInvariants g.B.Books l.fn.desk l.desk;
       shut : l.was_shut ≡ true → 0 < g.B.Books.failures l.desk;

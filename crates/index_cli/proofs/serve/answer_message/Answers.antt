@@ -1,4 +1,6 @@
+use Rattle.std.proofs.Common.{inl, inr}
 use Rattle.index_http.proofs.EndLemmas.{stands_ends}
+use Rattle.index_http.proofs.Failures.{one_later}
 use Rattle.index_cli.proofs.serve.answer_message.Goals as goal
 
 pub returns : goal.returns
@@ -26,5 +28,21 @@ returns g c =
             stands = it.stands;
           };
       asks = record { ended = c.answer_one.result; asks = one.asks };
+      lasts = λ honest clean bearer. elim (one.lasts honest clean) [
+        | inl stays ↦ inl stays
+        | inr shows ↦
+            let then = one_later _ _ (B.tables c.args.desk.now) _ _ _ c.answer_one.result (one.tables honest clean bearer) in
+            inr (record {
+              later = then.0;
+              answers = record {
+                failures = B.failures c.args.desk.now;
+                later_failures = B.failures c.answer_one.new.desk;
+                ended = c.answer_one.result;
+                ends = then.1;
+              };
+              asked = shows.0;
+              shows = shows.1;
+            })
+      ];
       keeps = one.keeps;
     }
