@@ -17,6 +17,13 @@ def new_folder():
     return tempfile.TemporaryDirectory(dir=memory if os.access(memory, os.W_OK) else None)
 
 
+def write_below(folder, path, text):
+    """Writes a file below a folder, and makes the folders that lead to it."""
+    os.makedirs(os.path.dirname(f"{folder}/{path}"), exist_ok=True)
+    with open(f"{folder}/{path}", "w") as made:
+        made.write(text)
+
+
 def built(name, folder):
     """The library of tools/lib/NAME.c, which is preloaded before the program."""
     library = f"{folder}/{name}.so"

@@ -7,7 +7,7 @@ import tempfile
 
 from clients.world import ANN, PASSWORD
 from operate.checks import check
-from running import run_command
+from running import run_command, write_below
 
 SYSTEM, DEBIAN = "/usr/local/bin:/usr/bin:/bin", "/usr/bin/python3"
 # packages of Debian that are no commands, by what they bring
@@ -91,9 +91,7 @@ class Person:
         return path
 
     def puts(self, path, text):
-        os.makedirs(os.path.dirname(f"{self.project}/{path}"), exist_ok=True)
-        with open(f"{self.project}/{path}", "w") as made:
-            made.write(text)
+        write_below(self.project, path, text)
 
     def reads(self, path):
         try:

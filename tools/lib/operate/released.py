@@ -8,7 +8,7 @@ from operate.checks import check, ends
 from operate.packaged import is_possible
 from operate.watched import written
 from releases import COMMAND
-from running import run_command
+from running import run_command, write_below
 from serving import TOP
 
 VERSION, TAG, WHO = "9.8.7", "v9.8.7", ["-c", "user.name=ann", "-c", "user.email=ann@example.org"]
@@ -67,9 +67,7 @@ class Repository:
         self.commit = self.committed()
 
     def put(self, path, text):
-        os.makedirs(os.path.dirname(f"{self.top}/{path}"), exist_ok=True)
-        with open(f"{self.top}/{path}", "w") as made:
-            made.write(text)
+        write_below(self.top, path, text)
 
     def git(self, *words):
         ended = run_command(["git", "-C", self.top, *WHO, *words], GIT_COMMITTER_DATE="2030-01-02T03:04:05Z")
