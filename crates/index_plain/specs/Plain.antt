@@ -25,7 +25,7 @@ use Rattle.index_rules.specs.Maps.{Bytes, bytes_cmp}
 use Rattle.index_rules.specs.Tables.{Tables}
 use Rattle.index_rules.specs.Effect.{means, without_name}
 use Rattle.index_rules.specs.TableRows.{file_rows_in, held_rows_in}
-use Rattle.index_rules.specs.Walks.{Walks}
+use Rattle.index_rules.specs.Walks.{TakerStep, WalksTo}
 use Rattle.index_plain.specs.declared.plain.PlainBooks.{PlainBooks}
 use Rattle.index_plain.specs.Trees.{table_of}
 use Rattle.index_plain.specs.Pairs.{pairs_in}
@@ -90,20 +90,10 @@ pub record LooksInMemory {A : Type 0} (old new : PlainBooks) (result : Result A 
   pub look : LooksUp old new (is_ok result)
   pub memory : IfErr result (λ error. error ≡ fault.OutOfMemory)
 
--- a taker of rows before a walk and after it, and what a row makes of it
-pub record TakerStep (K R : Type 0) : Type 1 where
-  pub takes : K → R → K → Type 0
-  pub stops : K → R → K → Type 0
-  pub old : K
-  pub new : K
-
-abbrev pub to_taker : {K R : Type 0} (takes stops : K → R → K → Type 0) → K → K → TakerStep K R
-to_taker takes stops old new = record { takes = takes; stops = stops; old = old; new = new }
-
 -- a walk over these rows, which no fault of a store ends
 pub record Hands {K R : Type 0} (rows : List R) (taker : TakerStep K R)
     (result : Result (Unit {0}) WalkEnd) : Type 0 where
-  pub walked : Walks taker.takes taker.stops rows taker.old taker.new result
+  pub walked : WalksTo taker rows result
   pub memory : IfErr result (λ end. end ≢ walk_end.Store)
 
 -- a walk over the held names of these books

@@ -129,7 +129,8 @@ impl Books for PlainBooks {
     ghost use Rattle.index_rules.specs.Results.{Returns, ReturnsItems};
     ghost use Rattle.index_rules.specs.TableRows.{file_rows_in, name_rows_in};
     ghost use Rattle.index_rules.specs.Verdict.{is_held as is_held_lem};
-    ghost use Rattle.index_plain.specs.Plain.{HandsFiles, HandsNames, LooksInMemory, LooksUp, MakesOrCounts, failures_of, plain_tables, to_taker};
+    ghost use Rattle.index_rules.specs.Walks.{to_taker};
+    ghost use Rattle.index_plain.specs.Plain.{HandsFiles, HandsNames, LooksInMemory, LooksUp, MakesOrCounts, failures_of, plain_tables};
 
     ghost tables = { plain_tables };
 

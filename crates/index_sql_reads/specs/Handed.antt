@@ -15,9 +15,8 @@ use Rattle.index_sql_schema.specs.Reasons.{HasReason}
 use Rattle.index_rules.specs.declared.answer.Fault.TheVariants as fault
 use Rattle.index_rules.specs.declared.rows.WalkEnd.{WalkEnd}
 use Rattle.index_rules.specs.declared.rows.WalkEnd.TheVariants.{Store}
-use Rattle.index_rules.specs.Walks.{has_fault}
+use Rattle.index_rules.specs.Walks.{TakerStep, WalksTo, has_fault}
 use Rattle.index_sql_schema.specs.OnStore.{ConnectionStep}
-use Rattle.index_sql_reads.specs.Steps.{TakerStep, WalksTo}
 
 -- not each of these rows can be read, or there are more than a walk counts
 abbrev pub IsUnread : (Row → Type 0) → List Row → Type 0

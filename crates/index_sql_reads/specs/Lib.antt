@@ -4,6 +4,5 @@ pub mod Sealed
 pub mod UsualNames
 pub mod Reads
 pub mod ProhibitedRow
-pub mod Steps
 pub mod Handed
 pub mod WalkReasons

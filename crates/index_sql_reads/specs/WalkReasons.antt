@@ -7,12 +7,11 @@ use Rattle.index_sql_schema.specs.Reasons.{HasReason}
 use Rattle.index_rules.specs.declared.rows.WalkEnd.{WalkEnd}
 use Rattle.index_rules.specs.declared.rows.WalkEnd.TheVariants.{Store}
 use Rattle.index_rules.specs.Tables.{Tables}
-use Rattle.index_rules.specs.Walks.{has_fault}
+use Rattle.index_rules.specs.Walks.{TakerStep, WalksTo, has_fault}
 use Rattle.index_sql_schema.specs.Looks.{QueriesOnly}
 use Rattle.index_sql_schema.specs.RecordRows.{AreRecords}
 use Rattle.index_sql_reads.specs.ConnectionTables.{tables_of}
 use Rattle.index_sql_schema.specs.OnStore.{ConnectionStep}
-use Rattle.index_sql_reads.specs.Steps.{TakerStep, WalksTo}
 
 -- on a clean disk, where all rows are those of records, a walk over these rows ends by `Store` only
 -- for a reason of a look, or since they are more than it counts

@@ -10,9 +10,8 @@ ghost use Rattle.index_sql_schema.specs.Looks.{IsIndexConnection, QueriesOnly};
 ghost use Rattle.index_sql_schema.specs.OnStore.{on_store};
 ghost use Rattle.index_sql_schema.specs.Sure.{IsSure};
 ghost use Rattle.index_rules.specs.TableRows.{file_rows_in, held_rows_in};
-ghost use Rattle.index_rules.specs.Walks.{has_fault, walk_end_of};
+ghost use Rattle.index_rules.specs.Walks.{WalksTo, has_fault, to_taker, walk_end_of};
 ghost use Rattle.index_sql_reads.specs.Handed.{HandsQuery, HasHanded, QueryEndsForReason};
-ghost use Rattle.index_sql_reads.specs.Steps.{WalksTo, to_taker};
 ghost use Rattle.index_sql_reads.specs.WalkReasons.{HandsRows};
 
 use crate::from_row::FromRow;

@@ -10,10 +10,9 @@ use Rattle.index_rules.specs.declared.answer.Fault.{Fault}
 use Rattle.index_rules.specs.declared.rows.WalkEnd.{WalkEnd}
 use Rattle.index_rules.specs.Tables.{Tables}
 use Rattle.index_rules.specs.StoreFaults.{CountsStoreFault, fails_by_store, ends_by_store}
-use Rattle.index_rules.specs.Walks.{has_fault}
+use Rattle.index_rules.specs.Walks.{TakerStep, has_fault}
 use Rattle.index_sql_reads.specs.Finds.{FindsInTables}
 use Rattle.index_sql_schema.specs.OnStore.{on_store}
-use Rattle.index_sql_reads.specs.Steps.{TakerStep}
 use Rattle.index_sql_reads.specs.WalkReasons.{HandsRows}
 use Rattle.index_sql_schema.specs.Index.{IsIndex, meta_in, version_in}
 use Rattle.index_sql_schema.specs.RecordRows.{AreRecords}

@@ -6,14 +6,13 @@ use Rattle.sqlite.specs.Effect.{Database}
 use Rattle.sqlite.specs.Held.{state}
 use Rattle.sqlite.specs.State.{HasCleanDisk}
 use Rattle.index_sql_reads.specs.ConnectionTables.{tables_of}
-use Rattle.index_sql_reads.specs.Steps.{TakerStep, WalksTo}
 use Rattle.index_sql_reads.specs.WalkReasons.{EndsForReason}
 use Rattle.index_rules.specs.Calls as calls
 use Rattle.index_rules.specs.declared.answer.Fault.{Fault}
 use Rattle.index_rules.specs.declared.rows.WalkEnd.{WalkEnd}
 use Rattle.index_rules.specs.Tables.{Tables}
 use Rattle.index_rules.specs.StoreFaults.{fails_by_store, ends_by_store}
-use Rattle.index_rules.specs.Walks.{has_fault}
+use Rattle.index_rules.specs.Walks.{TakerStep, WalksTo, has_fault}
 use Rattle.index_sql_schema.specs.Index.{meta_in}
 use Rattle.index_sql_schema.specs.Reasons.{FailsForReason}
 use Rattle.index_sql_schema.specs.RecordRows.{AreRecords}

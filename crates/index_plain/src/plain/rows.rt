@@ -3,7 +3,8 @@ ghost use Rattle.std.specs.Prelude.{◌≡◌};
 ghost use Rattle.index_rules.specs.Sound.{is_undeleted_of as is_undeleted_of_lem};
 ghost use Rattle.index_rules.specs.TableRows.{file_row_in, file_rows_in, name_row as name_row_lem, name_rows_in};
 ghost use Rattle.index_rules.specs.Results.{Returns, ReturnsItems};
-ghost use Rattle.index_plain.specs.Plain.{Hands, HandsFiles, HandsNames, plain_tables, to_taker};
+ghost use Rattle.index_rules.specs.Walks.{to_taker};
+ghost use Rattle.index_plain.specs.Plain.{Hands, HandsFiles, HandsNames, plain_tables};
 ghost use Rattle.index_plain.specs.RowsOf.{rows_of_file, rows_of_name};
 
 use crate::pairs;

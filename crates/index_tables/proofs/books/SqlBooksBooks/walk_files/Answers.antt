@@ -2,10 +2,9 @@ use Rattle.std.proofs.Common.{◌≡◌, not, rules, subst}
 use Rattle.index_io.specs.Counts.{next_count}
 use Rattle.index_rules.specs.TableRows.{file_rows_in}
 use Rattle.index_rules.specs.Tables.{Tables}
-use Rattle.index_rules.specs.Walks.{has_fault}
+use Rattle.index_rules.specs.Walks.{has_fault, to_taker}
 use Rattle.index_rules.specs.StoreFaults.{CountsStoreFault, ends_by_store}
 use Rattle.index_tables.specs.BooksState.{BooksState}
-use Rattle.index_sql_reads.specs.Steps.{to_taker}
 use Rattle.index_tables.specs.LooksUp.{WalksBooks, with_books}
 use Rattle.index_tables.proofs.KeptLemmas.{walks}
 use Rattle.index_tables.proofs.books.SqlBooksBooks.walk_files.Goals as goal
