@@ -28,6 +28,9 @@ pub trait Connections {
     /// Whether there is one to be closed.
     ghost IsOpen: { Self → Type 0 };
 
+    /// Whether the next one could not be accepted.
+    ghost CannotAccept: { Self → Type 0 };
+
     /// The next connection, on which nothing has gone out, or `None` where there is no memory for
     /// it: it was closed then. So many are left to answer, and no more are accepted.
     ///
@@ -48,7 +51,8 @@ pub trait Connections {
         ensures lost { IfOk result (λ next. IfNone next (Loses (coming self.old) (coming self.new)
             (replies self.old) (replies self.new))) }
         ensures none { OnErr result ((coming self.new ≡ coming self.old)
-            × (replies self.new ≡ replies self.old)) };
+            × (replies self.new ≡ replies self.old)) }
+        ensures failed { OnErr result (CannotAccept self.new) };
 
     /// Sends what was gathered of a reply, and closes its connection.
     ///

@@ -1,5 +1,5 @@
 //! Connections from a listener.
-ghost use Rattle.std.specs.Prelude.{◌≡◌, ◌<◌, ⊤, ℕ, Err, None};
+ghost use Rattle.std.specs.Prelude.{◌≡◌, ◌<◌, ⊤, true, ℕ, Err, None};
 ghost use Rattle.index_desk.specs.Crashes.{LeavesAll, LeavesAllOf};
 ghost use Rattle.index_desk.specs.Invariants.{KeepsInvariants};
 ghost use Rattle.index_desk.specs.Rules.{by_history, by_tables};
@@ -89,6 +89,7 @@ pub fn serve_connections<B: Keeper>(
     let mut listening = Listening {
         listener,
         waiting: VecDeque::new(rt.alloc()),
+        has_failed: false,
     };
     answer_connections(rt, &mut listening, requests, at, site, desk)
 }
@@ -98,6 +99,8 @@ pub fn serve_connections<B: Keeper>(
 struct Listening<'a> {
     listener: &'a TcpListener,
     waiting: VecDeque<TcpStream>,
+    /// Whether the next one could not be accepted. Clauses alone read it.
+    has_failed: bool,
 }
 
 impl Drop for Listening<'_> {
@@ -105,6 +108,7 @@ impl Drop for Listening<'_> {
         let Listening {
             listener: _listener,
             waiting: _waiting,
+            has_failed: _has_failed,
         } = self;
     }
 }
@@ -120,6 +124,8 @@ impl Connections for Listening<'_> {
 
     ghost IsOpen = { λ _. ⊤ };
 
+    ghost CannotAccept = { λ it. it.has_failed ≡ true };
+
     fn accept(
         &mut self,
         rt: &HostRuntime,
@@ -127,7 +133,10 @@ impl Connections for Listening<'_> {
     ) -> Result<Option<Connection<Input<Half>, Output<BufWriter<Half>>>>, Failed> {
         match next_waiting(rt, self.listener, &mut self.waiting, left) {
             Ok(stream) => Ok(connection_over(rt.alloc(), stream)),
-            Err(_) => Err(Failed),
+            Err(_) => {
+                self.has_failed = true;
+                Err(Failed)
+            }
         }
     }
 

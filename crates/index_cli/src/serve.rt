@@ -1,6 +1,6 @@
 //! Connections, one after the other.
 ghost use Rattle.std.specs.Prelude.{◌≡◌, ◌≢◌, ◌<◌, true, ℕ, Err, None};
-ghost use Rattle.std.specs.Prelude.{IfErr, IfOk, IfSome, OnErr, OnOk};
+ghost use Rattle.std.specs.Prelude.{IfErr, IfOk, IfSome, IsErrOf, OnErr, OnOk};
 ghost use Rattle.index_desk.specs.Crashes.{LeavesAll, LeavesAllOf};
 ghost use Rattle.index_desk.specs.Invariants.{KeepsInvariants};
 ghost use Rattle.index_desk.specs.Looks.{LeavesTables};
@@ -88,8 +88,9 @@ pub fn answer_connections<C: Connections, B: Keeper>(
     // However it ends: one user at most bears a digest, and accounts that add up keep adding up.
     ensures keeps { KeepsInvariants B.Books desk.old desk.new }
 
-    // It ends by the clock only where no moment is given, and as `Store` only where the store
-    // answered a fault.
+    // It ends as `ReadFault` only where the next connection could not be accepted, by the clock only
+    // where no moment is given, and as `Store` only where the store answered a fault.
+    ensures read { result ≡ Err ServeEnd.ReadFault → C.CannotAccept connections.new }
     ensures clock { result ≡ Err ServeEnd.Clock → at ≡ None }
     ensures store { result ≡ Err ServeEnd.Store → 0 < B.failures desk.new }
 {
@@ -120,6 +121,7 @@ fn answer_next<C: Connections, B: Keeper>(
     ensures unasked { OnErr result (desk.new ≡ desk.old) }
     ensures rest { OnErr result (IsRest (C.coming connections.old) (C.coming connections.new)) }
     ensures unsent { OnErr result (C.replies connections.new ≡ C.replies connections.old) }
+    ensures read { IsErrOf result ServeEnd.ReadFault → C.CannotAccept connections.new }
     ensures clock { result ≡ Err ServeEnd.Clock → at ≡ None }
     ensures no_store { result ≢ Err ServeEnd.Store }
 {

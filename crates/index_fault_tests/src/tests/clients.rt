@@ -54,7 +54,7 @@ impl<R: Abort> Clients<'_, R> {
 }
 
 impl<R: Abort> Connections for Clients<'_, R> {
-    ghost use Rattle.std.specs.Prelude.{map, Some, ⊤};
+    ghost use Rattle.std.specs.Prelude.{◌≡◌, [], map, Some, ⊤};
 
     type ReadHalf = Input<&'static [u8]>;
 
@@ -65,6 +65,8 @@ impl<R: Abort> Connections for Clients<'_, R> {
     ghost replies = { λ clients. Some (map (λ reply. reply.items) clients.replies.items) };
 
     ghost IsOpen = { λ _. ⊤ };
+
+    ghost CannotAccept = { λ clients. iter_rest clients.coming ≡ [] };
 
     fn accept(
         &mut self,
