@@ -77,11 +77,15 @@ impl PlainBooks {
         ensures bad_first_user { RefusesBadFirstUser user.now token result }
         ensures fault { FailsByEither result OpenFault.BadFirstUser OpenFault.OutOfMemory }
     {
-        PlainBooks::opened(alloc, user, token)
+        PlainBooks::with_first_user(alloc, user, token)
     }
 
     /// What `new` makes, by one definition.
-    fn opened(alloc: Global, user: &[u8], token: Digest256) -> Result<PlainBooks, OpenFault>
+    fn with_first_user(
+        alloc: Global,
+        user: &[u8],
+        token: Digest256,
+    ) -> Result<PlainBooks, OpenFault>
         ensures { Opens user.now token result }
     {
         let (user, record) = first_user(alloc, user, token)?;
@@ -101,7 +105,7 @@ impl PlainBooks {
     }
 
     /// Counts a failure for want of memory.
-    fn failed(&mut self) -> Fault
+    fn count_failure(&mut self) -> Fault
         ensures fault { result ≡ Fault.OutOfMemory }
         ensures counts { LooksUp self.old self.new false }
     {
@@ -153,7 +157,7 @@ impl Books for PlainBooks {
     {
         match self.look(alloc, keys) {
             Ok(view) => Ok(view),
-            Err(_) => Err(self.failed()),
+            Err(_) => Err(self.count_failure()),
         }
     }
 
@@ -162,7 +166,7 @@ impl Books for PlainBooks {
     {
         match self.make(alloc, change) {
             Ok(()) => Ok(()),
-            Err(_) => Err(self.failed()),
+            Err(_) => Err(self.count_failure()),
         }
     }
 
@@ -180,7 +184,7 @@ impl Books for PlainBooks {
     {
         match table::copy_at(&self.bodies, file) {
             Ok(body) => Ok(body),
-            Err(_) => Err(self.failed()),
+            Err(_) => Err(self.count_failure()),
         }
     }
 
@@ -190,7 +194,7 @@ impl Books for PlainBooks {
     {
         match self.name_rows(alloc) {
             Ok(rows) => Ok(rows),
-            Err(_) => Err(self.failed()),
+            Err(_) => Err(self.count_failure()),
         }
     }
 
@@ -200,7 +204,7 @@ impl Books for PlainBooks {
     {
         match self.file_rows(alloc, name) {
             Ok(rows) => Ok(rows),
-            Err(_) => Err(self.failed()),
+            Err(_) => Err(self.count_failure()),
         }
     }
 

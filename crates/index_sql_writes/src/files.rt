@@ -35,6 +35,7 @@ pub(crate) fn file_steps(change: &Change) -> Steps<'_>
             file,
             record,
         } => ban(name, project, file, record),
+        // By `requires` the change is one of a file.
         _ => unreachable!(),
     }
 }

@@ -8,7 +8,7 @@ ghost use Rattle.index_rules.specs.Results.{Returns};
 ghost use Rattle.index_rules.specs.Texts.{is_text as is_text_lem};
 ghost use Rattle.index_rules.specs.Facts.{facts_seen};
 ghost use Rattle.index_rules.specs.Verdict.{is_other_file};
-ghost use Rattle.index_rules.specs.Effect.{as_deleted as deleted_lem, project_left as project_left_lem, new_file};
+ghost use Rattle.index_rules.specs.Effect.{as_deleted as as_deleted_lem, project_left as project_left_lem, new_file};
 ghost use Rattle.index_rules.specs.Decided.{DecidesIn, DecidesOnFile, FindsProject, Uploads};
 
 use super::context::Context;
@@ -208,7 +208,7 @@ pub fn delete(context: &Context<'_>, file: &Bytes) -> Result<Decision, Stop>
         return Ok(Decision::Already);
     }
     let project = project.without_file(record.size)?;
-    let record = deleted(record)?;
+    let record = as_deleted(record)?;
     let file = to_file(context.alloc, file)?;
     let name = file.project().clone()?;
     Ok(Decision::Change(Change::Delete {
@@ -236,7 +236,7 @@ pub fn ban_file(context: &Context<'_>, file: &Bytes) -> Result<Decision, Stop>
     if context.view.is_banned {
         return Ok(Decision::Already);
     }
-    let record = deleted(record)?;
+    let record = as_deleted(record)?;
     let project = project_left(context)?;
     let file = to_file(context.alloc, file)?;
     let name = file.project().clone()?;
@@ -261,8 +261,8 @@ fn project_left(context: &Context<'_>) -> Result<Option<Project>, AllocError>
 }
 
 /// The record of the file once it is deleted.
-fn deleted(known: &FileRecord) -> Result<FileRecord, AllocError>
-    ensures { Returns result (deleted_lem known.now) }
+fn as_deleted(known: &FileRecord) -> Result<FileRecord, AllocError>
+    ensures { Returns result (as_deleted_lem known.now) }
 {
     let mut gone = known.clone()?;
     gone.is_undeleted = false;

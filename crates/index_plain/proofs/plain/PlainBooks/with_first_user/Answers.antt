@@ -7,7 +7,7 @@ use Rattle.index_rules.specs.declared.records.UserRecord.{UserRecord}
 use Rattle.index_rules.specs.Maps.{Bytes, Map, bytes_cmp}
 use Rattle.index_plain.specs.Pairs.{pairs_of}
 use Rattle.index_plain.proofs.PairLemmas.{pairs_empty}
-use Rattle.index_plain.proofs.plain.PlainBooks.opened.Goals as goal
+use Rattle.index_plain.proofs.plain.PlainBooks.with_first_user.Goals as goal
 
 no_pairs : {X : Type 0} → pairs_of bytes_cmp bytes_cmp (empty {X = BTreeMap Bytes X}) ≡ empty
 no_pairs = pairs_empty nat_list_cmp_total nat_list_cmp_total exact_bytes exact_bytes
