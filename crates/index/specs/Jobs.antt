@@ -128,8 +128,8 @@ abbrev pub EndsJob : {D : Type 0} → Ghosts D → Job → Image → Result Exit
 EndsJob g (job.Init db user digits page_sums) start result =
     EndsAsInit g user.now digits.now page_sums start result
 EndsJob g (job.Apply db) start result = EndsApply g db start result
-EndsJob g (job.Serve db listen requests at keep_recent) start result =
-    EndsAsOrEarly g (AnswerConnections at requests) start IsStatusOf result
+EndsJob g (job.Serve db words) start result =
+    EndsAsOrEarly g (AnswerConnections words.at words.requests) start IsStatusOf result
 EndsJob g (job.Report db) start result = EndsReport g start result
 EndsJob g (job.Check db) start result = EndsAs g CountWrong start IsStatusOfCheck result
 
@@ -137,7 +137,7 @@ EndsJob g (job.Check db) start result = EndsAs g CountWrong start IsStatusOfChec
 abbrev pub path_of : Job → Option Bytes
 path_of (job.Init db user digits page_sums) = Some db.now
 path_of (job.Apply db) = option_map (λ path. path.now) db
-path_of (job.Serve db listen requests at keep_recent) = Some db.now
+path_of (job.Serve db words) = Some db.now
 path_of (job.Report db) = Some db.now
 path_of (job.Check db) = Some db.now
 

@@ -23,6 +23,7 @@ use index_message::Site;
 use index_plain::PlainBooks;
 use index_recent::Recent;
 use index_rules::OpenFault;
+use index_words::ServeWords;
 use sqlite::{FileFrom, Start};
 use sqlite_disk::Disk;
 use std::io::{self, BufReader, ErrorKind, Write};
@@ -177,19 +178,6 @@ impl<R: Source, K: Sink> Work for Lines<R, K> {
             Err(early) => Err(End::Lines(early)),
         }
     }
-}
-
-/// What the words of `serve` say beside the path.
-#[derive(Clone, Copy)]
-pub struct ServeWords<'a> {
-    /// The address and port to listen on.
-    pub listen: &'a str,
-    /// How many connections are answered.
-    pub requests: u32,
-    /// The moment of every request in Unix seconds, or the clock's.
-    pub at: Option<u64>,
-    /// How many bytes of files and pages are kept at hand, or as many as the program likes.
-    pub keep_recent: Option<u64>,
 }
 
 /// Answers so many connections on the tables of a database, which is opened before the first of

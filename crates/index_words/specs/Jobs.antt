@@ -54,11 +54,12 @@ IsJob (Some (name, rows)) (job.Init db user token page_sums) = (name ≡ codes "
     × (IsTrue page_sums ↔ IsGiven (codes "page-sums") rows)
 IsJob (Some (name, rows)) (job.Apply db) = (name ≡ codes "apply")
     × (first_of (codes "db") rows ≡ option_map (λ db. db.now) db)
-IsJob (Some (name, rows)) (job.Serve db listen requests at keep_recent) = (name ≡ codes "serve")
-    × HasText (codes "db") rows db.now
-    × HasText (codes "listen") rows listen.now × HasNumber (codes "requests") rows requests
-    × (1 ≤ requests) × (requests ≤ 1000000) × HasNumberOrNone (codes "at") rows at
-    × HasNumberOrNone (codes "keep-recent") rows keep_recent
+IsJob (Some (name, rows)) (job.Serve db words) = (name ≡ codes "serve")
+    × HasText (codes "db") rows db.now × HasText (codes "listen") rows words.listen.now
+    × HasNumber (codes "requests") rows words.requests
+    × (1 ≤ words.requests) × (words.requests ≤ 1000000)
+    × HasNumberOrNone (codes "at") rows words.at
+    × HasNumberOrNone (codes "keep-recent") rows words.keep_recent
 IsJob (Some (name, rows)) (job.Report db) = (name ≡ codes "report")
     × HasText (codes "db") rows db.now
 IsJob (Some (name, rows)) (job.Check db) = (name ≡ codes "check")

@@ -11,6 +11,19 @@ use clap::error::ErrorKind;
 use clap::{ArgMatches, Command, Error};
 use std::alloc::{AllocError, Global};
 
+/// What the words of `serve` say beside the path.
+#[derive(Clone, Copy, Debug, PartialEq, Eq)]
+pub struct ServeWords<'a> {
+    /// The address and port to listen on.
+    pub listen: &'a str,
+    /// How many connections are served, 1 to 1,000,000.
+    pub requests: u32,
+    /// The moment of every request in Unix seconds, or the clock's.
+    pub at: Option<u64>,
+    /// How many bytes of answers are kept at hand, or as many as the program likes.
+    pub keep_recent: Option<u64>,
+}
+
 /// What the program is asked to do.
 #[derive(Clone, Copy, Debug, PartialEq, Eq)]
 pub enum Job<'a> {
@@ -34,14 +47,8 @@ pub enum Job<'a> {
     Serve {
         /// The path of the index's database.
         db: &'a str,
-        /// The address and port to listen on.
-        listen: &'a str,
-        /// How many connections are served, 1 to 1,000,000.
-        requests: u32,
-        /// The moment of every request in Unix seconds, or the clock's.
-        at: Option<u64>,
-        /// How many bytes of answers are kept at hand, or as many as the program likes.
-        keep_recent: Option<u64>,
+        /// Its other words.
+        words: ServeWords<'a>,
     },
     /// To print the report.
     Report {
@@ -183,13 +190,13 @@ fn serve_of<'a>(given: &ArgMatches<'a>) -> Option<Job<'a>>
     let requests = count(text(given, "requests")?)?;
     let at = number_or_none(given, "at")?;
     let keep_recent = number_or_none(given, "keep-recent")?;
-    Some(Job::Serve {
-        db,
+    let words = ServeWords {
         listen,
         requests,
         at,
         keep_recent,
-    })
+    };
+    Some(Job::Serve { db, words })
 }
 
 /// The text of an option.

@@ -4,4 +4,4 @@
 mod command;
 mod job;
 
-pub use job::{Job, WordsEnd, read_words};
+pub use job::{Job, ServeWords, WordsEnd, read_words};

@@ -1,5 +1,5 @@
 //! Command lines of each subcommand, and those that are refused.
-use index_words::{Job, WordsEnd, read_words};
+use index_words::{Job, ServeWords, WordsEnd, read_words};
 use std::alloc::AllocGlobal;
 use std::process::Abort;
 
@@ -83,13 +83,13 @@ fn reads_serve(rt: HostRuntime) {
     for (options, requests, at, keep_recent) in rows {
         let line = format!(in rt.alloc(); "index serve --db a --listen {listen} {options}");
         let line = line.expect(&rt, "a line");
-        let job = Job::Serve {
-            db: "a",
+        let words = ServeWords {
             listen,
             requests,
             at,
             keep_recent,
         };
+        let job = Job::Serve { db: "a", words };
         assert_asks(&rt, line.as_str(), job);
     }
 }
