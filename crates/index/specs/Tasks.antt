@@ -77,9 +77,12 @@ IsServingEnd result =
     ((result ≡ Err end.Listen) ⊎ (result ≡ Err end.WriteFault))
     ⊎ ((ended : Result (Unit {0}) ServeEnd) × (result ≡ end_of_serving ended))
 
--- all of so many connections, or some of them where the work ended early
+-- all of so many connections; none of them where the address can't be listened on, or was not told;
+-- or some of them where the work ended early
 abbrev pub IsUpTo : ℕ → Result ℕ End → ℕ → Type 0
 IsUpTo requests (Ok done) count = count ≡ requests
+IsUpTo requests (Err end.Listen) count = count ≡ 0
+IsUpTo requests (Err end.WriteFault) count = count ≡ 0
 IsUpTo requests (Err early) count = count ≤ requests
 
 -- connections were answered, one after the other: by the tables, and by each legal history for
