@@ -1,5 +1,5 @@
 //! The index in a database of SQLite: made or adopted, worked on, and closed.
-ghost use Rattle.std.specs.Prelude.{◌≡◌, false, ℕ, Result, None, Some, IfOk, IfErr, IfSome, IsTrue};
+ghost use Rattle.std.specs.Prelude.{◌≡◌, false, ℕ, Result, Err, None, Some, IfOk, IfErr, IfSome, IsTrue};
 ghost use Rattle.sqlite.specs.Closing.{IsCopied};
 ghost use Rattle.sqlite.specs.Files.{IsClosed, file_state, over_files};
 ghost use Rattle.sqlite.specs.Held.{AreDatabases, state};
@@ -93,7 +93,9 @@ pub trait Work {
             HasOneBearer (B.tables desk.old) → (T : Tables) → B.may_leave desk.new T →
             MayLeaveBy (task self.old self.new) result (B.tables desk.old) T }
         ensures honest { B.IsHonest desk.new → B.IsHonest desk.old }
-        ensures clean { B.IsClean desk.new → B.IsClean desk.old };
+        ensures clean { B.IsClean desk.new → B.IsClean desk.old }
+        // A fault of the store is no want of memory.
+        ensures stores { result ≡ Err End.OutOfMemory → B.stores desk.new ≡ B.stores desk.old };
 }
 
 /// Makes a new index with one user, of the office, whose token has the digest of these hex digits,
