@@ -1,4 +1,5 @@
-"""The calls and clauses that docs/PROOFS.md names in its tables, and whether the contracts of the code have them."""
+"""The calls and clauses that docs/PROOFS.md names in its tables, and whether the contracts of the code have them; the
+definitions that it names in its tables of steps, and whether they have their lines."""
 import os
 import re
 
@@ -7,6 +8,9 @@ from serving import TOP
 
 PAGE = "docs/PROOFS.md"
 PROMISES = re.compile(r"^\| Promise \| Call \| Clause \|\n\|.*\n((?:\|.*\n)*)", re.M)
+STEPS = re.compile(r"^\| Step \| Definition \| Lines \|\n\|.*\n((?:\|.*\n)*)", re.M)
+# a definition up to the next line that is empty
+DEFINITION = re.compile(r"^(?:pub record|(?:abbrev|unfoldable) pub) (\w+)\b.*\n(?:.+\n)*", re.M)
 # a function up to its body, and all of a trait or a struct
 FUNCTION = re.compile(r"^ *(?:pub(?:\(crate\))? )?fn (\w+).*?(?:\{|;|\{\})$", re.S | re.M)
 TYPE = re.compile(r"^(?:pub )?(?:struct|trait) (\w+).*?^\}", re.S | re.M)
@@ -38,3 +42,27 @@ def promises():
         for row in table.splitlines():
             calls, clauses = (re.findall(r"`([^`]+)`", cell) for cell in row.split("|")[2:4])
             yield from ((call, clauses) for call in calls)
+
+
+def definitions():
+    """The definitions in the specs of the crates, by name, each with its text."""
+    found = {}
+    for folder, _, files in os.walk(f"{TOP}/crates"):
+        for file in files if "/specs" in folder else []:
+            for match in DEFINITION.finditer(read(os.path.relpath(f"{folder}/{file}", TOP))):
+                found.setdefault(match[1], []).append(match[0])
+    return found
+
+
+def steps():
+    """The definitions in the tables of steps of the page, each row's with the lines that stand beside them."""
+    for table in STEPS.findall(read(PAGE)):
+        for row in table.splitlines():
+            yield tuple(re.findall(r"`([^`]+)`", cell) for cell in row.split("|")[2:4])
+
+
+def has_lines(names, lines, found):
+    """Whether each name is a definition, and one of them has all these lines."""
+    texts = [text for name in names for text in found.get(name, [])]
+    has_all = any(all(f"\n  pub {line} :" in text for line in lines) for text in texts)
+    return has_all and all(name in found for name in names)
