@@ -1,16 +1,18 @@
 -- Each fault of the store that is told has a call that failed.
-use Rattle.std.proofs.Common.{◌≡◌, ◌∙◌, ◌+◌, ℕ, inl, inr, refl, sym, ap, List, [], ◌∷◌, ◌++◌, Option, append_assoc, append-nil, arith}
+use Rattle.std.proofs.Common.{◌≡◌, ◌∙◌, ◌+◌, ℕ, inl, inr, refl, sym, ap, List, [], ◌∷◌, ◌++◌, length, Option, append_assoc, append-nil, arith}
 use Rattle.std.proofs.lemmas.Bool.{cases_lt}
 use Rattle.index_io.specs.Counts.{FailsAtMostOnce, HasFailed, last_count}
 use Rattle.index_rules.specs.declared.answer.Answer.{Answer}
 use Rattle.index_rules.specs.declared.answer.Answer.TheVariants as answer
 use Rattle.index_rules.specs.declared.answer.Fault.{Fault}
 use Rattle.index_rules.specs.declared.answer.Fault.TheVariants.{OutOfMemory, Store}
+use Rattle.index_rules.specs.StoreFaults.{CountsStoreFault, answers_store_fault}
 use Rattle.index_rules.specs.Tables.{Tables}
 use Rattle.index_desk.specs.declared.standing.Standing.{Standing}
+use Rattle.index_json.proofs.OnLiterals.{answers_on_literals}
 use Rattle.index_json.specs.AnswerText.{answer_text_of}
 use Rattle.index_json.specs.StandingText.{standing_text_of}
-use Rattle.index_cli.specs.Causes.{HasCauses, HaveFailed, store_faults, TellsEach, TellsFault, TellsFaults}
+use Rattle.index_cli.specs.Causes.{HasCauses, HaveCounted, HaveFailed, store_faults, TellsStoreFault, TellsEach, TellsFault, TellsFaults}
 use Rattle.index_cli.specs.Ends.{TellsBefore}
 use Rattle.index_cli.specs.Lines.{line_feed}
 use Rattle.index_cli.proofs.Progress.{Pushes}
@@ -90,3 +92,47 @@ fault_causes OutOfMemory text f0 f1 is once store = (0, inl (answer.Fault OutOfM
 -- the text of a standing
 pub standing_causes : (standing : Standing) (text : List ℕ) (f0 f1 : ℕ) → text ≡ standing_text_of standing → FailsAtMostOnce f0 f1 → HasCauses text f0 f1
 standing_causes standing text f0 f1 is once = (0, inr (inl (standing, is, refl)), none_failed f0 f1 once)
+
+-- ---- the count of the store's faults
+
+-- the text of `Store` is not that of want of memory
+store_size : length (answer_text_of (answer.Fault Store)) ≡ 33
+unfolding answers_on_literals
+store_size = refl
+
+memory_size : length (answer_text_of (answer.Fault OutOfMemory)) ≡ 39
+unfolding answers_on_literals
+memory_size = refl
+
+store_or_memory : answer_text_of (answer.Fault Store) ≡ answer_text_of (answer.Fault OutOfMemory) → ⊥
+store_or_memory same = absurd (omega (arith, ap length same, store_size, memory_size))
+
+-- the text of an answer
+pub answer_counted : (a : Answer) (text : List ℕ) (f0 f1 : ℕ) → text ≡ answer_text_of a → CountsStoreFault f0 f1 (answers_store_fault a) → TellsStoreFault text f0 f1
+answer_counted (answer.Fault Store) text f0 f1 is counts = inl (is, counts)
+answer_counted (answer.Fault OutOfMemory) text f0 f1 is counts = inr (inl (answer.Fault OutOfMemory, is, refl), counts)
+answer_counted (answer.Refused refusal) text f0 f1 is counts = inr (inl (answer.Refused refusal, is, refl), counts)
+answer_counted answer.Already text f0 f1 is counts = inr (inl (answer.Already, is, refl), counts)
+answer_counted answer.Accepted text f0 f1 is counts = inr (inl (answer.Accepted, is, refl), counts)
+
+-- want of memory is the text of no fault of the store
+pub counted_memory : (text : List ℕ) (f0 f1 : ℕ) → TellsStoreFault text f0 f1 → text ≡ answer_text_of (answer.Fault OutOfMemory) → f1 ≡ f0
+counted_memory text f0 f1 (inl (store, counts)) memory = absurd (store_or_memory (sym store ∙ memory))
+counted_memory text f0 f1 (inr (none, kept)) memory = kept
+
+-- lines and one more: what it tells, and how many were counted
+pub counted_push : (n : ℕ) (text : List ℕ) (f0 f1 f2 : ℕ) → HaveCounted n f0 f1 → TellsStoreFault text f1 f2
+    → (m : ℕ) × TellsFault text m × HaveCounted (n + m) f0 f2
+counted_push n text f0 f1 f2 before (inl (store, counts)) = (1, inl (answer.Fault Store, store, refl), next before)
+  where
+    next : HaveCounted n f0 f1 → HaveCounted (n + 1) f0 f2
+    next (inl more) = elim (cases_lt (f1 + 1) last_count) [
+      | inl near ↦ inl (omega (arith, counts, more, near))
+      | inr far ↦ inr (omega (arith, counts, far), omega (arith, more, far))
+    ]
+    next (inr (last, far)) = inr (omega (arith, counts, last), omega (arith, far))
+counted_push n text f0 f1 f2 before (inr (none, kept)) = (0, none, next before)
+  where
+    next : HaveCounted n f0 f1 → HaveCounted (n + 0) f0 f2
+    next (inl more) = inl (omega (arith, kept, more))
+    next (inr (last, far)) = inr (omega (arith, kept, last), omega (arith, far))

@@ -1,9 +1,10 @@
 -- Lines that tell a fault of the store, and what failed there.
-use Rattle.std.specs.Prelude.{◌≡◌, ℕ, ◌+◌, ◌≤◌, ◌⊎◌, List, [], ◌∷◌, ◌++◌}
+use Rattle.std.specs.Prelude.{◌≡◌, ℕ, ◌+◌, ◌≤◌, ◌⊎◌, true, List, [], ◌∷◌, ◌++◌}
 use Rattle.index_io.specs.Counts.{last_count}
 use Rattle.index_rules.specs.declared.answer.Answer.{Answer}
 use Rattle.index_rules.specs.declared.answer.Answer.TheVariants as answer
 use Rattle.index_rules.specs.declared.answer.Fault.TheVariants.{OutOfMemory, Store}
+use Rattle.index_rules.specs.StoreFaults.{CountsStoreFault}
 use Rattle.index_desk.specs.declared.standing.Standing.{Standing}
 use Rattle.index_json.specs.AnswerText.{answer_text_of, bad_body_text}
 use Rattle.index_json.specs.StandingText.{standing_text_of}
@@ -43,3 +44,14 @@ HaveFailed faults before now = (before + faults ≤ now) ⊎ (last_count ≤ now
 -- each fault of the store that a text tells has a call that failed since
 abbrev pub HasCauses : List ℕ → ℕ → ℕ → Type 0
 HasCauses text before now = (faults : ℕ) × TellsFault text faults × HaveFailed faults before now
+
+-- so many faults of the store were counted since, up to the last value
+abbrev pub HaveCounted : ℕ → ℕ → ℕ → Type 0
+HaveCounted faults before now =
+    (now ≡ before + faults) ⊎ ((now ≡ last_count) × (last_count ≤ before + faults))
+
+-- a fault of the store was counted, and the text is that of `Store`; or none was, and it tells none
+abbrev pub TellsStoreFault : List ℕ → ℕ → ℕ → Type 0
+TellsStoreFault text before now =
+    ((text ≡ answer_text_of (answer.Fault Store)) × CountsStoreFault before now true)
+    ⊎ (TellsFault text 0 × (now ≡ before))

@@ -5,7 +5,7 @@ ghost use Rattle.index_desk.specs.Invariants.{KeepsInvariants};
 ghost use Rattle.index_desk.specs.Rules.{by_history, by_tables};
 ghost use Rattle.index_desk.specs.Takes.{ByHistory, ByTables, CrashByHistory, CrashByTables};
 ghost use Rattle.index_http.specs.Steps.{to_sink};
-ghost use Rattle.index_cli.specs.Causes.{HaveFailed, TellsFaults};
+ghost use Rattle.index_cli.specs.Causes.{HaveCounted, HaveFailed, TellsFaults};
 ghost use Rattle.index_cli.specs.Ends.{EndsBy, RunFailsOnly};
 ghost use Rattle.index_cli.specs.Lines.{Charges};
 ghost use Rattle.index_cli.specs.Telling.{TellsLines};
@@ -76,6 +76,11 @@ pub fn apply_lines<S: Source, K: Sink, B: Books>(
 
     // Each fault of the store that a line tells has a call of the store that failed.
     ensures store { (faults : ℕ) × HaveFailed faults (B.failures desk.old) (B.failures desk.new)
+        × EndsBy (from_source S.Source source.old source.new) (to_sink K.Sink sink.old sink.new)
+        result (TellsFaults faults) (B.tables desk.new) }
+
+    // The lines tell `Store` as often as the store answered it, up to the last value of that count.
+    ensures stores { (faults : ℕ) × HaveCounted faults (B.stores desk.old) (B.stores desk.new)
         × EndsBy (from_source S.Source source.old source.new) (to_sink K.Sink sink.old sink.new)
         result (TellsFaults faults) (B.tables desk.new) }
 

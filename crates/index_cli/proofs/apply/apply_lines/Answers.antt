@@ -3,7 +3,7 @@ use Rattle.index_rules.proofs.StandsOn.{sound_when_legal}
 use Rattle.index_desk.proofs.InvariantLemmas.{keeps_on}
 use Rattle.index_cli.specs.declared.end.LineEnd.TheVariants.{ReadFault, WriteFault}
 use Rattle.index_cli.proofs.Calls.{taken_none}
-use Rattle.index_cli.proofs.CauseLemmas.{HaveFailed-push, faults_before, faults_push, none_failed}
+use Rattle.index_cli.proofs.CauseLemmas.{HaveFailed-push, counted_push, faults_before, faults_push, none_failed}
 use Rattle.index_cli.proofs.Crashes.{lines_crash, lines_crash_history, lines_history, taken_push}
 use Rattle.index_cli.proofs.Cuts.{Charges-trans, TakesPart-none}
 use Rattle.index_cli.proofs.Fronts.{front_none, front_push, lines_front, lines_front_history}
@@ -19,6 +19,7 @@ loop-count-init g c = record {
   fronts = Progress-none _ _ _ _ (front_none _ _);
   called = Progress-none _ _ _ _ (refl, taken_none _ _ (g.met.B.Books.settled _));
   faults = (0, none_failed _ _ (inl refl), Progress-none _ _ _ _ (refl, refl));
+  counted = (0, inl (omega arith), Progress-none _ _ _ _ (refl, refl));
   charged = search rules;
   spent = search rules;
   reads = search rules;
@@ -94,6 +95,17 @@ returns-in_err-size-clause-store g c =
           (Progress-part _ _ _ _ _ _ _ _ told.2 c.in_err-size.ensures.part),
     )
 
+pub returns-in_err-size-clause-stores : goal.returns-in_err-size-clause-stores
+returns-in_err-size-clause-stores g c =
+    let is : c.from_residual.result ≡ Err c.in_err-size.field-0.0 = search rules in
+    let other : c.from_residual.result ≢ Err WriteFault = search rules in
+    let told = c.loop-count.invariant.counted in (
+      told.0,
+      told.1,
+      Ends-before _ _ _ _ _ _ c.from_residual.result c.in_err-size.field-0.0 is other
+          (Progress-part _ _ _ _ _ _ _ _ told.2 c.in_err-size.ensures.part),
+    )
+
 -- ---- there was none
 
 pub returns-in_default-clause-tables : goal.returns-in_default-clause-tables
@@ -134,6 +146,12 @@ pub returns-in_default-clause-store : goal.returns-in_default-clause-store
 returns-in_default-clause-store g c =
     let end = rw c.in_default.is at c.in_ok-size.ensures.line in
     let told = c.loop-count.invariant.faults in
+    (told.0, told.1, Progress-whole _ _ _ _ _ _ _ _ told.2 end.0 end.1)
+
+pub returns-in_default-clause-stores : goal.returns-in_default-clause-stores
+returns-in_default-clause-stores g c =
+    let end = rw c.in_default.is at c.in_ok-size.ensures.line in
+    let told = c.loop-count.invariant.counted in
     (told.0, told.1, Progress-whole _ _ _ _ _ _ _ _ told.2 end.0 end.1)
 
 -- ---- memory ran out for a reply
@@ -189,6 +207,17 @@ returns-in_err-reply-clause-store g c =
     let told = c.loop-count.invariant.faults in (
       told.0,
       rw c.in_err-reply.ensures.causes.kept told.1,
+      Ends-before _ _ _ _ _ _ c.from_residual-in_err-reply.result c.in_err-reply.field-0.0 is other
+          (faults_before _ _ _ _ _ _ _ (Progress-taken _ _ _ _ _ _ _ _ c.in-Some.size _ told.2 (rw c.in-Some.is at c.in_ok-size.ensures.line))),
+    )
+
+pub returns-in_err-reply-clause-stores : goal.returns-in_err-reply-clause-stores
+returns-in_err-reply-clause-stores g c =
+    let is : c.from_residual-in_err-reply.result ≡ Err c.in_err-reply.field-0.0 = search rules in
+    let other : c.from_residual-in_err-reply.result ≢ Err WriteFault = search rules in
+    let told = c.loop-count.invariant.counted in (
+      told.0,
+      rw c.in_err-reply.ensures.stores.kept told.1,
       Ends-before _ _ _ _ _ _ c.from_residual-in_err-reply.result c.in_err-reply.field-0.0 is other
           (faults_before _ _ _ _ _ _ _ (Progress-taken _ _ _ _ _ _ _ _ c.in-Some.size _ told.2 (rw c.in-Some.is at c.in_ok-size.ensures.line))),
     )
@@ -262,6 +291,19 @@ returns-in_default-write_line-clause-store g c =
           front.0 front.1,
     )
 
+pub returns-in_default-write_line-clause-stores : goal.returns-in_default-write_line-clause-stores
+returns-in_default-write_line-clause-stores g c =
+    let front = c.in_default-write_line.ensures.front in
+    let told = c.loop-count.invariant.counted in
+    let more = counted_push told.0 _ _ _ _ told.1 c.in_ok-reply.ensures.stores.told in (
+      told.0 + more.0,
+      more.2,
+      Progress-during _ _ _ _ _ _ _ _ _ _ _ c.in-Some.size _ _ _ told.2
+          (rw c.in-Some.is at c.in_ok-size.ensures.line)
+          (faults_push told.0 more.0 _ (g.B.Books.tables c.loop-count.desk) (g.B.Books.tables c.reply_to.new.desk) _ _ more.1)
+          front.0 front.1,
+    )
+
 pub returns-in_default-write_line-clause-fails : goal.returns-in_default-write_line-clause-fails
 returns-in_default-write_line-clause-fails g c = record {
   read_fault = search rules;
@@ -310,6 +352,15 @@ loop-count-preserved g c =
             (faults_push invariant.faults.0 causes.0 _ (B.tables c.loop-count.desk) (B.tables c.reply_to.new.desk) _ _ causes.1)
             c.in-Ok.ensures.whole,
       );
+      counted =
+          let more = counted_push invariant.counted.0 _ _ _ _ invariant.counted.1 c.in_ok-reply.ensures.stores.told in (
+            invariant.counted.0 + more.0,
+            more.2,
+            Progress-push _ _ _ _ _ _ _ _ _ _ _ c.in-Some.size _ _ invariant.counted.2
+                (rw c.in-Some.is at c.in_ok-size.ensures.line)
+                (faults_push invariant.counted.0 more.0 _ (B.tables c.loop-count.desk) (B.tables c.reply_to.new.desk) _ _ more.1)
+                c.in-Ok.ensures.whole,
+          );
       charged = Charges-trans _ _ _ _ _ _ invariant.charged c.next_line.ensures.charged;
       spent = let less = rw c.in-Some.is at c.in_ok-size.ensures.left in omega (arith, less.1, invariant.spent);
       reads = c.in_ok-size.ensures.kept (search rules) ∙ invariant.reads;
@@ -353,6 +404,11 @@ returns-clause-crash_history g c = λ honest clean h legal stands T left.
 pub returns-clause-store : goal.returns-clause-store
 returns-clause-store g c =
     let told = c.loop-count.invariant.faults in
+    (told.0, told.1, Progress-part _ _ _ _ _ _ _ _ told.2 (TakesPart-none _))
+
+pub returns-clause-stores : goal.returns-clause-stores
+returns-clause-stores g c =
+    let told = c.loop-count.invariant.counted in
     (told.0, told.1, Progress-part _ _ _ _ _ _ _ _ told.2 (TakesPart-none _))
 
 pub returns-clause-fails : goal.returns-clause-fails

@@ -3,7 +3,7 @@ use Rattle.index_rules.specs.Facts.{HasOneBearer}
 use Rattle.index_cli.specs.declared.apply.TheConstants.{MOST_BYTES}
 use Rattle.index_desk.specs.Invariants.{KeepsInvariants}
 use Rattle.index_desk.specs.Rules.{by_tables}
-use Rattle.index_cli.specs.Causes.{HaveFailed, TellsFaults}
+use Rattle.index_cli.specs.Causes.{HaveCounted, HaveFailed, TellsFaults}
 use Rattle.index_cli.specs.Lines.{Charges}
 use Rattle.index_cli.specs.Telling.{TellsLines}
 use Rattle.index_cli.specs.TellsCalls.{TellsCalls}
@@ -27,6 +27,8 @@ invariant-loop-count g l =
       called : Progress (TellsCalls (by_taken g.B.Books l.fn.desk l.desk)) now
           given left (g.K.Sink.contents l.fn.sink) (g.K.Sink.contents l.sink) l.count;
       faults : (faults : ℕ) × HaveFailed faults (g.B.Books.failures l.fn.desk) (g.B.Books.failures l.desk)
+          × Progress (TellsFaults faults) now given left (g.K.Sink.contents l.fn.sink) (g.K.Sink.contents l.sink) l.count;
+      counted : (faults : ℕ) × HaveCounted faults (g.B.Books.stores l.fn.desk) (g.B.Books.stores l.desk)
           × Progress (TellsFaults faults) now given left (g.K.Sink.contents l.fn.sink) (g.K.Sink.contents l.sink) l.count;
       charged : Charges MOST_BYTES l.left given left;
       spent : l.left + l.count ≤ MOST_BYTES;

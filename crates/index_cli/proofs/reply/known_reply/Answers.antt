@@ -1,5 +1,6 @@
-use Rattle.std.proofs.Common.{inl, inr, rules}
-use Rattle.index_cli.proofs.CauseLemmas.{fault_causes, standing_causes}
+use Rattle.std.proofs.Common.{inl, inr, refl, rules}
+use Rattle.index_rules.specs.declared.answer.Answer.TheVariants as answer
+use Rattle.index_cli.proofs.CauseLemmas.{answer_counted, counted_memory, fault_causes, standing_causes}
 use Rattle.index_cli.proofs.reply.known_reply.Goals as goal
 
 pub returns-in-Err : goal.returns-in-Err
@@ -12,6 +13,9 @@ returns-in-Err g c = record {
     kept = search rules;
     memory = search rules;
   };
+  stores =
+      let told = answer_counted (answer.Fault c.in-Err.fault) _ _ _ c.answer_text.ensures c.in-Err.ensures.look.stores in
+      record { told = told; memory = counted_memory _ _ _ told; kept = search rules };
 }
 
 pub returns-in-Ok-text : goal.returns-in-Ok-text
@@ -23,5 +27,10 @@ returns-in-Ok-text g c = record {
     told = standing_causes c.in-Ok.standing _ _ _ c.in-Ok-text.ensures.text.value c.in-Ok.ensures.look.once;
     kept = search rules;
     memory = search rules;
+  };
+  stores = record {
+    told = inr (inr (inl (c.in-Ok.standing, c.in-Ok-text.ensures.text.value, refl)), c.in-Ok.ensures.look.stores);
+    memory = λ _. c.in-Ok.ensures.look.stores;
+    kept = search rules;
   };
 }

@@ -13,6 +13,7 @@ returns-then-size-gt-LONGEST_LINE g c = record {
       (record { unchanged = λ _. refl; honest = λ h. h; clean = λ h. h; crash = λ _ left. left });
   leaves = search rules;
   causes = search rules;
+  stores = search rules;
   keeps = search rules;
 }
 
@@ -30,5 +31,6 @@ returns g c =
           c.reply_to_read.ensures.asks;
       leaves = search rules;
       causes = search rules;
+      stores = search rules;
       keeps = search rules;
     }

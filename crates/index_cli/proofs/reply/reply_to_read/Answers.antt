@@ -3,7 +3,7 @@ use Rattle.std.proofs.lemmas.Result.{IfOk-weaker}
 use Rattle.index_desk.proofs.InvariantLemmas.{looks_keep}
 use Rattle.index_json.specs.Line.{line_of}
 use Rattle.index_json.specs.declared.line.Line.TheVariants as line
-use Rattle.index_cli.proofs.CauseLemmas.{answer_causes}
+use Rattle.index_cli.proofs.CauseLemmas.{answer_causes, answer_counted, counted_memory}
 use Rattle.index_cli.proofs.FaultTexts.{call_lasts, honest_or_mapped}
 use Rattle.index_cli.proofs.reply.reply_to_read.Goals as goal
 
@@ -20,6 +20,9 @@ returns-in-Some-Call g c = record {
     kept = search rules;
     memory = search rules;
   };
+  stores =
+      let told = answer_counted c.apply.result _ _ _ c.answer_text.ensures c.apply.ensures.takes.settles.stores in
+      record { told = told; memory = counted_memory _ _ _ told; kept = search rules };
   keeps = search rules;
 }
 
@@ -35,5 +38,6 @@ returns-in-Some-Standing g c = record {
   asks = search rules;
   leaves = search rules;
   causes = c.standing_reply.ensures.causes;
+  stores = c.standing_reply.ensures.stores;
   keeps = looks_keep _ _ _ c.standing_reply.ensures.leaves;
 }
