@@ -76,6 +76,7 @@ impl<B: Books> Recent<B> {
         ensures books { self.new.books ≡ self.old.books }
         ensures none { is_out_of_memory ≡ true →
             (self.new.bodies.items ≡ []) × (self.new.pages.items ≡ []) }
+        ensures bytes { is_out_of_memory ≡ true → self.new.used ≡ 0 }
     {
         if is_out_of_memory {
             self.bodies.clear();
@@ -86,8 +87,11 @@ impl<B: Books> Recent<B> {
 
     /// Lets go of all pages, and of the bodies that a change may write.
     fn forget_touched(&mut self, change: &Change)
-        ensures { (self.new.books ≡ self.old.books) × ((self.new.pages.items ≡ [])
-            × (self.new.bodies.items ≡ filter (spares_body change.now) self.old.bodies.items)) }
+        ensures books { self.new.books ≡ self.old.books }
+        ensures pages { self.new.pages.items ≡ [] }
+        ensures spared { self.new.bodies.items
+            ≡ filter (spares_body change.now) self.old.bodies.items }
+        ensures bytes { self.new.used ≡ body_bytes self.new.bodies.items }
     {
         self.pages.clear();
         keep_spared(&mut self.bodies, change);

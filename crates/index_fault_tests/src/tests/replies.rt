@@ -284,6 +284,34 @@ fn a_head_of_tables_that_fail(rt: HostRuntime) {
     }
 }
 
+/// Each call of the tables but the first runs out of memory. A file that the first found is answered without the tables,
+/// until this look has made a call.
+fn assert_forgotten<B: Books + Drop>(
+    rt: &(impl Abort + AllocGlobal),
+    site: &Site,
+    books: B,
+    look: &Route,
+) {
+    let desk = failing_desk(rt, books, BooksCall::Every, Fault::OutOfMemory, 1);
+    let books = Recent::new(rt.alloc(), desk.into_books().into_books(), 1_024);
+    let mut desk = Desk::new(books);
+    for _ in 0..2 {
+        assert_front(rt, site, &mut desk, FILE.message, FILE.front);
+    }
+    for message in [look.message, FILE.message] {
+        let ended = Err(IoEnd::OutOfMemory);
+        assert_reply(rt, site, &mut desk, message.as_bytes(), ended, "");
+    }
+}
+
+#[test]
+fn what_is_kept_goes_where_memory_runs_out(rt: HostRuntime) {
+    let site = &Site::new(rt.alloc()).expect(&rt, "routes");
+    for look in [ROOT, PAGE, STANDING] {
+        assert_forgotten(&rt, site, new_books(&rt), &look);
+    }
+}
+
 /// Where this call of the tables fails, a request that makes it is answered by the fault, and changed nothing. All others
 /// are answered as ever.
 fn assert_change<B: Books + Drop>(
