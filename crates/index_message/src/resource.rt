@@ -35,7 +35,7 @@ pub enum Resource {
 
 impl Resource {
     /// The methods that it has.
-    pub fn allowed(&self) -> Allowed
+    pub fn allowed_methods(&self) -> Allowed
         ensures { result ≡ allowed_of self.now }
     {
         match self {
@@ -58,7 +58,7 @@ pub enum Method {
 
 impl Method {
     /// The method of a request line, if it is one of these. Their names are upper case (RFC 9110, section 9.1).
-    pub fn named(name: &[u8]) -> Option<Method>
+    pub fn from_name(name: &[u8]) -> Option<Method>
         ensures { result ≡ method_of name.now }
     {
         if name == b"DELETE".as_slice() {
@@ -203,8 +203,8 @@ pub fn resolve_target(
 fn allowed_method(resource: &Resource, name: &[u8]) -> Result<Method, MessageFault>
     ensures { target_by name.now (Some resource.now) ≡ to_resource resource.now result }
 {
-    let allowed = resource.allowed();
-    match Method::named(name) {
+    let allowed = resource.allowed_methods();
+    match Method::from_name(name) {
         Some(method) if method.is_in(allowed) => Ok(method),
         _ => Err(MessageFault::BadMethod(allowed)),
     }

@@ -50,7 +50,7 @@ impl NormalName {
         ensures { IfOk result (λ normal. normal ≡ normal_form name.now) }
     {
         Ok(NormalName {
-            text: Text::new(normalized(alloc, name)?),
+            text: Text::new(normalize(alloc, name)?),
         })
     }
 
@@ -112,7 +112,7 @@ fn has_name_bytes(bytes: &[u8]) -> bool
 
 /// The name in lower case, with one hyphen in place of each run of separators (PEP 503).
 #[tactic(auto, using(crate::proofs::NormalForm::steps))]
-fn normalized(alloc: Global, bytes: &[u8]) -> Result<String, AllocError>
+fn normalize(alloc: Global, bytes: &[u8]) -> Result<String, AllocError>
     requires { IsTrue (is_project_name bytes.now) }
     ensures { IfOk result (λ normal. string_bytes normal ≡ normal_form bytes.now) }
 {

@@ -90,7 +90,7 @@ impl Project {
     }
 
     /// A name that was just claimed in this spelling.
-    pub(crate) fn claimed(shown: Text) -> Project
+    pub(crate) fn new(shown: Text) -> Project
         ensures { result ≡ new_project shown }
     {
         Project {

@@ -28,7 +28,7 @@ pub fn claim(context: &Context<'_>, name: &Bytes) -> Result<Decision, Stop>
     if owns {
         return Ok(Decision::Already);
     }
-    let project = Project::claimed(to_shown(context.alloc, name)?);
+    let project = Project::new(to_shown(context.alloc, name)?);
     let owner = context.caller.user.clone()?;
     let name = to_name(context.alloc, name)?;
     Ok(Decision::Change(Change::Claim {

@@ -1,7 +1,7 @@
 use Rattle.std.proofs.Common.{◌++◌, sym, ap, ◌∙◌, append-nil, string_bytes}
 use Rattle.std.proofs.Math.ListN.{drop_of_length-le}
 use Rattle.index_names.proofs.NormalForm.{rest, rest-name}
-use Rattle.index_names.proofs.project.normalized.Goals as goal
+use Rattle.index_names.proofs.project.normalize.Goals as goal
 
 pub returns : goal.returns
 returns c =
