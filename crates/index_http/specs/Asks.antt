@@ -1,5 +1,6 @@
 -- What a message asks of a desk, and what a crash may leave once a call was taken.
-use Rattle.std.specs.Prelude.{◌≡◌, ◌⊎◌, ℕ, true, [], Option, Some, None, Result, Err, if◌then◌else◌}
+use Rattle.std.specs.Prelude.{◌≡◌, ◌⊎◌, ℕ, true, false, [], Option, Some, None, Result, Err}
+use Rattle.std.specs.Prelude.{if◌then◌else◌}
 use Rattle.std.specs.Io.KnownBytes.{Keeps}
 use Rattle.index_io.specs.Bytes.{IsInput}
 use Rattle.index_rules.specs.declared.answer.Answer.{Answer}
@@ -10,7 +11,7 @@ use Rattle.index_desk.specs.Invariants.{KeepsInvariants}
 use Rattle.index_desk.specs.Looks.{LeavesTables}
 use Rattle.index_desk.specs.Rules.{by_tables}
 use Rattle.index_desk.specs.Takes.{Takes}
-use Rattle.index_message.specs.Messages.{IsMessage}
+use Rattle.index_message.specs.Messages.{IsMessage, is_faulty}
 use Rattle.index_message.specs.Resources.{is_head, is_put, is_reading}
 use Rattle.index_message.specs.declared.message.Message.{Message}
 use Rattle.index_message.specs.declared.message.Message.TheVariants.{Faulty, Whole}
@@ -64,8 +65,8 @@ AsksDesk at given desk sink result = Asks at given
 
 -- a message was answered: the reply is that to the message by the tables, and the text of the
 -- answer, where it makes a call and that was taken; where memory ran out nothing was asked of the
--- desk, or it was a look, and no fault of the store is told as that; only a page is cut short, when
--- no table changed; and a failure shows
+-- desk, or it was a look, and no faulty message and no fault of the store is told as that; only a
+-- page is cut short, when no table changed; and a failure shows
 pub record AnswersBy {S K : Type 0} (at : ℕ) (message : Message) (desk : DeskStep S)
     (sink : SinkStep K)
     (result : Result (Unit {0}) IoEnd) : Type 0 where
@@ -74,6 +75,7 @@ pub record AnswersBy {S K : Type 0} (at : ℕ) (message : Message) (desk : DeskS
       (LeavesTables desk.books desk.old desk.new) (Takes desk.books desk.old desk.new)
       (sink.out.contents sink.old) (sink.out.contents sink.new) result
   pub memory : result ≡ Err OutOfMemory → (desk.new ≡ desk.old) ⊎ (is_look message ≡ true)
+  pub whole : result ≡ Err OutOfMemory → is_faulty message ≡ false
   pub stores : result ≡ Err OutOfMemory → desk.books.stores desk.new ≡ desk.books.stores desk.old
   pub lasts : LastsOrShows
       (λ T text. (later : Tables) × RepliesTo by_tables ⊥ at T message text later) desk sink

@@ -5,7 +5,7 @@ ghost use Rattle.index_desk.specs.Looks.{LeavesTables};
 ghost use Rattle.index_desk.specs.Rules.{by_tables};
 ghost use Rattle.index_message.specs.Heads.{longest_head};
 ghost use Rattle.index_message.specs.Lengths.{longest_upload};
-ghost use Rattle.index_message.specs.Messages.{EndsUnfinished};
+ghost use Rattle.index_message.specs.Messages.{EndsUnfinished, MayHaveHead};
 ghost use Rattle.index_message.specs.Reads.{TakesAtMost};
 ghost use Rattle.index_http.specs.Asks.{AnswersBy, AsksDesk};
 ghost use Rattle.index_http.specs.Ends.{LastsOrFails, RepliesBy, RepliesByHistory};
@@ -58,6 +58,10 @@ pub fn answer_one<S: Source, K: Sink, B: Keeper>(
     // Where memory ran out nothing was asked of the desk, or it was a look: an answer to a call is always replied.
     ensures memory { result ≡ Err IoEnd.OutOfMemory → (desk.new ≡ desk.old)
         ⊎ GivesMessage is_look (S.remaining source.old) }
+
+    // A message whose head can't be read, or whose path has no route, gets its reply, and is no want of memory.
+    ensures readable { result ≡ Err IoEnd.OutOfMemory
+        → MayHaveHead (S.remaining source.old) (S.remaining source.new) }
 
     // Where a fault shuts the store or a call of the books fails, a whole message came, and what went out shows it.
     ensures lasts { LastsOrFails at (S.remaining source.old)

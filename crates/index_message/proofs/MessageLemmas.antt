@@ -1,6 +1,7 @@
 -- What was read is the message that the input begins with.
-use Rattle.std.proofs.Common.{◌≡◌, ℕ, ◌<◌, ◌≤◌, inl, inr, List, [], ◌++◌, length, drop, map, take, Option, Some, None, Ok, refl, sym, ap, ◌∙◌, arith, append_assoc, length-append, true, false}
-use Rattle.std.specs.Prelude.{nat_le, unwrap_or}
+use Rattle.std.proofs.Common.{◌≡◌, ℕ, ◌<◌, ◌≤◌, inl, inr, List, [], ◌++◌, length, drop, map, take, Option, Some, None, Result, Ok, Err, refl, sym, ap, ◌∙◌, arith, append_assoc, length-append, Bool, true, false}
+use Rattle.std.specs.Prelude.{if◌then◌else◌, is_some, nat_le, unwrap_or}
+use Rattle.std.specs.Str.{is_utf8}
 use Rattle.std.specs.Io.KnownBytes.{Consumes, IsAtEnd}
 use Rattle.std.proofs.lemmas.Bool.Decides.{nat_tests}
 use Rattle.std.proofs.lemmas.List.{append-nil, take-append-le}
@@ -12,8 +13,13 @@ use Rattle.httparse.specs.declared.spans.RequestSpans.{RequestSpans}
 use Rattle.httparse.proofs.GrammarLemmas.{ReadsRequest-append, request_unique}
 use Rattle.index_io.specs.Bytes.{IsInput}
 use Rattle.index_message.specs.Heads.{HasHead, IsHeadAt}
-use Rattle.index_message.specs.Messages.{AwaitsBody, EndsUnfinished, FollowsHead, IsMessage, asked_by_head, asked_of, is_head_name, message_by, message_of, whole_of}
-use Rattle.index_message.specs.Fields.{fields_of}
+use Rattle.index_message.specs.Messages.{AwaitsBody, EndsUnfinished, FollowsHead, IsMessage, MayHaveHead, asked_by_head, asked_of, is_faulty, is_head_name, message_by, message_of, whole_of}
+use Rattle.index_message.specs.Fields.{Field, fields_of}
+use Rattle.index_message.specs.Resources.{has_route, path_of, resource_of}
+use Rattle.index_message.specs.Routes.{route_of}
+use Rattle.index_message.specs.declared.resource.Resource.{Resource}
+use Rattle.index_message.specs.declared.resource.Route.{Route}
+use Rattle.index_message.specs.declared.fault.MessageFault.{MessageFault}
 use Rattle.index_message.specs.declared.fault.MessageFault.TheVariants.{ShortBody}
 use Rattle.index_message.specs.declared.message.Message.TheVariants.{Faulty}
 use Rattle.index_message.specs.declared.request.Asked.{Asked}
@@ -26,7 +32,7 @@ input_is (Some xs) None held c = absurd c
 input_is (Some xs) (Some ys) held c = sym c
 
 -- a head at the front of what was read is at the front of any input that begins so
-head_is : (held more : List ℕ) (fields : List HeaderSpan) (spans : RequestSpans) (found : IsHeadAt held fields spans) → length held ≤ 16384
+pub head_is : (held more : List ℕ) (fields : List HeaderSpan) (spans : RequestSpans) (found : IsHeadAt held fields spans) → length held ≤ 16384
     → HasHead (held ++ more) found.head (drop spans.len held ++ more)
 head_is held more fields spans found short = record {
   reads = ReadsRequest-append held found.head (drop spans.len held) more found.at.reads;
@@ -56,6 +62,24 @@ asked_is held fields spans found =
     ap (λ m. asked_by_head m (span_bytes held spans.path) (map (header_bytes held) (take spans.headers fields))) found.at.method
     ∙ ap (λ t. asked_by_head found.head.method t (map (header_bytes held) (take spans.headers fields))) found.at.path
     ∙ ap (asked_by_head found.head.method found.head.target) found.at.fields
+
+both_same : (b : Bool) (found : Option Resource) → (if b then found else found) ≡ found
+both_same true found = refl
+both_same false found = refl
+
+-- a path with no route leads to nothing
+no_route : (target : List ℕ) → route_of (path_of target) ≡ None → resource_of target ≡ None
+unfolding resource_of
+no_route target none = rw none (both_same (is_utf8 target) None)
+
+with_route : (name target : List ℕ) (fields : List Field) (asked : Asked) (route : Option Route) → route_of (path_of target) ≡ route
+    → asked_by_head name target fields ≡ Ok asked → is_some route ≡ true
+with_route name target fields asked None none is = let no = rw (no_route target none) at is in absurd (cc no)
+with_route name target fields asked (Some route) some is = refl
+
+-- what is asked for has a route
+pub asked_has_route : (head : RequestHead) (asked : Asked) → asked_of head ≡ Ok asked → has_route head.target ≡ true
+asked_has_route head asked is = with_route head.method head.target (fields_of head) asked (route_of (path_of head.target)) refl is
 
 -- a whole body makes a request
 with_enough : (head : RequestHead) (rest body : List ℕ) (asked : Asked) → asked.length ≤ length rest → take asked.length rest ≡ body
@@ -104,6 +128,19 @@ message_read old mid new held fields spans found message short taken follows =
       input_is old new (held ++ more) (Consumes-trans old mid new held more taken follows.1),
       inr (found.head, (drop spans.len held ++ more) ++ rest, behind held more rest fields spans found short, follows.2),
     )
+
+asked_when_whole : (head : RequestHead) (rest : List ℕ) (result : Result Asked MessageFault) → is_faulty (message_by head rest result) ≡ false
+    → (asked : Asked) × (result ≡ Ok asked)
+asked_when_whole head rest (Err fault) whole = absurd (cc whole)
+asked_when_whole head rest (Ok asked) whole = (asked, refl)
+
+-- a message with no fault has a head, whose path has a route
+pub whole_has_head : (old new : Option (List ℕ)) (input : List ℕ) (message : Message) → IsInput old input → IsMessage input message → is_faulty message ≡ false
+    → MayHaveHead old new
+whole_has_head old new input message given (inl none) whole = let is = none.1 in absurd (cc (is, whole))
+whole_has_head old new input message given (inr read) whole =
+    let asked = asked_when_whole read.0 read.1 (asked_of read.0) (rw read.3 at whole) in
+    inr (input, read.0, read.1, given, read.2, asked_has_route read.0 asked.0 asked.1)
 
 -- an input begins with at most one message
 pub at_most_one : (input : List ℕ) (m k : Message) → IsMessage input m → IsMessage input k → m ≡ k

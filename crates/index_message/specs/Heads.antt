@@ -1,5 +1,5 @@
 -- The head of a request, at the front of what a connection gives (RFC 9112, section 2.1).
-use Rattle.std.specs.Prelude.{◌≡◌, ℕ, ◌≤◌, ◌<◌, List, ◌++◌, length, Result, Err}
+use Rattle.std.specs.Prelude.{ℕ, ◌≤◌, ◌<◌, List, ◌++◌, length, Result, OnErr}
 use Rattle.httparse.specs.Grammar.{RequestHead, ReadsRequest, print_request, HasNoRequest}
 use Rattle.httparse.specs.Grammar.{MayBecomeRequest}
 use Rattle.httparse.specs.Spans.{IsRequestAt, IsRequestWithin}
@@ -8,7 +8,6 @@ use Rattle.httparse.specs.declared.spans.RequestSpans.{RequestSpans}
 use Rattle.index_io.specs.declared.source.Source.{Ghosts}
 use Rattle.index_message.specs.Reads.{GivesBytes}
 use Rattle.index_message.specs.declared.head.ReadEnd.{ReadEnd}
-use Rattle.index_message.specs.declared.head.ReadEnd.TheVariants.{ReadFault}
 use Rattle.index_message.specs.declared.head.Tried.{Tried}
 use Rattle.index_message.specs.declared.head.Tried.TheVariants.{Whole, Never, Unfinished}
 
@@ -37,10 +36,9 @@ pub record AwaitsHead (taken : List ℕ) : Type 0 where
   pub may : MayBecomeRequest taken
   pub short : length taken < longest_head
 
--- where a read failed, these are the bytes that a source gave, and they are no head yet
+-- where a read or memory failed, these are the bytes that a source gave, and they are no head yet
 abbrev pub FailsInHead : {S A : Type 0} → Ghosts S → S → S → List ℕ → Result A ReadEnd → Type 0
-FailsInHead g old new taken result =
-    result ≡ Err ReadFault → AwaitsHead taken × GivesBytes g old new taken
+FailsInHead g old new taken result = OnErr result (AwaitsHead taken × GivesBytes g old new taken)
 
 -- ---- as it is found
 

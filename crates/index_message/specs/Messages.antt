@@ -1,7 +1,7 @@
 -- The message that a connection begins with.
-use Rattle.std.specs.Prelude.{◌≡◌, ◌⊎◌, ℕ, ◌<◌, ◌≤◌, Bool, List, ◌++◌, drop, take, length}
+use Rattle.std.specs.Prelude.{◌≡◌, ◌⊎◌, ℕ, ◌<◌, ◌≤◌, Bool, true, false, List, ◌++◌, drop, take}
 use Rattle.std.specs.Prelude.{if◌then◌else◌, nat_eq, nat_le, bytes_eq, codes, Option, Some, None}
-use Rattle.std.specs.Prelude.{◌+◌, Result, Ok, Err, IfOk}
+use Rattle.std.specs.Prelude.{length, ◌+◌, Result, Ok, Err, IfOk}
 use Rattle.std.specs.List.{starts_with}
 use Rattle.std.specs.Global.{Vec}
 use Rattle.std.specs.Io.KnownBytes.{Consumes, IsAtEnd}
@@ -16,12 +16,12 @@ use Rattle.index_message.specs.Fields.{Field, fields_of}
 use Rattle.index_message.specs.Lengths.{body_length, longest_upload}
 use Rattle.index_message.specs.Reads.{GivesBytes, ReadsWithin, SourceStep, and_left}
 use Rattle.index_message.specs.Requests.{HeadParts, HttpRequest}
-use Rattle.index_message.specs.Resources.{allowed_of, allows, method_of, resource_of}
+use Rattle.index_message.specs.Resources.{allowed_of, allows, has_route, method_of, resource_of}
 use Rattle.index_message.specs.declared.fault.MessageFault.{MessageFault}
 use Rattle.index_message.specs.declared.fault.MessageFault.TheVariants.{BadHead, BadMethod, NoRoute}
 use Rattle.index_message.specs.declared.fault.MessageFault.TheVariants.{ShortBody}
 use Rattle.index_message.specs.declared.head.ReadEnd.{ReadEnd}
-use Rattle.index_message.specs.declared.head.ReadEnd.TheVariants.{ReadFault}
+use Rattle.index_message.specs.declared.head.ReadEnd.TheVariants.{OutOfMemory, ReadFault}
 use Rattle.index_message.specs.declared.request.Asked.{Asked}
 use Rattle.index_message.specs.declared.message.Message.{Message}
 use Rattle.index_message.specs.declared.message.Message.TheVariants.{Faulty, Whole}
@@ -112,6 +112,11 @@ IsMessage input message =
     ⊎ ((head : RequestHead) × (rest : Bytes) × HasHead input head rest
     × (message ≡ message_of head rest))
 
+-- a message with a fault
+abbrev pub is_faulty : Message → Bool
+is_faulty (Faulty fault is_head) = true
+is_faulty (Whole request body) = false
+
 -- the message of the bytes that are left, where they are known
 abbrev pub BeginsWith : Option Bytes → Message → Type 0
 BeginsWith left message = (input : Bytes) × IsInput left input × IsMessage input message
@@ -134,6 +139,13 @@ abbrev pub FailsUnfinished : {S A : Type 0} → Ghosts S → S → S → Result 
 FailsUnfinished g old new result =
     result ≡ Err ReadFault → EndsUnfinished (g.remaining old) (g.remaining new)
 
+-- an input begins with a head whose path has a route, or what was taken of it is none yet and may
+-- become one
+abbrev pub MayHaveHead : Option Bytes → Option Bytes → Type 0
+MayHaveHead old new = ((taken : Bytes) × Consumes old new taken × AwaitsHead taken)
+    ⊎ ((input : Bytes) × (head : RequestHead) × (rest : Bytes)
+    × IsInput old input × HasHead input head rest × (has_route head.target ≡ true))
+
 -- ---- as it is read
 
 -- a body of this length, of the front that was there and more that came; or the input ended before
@@ -150,7 +162,7 @@ FollowsHead head front old new message =
     × (message ≡ message_of head (and_left (front ++ more) new))
 
 -- what was read behind the head that these bytes begin with: with that they are the message, or a
--- read failed, and what a source gave is no body yet
+-- read failed, and what a source gave is no body yet; or memory ran out, and its path has a route
 pub record ReadsRest {S : Type 0} (source : SourceStep S) (bytes : Vec ℕ)
     (fields : List HeaderSpan) (spans : RequestSpans)
     (result : Result Message ReadEnd) : Type 0 where
@@ -160,6 +172,8 @@ pub record ReadsRest {S : Type 0} (source : SourceStep S) (bytes : Vec ℕ)
   pub prompt : result ≡ Err ReadFault → (found : IsHeadAt bytes.items fields spans)
       → (more : Bytes) × AwaitsBody found.head (drop spans.len bytes.items ++ more)
       × GivesBytes source.input source.old source.new more
+  pub memory : result ≡ Err OutOfMemory → (found : IsHeadAt bytes.items fields spans)
+      → has_route found.head.target ≡ true
   pub reads : ReadsWithin source.input source.old source.new longest_upload result
 
 -- a body of this length, of the front that was there and what a source gave

@@ -44,9 +44,9 @@ abbrev pub FailsBelow : {S A : Type 0} → Ghosts S → S → S → ℕ → Resu
 FailsBelow g old new missing result =
     result ≡ Err ReadFault → (more : List ℕ) × (length more < missing) × GivesBytes g old new more
 
--- where a read failed, it gave nothing
+-- where a read or memory failed, it gave nothing
 abbrev pub FailsAtOnce : {S A : Type 0} → Ghosts S → S → S → Result A ReadEnd → Type 0
-FailsAtOnce g old new result = result ≡ Err ReadFault → Keeps (g.remaining old) (g.remaining new)
+FailsAtOnce g old new result = OnErr result (Keeps (g.remaining old) (g.remaining new))
 
 -- what it gave was put behind what was held
 abbrev pub Fills : {S : Type 0} → Ghosts S → S → S → Vec ℕ → Vec ℕ → Type 0

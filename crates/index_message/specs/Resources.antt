@@ -1,5 +1,6 @@
 -- What a request is about, and what it does there.
-use Rattle.std.specs.Prelude.{◌==◌, Bool, true, false, not, Option, Some, None, option_and_then}
+use Rattle.std.specs.Prelude.{◌==◌, Bool, true, false, not, Option, Some, None, is_some}
+use Rattle.std.specs.Prelude.{option_and_then}
 use Rattle.std.specs.Prelude.{if◌then◌else◌, bytes_eq, codes}
 use Rattle.std.specs.List.{after_first, before_first}
 use Rattle.std.specs.Option.{option_map_or}
@@ -126,6 +127,10 @@ resource_on route.Requests tail = Some resource.Requests
 -- what a path leads to
 abbrev pub resource_at : Bytes → Option Resource
 resource_at path = option_and_then (λ route. resource_on route (tail_of path)) (route_of path)
+
+-- the path of a target has a route
+abbrev pub has_route : Bytes → Bool
+has_route target = is_some (route_of (path_of target))
 
 -- what a target leads to, if it is UTF-8
 unfoldable pub resource_of : Bytes → Option Resource

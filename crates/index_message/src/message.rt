@@ -1,10 +1,11 @@
 //! One message, read from any source.
-ghost use Rattle.std.specs.Prelude.{◌≡◌, ◌≤◌, ◌-◌, length, IfErr, IfOk, All};
+ghost use Rattle.std.specs.Prelude.{◌≡◌, ◌≤◌, ◌-◌, true, length, Err, IfErr, IfOk, All};
 ghost use Rattle.httparse.specs.Spans.{IsHeaderWithin, IsRequestWithin};
 ghost use Rattle.index_message.specs.Fields.{fields_at};
 ghost use Rattle.index_message.specs.Lengths.{longest_upload};
-ghost use Rattle.index_message.specs.Messages.{BeginsWith, FailsUnfinished, GivesBody, ReadsRest, asked_in, is_head_name, longest_message, whole_of};
+ghost use Rattle.index_message.specs.Messages.{BeginsWith, FailsUnfinished, GivesBody, MayHaveHead, ReadsRest, asked_in, is_head_name, longest_message, whole_of};
 ghost use Rattle.index_message.specs.Reads.{FailsBelow, ReadsWithin, from_source};
+ghost use Rattle.index_message.specs.Resources.{has_route};
 ghost use Rattle.index_message.specs.declared.message.Message.TheVariants.{Faulty};
 
 use crate::fault::MessageFault;
@@ -37,6 +38,8 @@ pub fn read_message<S: Source>(
 ) -> Result<Message, ReadEnd>
     ensures message { IfOk result (BeginsWith (S.remaining source.old)) }
     ensures prompt { FailsUnfinished S.Source source.old source.new result }
+    ensures memory { result ≡ Err ReadEnd.OutOfMemory
+        → MayHaveHead (S.remaining source.old) (S.remaining source.new) }
     ensures reads { ReadsWithin S.Source source.old source.new longest_message result }
 {
     let mut bytes = Vec::new(alloc);
@@ -97,6 +100,7 @@ fn what_is_asked(
 ) -> Result<Result<Asked, MessageFault>, AllocError>
     ensures bound { IfOk result (λ asked. IfOk asked (λ asked. asked.length ≤ longest_upload)) }
     ensures asked { IfOk result (λ asked. asked ≡ asked_in head.now) }
+    ensures routed { IfErr result (λ _. has_route head.now.target ≡ true) }
 {
     let name = head.spans.method.of(head.bytes);
     let target = head.spans.path.of(head.bytes);

@@ -1,11 +1,11 @@
 //! What a request is about, and what it does there: the resource of its target, by the routes of the index, and its
 //! method.
-ghost use Rattle.std.specs.Prelude.{◌≡◌, ◌<◌, ◌==◌, [], Some, IfErr, IfOk, OnOk, IsSome};
+ghost use Rattle.std.specs.Prelude.{◌≡◌, ◌<◌, ◌==◌, [], true, Some, IfErr, IfOk, OnOk, IsSome};
 ghost use Rattle.std.specs.List.{after_first, before_first};
 ghost use Rattle.percent_encoding.specs.Percent.{percent_decode};
 ghost use Rattle.index_names.specs.FileName.{read_file_name};
 ghost use Rattle.index_message.specs.Messages.{target_by, to_resource};
-ghost use Rattle.index_message.specs.Resources.{allowed_of, allows, file_at, is_file_of_other as is_file_of_other_lem, is_head, is_put, is_reading, method_of, resource_at as resource_at_lem, resource_of as resource_of_lem, resource_on as resource_on_lem, tail_of as tail_of_lem};
+ghost use Rattle.index_message.specs.Resources.{allowed_of, allows, file_at, has_route, is_file_of_other as is_file_of_other_lem, is_head, is_put, is_reading, method_of, path_of, resource_at as resource_at_lem, resource_of as resource_of_lem, resource_on as resource_on_lem, tail_of as tail_of_lem};
 ghost use Rattle.index_message.specs.Routes.{route_of, site_rows};
 
 use crate::fault::{Allowed, MessageFault};
@@ -185,7 +185,8 @@ pub fn resolve_target(
     method: &[u8],
     target: &[u8],
 ) -> Result<Result<(Resource, Method), MessageFault>, AllocError>
-    ensures { IfOk result (λ found. found ≡ target_by method.now (resource_of_lem target.now)) }
+    ensures found { IfOk result (λ found. found ≡ target_by method.now (resource_of_lem target.now)) }
+    ensures routed { IfErr result (λ _. has_route target.now ≡ true) }
 {
     let Some(resource) = resource_of(alloc, site, target)? else {
         return Ok(Err(MessageFault::NoRoute));
@@ -213,7 +214,8 @@ fn allowed_method(resource: &Resource, name: &[u8]) -> Result<Method, MessageFau
 /// What a target leads to.
 #[tactic(auto, unfolding(crate::specs::Resources::resource_of))]
 fn resource_of(alloc: Global, site: &Site, target: &[u8]) -> Result<Option<Resource>, AllocError>
-    ensures { IfOk result (λ found. found ≡ resource_of_lem target.now) }
+    ensures found { IfOk result (λ found. found ≡ resource_of_lem target.now) }
+    ensures routed { IfErr result (λ _. IsSome (route_of (path_of target.now))) }
 {
     let Ok(target) = std::str::from_utf8(target) else {
         return Ok(None);
@@ -223,7 +225,8 @@ fn resource_of(alloc: Global, site: &Site, target: &[u8]) -> Result<Option<Resou
 
 /// What a path leads to.
 fn resource_at(alloc: Global, site: &Site, path: &str) -> Result<Option<Resource>, AllocError>
-    ensures { IfOk result (λ found. found ≡ resource_at_lem path.now) }
+    ensures found { IfOk result (λ found. found ≡ resource_at_lem path.now) }
+    ensures routed { IfErr result (λ _. IsSome (route_of path.now)) }
 {
     match site.route(path) {
         Some(route) => resource_on(alloc, route, tail_of(path)),

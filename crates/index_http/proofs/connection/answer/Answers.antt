@@ -3,7 +3,7 @@ use Rattle.index_message.specs.Resources.{is_reading}
 use Rattle.index_http.specs.Ends.{Stands}
 use Rattle.index_http.specs.Replies.{reply_text}
 use Rattle.index_http.proofs.AnswerLemmas.{look_ends}
-use Rattle.index_http.proofs.EndLemmas.{sent_ends}
+use Rattle.index_http.proofs.EndLemmas.{sent_ends, sent_memory}
 use Rattle.index_http.proofs.Failures.{look_lasts}
 use Rattle.index_http.proofs.connection.answer.Goals as goal
 
@@ -14,6 +14,7 @@ returns-in-Faulty g c = record {
       (sent_ends _ _ _ _ _ _ (g.B.Books.tables c.args.desk.now, (ap (reply_text c.in-Faulty.is_head) c.message_reply.ensures, refl), λ _. refl) c.send_reply.ensures.sent);
   asks = rw c.in-Faulty.is (record { unchanged = λ _. refl; honest = λ h. h; clean = λ h. h; crash = λ _ left. left });
   memory = search rules;
+  whole = λ none. absurd (sent_memory _ _ _ _ c.send_reply.ensures.sent none);
   stores = λ none. refl;
   lasts = λ honest clean. inl (honest, refl);
   cut = search rules;
@@ -30,6 +31,7 @@ returns-then-is_reading g c =
           (look_ends _ _ _ (Stands g.B.Books.IsHonest g.B.Books.tables c.show.new.desk) _ _ _ _ _ reads (λ then. c.show.ensures.shown.leaves.unchanged then) (c.show.ensures.shown.shown honest clean));
       asks = rw (c.in-Whole.is, reads) c.show.ensures.shown.leaves;
       memory = search rules;
+      whole = λ _. rw c.in-Whole.is refl;
       stores = c.show.ensures.shown.stores;
       lasts = λ honest clean. rw c.in-Whole.is (look_lasts _ _ _ _ _ _ _ reads (c.show.ensures.shown.lasts honest clean));
       cut = search rules;

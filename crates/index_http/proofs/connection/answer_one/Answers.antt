@@ -1,5 +1,6 @@
 use Rattle.std.proofs.Common.{inl, inr}
 use Rattle.index_rules.proofs.StandsOn.{sound_when_legal}
+use Rattle.index_message.proofs.MessageLemmas.{whole_has_head}
 use Rattle.index_http.proofs.EndLemmas.{ends_map, has_page, stands_ends}
 use Rattle.index_http.proofs.Failures.{failure_map}
 use Rattle.index_http.proofs.Histories.{EndsAfter-Ends}
@@ -24,6 +25,11 @@ returns-clause-memory g c = λ is.
       | inl same ↦ inl same
       | inr look ↦ inr (read.0, c.in_ok-message.message, read.1, read.2, look)
     ]
+
+pub returns-clause-readable : goal.returns-clause-readable
+returns-clause-readable g c = λ is.
+    let read = c.in_ok-message.ensures.message in
+    whole_has_head _ _ read.0 c.in_ok-message.message read.1 read.2 (c.answer.ensures.whole is)
 
 pub returns-clause-asks : goal.returns-clause-asks
 returns-clause-asks g c =

@@ -1,4 +1,4 @@
-use Rattle.std.proofs.Common.{arith, rules, inl, ap, sym, ◌∙◌, Ok, ◌++◌, [], length, ◌≤◌, length-append}
+use Rattle.std.proofs.Common.{arith, rules, inl, inr, ap, sym, ◌∙◌, Ok, ◌++◌, [], drop, length, ◌≤◌, length-append}
 use Rattle.std.specs.Prelude.{unwrap_or}
 use Rattle.std.proofs.KnownBytes.{Consumes-trans}
 use Rattle.std.proofs.lemmas.Result.{IfOk-weaker}
@@ -6,7 +6,7 @@ use Rattle.index_message.specs.Heads.{IsHeadAt}
 use Rattle.index_message.specs.Messages.{begins_with_head}
 use Rattle.index_message.specs.declared.fault.MessageFault.TheVariants.{BadHead}
 use Rattle.index_message.specs.declared.message.Message.TheVariants.{Faulty}
-use Rattle.index_message.proofs.MessageLemmas.{input_is, message_read, unfinished}
+use Rattle.index_message.proofs.MessageLemmas.{head_is, input_is, message_read, unfinished}
 use Rattle.index_message.proofs.message.read_message.Goals as goal
 
 pub returns-in_default-clause-message : goal.returns-in_default-clause-message
@@ -41,3 +41,17 @@ returns-clause-prompt g c is =
     let short : length c.read_head.new.held.items ≤ 16384 = omega (arith, c.in_ok-spans.ensures.short, c.read_head.new.held.ok.0) in
     let rest = c.read_rest.ensures.prompt is found in
     unfinished _ _ _ _ _ _ _ found short c.in_ok-spans.ensures.consumed rest.2 rest.1
+
+pub returns-clause-memory : goal.returns-clause-memory
+returns-clause-memory g c is =
+    let found : IsHeadAt c.read_head.new.held.items c.read_head.new.fields c.in-Some.spans = rw c.in-Some.is at c.in_ok-spans.ensures.head in
+    let short : length c.read_head.new.held.items ≤ 16384 = omega (arith, c.in_ok-spans.ensures.short, c.read_head.new.held.ok.0) in
+    let left = unwrap_or (g.S.Source.remaining c.read_head.new.source) [] in
+    inr (
+      c.read_head.new.held.items ++ left,
+      found.head,
+      drop c.in-Some.spans.len c.read_head.new.held.items ++ left,
+      input_is _ _ _ c.in_ok-spans.ensures.consumed,
+      head_is _ left _ _ found short,
+      c.read_rest.ensures.memory is found,
+    )

@@ -3,7 +3,7 @@ use Rattle.std.proofs.lemmas.List.{take_rest}
 use Rattle.std.proofs.lemmas.Result.{IfOk-weaker}
 use Rattle.index_message.specs.Heads.{IsHeadAt}
 use Rattle.index_message.specs.Messages.{asked_of, is_head_name}
-use Rattle.index_message.proofs.MessageLemmas.{asked_is, follows_short, follows_whole}
+use Rattle.index_message.proofs.MessageLemmas.{asked_has_route, asked_is, follows_short, follows_whole}
 use Rattle.index_message.specs.declared.fault.MessageFault.TheVariants.{ShortBody}
 use Rattle.index_message.specs.declared.message.Message.TheVariants.{Faulty}
 use Rattle.index_message.specs.declared.head.ReadEnd.TheVariants.{ReadFault}
@@ -20,6 +20,7 @@ returns-in-Some g c =
       message = IfOk-weaker c.whole_message.result _ _
           (λ message is found. (read.0, read.1, is ∙ follows_whole _ _ _ _ _ _ found _ (asked found) read.2.0 read.2.1)) c.whole_message.ensures.message;
       prompt = search rules;
+      memory = λ _ found. asked_has_route found.head _ (asked found);
       reads = record { failures = search rules; limit = (given.0, omega (arith, given.1, bound), given.2) };
     }
 
@@ -35,6 +36,7 @@ returns-in-None g c =
     record {
       message = λ found. (read.0, read.1, named found ∙ follows_short _ _ _ _ _ found _ (asked found) read.2.0 read.2.1);
       prompt = search rules;
+      memory = λ _ found. asked_has_route found.head _ (asked found);
       reads = record { failures = search rules; limit = (given.0, omega (arith, given.1, bound), given.2) };
     }
 
@@ -51,5 +53,6 @@ returns-in_err-body g c =
           let read = rw (c.as_slice-came.ensures.value, take_rest) at (c.in_err-body.ensures.prompt (ap Err failed)) in
           let part : length (drop c.args.spans.len c.args.bytes.items ++ read.0) < c.in-Ok.asked.length = rw length-append (omega (arith, read.1)) in
           (read.0, (c.in-Ok.asked, asked found, part), read.2);
+      memory = λ _ found. asked_has_route found.head _ (asked found);
       reads = record { failures = search rules; limit = (given.0, omega (arith, given.1, bound), given.2) };
     }

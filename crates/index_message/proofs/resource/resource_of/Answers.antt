@@ -12,12 +12,12 @@ false_where false refuted = refl
 not_text : (bytes : List ℕ) → ¬ (IsUtf8 bytes) → is_utf8 bytes ≡ false
 not_text bytes refuted = false_where (is_utf8 bytes) (λ e. refuted (IsUtf8-from_is_utf8 bytes e))
 
-pub returns-in_default : goal.returns-in_default
+pub returns-in_default-clause-found : goal.returns-in_default-clause-found
 unfolding resource_of
-returns-in_default c = rw (not_text _ c.in_default.ensures.cases.0) refl
+returns-in_default-clause-found c = rw (not_text _ c.in_default.ensures.cases.0) refl
 
-pub returns : goal.returns
+pub returns-clause-found : goal.returns-clause-found
 unfolding resource_of
-returns c =
+returns-clause-found c =
     let text = is_utf8-from_IsUtf8 _ c.in-Ok.ensures.cases.1 in
-    rw (text, sym c.in-Ok.ensures.cases.0, sym c.cut_at.ensures.before) c.resource_at.ensures
+    rw (text, sym c.in-Ok.ensures.cases.0, sym c.cut_at.ensures.before) c.resource_at.ensures.found
