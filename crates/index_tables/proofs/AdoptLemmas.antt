@@ -9,6 +9,8 @@ use Rattle.index_sql_writes.specs.StepAsks.{AreRefused}
 use Rattle.index_sql_schema.specs.Looks.{QueriesOnly}
 use Rattle.index_sql_schema.specs.Reasons.{HasReason}
 use Rattle.index_sql_schema.specs.RecordRows.{AreRecords}
+use Rattle.index_rules.specs.StandsFor.{StandsFor}
+use Rattle.index_rules.specs.Tables.{Tables}
 use Rattle.index_rules.specs.declared.open.OpenFault.{OpenFault}
 use Rattle.index_rules.specs.declared.open.OpenFault.TheVariants.{BadFirstUser, NotEmpty, NotAnIndex, OtherVersion, OutOfMemory, Store}
 use Rattle.sqlite_schema.specs.Names.{same_name}
@@ -27,8 +29,18 @@ use Rattle.index_tables.specs.declared.opening.Unopened.{Unopened}
 use Rattle.index_tables.specs.BooksState.{IsWorking, BooksState}
 use Rattle.index_tables.specs.declared.adopt.Kind.{Kind}
 use Rattle.index_tables.specs.declared.adopt.Kind.TheVariants.{FirstVersion}
-use Rattle.index_tables.specs.Adopted.{Adopts, AreHandedOn, FailsToOpen, IsFound, IsOurs, IsRaised, IsReason, IsReasonOfKind, TellsFirst, TellsVersion, refusal_in, version_of}
+use Rattle.index_tables.specs.Adopted.{Adopts, AreHandedOn, FailsToOpen, IsFound, IsOurs, IsRaised, IsReason, IsReasonOfKind, StandAsFound, TellsFirst, TellsVersion, refusal_in, version_of}
 use Rattle.index_tables.specs.Opened.{AreOpened, IsFault, IsUnopened, LeavesOr, StoreForRefusal, open_fault_by}
+
+-- one set of tables is found in a database
+found_once : (db : Database) (T was : Tables) → IsFound db T → IsFound db was → T ≡ was
+found_once db T was (inl it) (inl other) = it.tables ∙ sym other.tables
+found_once db T was (inl it) (inr other) = absurd (let told : Some 2 ≡ Some 1 = sym it.version ∙ other.version in cc)
+found_once db T was (inr it) (inl other) = absurd (let told : Some 1 ≡ Some 2 = sym it.version ∙ other.version in cc)
+found_once db T was (inr it) (inr other) = it.tables ∙ sym other.tables
+
+pub stand_as_found : (db : Database) (T : Tables) → IsFound db T → StandAsFound db T
+stand_as_found db T found was h other stands = subst (λ it. StandsFor it h) (sym (found_once db T was found other)) stands
 
 -- one of version 1 tells version 2, where its row of meta is raised
 pub raised_told : (db : Database) → TellsFirst db → version_among (raised (meta_in db.trees)) ≡ Some 2

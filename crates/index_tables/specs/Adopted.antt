@@ -16,6 +16,8 @@ use Rattle.index_sql_schema.specs.Reasons.{HasReason}
 use Rattle.index_rules.specs.declared.open.OpenFault.{OpenFault}
 use Rattle.index_rules.specs.declared.open.OpenFault.TheVariants.{NotAnIndex, OtherVersion}
 use Rattle.index_rules.specs.declared.open.OpenFault.TheVariants.{OutOfMemory, Store}
+use Rattle.index_rules.specs.History.{History}
+use Rattle.index_rules.specs.StandsFor.{StandsFor}
 use Rattle.index_rules.specs.Tables.{Tables}
 use Rattle.index_sql_schema.specs.FirstVersion.{IsAnyVersion, IsFirstVersion, first_version_schema}
 use Rattle.index_sql_schema.specs.FirstVersion.{without_bans}
@@ -56,6 +58,10 @@ IsOurs db = (IsIndex db × (version_in db.trees ≡ Some 2)) ⊎ TellsFirst db
 -- an index is found in it, with these tables
 abbrev pub IsFound : Database → Tables → Type 0
 IsFound db T = IsCurrent db T ⊎ IsFirst db T
+
+-- they stand for each history for which the tables stand that are found in it, of version 1 too
+abbrev pub StandAsFound : Database → Tables → Type 0
+StandAsFound db T = (was : Tables) (h : History) → IsFound db was → StandsFor was h → StandsFor T h
 
 -- of a database of version 1 that tells so the index is made that comes of it, which tells version
 -- 2; the rows of meta are those that were there, but for the version

@@ -49,8 +49,8 @@ module _ {S : Type 0} (g : Ghosts S) where
       → AreRecords (state g new.conn).now
 
   -- while they work, the limit on the steps of their queries is as it was
-  abbrev pub KeepsLimit : (old new : BooksState S) → Type 0
-  KeepsLimit old new =
+  abbrev pub KeepsBooksLimit : (old new : BooksState S) → Type 0
+  KeepsBooksLimit old new =
       IsWorking (state g new.conn) → opened.KeepsLimit (state g old.conn) (state g new.conn)
 
   -- the rows of meta stay, and a crash leaves them or what it could leave before
@@ -63,7 +63,7 @@ module _ {S : Type 0} (g : Ghosts S) where
   pub record LooksUp (old new : BooksState S) (succeeds is_store_fault : Bool) : Type 0 where
     pub looks : LooksOrFails old new succeeds is_store_fault
     pub records : KeepsRecords old new
-    pub limit : KeepsLimit old new
+    pub limit : KeepsBooksLimit old new
     pub meta : KeepsMeta old new
 
   -- a look that finds this of the tables of an honest store, and fails only for a reason

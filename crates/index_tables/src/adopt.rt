@@ -11,7 +11,8 @@ ghost use Rattle.index_tables.specs.Opened.{IsRefusal, IsRefusedAs, IsUnopened, 
 ghost use Rattle.index_tables.specs.Opened.{StoreForRefusal};
 ghost use Rattle.index_tables.specs.Adopted.{Adopts, AreHandedOn, HasSchema, IsFound, IsOfKind};
 ghost use Rattle.index_tables.specs.Adopted.{IsOurs, IsRaised, IsReason, IsReasonOfKind};
-ghost use Rattle.index_tables.specs.Adopted.{TellsFirst, foreign_tables_fault, refusal_by};
+ghost use Rattle.index_tables.specs.Adopted.{StandAsFound, TellsFirst};
+ghost use Rattle.index_tables.specs.Adopted.{foreign_tables_fault, refusal_by};
 
 use crate::books::SqlBooks;
 use crate::opening::{Unopened, open_fault_of};
@@ -47,6 +48,8 @@ impl<S: Alter> SqlBooks<S> {
     pub fn adopt(alloc: Global, conn: Connection<S>) -> Result<SqlBooks<S>, Unopened<S>>
         requires outside { conn.in_transaction ≡ false }
         ensures found { IfOk result (HaveTables S.Store (IsFound (state S.Store conn).now)) }
+        ensures history { IfOk result
+            (HaveTables S.Store (StandAsFound (state S.Store conn).now)) }
         ensures one_bearer { IfOk result (HaveTables S.Store HasOneBearer) }
         ensures meta { IfOk result (HaveMeta S.Store (AreHandedOn (state S.Store conn).now)) }
         ensures opened { IfOk result (AreOpened S.Store IsRaised conn) }

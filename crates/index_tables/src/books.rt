@@ -16,7 +16,7 @@ ghost use Rattle.index_rules.specs.Verdict.{is_held as is_held_lem};
 ghost use Rattle.index_rules.specs.Walks.{has_fault, to_taker};
 ghost use Rattle.index_tables.specs.Adopted.{IsCommitted};
 ghost use Rattle.index_tables.specs.BooksState.{IsHonest, IsWorking};
-ghost use Rattle.index_tables.specs.LooksUp.{Calls, KeepsLimit, KeepsMeta, KeepsRecords, LooksFor, LooksUp, WalksBooks, with_books};
+ghost use Rattle.index_tables.specs.LooksUp.{Calls, KeepsBooksLimit, KeepsMeta, KeepsRecords, LooksFor, LooksUp, WalksBooks, with_books};
 ghost use Rattle.index_tables.specs.Written.{FailsToWrite};
 
 use index_digest::Sealed;
@@ -33,7 +33,7 @@ use std::marker::Model;
 /// The tables in a database of SQLite. Contracts see the connection and how many calls answered a fault.
 ///
 /// A call looks at the database, or makes one transaction. After a fault of the store the connection may be shut, and
-/// no later write succeeds. It has no drop: `into_connection` gives the connection back, to be closed.
+/// no later write succeeds. It has no `Drop`: `into_connection` gives the connection back, to be closed.
 pub struct SqlBooks<S: Alter> {
     pub(crate) conn: IndexConnection<S>,
     pub(crate) failures: u64,
@@ -118,7 +118,7 @@ impl<S: Alter> Books for SqlBooks<S> {
         ensures call { Calls S.Store self.old self.new (is_ok result) (fails_by_store result) }
         // What is written can be read: its rows are records, where they were.
         ensures records { KeepsRecords S.Store self.old self.new }
-        ensures limit { KeepsLimit S.Store self.old self.new }
+        ensures limit { KeepsBooksLimit S.Store self.old self.new }
         // Nothing is kept in `meta`: its rows are what they were.
         ensures meta { KeepsMeta S.Store self.old self.new }
         ensures reason { FailsToWrite S.Store change self.old.conn self.new.conn result }

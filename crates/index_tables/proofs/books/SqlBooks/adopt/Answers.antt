@@ -3,10 +3,10 @@ use Rattle.std.proofs.lemmas.Result.{IfErr-weaker, IfOk-weaker}
 use Rattle.sqlite.specs.Held.{state}
 use Rattle.index_sql_schema.proofs.BearerLemmas.{one_bearer}
 use Rattle.index_rules.specs.declared.open.OpenFault.TheVariants.{NotAnIndex, OutOfMemory}
-use Rattle.index_tables.proofs.AdoptLemmas.{fault_alone, reason_of_kind}
+use Rattle.index_tables.proofs.AdoptLemmas.{fault_alone, reason_of_kind, stand_as_found}
 use Rattle.index_tables.proofs.OpenedLemmas.{refused_at_once, unopened_by}
-use Rattle.index_tables.specs.Adopted.{IsRaised, IsReason}
-use Rattle.index_tables.specs.Opened.{AreOpened, IsUnopened}
+use Rattle.index_tables.specs.Adopted.{IsRaised, IsReason, StandAsFound}
+use Rattle.index_tables.specs.Opened.{AreOpened, HaveTables, IsUnopened}
 use Rattle.index_tables.proofs.books.SqlBooks.adopt.Goals as goal
 
 pub returns-then-not-has_meta-clause-refused : goal.returns-then-not-has_meta-clause-refused
@@ -16,6 +16,11 @@ returns-then-not-has_meta-clause-refused g c =
 
 pub returns-then-not-has_meta-clause-again : goal.returns-then-not-has_meta-clause-again
 returns-then-not-has_meta-clause-again g c clean o ours = fault_alone g.S.Store c.args.conn c.expose_invariants-conn.result NotAnIndex (inl (search rules)) o ours
+
+pub returns-in-Ok-Some-clause-history : goal.returns-in-Ok-Some-clause-history
+returns-in-Ok-Some-clause-history g c =
+    subst (λ held. IfOk c.adopt_kind.result (HaveTables g.S.Store (StandAsFound (state g.S.Store held).now))) c.expose_invariants-conn.ensures.same
+    (IfOk-weaker c.adopt_kind.result _ _ (λ books found working. stand_as_found _ _ (found working)) c.adopt_kind.ensures.found)
 
 pub returns-in-Ok-Some-clause-one_bearer : goal.returns-in-Ok-Some-clause-one_bearer
 returns-in-Ok-Some-clause-one_bearer g c =
