@@ -87,8 +87,7 @@ impl<B: Books> Recent<B> {
 
     /// Lets go of all pages, and of the bodies that a change may write.
     fn forget_touched(&mut self, change: &Change)
-        ensures books { self.new.books ≡ self.old.books }
-        ensures pages { self.new.pages.items ≡ [] }
+        ensures pages { (self.new.books ≡ self.old.books) × (self.new.pages.items ≡ []) }
         ensures spared { self.new.bodies.items
             ≡ filter (spares_body change.now) self.old.bodies.items }
         ensures bytes { self.new.used ≡ body_bytes self.new.bodies.items }
@@ -122,7 +121,8 @@ impl<B: Books> Recent<B> {
         requires { room ≤ self.old.most }
         ensures books { (self.new.books ≡ self.old.books) × (self.new.most ≡ self.old.most) }
         ensures few { (length self.new.bodies.items < MOST_BODIES) × (self.new.pages.items ≡ []) }
-        ensures room { self.new.used ≤ room }
+        ensures bytes { (self.new.used ≡ body_bytes self.new.bodies.items)
+            × (self.new.used ≤ room) }
     {
         self.pages.clear();
         self.used = keep_newest(&mut self.bodies, MOST_BODIES, room);
