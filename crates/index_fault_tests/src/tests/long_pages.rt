@@ -10,6 +10,8 @@ use index_rules::{Books, Fault};
 use std::alloc::AllocGlobal;
 use std::process::Abort;
 
+mod projects;
+
 /// How many long names make a page that is too long to be gathered.
 pub(super) const LONG_NAMES: u32 = 16_000;
 
@@ -28,8 +30,19 @@ fn claim_long_names<B: Books>(rt: &(impl Abort + AllocGlobal), desk: &mut Desk<B
     }
 }
 
-/// A desk over new books with 16,000 long names, whose walks fail after so many that don't: before their first row or
-/// behind it.
+/// A desk over these books, whose walks fail after so many that don't: before their first row or behind it.
+fn failing_after<B: Books + Drop>(
+    rt: &impl AllocGlobal,
+    books: B,
+    failing: BooksCall,
+    fault: Fault,
+    after: u32,
+) -> Desk<Recent<FailingBooks<B>>> {
+    let failing = FailingBooks::new(books, failing, fault, after);
+    Desk::new(Recent::new(rt.alloc(), failing, 0))
+}
+
+/// A desk over new books with 16,000 long names, whose walks fail after so many that don't.
 fn desk_of_long_names<B: Books + Drop>(
     rt: &(impl Abort + AllocGlobal),
     books: B,
@@ -39,8 +52,7 @@ fn desk_of_long_names<B: Books + Drop>(
 ) -> Desk<Recent<FailingBooks<B>>> {
     let mut desk = desk_with_users(rt, books);
     claim_long_names(rt, &mut desk);
-    let failing = FailingBooks::new(desk.into_books(), failing, fault, after);
-    Desk::new(Recent::new(rt.alloc(), failing, 0))
+    failing_after(rt, desk.into_books(), failing, fault, after)
 }
 
 /// The reply to a look at a long page is cut where its last walk fails: its head went out, and no more than this front, which

@@ -75,7 +75,7 @@ pub(super) const ROOT: Route = Route {
     front: IN_HTML,
 };
 
-const PAGE: Route = Route {
+pub(super) const PAGE: Route = Route {
     message: "GET /simple/frob/ HTTP/1.1\r\n\r\n",
     calls: &[BooksCall::IsHeld, BooksCall::WalkFiles, BooksCall::FilesRow],
     front: IN_HTML,
