@@ -14,7 +14,7 @@ use std::process::Abort;
 const COUNT: &str = "SELECT count(*) FROM sqlite_schema";
 
 /// A table `meta` of an index of this version.
-const SECOND_VERSION: &str =
+pub(super) const SECOND_VERSION: &str =
     "CREATE TABLE meta (id INTEGER PRIMARY KEY, kind TEXT NOT NULL, version INTEGER NOT NULL) STRICT; INSERT INTO meta VALUES (1, 'python-index', 2)";
 
 /// A database of which a query finds a number is not adopted, for this reason. The query then finds the same.

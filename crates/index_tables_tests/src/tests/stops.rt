@@ -12,6 +12,7 @@ mod crashes;
 mod files;
 mod openings;
 mod restarts;
+mod versions;
 
 /// How far a run came.
 #[derive(Clone, Copy, PartialEq, Eq, Debug)]
@@ -26,6 +27,11 @@ enum Told {
 
 /// Work on a database that may be cut short, and what has to stand then.
 trait Trial {
+    /// How many pages are kept in memory during the work.
+    fn cache_pages(&self) -> usize {
+        ALL_PAGES
+    }
+
     /// Does the work.
     fn run<R: Abort + AllocGlobal, S: Alter + Drop>(
         &self,
@@ -41,6 +47,9 @@ trait Trial {
         told: Told,
     );
 }
+
+/// More pages than any of the databases has.
+const ALL_PAGES: usize = 64;
 
 /// More calls than any run makes of one file.
 const ENOUGH: u64 = 10_000;
@@ -104,7 +113,7 @@ fn run(
     files: Files<File>,
     trial: &impl Trial,
 ) -> (Told, Files<File>) {
-    match opened(rt, files) {
+    match opened(rt, files, trial.cache_pages()) {
         Ok(conn) => {
             let (told, conn) = trial.run(rt, conn);
             (told, closed(conn))
@@ -125,7 +134,7 @@ fn assert_each_crash(rt: &(impl Abort + AllocGlobal), left: &Left, trial: &impl 
 
 /// A connection to the database in files that don't stop.
 fn reopened(rt: &(impl Abort + AllocGlobal), files: Files<File>) -> Connection<Database> {
-    match opened(rt, files) {
+    match opened(rt, files, ALL_PAGES) {
         Ok(conn) => conn,
         Err(files) => {
             drop(files);

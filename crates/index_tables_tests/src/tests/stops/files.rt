@@ -67,13 +67,14 @@ fn has_stopped(file: &mut File) -> bool {
     !file.may_be_used() || file.len().is_err()
 }
 
-/// A connection to the database in these files, or the files where one of them stops.
+/// A connection to the database in these files that keeps so many pages in memory, or the files where one of them stops.
 pub(super) fn opened(
     rt: &(impl Abort + AllocGlobal),
     files: Files<File>,
+    cache_pages: usize,
 ) -> Result<Connection<Database>, Files<File>> {
     let small = Options {
-        cache_pages: 64,
+        cache_pages,
         spill_pages: 64,
         checkpoint_frames: 1000,
         seed: 1,

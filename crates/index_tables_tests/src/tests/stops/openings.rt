@@ -13,7 +13,7 @@ use std::alloc::AllocGlobal;
 use std::process::Abort;
 
 /// How far an opening came, and its connection.
-fn told_of<S: Alter + Drop>(
+pub(super) fn told_of<S: Alter + Drop>(
     rt: &impl Abort,
     books: Result<SqlBooks<S>, Unopened<S>>,
 ) -> (Told, Connection<S>) {
