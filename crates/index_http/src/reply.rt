@@ -39,7 +39,7 @@ pub struct Reply<'a> {
     pub body: &'a [u8],
 }
 
-/// The reply to a message that is none which the index serves.
+/// The reply to a message that the index doesn't serve.
 #[tactic(auto, unfolding(crate::specs::Replies::message_reply))]
 pub fn message_reply(fault: MessageFault) -> Reply<'static>
     ensures { reply_of result ≡ message_reply fault }
@@ -155,7 +155,7 @@ fn answer_fields(status: StatusCode) -> Fields<'static>
     }
 }
 
-/// The text of the answer to a message that is none which the index serves.
+/// The text of the answer to a message that the index doesn't serve.
 #[tactic(auto, unfolding(index_json::proofs::OnLiterals::answers_on_literals))]
 fn message_text(fault: MessageFault) -> &'static str
     ensures { result.now ≡ message_text_of (message_fault_name fault) }
@@ -239,7 +239,7 @@ fn status_of_refusal(refusal: Refusal) -> StatusCode
     }
 }
 
-/// The status of the reply to a message that is none which the index serves.
+/// The status of the reply to a message that the index doesn't serve.
 fn status_of_fault(fault: MessageFault) -> StatusCode
     ensures { result ≡ status_of_fault fault }
 {

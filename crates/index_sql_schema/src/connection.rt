@@ -20,7 +20,7 @@ use std::marker::Model;
 /// A connection to an index, outside a transaction: on a clean disk, where it is open, it is an index that tells version
 /// 2, and all of it is committed. Contracts see the connection itself.
 ///
-/// Whoever changes what it holds has to leave such a connection again. It has no drop.
+/// Whoever changes what it holds has to leave such a connection again. It has no `Drop`.
 pub struct IndexConnection<S: Alter> {
     pub conn: Connection<S>,
 }

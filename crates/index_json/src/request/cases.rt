@@ -29,6 +29,7 @@ pub fn request_named(
     }
 }
 
+/// Reads the keys of an `open_case`.
 fn open_case(alloc: Global, object: &mut ObjectReader<'_>) -> Result<Request, Unread>
     ensures { ReadsTo object.old object.new result open_case_row }
 {
@@ -44,6 +45,7 @@ fn open_case(alloc: Global, object: &mut ObjectReader<'_>) -> Result<Request, Un
     })
 }
 
+/// Reads the keys of a `record_attempt`.
 fn record_attempt(alloc: Global, object: &mut ObjectReader<'_>) -> Result<Request, Unread>
     ensures { ReadsTo object.old object.new result record_attempt_row }
 {
@@ -53,6 +55,7 @@ fn record_attempt(alloc: Global, object: &mut ObjectReader<'_>) -> Result<Reques
     Ok(Request::RecordAttempt { name, means, sent })
 }
 
+/// Reads the keys of a `transfer`.
 fn transfer(alloc: Global, object: &mut ObjectReader<'_>) -> Result<Request, Unread>
     ensures { ReadsTo object.old object.new result transfer_row }
 {

@@ -28,6 +28,7 @@ pub fn request_named(
     }
 }
 
+/// Reads the keys of an `upload`.
 fn upload(alloc: Global, object: &mut ObjectReader<'_>) -> Result<Request, Unread>
     ensures { ReadsTo object.old object.new result upload_row }
 {
@@ -42,6 +43,7 @@ fn upload(alloc: Global, object: &mut ObjectReader<'_>) -> Result<Request, Unrea
     })
 }
 
+/// Reads the keys of a `delete`.
 fn delete(alloc: Global, object: &mut ObjectReader<'_>) -> Result<Request, Unread>
     ensures { ReadsTo object.old object.new result delete_row }
 {
@@ -50,6 +52,7 @@ fn delete(alloc: Global, object: &mut ObjectReader<'_>) -> Result<Request, Unrea
         .map(|file| Request::Delete { file })
 }
 
+/// Reads the keys of a `ban_file`.
 fn ban_file(alloc: Global, object: &mut ObjectReader<'_>) -> Result<Request, Unread>
     ensures { ReadsTo object.old object.new result ban_file_row }
 {
@@ -58,6 +61,7 @@ fn ban_file(alloc: Global, object: &mut ObjectReader<'_>) -> Result<Request, Unr
         .map(|file| Request::BanFile { file })
 }
 
+/// Reads the keys of a `yank`.
 fn yank(alloc: Global, object: &mut ObjectReader<'_>) -> Result<Request, Unread>
     ensures { ReadsTo object.old object.new result yank_row }
 {
@@ -70,6 +74,7 @@ fn yank(alloc: Global, object: &mut ObjectReader<'_>) -> Result<Request, Unread>
     })
 }
 
+/// Reads the keys of an `unyank`.
 fn unyank(alloc: Global, object: &mut ObjectReader<'_>) -> Result<Request, Unread>
     ensures { ReadsTo object.old object.new result unyank_row }
 {

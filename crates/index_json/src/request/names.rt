@@ -27,6 +27,7 @@ pub fn request_named(
     }
 }
 
+/// Reads the keys of a `set_quota`.
 fn set_quota(alloc: Global, object: &mut ObjectReader<'_>) -> Result<Request, Unread>
     ensures { ReadsTo object.old object.new result set_quota_row }
 {

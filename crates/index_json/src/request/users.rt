@@ -22,6 +22,7 @@ pub fn request_named(
     }
 }
 
+/// Reads the keys of an `add_user`.
 fn add_user(alloc: Global, object: &mut ObjectReader<'_>) -> Result<Request, Unread>
     ensures { ReadsTo object.old object.new result add_user_row }
 {
@@ -34,6 +35,7 @@ fn add_user(alloc: Global, object: &mut ObjectReader<'_>) -> Result<Request, Unr
     })
 }
 
+/// Reads the keys of a `set_token`.
 fn set_token(alloc: Global, object: &mut ObjectReader<'_>) -> Result<Request, Unread>
     ensures { ReadsTo object.old object.new result set_token_row }
 {

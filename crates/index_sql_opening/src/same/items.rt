@@ -5,6 +5,7 @@ ghost use Rattle.std.specs.Prelude.{◌≡◌, IsTrue};
 use crate::same::Same;
 use sqlite_items::Items;
 
+/// Whether two lists are seen to have the same items in the same order.
 fn same_slices<T: Same>(first: &[T], second: &[T]) -> bool
     ensures equal { IsTrue result → first.now ≡ second.now }
 {

@@ -36,6 +36,7 @@ impl Same for Stamps {
     }
 }
 
+/// Whether two tables are seen to have the same keys and orders.
 fn same_keys(first: &Table, second: &Table) -> bool
     ensures keys { IsTrue result → HaveSameKeys first.now second.now }
 {
@@ -45,6 +46,7 @@ fn same_keys(first: &Table, second: &Table) -> bool
         && first.orders.same(&second.orders)
 }
 
+/// Whether two tables are seen to have the same checks, references and computed columns.
 fn same_rules(first: &Table, second: &Table) -> bool
     ensures rules { IsTrue result → HaveSameRules first.now second.now }
 {
