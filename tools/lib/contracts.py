@@ -1,22 +1,31 @@
-"""What makes contracts hard to read aloud: words of clauses with many arguments by place, and long lines of specs."""
+"""What makes contracts hard to read aloud: words of clauses with many arguments by place, clauses that repeat others,
+and long lines of specs."""
+import collections
 import glob
 import re
 
-CLAUSE = re.compile(r"^\s*(?:ensures|requires)\*?\s*\w*\s*\{", re.M)
+CLAUSE = re.compile(r"^\s*(ensures|requires)\*?\s*\w*\s*\{", re.M)
 TOKEN = re.compile(r"\s*(λ|[()\[\]{}⟦⟧⟨⟩]|\"[^\"]*\"|[^\s()\[\]{}⟦⟧⟨⟩,;\"λ]+|[,;])")
 OPENING, CLOSING = "([{⟦⟨", ")]}⟧⟩"
 # what stands between two applications
 BETWEEN = frozenset("≡ ≢ × → ↔ ⊎ ¬ + - * ≤ < ∷ ++ && || , ; . : = let in if then else".split())
 
 
+def sources(top):
+    """Yields the path and the text of each source file of a crate."""
+    for path in sorted(glob.glob("crates/*/src/**/*.rt", root_dir=top, recursive=True)):
+        with open(f"{top}/{path}", encoding="utf-8") as file:
+            yield path, file.read()
+
+
 def clauses(text):
-    """Yields the clauses of a source file, each with the number of its first line."""
+    """Yields the clauses of a source file, each with its first word and the number of its first line."""
     for head in CLAUSE.finditer(text):
         depth, at = 1, head.end()
         while depth and at < len(text):
             depth += (text[at] == "{") - (text[at] == "}")
             at += 1
-        yield text.count("\n", 0, head.end()) + 1, text[head.end():at - 1]
+        yield head[1], text.count("\n", 0, head.end()) + 1, text[head.end():at - 1]
 
 
 def applications(tokens):
@@ -43,13 +52,23 @@ def applications(tokens):
 
 def wide_words(top, most):
     """Yields where a word of a clause in a crate's sources takes more than `most` arguments by place."""
-    for path in sorted(glob.glob("crates/*/src/**/*.rt", root_dir=top, recursive=True)):
-        with open(f"{top}/{path}", encoding="utf-8") as file:
-            text = file.read()
-        for line, clause in clauses(text):
+    for path, text in sources(top):
+        for _first, line, clause in clauses(text):
             for word, count in applications(iter(TOKEN.findall(clause))):
                 if count > most and word[0].isalpha() and word != "Some":
                     yield f"{path}:{line} {word} takes {count}"
+
+
+def contract_lines(top):
+    """How many lines the clauses of all crates have, and how many of these repeat a clause to the letter, but for its
+    name and its white space."""
+    times, lines = collections.Counter(), collections.Counter()
+    for _path, text in sources(top):
+        for first, _line, clause in clauses(text):
+            told = first, " ".join(clause.split())
+            times[told] += 1
+            lines[told] += clause.count("\n") + 1
+    return sum(lines.values()), sum(lines[told] * (count - 1) // count for told, count in times.items())
 
 
 def long_spec_lines(top, columns):
