@@ -25,6 +25,8 @@ WELL_FORMED = [
     post(BODY),
     post(CASE),
 ]
+# heads with more lines than one may have: they have no end yet, but no more bytes would make them right
+TOO_LONG = [method + b" /simple/ HTTP/1.1\r\n" + b"X-Many: x\r\n" * 65 for method in (b"GET", b"HEAD")]
 METHODS = [
     b"get", b"GETT", b"", b" GET", b"G\x00T", b"OPTIONS", b"TRACE", b"CONNECT", b"PATCH", b"POST", b"PUT", b"HEAD",
     b"M" * 9_000

@@ -64,6 +64,10 @@ def again_is_created(method, answer):
     return reply.replace(b" 200 OK", b" 201 Created", 1) if method == "PUT" else reply
 
 
+def behind_empty_lines(message):
+    return "HEAD" if message.lstrip(b"\r\n").startswith(b"HEAD ") else ""
+
+
 UNYANK_LEFT_OUT = rules.REQUESTS_OF_OWNERS - {"unyank"}
 # By its name: its kind, and what is changed in the model.
 BREAKS = {
@@ -76,6 +80,9 @@ BREAKS = {
     "requires_python_is_not_escaped": ("pages", patch.object(pages, "escaped", lambda value: value)),
     "least_specific_range_counts": ("pages", patch.object(pages, "coverage", least_specific)),
     "reply_to_head_has_a_body": ("replies", patch.object(messages, "written", head_with_body)),
+    "reply_to_faulty_head_has_a_body": ("replies", patch.object(messages, "method_by_start", lambda message: "")),
+    "faulty_head_is_known_behind_empty_lines": ("replies", patch.object(messages, "method_by_start",
+                                                                        behind_empty_lines)),
     "upload_again_is_created": ("replies", patch.object(messages, "answered", again_is_created)),
     "a_body_of_a_post_may_be_longer": ("replies", patch.dict(messages.MOST_BODY, POST=65_537)),
     "line_may_be_longer": ("replies", patch.object(formats, "MOST_LINE", 65_537)),

@@ -54,6 +54,9 @@ def odd_line(random, line):
 
 TOKEN = b"X-Index-Token: office"
 LOOK = b"GET /simple/ HTTP/1.1\r\n"
+# as many headers as a head may have, and one more
+MOST, TOO_MANY = b"X-Many: 1\r\n" * 64 + b"\r\n", b"X-Many: 1\r\n" * 65 + b"\r\n"
+HEAD_LOOK = LOOK.replace(b"GET", b"HEAD")
 # so many bytes does a head of LOOK have beside the value of one header `X-Long: `
 REST = len(LOOK + b"X-Long: \r\n\r\n")
 HEADS = Turns(
@@ -64,7 +67,8 @@ HEADS = Turns(
     b"GET  /simple/ HTTP/1.1\r\n\r\n", b"G(T /simple/ HTTP/1.1\r\n\r\n", b"GET /simple/\xff HTTP/1.1\r\n\r\n",
     b"GET /simple/\xc3\xa9/ HTTP/1.1\r\n\r\n", b"GET /simple/ HTTP/1.0\r\n\r\n",
     b"\r\n\nGET /simple/ HTTP/1.1\nA: 1\n\n",
-    LOOK + b"X-Many: 1\r\n" * 64 + b"\r\n", LOOK + b"X-Many: 1\r\n" * 65 + b"\r\n",
+    LOOK + MOST, LOOK + TOO_MANY, HEAD_LOOK + MOST, HEAD_LOOK + TOO_MANY, HEAD_LOOK, b"HEAD /simple/\r\n\r\n",
+    b"\r\n" + HEAD_LOOK + MOST, b"\r\n" + HEAD_LOOK + TOO_MANY, b"HEAD\t/simple/ HTTP/1.1\r\n\r\n",
     LOOK + b"X-Long: " + b"v" * (16_384 - REST) + b"\r\n\r\n",
     LOOK + b"X-Long: " + b"v" * (16_385 - REST) + b"\r\n\r\n",
     LOOK + b"ACCEPT:\t" + JSON_1.encode() + b" \t\r\n\r\n")

@@ -37,8 +37,7 @@ class Nothing(Exception):
 
 def reply(tables, at, message):
     """The reply to all bytes that a client sends before it ends its side."""
-    # a head that can't be read tells its method by how it begins
-    method = "HEAD" if message.startswith(b"HEAD ") else ""
+    method = method_by_start(message)
     try:
         method, target, headers, rest = read_head(message)
         return reply_to_request(tables, at, method, target, headers, rest)
@@ -46,6 +45,11 @@ def reply(tables, at, message):
         told = formats.refused(end.name) if isinstance(end.name, int) else formats.message(end.name)
         more = [("Allow", end.allow)] if end.allow else []
         return written(method, STATUS[end.name], JSON, more, formats.answer_text(told))
+
+
+def method_by_start(message):
+    """What the method of a head is that can't be read, as far as a reply depends on it."""
+    return "HEAD" if message.startswith(b"HEAD ") else ""
 
 
 def read_head(message):
