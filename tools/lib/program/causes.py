@@ -79,6 +79,7 @@ class Causes:
     def all(self):
         self.paths()
         self.files()
+        self.settings()
         self.sums()
         self.first_users()
         self.objects()
@@ -133,6 +134,27 @@ class Causes:
                 database.executescript(f"{statements}; CREATE TABLE notes (id INTEGER PRIMARY KEY, note TEXT)")
             self.each(name, path, "damaged", ALL)
 
+    def settings(self):
+        """An index that only sqlite3 can read opens again after what the page of formats says."""
+        if not shutil.which("sqlite3"):
+            print("sqlite3 is not installed, so what undoes its settings was not tried")
+            return
+        path = self.new("vacuumed")
+        by_shell(f"sqlite3 {path} 'PRAGMA auto_vacuum = 1; VACUUM'")
+        self.each("an index with auto_vacuum", path, "damaged", ALL)
+        by_shell(f"sqlite3 {path} 'PRAGMA auto_vacuum = 0; VACUUM'")
+        self.opens("an index that had auto_vacuum", path)
+        path, new = self.new("encoded", b""), self.new("decoded", b"")
+        by_shell(f"(echo \"{UTF_16};\"; sqlite3 {self.index} .dump) | sqlite3 {path}")
+        self.each("an index in UTF-16", path, "damaged", ALL)
+        by_shell(f"sqlite3 {path} .dump | sqlite3 {new}")
+        self.opens("an index that was in UTF-16", new)
+
+    def opens(self, name, path):
+        """It is found, and no charge is wrong."""
+        ended = self.run("check", "--db", path)
+        self.check(f"check: {name}", (ended.returncode, ended.stdout, ended.stderr) == (0, b"0\n", b""), ended)
+
     def sums(self):
         """Only a new file gets page sums: the header then has 8 for what each page keeps at its end."""
         opened = self.new("opened", b"")
@@ -173,6 +195,8 @@ class Causes:
         # rows that refer to a table can't be tested where a trigger is on it
         old = by_sqlite(make_old_version(self.new("trigger", b"")), MORE[-1][2].replace("bans", "yanks"))
         self.each("a trigger on a table that rows refer to", old, NO_DATABASE)
+        old = by_sqlite(make_old_version(self.new("bans", b"")), "CREATE TABLE bans (file TEXT)")
+        self.each("bans of another shape in version 1", old, OTHER_TABLES)
         path = by_sqlite(self.new("column"), "ALTER TABLE names ADD COLUMN note TEXT")
         self.each("a column more", path, OTHER_TABLES)
         path = by_sqlite(self.new("other", b""), "CREATE TABLE notes (id INTEGER PRIMARY KEY, note TEXT)")
@@ -249,6 +273,11 @@ def damaged(whole):
     yield "no head", b"\0" * 100 + whole[100:], NO_DATABASE
     for at in (20, 100, 4096, 20480, 45056):
         yield f"damaged at {at}", whole[:at] + bytes(64) + whole[at + 64:], "damaged"
+
+
+def by_shell(line):
+    """Runs a line as an operator pastes it."""
+    subprocess.run(["sh", "-e", "-c", line], check=True, stdout=subprocess.DEVNULL)
 
 
 def bytes_at(path):

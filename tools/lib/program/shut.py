@@ -1,11 +1,16 @@
-"""A server whose database a failed sync has shut, and one that can't accept a connection for a moment."""
+"""A server whose database a failed sync has shut, one that only seems so by rows that another program spoilt, and one
+that can't accept a connection for a moment."""
 import os
 import subprocess
 
 from failing import Failing, Fault
+from running import by_sqlite, run
 from serving import ACCEPTED, ALREADY, Index, make_index
+from workload import line_of
 
 STORE = b'{"answer":"fault","name":"Store"}'
+# the names that a server looks up to find whether its database is shut, and a state that no name has
+LOOKED_UP, NO_STATE = ("x", "is-the-store-shut"), 7
 
 
 def claim(index, name):
@@ -60,6 +65,47 @@ def try_shut(program, folder, check):
             seen = claim(index, "b")
             check(f"{fault}: asked again", seen in ((200, ACCEPTED), (200, ALREADY)), seen)
             check(f"{fault}: then it is there", is_held(index, "b"))
+
+
+def with_spoilt_rows(program, path, names):
+    """An index with the project `frob` and with these, whose rows another program then made no records."""
+    lines = b"".join(line_of("office", do="claim", name=name) for name in ("frob", *names))
+    run(program, "apply", "--db", make_index(program, path), given=lines)
+    listed = ", ".join(f"'{name}'" for name in names)
+    return by_sqlite(path, f"UPDATE names SET state = {NO_STATE} WHERE name IN ({listed})")
+
+
+def asked(index, path):
+    """The status and the body of the reply to a GET."""
+    status, _, body = index.ask("GET", path)
+    return status, body
+
+
+def beside_a_spoilt_row(index, name):
+    """The replies to looks at this name and at others by turns, or why one of them gets none."""
+    try:
+        looks = [(is_held(index, "frob"), asked(index, path)) for path in (f"/names/{name}", f"/simple/{name}/")]
+        return [*looks, asked(index, "/simple/frob/")[0], asked(index, "/names/other"), claim(index, "later")]
+    except OSError as error:
+        return error
+
+
+def try_spoilt_rows(program, folder, check):
+    """One of the names that a server looks up has a row that is no record: looks at it are answered by Store, those at
+    others as ever, and the server goes on. Where both have one it ends, so these are the names that it looks up."""
+    under = f"{folder}/spoilt"
+    os.mkdir(under)
+    wanted = [(True, (500, STORE))] * 2 + [200, (200, b'{"name":"other","state":"free"}'), (200, ACCEPTED)]
+    for name in LOOKED_UP:
+        with Index(program, 100, with_spoilt_rows(program, f"{under}/{name}.db", [name])) as index:
+            seen = beside_a_spoilt_row(index, name), index.errors()
+            check(f"a row of {name} that is no record: the clients", seen == (wanted, b""), seen)
+    with Index(program, 100, with_spoilt_rows(program, f"{under}/both.db", LOOKED_UP)) as index:
+        seen = asked(index, f"/names/{LOOKED_UP[0]}")
+        check("rows of both names that are no records: the look", seen == (500, STORE), seen)
+        status = end_of(index)
+        check("rows of both names that are no records: its end", (status, index.errors()) == (1, b"index: Store\n"),
+              (status, index.errors()))
 
 
 def before_and_after_a_claim(index):
