@@ -48,8 +48,8 @@ pub record Holds (image : Image) (T : Tables) : Type 0 where
 abbrev pub FindsOnly : Image → (Tables → Type 0) → Type 0
 FindsOnly image Are = (found : Tables) → Holds image found → ∥ Are found ∥₁
 
--- they hold an index of today with these tables, which a next run finds, and so does the database
--- file with no log
+-- they hold an index of today with these tables, and so does the database file with no log; no
+-- next run finds others
 pub record HoldsCurrent (image : Image) (T : Tables) : Type 0 where
   pub db : Database
   pub current : IsCurrent db T

@@ -115,7 +115,7 @@ pub fn create<S: Start>(
     ensures ends { EndsInitOn ⟦<FileFrom<S> as Disk>⟧ user.now token.now page_sums
         (image_at S.Start) result }
 
-    // The next run finds what was there, or the new index.
+    // No next run finds anything but what was there, or the new index.
     ensures leads { (digest : _) → read_digest token.now ≡ Some digest
         → InitLeadsOn ⟦<FileFrom<S> as Disk>⟧ user.now digest (image_at S.Start) result }
 {
@@ -154,7 +154,7 @@ pub fn work_on<S: Start, W: Work>(
     ensures ends { EndsRunOn ⟦<FileFrom<S> as Disk>⟧ (W.task work.old work.new)
         (image_at S.Start) result }
 
-    // The next run finds what this one leaves.
+    // No next run finds anything but what this one leaves.
     ensures leads { WorkLeadsOn ⟦<FileFrom<S> as Disk>⟧ (W.task work.old work.new)
         (image_at S.Start) result }
 {
