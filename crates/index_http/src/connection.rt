@@ -59,7 +59,7 @@ pub fn answer_one<S: Source, K: Sink, B: Keeper>(
     ensures memory { result ≡ Err IoEnd.OutOfMemory → (desk.new ≡ desk.old)
         ⊎ GivesMessage is_look (S.remaining source.old) }
 
-    // A message whose head can't be read, or whose path has no route, gets its reply, and is no want of memory.
+    // No message whose head can't be read, or whose path has no route, is told as want of memory.
     ensures readable { result ≡ Err IoEnd.OutOfMemory
         → MayHaveHead (S.remaining source.old) (S.remaining source.new) }
 
