@@ -139,6 +139,6 @@ def odd_message(random):
     return message
 
 
-def cut_messages():
-    """Each well-formed message, cut at each of its places."""
-    return [message[:at] for message in WELL_FORMED for at in range(len(message))]
+def cut_messages_of(message):
+    """A message, cut at each of its places."""
+    return [message[:at] for at in range(len(message))]

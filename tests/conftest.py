@@ -1,0 +1,132 @@
+"""What every test may ask for: the built program, folders, an index that serves, chance by a seed, and a count of what
+was looked at."""
+import os
+import random
+import sys
+import tempfile
+from contextlib import contextmanager
+
+import pytest
+
+sys.dont_write_bytecode = True
+from support.options import add_options
+
+MEMORY = "/dev/shm"
+ROUNDS = {}
+
+
+def pytest_addoption(parser):
+    add_options(parser)
+
+
+def pytest_configure(config):
+    # each worker of xdist draws a seed of its own otherwise
+    config.seed = getattr(config, "workerinput", {}).get("seed", config.option.seed)
+    config.looked, config.ended = 0, {"passed": 0, "failed": 0, "skipped": 0}
+
+
+@pytest.hookimpl(optionalhook=True)
+def pytest_configure_node(node):
+    node.workerinput["seed"] = node.config.seed
+
+
+def pytest_report_header(config):
+    return f"seed {config.seed}, program {os.path.abspath(config.option.program)}"
+
+
+def pytest_generate_tests(metafunc):
+    """A test that asks for `round_number` is one test for each of --rounds, or of the rounds that it is marked with."""
+    if "round_number" in metafunc.fixturenames:
+        own = getattr(metafunc.module, "ROUNDS", 20)
+        metafunc.parametrize("round_number", range(1, (metafunc.config.option.rounds or own) + 1))
+
+
+def pytest_collection_modifyitems(config, items):
+    """A program that is missing is told once, before any test begins. Those that build are left out if not asked for."""
+    if not config.option.build:
+        left_out = [it for it in items if it.get_closest_marker("built")]
+        items[:] = [it for it in items if not it.get_closest_marker("built")]
+        config.hook.pytest_deselected(items=left_out)
+    needs = [it for it in items if "program" in getattr(it, "fixturenames", ())]
+    if needs and not config.option.collectonly and not os.access(config.option.program, os.X_OK):
+        raise pytest.UsageError(f"no program is at {config.option.program}, and {len(needs)} tests need one. "
+                                "`tools/build` builds it; --program PATH names another; `-k unit` asks for none")
+
+
+@pytest.fixture(scope="session")
+def program(pytestconfig):
+    """The path of the built program."""
+    return os.path.abspath(pytestconfig.option.program)
+
+
+@pytest.fixture
+def chance(request, pytestconfig):
+    """Numbers at random that depend on the seed and on the test's name, and not on which tests run before it."""
+    return random.Random(f"{pytestconfig.seed} {request.node.name}")
+
+
+@pytest.fixture
+def folder():
+    """A folder for one test, in memory if there is a file system for that: a sync takes no time there."""
+    with tempfile.TemporaryDirectory(dir=MEMORY if os.access(MEMORY, os.W_OK) else None) as made:
+        yield made
+
+
+@pytest.fixture(scope="module")
+def shared_folder():
+    """The same for all tests of a file."""
+    with tempfile.TemporaryDirectory(dir=MEMORY if os.access(MEMORY, os.W_OK) else None) as made:
+        yield made
+
+
+@pytest.fixture
+def index_file(program, folder):
+    """A new index in a file, which nobody serves."""
+    from serving import make_index
+    return make_index(program, f"{folder}/index.db")
+
+
+@pytest.fixture
+def index(program, index_file):
+    """A new index that serves on a port of its own. The port is the kernel's choice (`--listen 127.0.0.1:0`), so tests
+    side by side never meet; the server is ended by its pid."""
+    from serving import Index
+    with Index(program, path=index_file) as serving:
+        yield serving
+
+
+@pytest.fixture
+def looked(request):
+    """Counts what a test looked at, for a test that looks at many things: `looked(condition, what)` fails it at the
+    first that is not so."""
+    def look(is_well, *seen):
+        look.count += 1
+        assert is_well, seen
+
+    look.count = 0
+    yield look
+    request.node.user_properties.append(("looked", look.count))
+
+
+def pytest_runtest_logreport(report):
+    """Of the controller where there are workers: a property comes with the report of each test."""
+    counts = COUNTS
+    if report.when == "call" or report.outcome != "passed":
+        counts[report.outcome] = counts.get(report.outcome, 0) + 1
+    if report.when == "teardown":
+        # a test that counts nothing looked at one thing
+        counts["looked"] += dict(report.user_properties).get("looked", 1)
+
+
+COUNTS = {"looked": 0}
+
+
+def pytest_terminal_summary(terminalreporter):
+    terminalreporter.write_line(f"{COUNTS['looked']} things were looked at")
+
+
+@pytest.hookimpl(trylast=True)
+def pytest_unconfigure(config):
+    """The last line, as the gate adds it up: pytest's own names failures first, and has no `0 failed`."""
+    if not hasattr(config, "workerinput") and not config.option.collectonly and not config.option.help:
+        print(f"{COUNTS.get('passed', 0)} passed, {COUNTS.get('failed', 0)} failed")

@@ -1,0 +1,61 @@
+"""Kills of the program, each at a random moment of its run."""
+import subprocess
+import time
+from dataclasses import dataclass, field
+
+from judge import Judge, copy_index
+from running import run
+
+# a kill that came too late is tried again so often
+TRIALS = 20
+
+
+@dataclass
+class Job:
+    """A subcommand that is killed: what it is given, and the index that it finds, or none."""
+    words: tuple
+    first: str = ""
+    given: bytes = b""
+
+
+@dataclass
+class Killing:
+    """The program, the judge of what has to be there, and how long each job lasts, which is measured once."""
+    program: str
+    judge: Judge
+    lasting: dict = field(default_factory=dict)
+
+    def lasts(self, job, path):
+        """How many seconds a whole run takes, and a little more: so some kills come too late."""
+        if job.words[0] not in self.lasting:
+            took = []
+            for _ in range(3):
+                copy_index(job.first, path)
+                begun = time.monotonic()
+                run(self.program, job.words[0], "--db", path, *job.words[1:], given=job.given)
+                took.append(time.monotonic() - begun)
+            self.lasting[job.words[0]] = 1.3 * min(took)
+        return self.lasting[job.words[0]]
+
+    def killed_in_time(self, job, path, chance):
+        """What a run printed that was killed before its end; None if each of so many kills came too late."""
+        longest = self.lasts(job, path)
+        for _ in range(TRIALS):
+            copy_index(job.first, path)
+            status, output = self.killed(job, path, chance.uniform(0, longest))
+            if status:
+                return output
+        return None
+
+    def killed(self, job, path, seconds):
+        """The status and the output of a run that is killed after so many seconds."""
+        with open(f"{path}.given", "w+b") as stdin, open(f"{path}.output", "w+b") as output:
+            stdin.write(job.given)
+            stdin.flush()
+            stdin.seek(0)
+            words = [self.program, job.words[0], "--db", path, *job.words[1:]]
+            with subprocess.Popen(words, stdin=stdin, stdout=output, stderr=output) as killed:
+                time.sleep(seconds)
+                killed.kill()
+            output.seek(0)
+            return killed.returncode, output.read()
