@@ -41,8 +41,9 @@ def pytest_generate_tests(metafunc):
         metafunc.parametrize("round_number", range(1, (metafunc.config.option.rounds or own) + 1))
 
 
+@pytest.hookimpl(trylast=True)
 def pytest_collection_modifyitems(config, items):
-    """A program that is missing is told once, before any test begins. Those that build are left out if not asked for."""
+    """A program that is missing is told once, before any test begins (and behind `-k`, so trylast). Those that build are left out if not asked for."""
     if not config.option.build:
         left_out = [it for it in items if it.get_closest_marker("built")]
         items[:] = [it for it in items if not it.get_closest_marker("built")]

@@ -1,0 +1,54 @@
+"""The program beside the plain model of the rules (tools/lib/model), on random runs of lines and messages.
+
+`--seconds N` is how long runs go on. A run that differs is cut down by compare.runs.smallest, and printed as a
+script."""
+import time
+from collections import Counter
+
+import pytest
+from compare.breaks import BREAKS
+from compare.runs import Runner, pasted, shown, smallest
+from support.model_runs import wanted, written_run
+
+SECONDS, MOST_CUTTING, MOST_RUNS = 30, 60, 400
+
+
+def first_difference(program, folder, chance, number, met):
+    """Writes a run, and returns what tells of its difference, or None; with all that is needed to cut it down."""
+    store, steps = written_run(chance, number, met)
+    runner = Runner(program, folder, chance.choice((None, 0, 2_000)))
+    return runner, store, steps, runner.difference(store, steps)
+
+
+def told(program, runner, store, steps, found):
+    until = time.monotonic() + MOST_CUTTING
+    store, steps, found = smallest(runner, store, steps, found, lambda: time.monotonic() > until)
+    return (f"they differ in {found.subject}, after {len(steps)} steps over {store}:\n{pasted(program, store, steps)}"
+            f"# the model:   {shown(found.expected)}\n# the program: {shown(found.found)}")
+
+
+def test_program_and_model_answer_alike_and_every_answer_is_met(program, folder, chance, looked, pytestconfig):
+    """Each kind of request is accepted, and each refusal and each status met. Until then runs go on, three times as
+    long at most."""
+    met, number, begun = Counter(), 0, time.monotonic()
+    seconds = pytestconfig.option.seconds or SECONDS
+    while time.monotonic() < begun + seconds * (1 if not unmet(met) else 3):
+        runner, store, steps, found = first_difference(program, folder, chance, number, met)
+        if found:
+            pytest.fail(told(program, runner, store, steps, found), pytrace=False)
+        number += 1
+        looked(True)
+    for word in wanted():
+        looked(word not in unmet(met), f"{word} is met")
+
+
+def unmet(met):
+    seen = {word for answer in met for word in answer.split()}
+    return [word for word in wanted() if word not in seen]
+
+
+@pytest.mark.parametrize("bug", BREAKS)
+def test_a_bug_in_the_model_is_seen(program, folder, chance, bug):
+    met, (_, patched) = Counter(), BREAKS[bug]
+    with patched:
+        assert any(first_difference(program, folder, chance, number, met)[3] for number in range(MOST_RUNS))
