@@ -4,7 +4,6 @@ import os
 import random
 import sys
 import tempfile
-from contextlib import contextmanager
 
 import pytest
 
@@ -43,7 +42,8 @@ def pytest_generate_tests(metafunc):
 
 @pytest.hookimpl(trylast=True)
 def pytest_collection_modifyitems(config, items):
-    """A program that is missing is told once, before any test begins (and behind `-k`, so trylast). Those that build are left out if not asked for."""
+    """A program that is missing is told once, before any test begins: last, so that `-k` has chosen. Tests that build
+    are left out if not asked for."""
     if not config.option.build:
         left_out = [it for it in items if it.get_closest_marker("built")]
         items[:] = [it for it in items if not it.get_closest_marker("built")]
@@ -122,8 +122,9 @@ def pytest_runtest_logreport(report):
 COUNTS = {"looked": 0}
 
 
-def pytest_terminal_summary(terminalreporter):
-    terminalreporter.write_line(f"{COUNTS['looked']} things were looked at")
+def pytest_terminal_summary(terminalreporter, config):
+    if not config.option.collectonly:
+        terminalreporter.write_line(f"{COUNTS['looked']} things were looked at")
 
 
 @pytest.hookimpl(trylast=True)

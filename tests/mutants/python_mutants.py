@@ -30,7 +30,8 @@ class Mutant:
 
     @property
     def name(self) -> str:
-        return f"{self.line}.{self.column}-{self.kind}-{' '.join(self.old.split())[:40]}-to-{' '.join(self.new.split())[:40]}"
+        old, new = (" ".join(text.split())[:40] for text in (self.old, self.new))
+        return f"{self.line}.{self.column}-{self.kind}-{old}-to-{new}"
 
 
 class Places:

@@ -70,6 +70,8 @@ def main():
     parser.add_argument("--until", type=float, default=float("inf"), help="no mutant is begun after this Unix second")
     parser.add_argument("command", nargs="+")
     given = parser.parse_args()
+    # a command that is started in the background would else ignore the signal that ends it
+    signal.signal(signal.SIGINT, signal.default_int_handler)
     path, _, lines = given.file.partition(":")
     first, last = map(int, lines.split("-")) if lines else (1, 10 ** 9)
     with open(f"{TOP}/{path}") as kept:
