@@ -37,25 +37,32 @@ class Killing:
             self.lasting[job.words[0]] = 1.3 * min(took)
         return self.lasting[job.words[0]]
 
-    def killed_in_time(self, job, path, chance):
-        """What a run printed that was killed before its end; None if each of so many kills came too late."""
-        longest = self.lasts(job, path)
+    def outputs(self, job, path, chance):
+        """What runs printed: those whose kill came too late, the first that was killed in time, and one that was not
+        killed. Each leaves its index at the path until the next."""
+        longest, is_killed = self.lasts(job, path), False
         for _ in range(TRIALS):
-            copy_index(job.first, path)
-            status, output = self.killed(job, path, chance.uniform(0, longest))
-            if status:
-                return output
-        return None
+            if not is_killed:
+                copy_index(job.first, path)
+                status, output = self.killed(job, path, chance.uniform(0, longest))
+                is_killed = status != 0
+                yield output
+        assert is_killed, f"{TRIALS} kills came too late"
+        copy_index(job.first, path)
+        yield self.killed(job, path, None)[1]
 
     def killed(self, job, path, seconds):
-        """The status and the output of a run that is killed after so many seconds."""
+        """The status and the output of a run that is killed after so many seconds, or never."""
         with open(f"{path}.given", "w+b") as stdin, open(f"{path}.output", "w+b") as output:
             stdin.write(job.given)
             stdin.flush()
             stdin.seek(0)
             words = [self.program, job.words[0], "--db", path, *job.words[1:]]
             with subprocess.Popen(words, stdin=stdin, stdout=output, stderr=output) as killed:
-                time.sleep(seconds)
-                killed.kill()
+                if seconds is None:
+                    killed.wait(60)
+                else:
+                    time.sleep(seconds)
+                    killed.kill()
             output.seek(0)
             return killed.returncode, output.read()
