@@ -83,7 +83,7 @@ def shared_folder():
 @pytest.fixture
 def index_file(program, folder):
     """A new index in a file, which nobody serves."""
-    from serving import make_index
+    from support.serving import make_index
     return make_index(program, f"{folder}/index.db")
 
 
@@ -91,7 +91,7 @@ def index_file(program, folder):
 def index(program, index_file):
     """A new index that serves on a port of its own. The port is the kernel's choice (`--listen 127.0.0.1:0`), so tests
     side by side never meet; the server is ended by its pid."""
-    from serving import Index
+    from support.serving import Index
     with Index(program, path=index_file) as serving:
         yield serving
 

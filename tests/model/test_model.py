@@ -1,4 +1,4 @@
-"""The program beside the plain model of the rules (tools/lib/model), on random runs of lines and messages.
+"""The program beside the plain model of the rules (tests/support/model), on random runs of lines and messages.
 
 `--seconds N` is how long runs go on. A run that differs is cut down by compare.runs.smallest, and printed as a
 script."""
@@ -6,8 +6,8 @@ import time
 from collections import Counter
 
 import pytest
-from compare.breaks import BREAKS
-from compare.runs import Runner, pasted, shown, smallest
+from support.compare.breaks import BREAKS
+from support.compare.runs import Runner, pasted, shown, smallest
 from support.model_runs import wanted, written_run
 
 SECONDS, MOST_CUTTING, MOST_RUNS = 30, 60, 400

@@ -1,7 +1,7 @@
 #!/usr/bin/python3
 """Makes bugs in a Python program by itself, and says which of them a command sees.
 
-    run_mutants.py --file operate/index-backup:36-130 --count 15 --seed 1 -- COMMAND WORD..
+    run_mutants.py --file server/bin/index-backup:36-130 --count 15 --seed 1 -- COMMAND WORD..
 
 Each mutant is made in one copy of the repository's Python, in which COMMAND is run; `{copy}` in its words is that
 folder. It is caught if the command ends with another status than 0, prints a line that begins with FAILED (then it is
@@ -24,7 +24,7 @@ sys.path.insert(0, os.path.dirname(os.path.realpath(__file__)))
 from python_mutants import drawn, mutants_of
 
 TOP = os.path.dirname(os.path.dirname(os.path.dirname(os.path.realpath(__file__))))
-ROOMS = "operate", "tools", "docs", "tests", "LICENSE", "CHANGELOG.md", "crates/index_words/src/command.rt"
+ROOMS = "server", "indexctl", "tools", "docs", "tests", "LICENSE", "CHANGELOG.md", "crates/index_words/src/command.rt"
 
 
 def copy_of(folder):

@@ -8,7 +8,7 @@ import sys
 
 import pytest
 from lanes import kit
-from support.options import TOP
+from support.places import TOP
 from support.wrong_programs import NotMade, edits
 
 EDITS = edits()

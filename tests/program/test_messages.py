@@ -9,11 +9,11 @@ import time
 from contextlib import suppress
 
 import pytest
-from judge import copy_index, seen_by_sqlite
-from running import run
-from serving import Index, make_index, parts_of, reply_to
+from support.judge import copy_index, seen_by_sqlite
+from support.running import run
+from support.serving import Index, make_index, parts_of, reply_to
 from support.messages import TOO_LONG, WELL_FORMED, cut_messages_of, odd_message
-from workload import REQUESTS, lines_of
+from support.workload import REQUESTS, lines_of
 
 # messages at random of all batches together
 ROUNDS_OF_ALL, BATCHES = 10_000, 20

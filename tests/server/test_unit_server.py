@@ -1,4 +1,4 @@
-"""Functions of operate/ at their boundaries, without a server."""
+"""Functions of server/ at their boundaries, without a server."""
 import base64
 import datetime
 import gzip

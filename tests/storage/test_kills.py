@@ -8,13 +8,13 @@ import time
 from contextlib import closing
 
 import pytest
-from judge import Judge, copy_index, seen_by_sqlite
-from old_version import make_old_version
-from running import kill_after, run, run_command
-from serving import OFFICE, Index
+from support.judge import Judge, copy_index, seen_by_sqlite
+from support.old_version import make_old_version
+from support.running import kill_after, run, run_command
+from support.serving import OFFICE, Index
 from support.acknowledged import Acknowledged, report_rows
 from support.kills import Job, Killing
-from workload import REQUESTS, lines_of
+from support.workload import REQUESTS, lines_of
 
 ROUNDS, LONGEST, HISTORIES = 20, 0.15, 4
 LINES = lines_of(REQUESTS)

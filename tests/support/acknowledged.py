@@ -1,7 +1,7 @@
 """Claims and uploads that an index acknowledged, and what a report has to say of them."""
 import http.client
 
-from serving import is_accepted
+from support.serving import is_accepted
 
 MOST_BYTES = 3_000
 

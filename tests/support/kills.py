@@ -3,8 +3,8 @@ import subprocess
 import time
 from dataclasses import dataclass, field
 
-from judge import Judge, copy_index
-from running import run
+from support.judge import Judge, copy_index
+from support.running import run
 
 # a kill that came too late is tried again so often
 TRIALS = 20

@@ -1,5 +1,5 @@
 """Messages that are malformed or odd, made from well-formed ones. None of them bears a token that somebody has."""
-from serving import JSON_PAGE
+from support.serving import JSON_PAGE
 
 STRANGER = b"X-Index-Token: a token that nobody bears\r\n"
 BODY = b'{"do":"claim","name":"egg"}'

@@ -1,12 +1,12 @@
 """Runs of lines and messages that are chosen at random beside the model, and what they have to meet."""
-from compare.choice import Chooser
-from compare.odd import odd_line, odd_message
-from compare.runs import Step, by_model
-from compare.texts import head, line_of, look, message_of
-from model import rules
-from model.messages import PHRASES, STATUS
-from model.pages import HTML, JSON_1
-from model.tables import Tables
+from support.compare.choice import Chooser
+from support.compare.odd import odd_line, odd_message
+from support.compare.runs import Step, by_model
+from support.compare.texts import head, line_of, look, message_of
+from support.model import rules
+from support.model.messages import PHRASES, STATUS
+from support.model.pages import HTML, JSON_1
+from support.model.tables import Tables
 
 
 class Writing:

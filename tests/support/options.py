@@ -1,9 +1,7 @@
 """The options of pytest that tests take: which program, how often, how long, and the seed."""
-import os
 import random
 
-TOP = os.path.dirname(os.path.dirname(os.path.dirname(os.path.abspath(__file__))))
-BUILT = f"{TOP}/crates/index/out/index"
+from support.places import PROGRAM
 
 
 def whole_number(word: str) -> int:
@@ -15,8 +13,8 @@ def whole_number(word: str) -> int:
 
 def add_options(parser) -> None:
     group = parser.getgroup("index")
-    group.addoption("--program", metavar="PATH", default=BUILT, help="the built program; crates/index/out/index if not "
-                    "given")
+    group.addoption("--program", metavar="PATH", default=PROGRAM, help="the built program; crates/index/out/index if "
+                    "not given")
     group.addoption("--rounds", type=whole_number, metavar="N", help="how often what is random is tried; each test has "
                     "its own default")
     group.addoption("--seconds", type=whole_number, metavar="N", help="how long a test goes on that could go on for "

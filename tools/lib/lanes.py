@@ -12,7 +12,7 @@ import tempfile
 import threading
 import time
 
-from serving import TOP
+from top import TOP
 from trial import whole_number
 
 # tasks side by side plan on no more memory than this, in bytes, and on no more than this part of what is free

@@ -7,7 +7,7 @@ import sys
 import threading
 import time
 
-from serving import PROGRAM
+from top import PROGRAM
 
 
 def parser_of(text, rounds=None, what="", seconds=None, step=None, has_seed=False, has_program=True):

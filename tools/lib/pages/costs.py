@@ -9,7 +9,7 @@ import sys
 sys.dont_write_bytecode = True
 sys.path.insert(0, os.path.join(os.path.dirname(os.path.realpath(__file__)), ".."))
 from pages.files import read, write
-from serving import TOP
+from top import TOP
 
 PAGE = "docs/PROOF-COSTS.md"
 TABLE = re.compile(r"(<!-- written by \.ci/run --write -->\n).*?\n\n", re.S)

@@ -1,7 +1,7 @@
 """The texts of the repository that pages are made of and held to."""
 import os
 
-from serving import TOP
+from top import TOP
 
 
 def read(path):

@@ -4,7 +4,7 @@ import re
 from collections import Counter
 
 from pages.files import read
-from serving import TOP
+from top import TOP
 
 FENCED = re.compile(r"^(```+).*?^\1`*$", re.S | re.M)
 CODE = re.compile(r"(`+)(?!`).*?(?<!`)\1(?!`)", re.S)

@@ -3,7 +3,7 @@ import os
 import re
 
 from pages.files import read
-from serving import TOP
+from top import TOP
 
 PAGE = "docs/ARCHITECTURE.md"
 PICTURE = re.compile(r"(<!-- drawn by tools/draw-crates -->\n).*?(<!-- drawn up to here -->\n)", re.S)

@@ -4,7 +4,7 @@ import os
 import re
 
 from pages.files import read
-from serving import TOP
+from top import TOP
 
 PAGE = "docs/PROOFS.md"
 PROMISES = re.compile(r"^\| Promise \| Call \| Clause \|\n\|.*\n((?:\|.*\n)*)", re.M)

@@ -1,0 +1,1 @@
+"""Parts of bench/bench; load serves bench/bench-behind-nginx too."""

@@ -1,0 +1,25 @@
+"""What bench and bench-behind-nginx share: what is installed here, and bytes that all servers have to give."""
+import subprocess
+import urllib.request
+
+from support.serving import JSON_PAGE
+
+
+def first_line_of(*words):
+    """The first line that a command prints, on either stream."""
+    ended = subprocess.run(words, stdout=subprocess.PIPE, stderr=subprocess.STDOUT, timeout=10, text=True)
+    return ended.stdout.splitlines()[0].strip() if ended.stdout else "unknown"
+
+
+def fetched(url):
+    """The bytes at an address, past any proxy."""
+    request = urllib.request.Request(url, headers={"Accept": JSON_PAGE})
+    with urllib.request.build_opener(urllib.request.ProxyHandler({})).open(request, timeout=30) as reply:
+        return reply.read()
+
+
+def check_same(addresses, wanted):
+    """Ends the run if one of these addresses, by name, gives other bytes."""
+    for name, url in addresses.items():
+        if fetched(url) != wanted:
+            raise SystemExit(f"the bytes of {name} at {url} are not those of the index")

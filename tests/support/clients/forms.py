@@ -1,0 +1,92 @@
+"""Forms as twine sends them, and index-legacy-upload to send them to."""
+import base64
+import re
+import socket
+import subprocess
+import sys
+import time
+from contextlib import suppress
+
+from support.places import BIN
+from support.serving import Running, sha256
+
+BOUNDARY = "b0undary"
+END = f"--{BOUNDARY}--\r\n".encode()
+COMMAND = f"{BIN}/index-legacy-upload"
+# the same code with shorter times, so that a test need not wait as long
+HASTY = """import importlib.machinery, importlib.util, sys
+loader = importlib.machinery.SourceFileLoader("hasty", sys.argv.pop(1))
+service = importlib.util.module_from_spec(importlib.util.spec_from_loader("hasty", loader))
+loader.exec_module(service)
+service.FORM_SECONDS, service.INDEX_SECONDS, service.SILENT_SECONDS, service.Handler.timeout = 3, 3, 1, 1
+sys.exit(service.main())
+"""
+
+
+def field(name, value, file=None):
+    disposition = f'form-data; name="{name}"' + (f'; filename="{file}"' if file is not None else "")
+    return f"--{BOUNDARY}\r\nContent-Disposition: {disposition}\r\n\r\n".encode() + value + b"\r\n"
+
+
+def form(file, data, **fields):
+    """A form as twine sends it. `action` is the field `:action`; one that is None is left out."""
+    project = file.rpartition("-")[0] if file.endswith(".tar.gz") else file.partition("-")[0]
+    fields = {"action": "file_upload", "protocol_version": "1", "name": project, "sha256_digest": sha256(data),
+              **fields}
+    parts = [field(f":{name}" if name == "action" else name, value.encode()) for name, value in fields.items()
+             if value is not None]
+    return b"".join([*parts, field("content", data, file), END])
+
+
+def message(body, token="office", method="POST", **headers):
+    """A whole request with this body, by its bytes. A header that is None is left out."""
+    basic = base64.b64encode(f"__token__:{token}".encode()).decode()
+    lines = {"Host": "x", "Content-Type": f"multipart/form-data; boundary={BOUNDARY}", "Content-Length": len(body),
+             "Authorization": f"Basic {basic}", **{name.replace("_", "-"): value for name, value in headers.items()}}
+    text = "".join(f"{name}: {value}\r\n" for name, value in lines.items() if value is not None)
+    return f"{method} /legacy/ HTTP/1.1\r\n{text}\r\n".encode() + body
+
+
+def sent(port, *pieces, pause=0, patience=90):
+    """The reply to these pieces (its status, the reason beside it, and all of it as text), or nothing; and the seconds
+    until the connection ended."""
+    begun, reply = time.monotonic(), b""
+    with socket.create_connection(("127.0.0.1", port), timeout=patience) as peer, suppress(ConnectionError):
+        for piece in pieces:
+            peer.sendall(piece)
+            time.sleep(pause)
+        while more := peer.recv(1 << 16):
+            reply += more
+    found = re.match(rb"HTTP/1\.1 (\d{3}) ([^\r\n]*)\r\n", reply)
+    return (int(found[1]), found[2].decode(), reply.decode()) if found else None, time.monotonic() - begun
+
+
+class Service(Running):
+    """index-legacy-upload on a free port, in front of an index on this port."""
+
+    def __init__(self, index_port, *more, is_hasty=False):
+        words = [sys.executable, "-B", "-c", HASTY, COMMAND] if is_hasty else [sys.executable, "-B", COMMAND]
+        words += ["--listen", "127.0.0.1:0", "--index", f"127.0.0.1:{index_port}", *more]
+        super().__init__(words, stdout=subprocess.PIPE, stderr=subprocess.DEVNULL)
+
+    def __enter__(self):
+        super().__enter__()
+        line = self.process.stdout.readline()
+        found = re.fullmatch(rb"listening on 127\.0\.0\.1:(\d+)\n", line)
+        if not found:
+            self.__exit__()
+            raise SystemExit(f"index-legacy-upload does not listen: {line!r}")
+        self.port = int(found[1])
+        return self
+
+    def ask(self, body, token="office", **headers):
+        return sent(self.port, message(body, token, **headers))[0]
+
+    def post(self, file, data, token="office", **fields):
+        return self.ask(form(file, data, **fields), token)
+
+    def memory(self):
+        """The most memory that it has had in use, in bytes, and its threads now."""
+        with open(f"/proc/{self.process.pid}/status") as kept:
+            text = kept.read()
+        return int(re.search(r"VmHWM:\s*(\d+) kB", text)[1]) << 10, int(re.search(r"Threads:\s*(\d+)", text)[1])

@@ -1,0 +1,161 @@
+"""What the clients find: an index with packages, behind nginx with TLS and a certificate of its own."""
+import http.client
+import re
+import socket
+import threading
+from contextlib import ExitStack
+from http.server import BaseHTTPRequestHandler, ThreadingHTTPServer
+
+from support.clients.sources import make_isolated
+from support.places import SERVER
+from support.server.front import Front
+from support.packages import make_packages, make_wheel, wheel_files, wheel_name
+from support.running import run_command
+from support.serving import accepted, sha256
+
+REASON = "it was <broken>"
+PORTS = 48
+ASKED = "$server_port $status $request_method $request_uri|$sent_http_content_type|$http_accept"
+ANN = "token-of-ann"
+READER, PASSWORD = "reader", "s3cret"
+# the module of a command
+SHOUT = """import frob
+
+def main():
+    print("FROB", frob.VERSION)
+"""
+
+
+def made_packages(folder):
+    """The packages of the other tools, by project and file, each as its path and Requires-Python. And more: a release
+    for later Pythons, one that is not final, a command, a backend, and a source archive whose build asks for that."""
+    made = {**make_packages(folder), "tiny-backend": {}, "shout": {}}
+
+    def add(project, name, version, code, requires="", needs=(), more=()):
+        file = wheel_name(name, version)
+        files = wheel_files(name, version, code, needs, requires)
+        make_wheel(f"{folder}/{file}", {**files, **dict(more)})
+        made[project][file] = f"{folder}/{file}", requires
+
+    add("frob", "frob", "2.0rc1", 'VERSION = "2.0rc1"\n')
+    add("frob", "frob", "3.0", 'VERSION = "3.0"\n', requires=">=99")
+    script = "shout-1.0.dist-info/entry_points.txt", "[console_scripts]\nshout = shout:main\n"
+    add("shout", "shout", "1.0", SHOUT, needs=["frob>=1.0"], more=[script])
+    backend, archive = make_isolated(folder)
+    made["tiny-backend"]["tiny_backend-1.0-py3-none-any.whl"] = backend, ""
+    made["frob"]["frob-0.8.tar.gz"] = archive, ""
+    return made
+
+
+def fill(index, packages):
+    """Uploads the packages past nginx, yanks frob 1.1, and adds ann, who owns `eggs`."""
+    for project, files in packages.items():
+        accepted(index.claim(project))
+        for name, (path, requires) in files.items():
+            with open(path, "rb") as file:
+                accepted(index.upload(project, name, file.read(), requires))
+    accepted(index.request(do="yank", name="frob", release="1.1", reason=REASON))
+    accepted(index.request(do="add_user", user="ann", office=False, token_sha256=sha256(ANN.encode())))
+    accepted(index.claim("eggs", ANN))
+
+
+def make_authority(folder):
+    """A certificate of an authority, and one that it gave to 127.0.0.1: `ca.pem`, and `pem` with its `key`."""
+    kind = ["-newkey", "ec", "-pkeyopt", "ec_paramgen_curve:prime256v1", "-nodes"]
+    with open(f"{folder}/extensions", "w") as made:
+        made.write("subjectAltName=IP:127.0.0.1\n")
+    for words in (["req", "-x509", *kind, "-days", "2", "-subj", "/CN=Packages CA", "-keyout", f"{folder}/ca.key",
+                   "-out", f"{folder}/ca.pem"],
+                  ["req", *kind, "-subj", "/CN=127.0.0.1", "-keyout", f"{folder}/key", "-out", f"{folder}/request"],
+                  ["x509", "-req", "-in", f"{folder}/request", "-CA", f"{folder}/ca.pem", "-CAkey", f"{folder}/ca.key",
+                   "-CAcreateserial", "-days", "2", "-extfile", f"{folder}/extensions", "-out", f"{folder}/pem"]):
+        ended = run_command(["openssl", *words])
+        if ended.returncode:
+            raise SystemExit(f"openssl ended with {ended.stdout}")
+    return f"{folder}/pem"
+
+
+def free_ports(count):
+    """So many ports of loopback that nobody listens on, each another."""
+    with ExitStack() as found:
+        listening = [found.enter_context(socket.create_server(("127.0.0.1", 0))) for _ in range(count)]
+        return [it.getsockname()[1] for it in listening]
+
+
+class Altered(ThreadingHTTPServer):
+    """An index whose pages have other texts at a pattern, in front of the one at this port. It is for --break."""
+
+    daemon_threads = True
+
+    def __init__(self, index_port, pattern, text):
+        super().__init__(("127.0.0.1", 0), Passing)
+        self.index_port, self.pattern, self.text = index_port, re.compile(pattern.encode()), text.encode()
+
+    def __enter__(self):
+        threading.Thread(target=self.serve_forever, kwargs={"poll_interval": 0.05}, daemon=True).start()
+        return self
+
+    def __exit__(self, *_):
+        self.shutdown()
+        self.server_close()
+
+
+class Passing(BaseHTTPRequestHandler):
+    """Passes one request on to the index, and its reply back."""
+
+    def do_GET(self):
+        body = self.rfile.read(int(self.headers.get("Content-Length", 0)))
+        connection = http.client.HTTPConnection("127.0.0.1", self.server.index_port, timeout=60)
+        connection.request(self.command, self.path, body, dict(self.headers.items()))
+        reply = connection.getresponse()
+        data = reply.read()
+        connection.close()
+        if self.path.startswith("/simple/"):
+            data = self.server.pattern.sub(self.server.text, data)
+        self.send_response_only(reply.status)
+        for name, value in reply.headers.items():
+            if name != "Content-Length":
+                self.send_header(name, value)
+        self.send_header("Content-Length", str(len(data)))
+        self.end_headers()
+        self.wfile.write(data)
+
+    do_POST = do_PUT = do_GET
+
+    def log_message(self, *_):
+        """Nothing is said of what passes."""
+
+
+class Gate(Front):
+    """nginx as server/nginx has it, with uploads by forms. It has a port for each recipe: so its log tells who asked
+    what."""
+
+    def __init__(self, folder, certificate, index_port, service_port, has_password=False):
+        super().__init__(folder, certificate, index_port)
+        self.authority, self.log = certificate.replace("/pem", "/ca.pem"), f"{folder}/asked.log"
+        self.trust.load_verify_locations(self.authority)
+        self.ports, self.taken, self.taking = free_ports(PORTS), 0, threading.Lock()
+        with open(f"{folder}/conf.d/packages.conf") as kept:
+            text = kept.read()
+        listens = "\n    ".join(f"listen 127.0.0.1:{port} ssl;" for port in self.ports)
+        self.put("conf.d/packages.conf", text, **{f"listen 127.0.0.1:{self.port} ssl;": listens})
+        self.port = self.next_port()
+        self.put("conf.d/asked.conf", f"log_format asked '{ASKED}';\n")
+        self.put("index/server.d/asked.conf", f"access_log {self.log} asked;\n")
+        with open(f"{SERVER}/nginx/legacy.conf") as kept:
+            self.put("index/server.d/legacy.conf", kept.read(), **{"127.0.0.1:8090": f"127.0.0.1:{service_port}"})
+        if has_password:
+            digest = run_command(["openssl", "passwd", "-apr1", PASSWORD]).stdout.strip()
+            self.put("readers", f"{READER}:{digest}\n")
+            self.put("index/server.d/readers.conf", f"auth_basic packages;\nauth_basic_user_file {folder}/readers;\n")
+
+    def next_port(self):
+        """A port of nginx that no other recipe uses."""
+        with self.taking:
+            self.taken += 1
+            return self.ports[self.taken - 1]
+
+    def asked_at(self, port):
+        """What was asked at this port, in order: the status, the method, the path, the reply's type, and Accept."""
+        with open(self.log, errors="replace") as log:
+            return re.findall(rf"^{port} (\d+) (\S+) ([^\s|]+)\|([^|\n]*)\|(.*)$", log.read(), re.M)

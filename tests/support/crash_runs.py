@@ -1,0 +1,136 @@
+"""The runs of which try-crashes makes images, each with its record and the rows that hold at each of its answers."""
+import os
+from dataclasses import dataclass, replace
+
+from support.images import ANSWERED, SYNCED, read_record
+from support.judge import copy_index, seen_by_sqlite
+from support.old_version import make_old_version
+from support.serving import OFFICE, Index, reply_to
+from support.running import built, kill_after, run
+from support.workload import REQUESTS, lines_of, message_of, of_name, upload
+
+# more than the program keeps in memory of one change, and than the log holds before it is copied
+LARGE = 8_400_000
+
+
+@dataclass(frozen=True)
+class Recorded:
+    """A run. `states` are the rows behind each number of answers, with None where there is no index yet; `before` are
+    rows of another version that SQLite may see as long as nothing was answered."""
+    name: str
+    first: tuple
+    entries: tuple
+    answers: tuple
+    states: tuple
+    before: tuple = ()
+
+    def allowed(self, number):
+        """The rows that a crash behind this entry may leave: those of what was answered, or with what was in hand."""
+        answered = self.answers[number]
+        return self.states[answered:answered + 2]
+
+    def without_syncs(self, name, is_left_out):
+        """The same run with a record in which these syncs are no syncs."""
+        kept = [not (entry.done == SYNCED and is_left_out(at, entry)) for at, entry in enumerate(self.entries)]
+        pairs = [pair for pair, is_kept in zip(zip(self.entries, self.answers), kept) if is_kept]
+        return replace(self, name=name, entries=tuple(entry for entry, _ in pairs),
+                       answers=tuple(number for _, number in pairs))
+
+
+def content(path):
+    if not os.path.exists(path):
+        return None
+    with open(path, "rb") as kept:
+        return kept.read()
+
+
+def answers_begun(entries, is_served):
+    """Behind each entry, how many answers had begun to go out."""
+    text, replies, found = b"", 0, []
+    for entry in entries:
+        if entry.done == ANSWERED:
+            text += b"" if is_served else entry.body
+            replies += entry.body.startswith(b"HTTP/1.1 ")
+        found.append(replies if is_served else len(text.splitlines()))
+    return tuple(found)
+
+
+class Recording:
+    """Runs the program with its calls recorded, on a database in a folder of its own."""
+
+    def __init__(self, program, judge, folder):
+        self.program, self.judge, self.folder = program, judge, folder
+        self.library, self.record = built("record_calls", folder), f"{folder}/record"
+        self.path = f"{folder}/recorded/index.db"
+        os.makedirs(f"{folder}/recorded", exist_ok=True)
+        self.setting = {"LD_PRELOAD": self.library, "RECORD_UNDER": f"{folder}/recorded", "RECORD_TO": self.record}
+
+    def begin(self, first):
+        copy_index(first or "", self.path)
+        return content(self.path), content(f"{self.path}-wal")
+
+    def recorded(self, name, first, states, before=(), is_served=False):
+        entries = tuple(read_record(self.record))
+        return Recorded(name, first, entries, answers_begun(entries, is_served), tuple(states), before)
+
+    def lines(self, lines):
+        """Requests by `apply`, to its end."""
+        first = self.begin(self.judge.new)
+        run(self.program, "apply", "--db", self.path, given=b"".join(lines), setting=self.setting)
+        states = [self.judge.rows(lines[:count]) for count in range(len(lines) + 1)]
+        return self.recorded("apply", first, states)
+
+    def opening(self, killed, rows):
+        """An index that was killed is opened, checked and closed, and so its log is copied into the file."""
+        first = self.begin(killed)
+        run(self.program, "check", "--db", self.path, setting=self.setting)
+        return self.recorded("opening", first, (rows, rows))
+
+    def init(self):
+        first = self.begin(None)
+        run(self.program, "init", "--db", self.path, *OFFICE, setting=self.setting)
+        return self.recorded("init", first, (None, self.judge.rows(())))
+
+    def migration(self):
+        first = self.begin(make_old_version(f"{self.folder}/old.db"))
+        _, before = seen_by_sqlite(self.path)
+        run(self.program, "check", "--db", self.path, setting=self.setting)
+        _, rows = seen_by_sqlite(self.path)
+        return self.recorded("migration", first, (rows, rows), before=(before,))
+
+    def large(self):
+        """A large file by `serve`: it doesn't fit into memory as one change, and the log is copied while it serves."""
+        messages = [message_of(request) for request in large_requests()]
+        states = [self.served(messages[:count]) for count in range(len(messages) + 1)]
+        self.served(messages, self.setting)
+        return self.recorded("serve", (content(self.judge.new), content(f"{self.judge.new}-wal")), states,
+                             is_served=True)
+
+    def served(self, messages, setting=None):
+        """The rows behind these messages."""
+        self.begin(self.judge.new)
+        if messages:
+            with Index(self.program, len(messages), self.path, setting=setting, at=7) as index:
+                for message in messages:
+                    reply_to(index.port, message)
+                index.process.wait(timeout=30)
+        return seen_by_sqlite(self.path)[1]
+
+
+def large_requests():
+    piece = bytes(at * at % 253 for at in range(65_536))
+    large = piece * (LARGE // len(piece) + 1)
+    return [
+        of_name("office", "claim", "frob"),
+        upload("office", "frob-1.0.tar.gz", b"abc"),
+        upload("office", "frob-1.1.tar.gz", large),
+        upload("office", "frob-1.2.tar.gz", b"a")
+    ]
+
+
+def all_runs(recording, judge):
+    """The runs, and of each how large a share of the rounds it gets."""
+    lines = lines_of(REQUESTS)
+    killed = kill_after(recording.program, copy_index(judge.new, f"{recording.folder}/killed.db"), lines)
+    return [(recording.lines(lines), 0.45), (recording.opening(killed, judge.rows(lines)), 0.15),
+            (recording.init(), 0.15), (recording.migration(), 0.2), (recording.large(), 0.05)]

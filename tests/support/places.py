@@ -1,0 +1,9 @@
+"""Where things stand in the repository."""
+import os
+import sys
+
+TOP = os.path.dirname(os.path.dirname(os.path.dirname(os.path.abspath(__file__))))
+PROGRAM = f"{TOP}/crates/index/out/index"
+SERVER, BIN, NGINX = f"{TOP}/server", f"{TOP}/server/bin", f"{TOP}/server/nginx"
+# the words of `indexctl`, by this Python and with nothing but its standard library
+INDEXCTL = [sys.executable, "-S", f"{TOP}/indexctl/indexctl"]

@@ -1,0 +1,137 @@
+"""nginx as server/nginx has it, in front of indexes on loopback, with a certificate that is made on the spot."""
+import http.client
+import json
+import os
+import re
+import shutil
+import socket
+import ssl
+import subprocess
+
+from support.places import SERVER
+from support.running import run_command
+from support.serving import Asking, Running, exchange, free_port, listens
+
+# What a distribution's nginx.conf says around the server.
+MAIN = """worker_processes 2;
+daemon off;
+pid {folder}/nginx.pid;
+error_log {folder}/error.log;
+events {{ worker_connections 768; }}
+http {{
+    access_log {folder}/access.log;
+    sendfile on;
+    gzip on;
+    default_type application/octet-stream;
+    client_body_temp_path {folder}/body;
+    proxy_temp_path {folder}/proxy;
+    fastcgi_temp_path {folder}/fastcgi;
+    uwsgi_temp_path {folder}/uwsgi;
+    scgi_temp_path {folder}/scgi;
+    include conf.d/*.conf;
+}}
+"""
+
+
+def replaced(text, **places):
+    """The text with each of these in another place, which has to be there."""
+    for old, new in places.items():
+        if old not in text:
+            raise SystemExit(f"{old} is not in the configuration any more")
+        text = text.replace(old, new)
+    return text
+
+
+def kept(name):
+    with open(f"{SERVER}/nginx/{name}") as conf:
+        return conf.read()
+
+
+def has_ipv6():
+    """Whether this machine has a loopback of IPv6."""
+    try:
+        socket.create_server(("::1", 0), family=socket.AF_INET6).close()
+    except OSError:
+        return False
+    return True
+
+
+def make_certificate(folder):
+    host = ["-subj", "/CN=127.0.0.1", "-addext", "subjectAltName=IP:127.0.0.1,IP:::1"]
+    kind = ["-x509", "-newkey", "ec", "-pkeyopt", "ec_paramgen_curve:prime256v1", "-nodes", "-days", "2"]
+    ended = run_command(["openssl", "req", *kind, *host, "-keyout", f"{folder}/key", "-out", f"{folder}/pem"])
+    if ended.returncode:
+        raise SystemExit(f"openssl ended with {ended.stdout}")
+    return f"{folder}/pem"
+
+
+class Nginx(Running):
+    """nginx in a folder of its own, on a free port. The files of `conf.d` there say what it serves."""
+
+    def __init__(self, folder):
+        self.folder, self.port = folder, free_port()
+        os.makedirs(f"{folder}/conf.d")
+        with open(f"{folder}/nginx.conf", "w") as conf:
+            conf.write(MAIN.format(folder=folder))
+        words = ["nginx", "-p", folder, "-e", f"{folder}/error.log", "-c", f"{folder}/nginx.conf"]
+        super().__init__(words, stdout=subprocess.DEVNULL, stderr=subprocess.DEVNULL)
+
+    def put(self, target, text, **places):
+        os.makedirs(os.path.dirname(f"{self.folder}/{target}"), exist_ok=True)
+        with open(f"{self.folder}/{target}", "w") as made:
+            made.write(replaced(text, **places))
+
+    def __enter__(self):
+        tested = run_command([*self.words, "-t"])
+        if tested.returncode:
+            raise SystemExit(f"nginx refuses its configuration: {tested.stdout}")
+        super().__enter__()
+        if not listens(self.port):
+            self.__exit__()
+            raise SystemExit("nginx does not listen")
+        return self
+
+    def errors(self):
+        """What nginx says of itself. That the index was away is an error, and that a page changed as it was read,
+        critical."""
+        with open(f"{self.folder}/error.log", errors="replace") as log:
+            return [line for line in log if re.search(r"\[(alert|emerg)\]", line)]
+
+
+class Front(Nginx, Asking):
+    """nginx in front of the indexes at these ports of loopback, or at these addresses; with several, as shards.conf has
+    it. A plain one speaks no TLS."""
+
+    def __init__(self, folder, certificate, *behind, pypi=None, is_plain=False):
+        super().__init__(folder)
+        self.certificate, self.url = certificate, f"http{'' if is_plain else 's'}://127.0.0.1:{self.port}"
+        self.trust = ssl.create_default_context(cafile=certificate)
+        for inner in ("index/server.d", "cache"):
+            os.makedirs(f"{folder}/{inner}")
+        self.put("conf.d/packages.conf", kept("packages.conf"), **{
+            "listen 443 ssl;": f"listen 127.0.0.1:{self.port}{'' if is_plain else ' ssl'};",
+            "listen [::]:443 ssl;": f"listen [::1]:{self.port} ssl;" if has_ipv6() and not is_plain else "",
+            "/etc/ssl/packages.example.pem": certificate, "/var/cache/nginx/": f"{folder}/cache/",
+            # a machine that tries this may have less room
+            "/var/log/nginx/": f"{folder}/", "min_free=2g": "min_free=16m",
+            "/etc/ssl/packages.example.key": f"{os.path.dirname(certificate)}/key"})
+        self.put("index/pages.conf", kept("pages.conf"))
+        ports = {f"127.0.0.1:{8080 + at}": it if isinstance(it, str) else f"127.0.0.1:{it}"
+                 for at, it in enumerate(behind)}
+        self.put("index/indexes.conf", kept("one-index.conf" if len(behind) == 1 else "shards.conf"), **ports)
+        if pypi:
+            self.put("index/server.d/with-pypi.conf", kept("with-pypi.conf"),
+                     **{"https://pypi.org": f"http://127.0.0.1:{pypi}"})
+
+    def ask(self, method, path, body=None, host="127.0.0.1", **headers):
+        connection = http.client.HTTPSConnection(host, self.port, timeout=60, context=self.trust)
+        return exchange(connection, method, path, body, headers)
+
+    def changes(self):
+        """The lines of the log of changes."""
+        with open(f"{self.folder}/index-changes.log", errors="replace") as log:
+            return [json.loads(line) for line in log]
+
+
+def is_here():
+    return all(map(shutil.which, ("nginx", "openssl")))

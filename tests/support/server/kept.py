@@ -1,0 +1,112 @@
+"""An index that is started anew as soon as it ends, as systemd does, and somebody who uploads to it all the while."""
+import http.client
+import os
+import random
+import threading
+import time
+from contextlib import contextmanager
+
+from support.serving import Asking, Index, free_port
+
+# how long systemd waits before it starts the index anew
+PAUSE = 0.2
+MOST_REQUESTS = 1_000_000
+
+
+class Kept(Asking):
+    """The index on one port. It ends by itself after so many connections, and is then started anew. `where` says of
+    one that is not on loopback where it is."""
+
+    def __init__(self, program, path, requests=MOST_REQUESTS, port=None, **where):
+        self.program, self.path, self.requests, self.port = program, path, requests, port or free_port()
+        self.where = where
+        self.is_wanted, self.is_over = threading.Event(), threading.Event()
+        self.listens = threading.Event()
+        self.starts, self.index, self.faults = 0, None, []
+        self.keeper = threading.Thread(target=self.keep)
+
+    def keep(self):
+        while not self.is_over.is_set():
+            if not self.is_wanted.wait(timeout=0.05):
+                continue
+            try:
+                with Index(self.program, self.requests, self.path, 60, port=self.port, **self.where) as self.index:
+                    self.starts += 1
+                    self.listens.set()
+                    while self.is_wanted.is_set() and self.index.process.poll() is None:
+                        time.sleep(0.02)
+            except SystemExit as end:
+                self.faults.append(end)
+            self.listens.clear()
+            time.sleep(PAUSE)
+
+    def __enter__(self):
+        self.is_wanted.set()
+        self.keeper.start()
+        if not self.listens.wait(timeout=60):
+            self.__exit__()
+            raise SystemExit(f"the index does not listen: {self.faults}")
+        return self
+
+    def __exit__(self, *_):
+        self.is_over.set()
+        self.is_wanted.clear()
+        self.keeper.join()
+
+    @contextmanager
+    def away(self):
+        """The index is away as long as the block lasts."""
+        self.is_wanted.clear()
+        while self.listens.is_set():
+            time.sleep(0.02)
+        try:
+            yield
+        finally:
+            self.is_wanted.set()
+
+    def ends_often(self, until):
+        """Ends the index about a second after each of its starts, and as a crash would each second time."""
+        is_crash = False
+        while time.monotonic() < until:
+            self.listens.wait(timeout=60)
+            time.sleep(random.uniform(1, 2))
+            self.index.process.kill() if is_crash else self.index.process.terminate()
+            is_crash = not is_crash
+
+    def ask(self, *request, **headers):
+        self.listens.wait(timeout=60)
+        return self.index.ask(*request, **headers)
+
+
+class Uploader(threading.Thread):
+    """Uploads files of a project of its own to an index, or to what stands in front of one, until it is stopped or a
+    moment has come, with a pause after each. `files` has what was acknowledged. What is to come again later does."""
+
+    def __init__(self, index, project, until, pause=0):
+        super().__init__(daemon=True)
+        self.index, self.project, self.until, self.pause, self.files = index, project, until, pause, {}
+        while index.claim(project)[0] == 503:
+            time.sleep(0.5)
+
+    def run(self):
+        number = 0
+        while time.monotonic() < self.until:
+            file, body = f"{self.project}-1.{number}.tar.gz", os.urandom(random.randrange(60_000))
+            try:
+                reply = self.index.upload(self.project, file, body)
+            except (OSError, http.client.HTTPException):
+                time.sleep(0.1)
+                continue
+            if reply[0] in (200, 201):
+                self.files[file] = body
+                number += 1
+                time.sleep(self.pause)
+
+    def stop(self):
+        self.until = 0
+        self.join()
+
+    def missing(self, index, files=None):
+        """The acknowledged files that the index does not give back as they were."""
+        wanted = self.files if files is None else files
+        return [it for it, body in wanted.items() if index.ask("GET", f"/files/{self.project}/{it}")[2] != body]

@@ -1,0 +1,117 @@
+"""A network of try-operate's own: network namespaces, linked to each other and to nothing else."""
+import ctypes
+import os
+import subprocess
+from contextlib import ExitStack, contextmanager
+
+from support.running import run_command
+
+# addresses for documentation, which no network has
+HERE, HOSTS = "192.0.2.1", ("192.0.2.11", "192.0.2.12", "192.0.2.13")
+CLONE_NEWNET = 0x40000000
+LIBC = ctypes.CDLL(None, use_errno=True)
+
+
+class Refused(Exception):
+    """This machine refuses a call or a command that makes a network."""
+
+
+def call(name, *words):
+    """A call of the C library."""
+    if getattr(LIBC, name)(*words):
+        raise Refused(f"{name}(CLONE_NEWNET): {os.strerror(ctypes.get_errno())}")
+
+
+def ip(words, under=()):
+    ended = run_command([*under, "ip", *words.split()])
+    if ended.returncode:
+        raise Refused(f"ip {words}: {ended.stdout.strip()}")
+
+
+def forget_hosts():
+    """nginx's host forgets where the others are, and what it has for one that it did not find."""
+    ip("neighbour flush dev switch")
+
+
+class Host:
+    """A host with an address and a cable. `under` are the words of a command that becomes one on this host."""
+
+    def __init__(self, at):
+        self.at, self.address, self.under = at, HOSTS[at], ()
+        words = ["unshare", "--net", "sh", "-c", "echo ready; exec sleep 600"]
+        self.holder = subprocess.Popen(words, stdin=subprocess.DEVNULL, stdout=subprocess.PIPE,
+                                       stderr=subprocess.STDOUT, text=True)
+
+    def __enter__(self):
+        said = self.holder.stdout.readline()
+        try:
+            if said != "ready\n":
+                raise Refused(said.strip())
+            ip(f"link add cable{self.at} type veth peer name eth0 netns {self.holder.pid}")
+            ip(f"link set cable{self.at} master switch up")
+            self.under = ["nsenter", f"--target={self.holder.pid}", "--net", "--"]
+            ip(f"address add {self.address}/24 dev eth0", self.under)
+            for link in ("lo", "eth0"):
+                ip(f"link set {link} up", self.under)
+        except BaseException:
+            self.__exit__()
+            raise
+        return self
+
+    def __exit__(self, *_):
+        self.holder.kill()
+        self.holder.wait()
+        self.holder.stdout.close()
+
+    @contextmanager
+    def unplugged(self):
+        """The host's cable is out as long as the block lasts, and nginx's host has noticed, as it does in seconds."""
+        ip("link set eth0 down", self.under)
+        forget_hosts()
+        try:
+            yield
+        finally:
+            ip("link set eth0 up", self.under)
+
+
+class Loopback:
+    """An address of loopback that stands for a host, with a cable that stays in."""
+
+    def __init__(self, at):
+        self.address, self.under = f"127.0.0.{at + 2}", ()
+
+    @contextmanager
+    def unplugged(self):
+        yield
+
+
+@contextmanager
+def of_its_own():
+    """The caller's thread, and what it starts, has a network of its own as long as the block lasts, with a switch for
+    hosts."""
+    before = os.open("/proc/thread-self/ns/net", os.O_RDONLY)
+    try:
+        call("unshare", CLONE_NEWNET)
+        try:
+            ip("link set lo up")
+            ip("link add switch type bridge")
+            ip(f"address add {HERE}/24 dev switch")
+            ip("link set switch up")
+            yield
+        finally:
+            call("setns", before, CLONE_NEWNET)
+    finally:
+        os.close(before)
+
+
+@contextmanager
+def three_hosts():
+    """Three hosts in a network of their own, or three addresses of loopback and what was refused."""
+    with ExitStack() as made:
+        try:
+            made.enter_context(of_its_own())
+            hosts, refused = [made.enter_context(Host(at)) for at in range(len(HOSTS))], None
+        except Refused as end:
+            made.close()
+            hosts, refused = [Loopback(at) for at in range(len(HOSTS))], end
+        yield hosts, refused

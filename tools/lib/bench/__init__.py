@@ -1,1 +1,0 @@
-"""Parts of tools/bench; load serves tools/bench-behind-nginx too."""

@@ -1,1 +1,0 @@
-"""Parts of tools/try-operate; front and kept serve tools/bench-behind-nginx too."""
