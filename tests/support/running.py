@@ -25,9 +25,9 @@ def write_below(folder, path, text):
 
 
 def built(name, folder):
-    """The library of tools/lib/NAME.c, which is preloaded before the program."""
+    """The library of tests/support/NAME.c, which is preloaded before the program."""
     library = f"{folder}/{name}.so"
-    words = ["cc", "-std=gnu11", "-shared", "-fPIC", "-O1", "-o", library, f"{TOP}/tools/lib/{name}.c", "-ldl"]
+    words = ["cc", "-std=gnu11", "-shared", "-fPIC", "-O1", "-o", library, f"{TOP}/tests/support/{name}.c", "-ldl"]
     subprocess.run(words, check=True, timeout=60)
     return library
 
