@@ -8,6 +8,7 @@ import tempfile
 import pytest
 
 sys.dont_write_bytecode = True
+from support import durations
 from support.options import add_options
 
 MEMORY = "/dev/shm"
@@ -111,20 +112,23 @@ def looked(request):
 
 def pytest_runtest_logreport(report):
     """Of the controller where there are workers: a property comes with the report of each test."""
-    counts = COUNTS
+    SECONDS[report.nodeid] = SECONDS.get(report.nodeid, 0.0) + report.duration
     if report.when == "call" or report.outcome != "passed":
-        counts[report.outcome] = counts.get(report.outcome, 0) + 1
+        COUNTS[report.outcome] = COUNTS.get(report.outcome, 0) + 1
     if report.when == "teardown":
         # a test that counts nothing looked at one thing
-        counts["looked"] += dict(report.user_properties).get("looked", 1)
+        COUNTS["looked"] += dict(report.user_properties).get("looked", 1)
 
 
 COUNTS = {"looked": 0}
+SECONDS: dict = {}
 
 
 def pytest_terminal_summary(terminalreporter, config):
     if not config.option.collectonly:
         terminalreporter.write_line(f"{COUNTS['looked']} things were looked at")
+    if SECONDS and not hasattr(config, "workerinput"):
+        durations.write(durations.TESTS, SECONDS)
 
 
 @pytest.hookimpl(trylast=True)

@@ -1,0 +1,35 @@
+"""How long each test and each part of `tests/run` took last, kept in tests/out, which git does not keep."""
+from __future__ import annotations
+
+import json
+from pathlib import Path
+
+FOLDER = Path(__file__).resolve().parent.parent / "out"
+LAST, TESTS = FOLDER / "parts.json", FOLDER / "tests.json"
+
+
+def read(path: Path) -> dict[str, float]:
+    """The seconds by name, or nothing if no run has left them or a run was stopped as it wrote them."""
+    try:
+        return dict(json.loads(path.read_text()))
+    except (OSError, ValueError):
+        return {}
+
+
+def write(path: Path, seconds: dict[str, float]) -> None:
+    """Adds what was measured to what is there."""
+    FOLDER.mkdir(exist_ok=True)
+    made = path.with_suffix(".new")
+    made.write_text(json.dumps({**read(path), **{name: round(took, 2) for name, took in seconds.items()}}))
+    made.replace(path)
+
+
+def rooms(known: set[str] | None = None) -> dict[str, tuple[int, float]]:
+    """By room: how many tests ran, and the seconds that they took one after the other."""
+    found: dict[str, tuple[int, float]] = {}
+    for name, took in sorted(read(TESTS).items()):
+        if known is None or name in known:
+            room = name.split("/")[0]
+            count, seconds = found.get(room, (0, 0.0))
+            found[room] = count + 1, seconds + took
+    return found
