@@ -2,6 +2,7 @@
 was looked at."""
 import os
 import random
+import signal
 import sys
 import tempfile
 
@@ -9,7 +10,7 @@ import pytest
 
 sys.dont_write_bytecode = True
 from support import durations
-from support.options import add_options
+from support.options import add_options, share_of
 
 MEMORY = "/dev/shm"
 ROUNDS = {}
@@ -20,6 +21,9 @@ def pytest_addoption(parser):
 
 
 def pytest_configure(config):
+    if signal.getsignal(signal.SIGINT) == signal.SIG_IGN:
+        # as it is for a command that is started in the background: what tests start could never be interrupted
+        signal.signal(signal.SIGINT, signal.default_int_handler)
     # each worker of xdist draws a seed of its own otherwise
     config.seed = getattr(config, "workerinput", {}).get("seed", config.option.seed)
     config.looked, config.ended = 0, {"passed": 0, "failed": 0, "skipped": 0}
@@ -41,14 +45,28 @@ def pytest_generate_tests(metafunc):
         metafunc.parametrize("round_number", range(1, (metafunc.config.option.rounds or own) + 1))
 
 
+def in_turn(config, items):
+    """All but those that are marked as `by_turns` and not asked for: by the option of that name, or by --share, of
+    which each test function gives its share."""
+    chosen, shared = set(items), {}
+    for it in items:
+        marker = it.get_closest_marker("by_turns")
+        if marker and not getattr(config.option, marker.args[0]):
+            shared.setdefault(it.function, []).append(it)
+    for those in shared.values():
+        those.sort(key=lambda it: it.name)
+        chosen -= {*those} - {*share_of(those, config.option.share)}
+    return chosen
+
+
 @pytest.hookimpl(trylast=True)
 def pytest_collection_modifyitems(config, items):
-    """A program that is missing is told once, before any test begins: last, so that `-k` has chosen. Tests that build
-    are left out if not asked for."""
-    if not config.option.build:
-        left_out = [it for it in items if it.get_closest_marker("built")]
-        items[:] = [it for it in items if not it.get_closest_marker("built")]
-        config.hook.pytest_deselected(items=left_out)
+    """A program that is missing is told once, before any test begins: last, so that `-k` has chosen. Tests that run by
+    turns are left out if not asked for."""
+    chosen = in_turn(config, items)
+    left_out = [it for it in items if it not in chosen]
+    items[:] = [it for it in items if it in chosen]
+    config.hook.pytest_deselected(items=left_out)
     needs = [it for it in items if "program" in getattr(it, "fixturenames", ())]
     if needs and not config.option.collectonly and not os.access(config.option.program, os.X_OK):
         raise pytest.UsageError(f"no program is at {config.option.program}, and {len(needs)} tests need one. "

@@ -45,7 +45,7 @@ def wrong_program(pytestconfig, tmp_path_factory):
     return build
 
 
-@pytest.mark.built
+@pytest.mark.by_turns("build")
 @pytest.mark.timeout(1_800)
 @pytest.mark.parametrize("name", [pytest.param(it, marks=() if it in CAUGHT_BY else pytest.mark.skip("not moved yet"))
                                   for it in EDITS])

@@ -1,5 +1,8 @@
 """The options of pytest that tests take: which program, how often, how long, and the seed."""
+from __future__ import annotations
+
 import random
+import re
 
 from support.places import PROGRAM
 
@@ -9,6 +12,19 @@ def whole_number(word: str) -> int:
     if not word.isascii() or not word.isdigit() or int(word) == 0:
         raise ValueError("a number above 0 is wanted")
     return int(word)
+
+
+def share(word: str) -> tuple[int, int]:
+    """A word of the command line that is a share, such as the second of four: 2/4, or 6/4."""
+    found = re.fullmatch(r"([0-9]+)/([0-9]+)", word)
+    if not found or not int(found[2]):
+        raise ValueError("a share such as 2/4 is wanted")
+    return int(found[1]), int(found[2])
+
+
+def share_of(those: list, which: tuple[int, int] | None) -> list:
+    """Each of them whose place is of this share; none of them if there is no share."""
+    return [it for at, it in enumerate(those) if which and at % which[1] == which[0] % which[1]]
 
 
 def add_options(parser) -> None:
@@ -21,6 +37,12 @@ def add_options(parser) -> None:
                     "ever")
     group.addoption("--seed", type=int, metavar="N", default=random.randrange(10 ** 6), help="of what is random; "
                     "printed first")
-    group.addoption("--build", action="store_true", help="also build the wrong programs of tests/mutants: a minute "
+    group.addoption("--breaks", action="store_true", help="also make each break of tests/mutants in a copy, and run "
+                    "its tests there: 10 s each")
+    group.addoption("--build", action="store_true", help="also build the wrong programs of tests/mutants: some minutes "
                     "each")
+    group.addoption("--share", type=share, metavar="K/N", help="a share of what --breaks and --build run, and the "
+                    "mutants of Python, by turns: each whose place is K, modulo N")
+    group.addoption("--alter", metavar="'PATTERN => TEXT'", help="for a break: pages are altered on their way from the "
+                    "index")
     group.addoption("--kept-programs", metavar="FOLDER", help="where wrong programs are kept that were built")

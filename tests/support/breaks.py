@@ -1,0 +1,149 @@
+"""Breaks of server/, indexctl/ and the texts beside them: what is wrong is made in a copy, and which test fails there.
+
+A break is a block of lines in a file of tests/mutants, with an empty line behind it:
+
+    name: A_NAME
+    caught: tests/server/test_backups.py::test_a_backup_that_fills_the_disk_leaves_nothing
+    file: server/bin/index-backup
+    old: a text that stands once in that file
+    new: what stands there in the copy
+
+It has at least one test at `caught`, each of which has to fail, and any number of `file`, each with any number of `old`
+and `new`. `program: SCRIPT` puts a shell script in front of the program, in which $index is the program, and `alter:
+PATTERN => TEXT` has the pages altered on their way from the index (the option --alter of the tests)."""
+from __future__ import annotations
+
+import ast
+import functools
+import glob
+import os
+import re
+from dataclasses import dataclass, field
+
+from support.inner_runs import Ended, copy_rooms, run_tests
+from support.places import TOP
+
+MUTANTS = f"{TOP}/tests/mutants"
+
+
+class NotMade(Exception):
+    """Why a break can't be made."""
+
+
+@dataclass
+class Break:
+    """One break: where it stands, its lines, and what is changed."""
+    source: str
+    name: str
+    caught: list = field(default_factory=list)
+    # of each, the file, the old text and the new one
+    changes: list = field(default_factory=list)
+    program: str = ""
+    alter: str = ""
+    is_moved: bool = True
+    fault: str = ""
+
+    @property
+    def room(self) -> str:
+        return re.split(r"[./]", self.source)[0]
+
+    def texts(self) -> dict:
+        """The files that it changes, by their paths, as it makes them."""
+        if self.fault:
+            raise NotMade(self.fault)
+        if not self.changes and not self.program and not self.alter:
+            raise NotMade("it changes nothing")
+        made: dict = {}
+        for path, old, new in self.changes:
+            if path not in made:
+                with open(f"{TOP}/{path}", encoding="utf-8") as kept:
+                    made[path] = kept.read()
+            if made[path].count(old) != 1:
+                raise NotMade(f"{old!r} stands {made[path].count(old)} times in {path}")
+            made[path] = made[path].replace(old, new)
+        return made
+
+    def unknown_tests(self) -> list:
+        """Those at `caught` that no file has."""
+        return [name for name in self.caught if not has_test(name)]
+
+    def make(self, copy: str, program: str) -> str:
+        """Makes it in a new copy, and returns the program that is tried there."""
+        copy_rooms(copy)
+        for path, text in self.texts().items():
+            with open(f"{copy}/{path}", "w", encoding="utf-8") as made:
+                made.write(text)
+        if not self.program:
+            return program
+        with open(f"{copy}/index", "w", encoding="utf-8") as script:
+            script.write(f"#!/bin/sh\nindex='{program}'\n{self.program}\n")
+        os.chmod(f"{copy}/index", 0o755)
+        return script.name
+
+    def tried(self, folder: str, program: str, seconds: float) -> Ended:
+        """How its tests end in a copy in this folder."""
+        made = self.make(f"{folder}/copy", program)
+        words = ["--alter", self.alter] if self.alter else []
+        # of one test the first failure is enough
+        words += ["-x"] if len(self.caught) == 1 else []
+        return run_tests(f"{folder}/copy", self.caught, "--program", made, *words, seconds=seconds)
+
+
+@functools.cache
+def tests_of(path: str) -> dict:
+    """The tests of a file by their names: of a class, the names of its methods."""
+    try:
+        with open(f"{TOP}/{path}", encoding="utf-8") as kept:
+            tree = ast.parse(kept.read())
+    except OSError:
+        return {}
+    found: dict = {}
+    for it in tree.body:
+        if isinstance(it, ast.FunctionDef):
+            found[it.name] = ()
+        elif isinstance(it, ast.ClassDef):
+            found[it.name] = tuple(each.name for each in it.body if isinstance(each, ast.FunctionDef))
+    return found
+
+
+def has_test(name: str) -> bool:
+    """Whether a file has a test of this name, whose parameters are not looked at."""
+    path, *inside = name.partition("[")[0].split("::")
+    tests = tests_of(path)
+    return len(inside) in (1, 2) and inside[0] in tests and all(it in tests[inside[0]] for it in inside[1:])
+
+
+def read(source: str, number: int, block: str) -> Break:
+    """The break of a block of lines. One that can't be read fails by its own name, and hides no other."""
+    found = Break(source, f"{source}_{number}")
+    path = old = ""
+    for line in block.splitlines():
+        key, colon, value = line.partition(":")
+        value = value.removeprefix(" ")
+        if key == "file":
+            path = value
+        elif key == "old":
+            old = value
+        elif key == "new" and path and old:
+            found.changes.append((path, old, value))
+            old = ""
+        elif key == "caught":
+            found.caught.append(value)
+        elif key in ("part", "fails"):
+            found.is_moved = False
+        elif colon and key in ("name", "program", "alter"):
+            setattr(found, key, value)
+        else:
+            found.fault = f"nobody knows what this line is: {line}"
+    return found
+
+
+def all_breaks() -> list:
+    """The breaks of all files of tests/mutants, in the order of their names."""
+    found = []
+    for file in sorted(glob.glob(f"{MUTANTS}/**/*.edits", recursive=True)):
+        with open(file, encoding="utf-8") as kept:
+            text = re.sub(r"^#.*\n", "", kept.read(), flags=re.M)
+        blocks = re.split(r"\n{2,}", text.strip())
+        found += [read(os.path.relpath(file, MUTANTS), at, it) for at, it in enumerate(blocks, 1) if it]
+    return sorted(found, key=lambda it: (it.name, it.source))
