@@ -46,13 +46,15 @@ def pytest_generate_tests(metafunc):
 
 
 def in_turn(config, items):
-    """All but those that are marked as `by_turns` and not asked for: by the option of that name, or by --share, of
-    which each test function gives its share."""
-    chosen, shared = set(items), {}
-    for it in items:
-        marker = it.get_closest_marker("by_turns")
-        if marker and not getattr(config.option, marker.args[0]):
-            shared.setdefault(it.function, []).append(it)
+    """All but those that are marked as `by_turns` or `by_hand` and not asked for: by the option of that name, or the
+    first by --share, of which each test function gives its share."""
+    def is_left_out(it, marker):
+        found = it.get_closest_marker(marker)
+        return found and not getattr(config.option, found.args[0])
+
+    chosen, shared = {it for it in items if not is_left_out(it, "by_hand")}, {}
+    for it in (it for it in items if is_left_out(it, "by_turns")):
+        shared.setdefault(it.function, []).append(it)
     for those in shared.values():
         those.sort(key=lambda it: it.name)
         chosen -= {*those} - {*share_of(those, config.option.share)}

@@ -41,6 +41,8 @@ def add_options(parser) -> None:
                     "its tests there: 10 s each")
     group.addoption("--build", action="store_true", help="also build the wrong programs of tests/mutants: some minutes "
                     "each")
+    group.addoption("--prove", action="store_true", help="prove the crates with each edit of tests/mutants/programs: "
+                    "no clause refuses one")
     group.addoption("--share", type=share, metavar="K/N", help="a share of what --breaks and --build run, and the "
                     "mutants of Python, by turns: each whose place is K, modulo N")
     group.addoption("--alter", metavar="'PATTERN => TEXT'", help="for a break: pages are altered on their way from the "
