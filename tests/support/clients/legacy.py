@@ -35,7 +35,7 @@ def try_taken(service, index):
     reply = service.post(file, data)
     check("the same bytes again", reply and reply[0] == 200 and "is there already" in reply[2], reply)
     check("it says what it keeps", reply and "other metadata stays in the file" in reply[2], reply)
-    says("other bytes", service.post(file, b"x"), 409, "FileNameTaken", "raise the version")
+    says("other bytes", service.post(file, b"x"), 409, "FileNameTaken", "Raise the version")
     says("no digest in the form", service.post(WHEEL.format("1.1"), data, sha256_digest=None), 200)
     says("a digest in capitals", service.post(WHEEL.format("1.2"), data, sha256_digest=sha256(data).upper()), 200)
     says("another digest", service.post(WHEEL.format("1.3"), data, sha256_digest=sha256(b"")), 422, "DigestMismatch")

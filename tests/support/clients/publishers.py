@@ -77,7 +77,7 @@ def twine(person):
     is_published(person, "eggs-2.0-py3-none-any.whl", "eggs-2.0.tar.gz")
     person.ends("uploads the same again", person.does("twine"), 0)
     make_dist(person, "2.0", "# other bytes\n")
-    person.ends("is refused other bytes", person.does("twine"), 1, "409", "FileNameTaken", "raise the version")
+    person.ends("is refused other bytes", person.does("twine"), 1, "409", "FileNameTaken", "Raise the version")
     upload, wheel = ["twine", "upload", "--repository", "packages"], "dist/eggs-2.0-py3-none-any.whl"
     with zipfile.ZipFile(f"{person.project}/dist/eggs-2.1.zip", "w") as archive:
         archive.writestr("eggs-2.1/PKG-INFO", "Metadata-Version: 2.1\nName: eggs\nVersion: 2.1\n")
@@ -114,7 +114,7 @@ def poetry(person):
     is_published(person, "eggs-5.0-py3-none-any.whl", "eggs-5.0.tar.gz")
     shutil.rmtree(f"{person.project}/dist", ignore_errors=True)
     person.puts("eggs.py", '"""other bytes"""\n')
-    person.ends("is refused other bytes", person.does("Poetry publishes"), 1, "FileNameTaken", "raise the version")
+    person.ends("is refused other bytes", person.does("Poetry publishes"), 1, "FileNameTaken", "Raise the version")
 
 
 def refused_forms(person):

@@ -113,10 +113,10 @@ def try_unit(place):
     os.mkdir(folder)
     os.remove(f"{db}-wal")
     # fewer trials, since there is a pause between them
-    hurried = f"{place.folder}/hurried"
-    shutil.copytree(BIN, hurried)
+    shutil.copytree(f"{BIN}/..", f"{place.folder}/server")
+    hurried = f"{place.folder}/server/bin"
     with open(f"{BIN}/index-backup") as text, open(f"{hurried}/index-backup", "w") as script:
-        script.write(replaced(text.read(), **{"TRIALS, SPARE = 20,": "TRIALS, SPARE = 2,"}))
+        script.write(replaced(text.read(), **{"TRIALS = 20\n": "TRIALS = 2\n"}))
     with Manager(f"{place.folder}/stopper") as manager:
         changing = threading.Thread(target=changes, args=(db, manager), daemon=True)
         changing.start()

@@ -1,0 +1,18 @@
+"""Other commands that a program runs."""
+from __future__ import annotations
+
+import subprocess
+
+from package_index.ends import Refused
+
+
+def run(*words: str) -> str:
+    """What a command prints. Refuses with its status and what it printed if it fails."""
+    try:
+        ended = subprocess.run(words, stdin=subprocess.DEVNULL, stdout=subprocess.PIPE, stderr=subprocess.STDOUT,
+                               text=True, errors="replace", check=False)
+    except OSError as end:
+        raise Refused(f"{words[0]}: {end.strerror}") from None
+    if ended.returncode:
+        raise Refused(f"{' '.join(words)}: status {ended.returncode}: {ended.stdout.strip()}")
+    return ended.stdout

@@ -1,0 +1,38 @@
+"""Files on the disk: whether there is room for them, copies, and that they are there after a loss of power."""
+from __future__ import annotations
+
+import os
+
+from package_index.commands import run
+from package_index.ends import Refused
+
+# four of the largest uploads: the index goes on to write meanwhile
+SPARE = 64 << 20
+
+
+def bytes_needed(written: int) -> int:
+    """The room that has to be free before so many bytes are written: a tenth more, or SPARE if that is more."""
+    return written + max(written // 10, SPARE)
+
+
+def want_room(folder: str, written: int, advice: str = "make room first") -> None:
+    """Refuses if writing so many bytes into this folder might fill its disk. Uploads fail if the database is there."""
+    disk = os.statvfs(folder)
+    free = disk.f_bavail * disk.f_frsize
+    if free < bytes_needed(written):
+        raise Refused(f"{folder} has room for {free} bytes, and this needs {bytes_needed(written)}: {advice}")
+
+
+def sync(path: str) -> None:
+    """Waits until a file, or the names in a folder, are on the disk."""
+    opened = os.open(path, os.O_RDONLY)
+    try:
+        os.fsync(opened)
+    finally:
+        os.close(opened)
+
+
+def copy(source: str, target: str, *options: str) -> None:
+    """A copy that shares blocks if the file system can, and is on the disk."""
+    run("cp", "--reflink=auto", *options, source, target)
+    sync(target)

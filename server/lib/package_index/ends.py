@@ -1,0 +1,50 @@
+"""How a program of server/bin ends: with a reason on standard error, or of a signal once it has tidied up."""
+from __future__ import annotations
+
+import os
+import signal
+import sys
+from types import FrameType
+from typing import Callable, Optional
+
+SIGNALS = signal.SIGHUP, signal.SIGINT, signal.SIGTERM
+
+
+class Refused(Exception):
+    """Why a program goes no further: the line that it prints."""
+
+
+class Interrupted(BaseException):
+    """A signal came that ends the program. What stands in `finally` is still done."""
+
+    def __init__(self, number: int) -> None:
+        super().__init__(number)
+        self.number = number
+
+
+def interrupt(number: int, _: Optional[FrameType]) -> None:
+    raise Interrupted(number)
+
+
+def say(name: str, text: object) -> None:
+    """A line of a program on standard error."""
+    print(f"{name}: {text}", file=sys.stderr, flush=True)
+
+
+def status_of(name: str, main: Callable[[], int]) -> int:
+    """Runs a program, and gives its status: that of `main`, or 1 if it refused or the system did. If a signal
+    interrupts it, it tidies up and then dies of that signal, so that a shell or systemd sees what it did."""
+    for number in SIGNALS:
+        # one that is ignored, as nohup ignores SIGHUP, stays so
+        if signal.getsignal(number) is not signal.SIG_IGN:
+            signal.signal(number, interrupt)
+    try:
+        return main()
+    except (Refused, OSError) as end:
+        say(name, end)
+        return 1
+    except Interrupted as end:
+        say(name, "stopped")
+        signal.signal(end.number, signal.SIG_DFL)
+        os.kill(os.getpid(), end.number)
+        return 128 + end.number

@@ -1,0 +1,12 @@
+"""The library of server/, as its programs import it."""
+import sys
+
+from support.places import SERVER
+
+sys.dont_write_bytecode = True
+if f"{SERVER}/lib" not in sys.path:
+    sys.path.insert(0, f"{SERVER}/lib")
+
+from package_index import commands, database, disk, ends, hints, names
+
+__all__ = ["commands", "database", "disk", "ends", "hints", "names"]
