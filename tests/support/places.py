@@ -7,4 +7,4 @@ TOP = os.path.dirname(os.path.dirname(os.path.dirname(os.path.abspath(__file__))
 PROGRAM, UNPROVED = f"{TOP}/crates/index/out/index", f"{TOP}/crates/index/try/index"
 SERVER, BIN, NGINX = f"{TOP}/server", f"{TOP}/server/bin", f"{TOP}/server/nginx"
 # the words of `indexctl`, by this Python and with nothing but its standard library
-INDEXCTL = [sys.executable, "-S", f"{TOP}/indexctl/indexctl"]
+INDEXCTL = [sys.executable, "-S", f"{TOP}/indexctl"]

@@ -43,7 +43,7 @@ def run(program, *words, given=b"", setting=None, patience=60, **streams):
 
 def run_command(words, seconds=60, **setting):
     """The end of another command: its status, and its output with its errors. It finds nothing in its environment that
-    changes pip, Python, proxies or `indexctl/indexctl`, but what `setting` has. One that takes too long has status
+    changes pip, Python, proxies or `indexctl`, but what `setting` has. One that takes too long has status
     -1."""
     def is_kept(name):
         return not name.startswith(("pip_", "python", "index_")) and not name.endswith(("_proxy", "_ca_bundle"))

@@ -3,14 +3,11 @@ import json
 import os
 import sqlite3
 import subprocess
-import sys
 from contextlib import closing
 
-from support.places import TOP
+from support.places import INDEXCTL
 from support.serving import make_index, sha256
 
-# without the packages of this machine, of which it needs none
-INDEXCTL = [sys.executable, "-S", f"{TOP}/indexctl/indexctl"]
 PATIENCE = 60
 
 

@@ -55,7 +55,7 @@ def try_pages(by):
 def try_syntax():
     """The syntax is that of Python 3.8. Whether its library suffices shows in a run of this tool by that Python."""
     wrong = None
-    with open(f"{TOP}/indexctl/indexctl", encoding="utf-8") as kept:
+    with open(f"{TOP}/indexctl/main.py", encoding="utf-8") as kept:
         try:
             ast.parse(kept.read(), feature_version=(3, 8))
         except SyntaxError as end:

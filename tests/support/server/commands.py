@@ -2,9 +2,8 @@
 import os
 import shutil
 import subprocess
-import sys
 
-from support.places import TOP
+from support.places import INDEXCTL
 from support.server.checks import check, ends
 from support.packages import make_wheel, wheel_files, wheel_name
 from support.running import run_command
@@ -25,7 +24,7 @@ class Uploads:
     def words(self, *words, **setting):
         """The command, and what it finds in its environment."""
         setting = {name: value for name, value in {**self.setting, **setting}.items() if value is not None}
-        return [sys.executable, f"{TOP}/indexctl/indexctl", "upload", *words], setting
+        return [*INDEXCTL, "upload", *words], setting
 
     def run(self, *words, **setting):
         words, setting = self.words(*words, **setting)

@@ -136,8 +136,8 @@ def try_content(place):
     check("a package made again is the same", digests[0] == digests[1], digests)
     there = set(re.findall(r"\S+ \./(\S*[^/\s])$", run_command(["dpkg-deb", "--contents", package]).stdout, re.M))
     names = {os.path.basename(it) for it in there} | {"index.sysusers.conf", "one-index.conf", "index.bash-completion"}
-    wanted = {it for room in (SERVER, f"{TOP}/indexctl") for at, _, inside in os.walk(room) for it in inside
-              if not at.endswith(("debian", "__"))}
+    wanted = {it for at, _, inside in os.walk(SERVER) for it in inside
+              if not at.endswith(("debian", "__", "package_index"))} | {"indexctl"}
     check("all of server/ is in the package", len(wanted) > 20 and wanted <= names, wanted - names)
     commands = {os.path.basename(it) for it in there if it.startswith("usr/bin/")}
     pages = {os.path.basename(it)[:-5] for it in there if it.startswith("usr/share/man/man1/")}

@@ -99,17 +99,17 @@ def try_release(place):
 
 def try_made(repository, folder):
     """The program, its package, their sums and the text of the tag; and again from the tag."""
-    out, names = f"{folder}/first", [f"index-{VERSION}-amd64", f"package-index_{VERSION}_amd64.deb"]
+    out, names = f"{folder}/first", [f"index-{VERSION}-amd64", "indexctl", f"package-index_{VERSION}_amd64.deb"]
     ended = repository.release(out, VERSION)
     ends("a release", ended, 0, f"git tag --annotate --file {out}/{TAG}.txt {TAG} {repository.commit}\n")
     summed = run_command(["sh", "-c", 'cd "$1" && sha256sum --check SHA256SUMS', "sh", out])
     check("its sums are right", (summed.returncode, summed.stdout) == (0, "".join(f"{it}: OK\n" for it in names)),
           summed.stdout)
     told = f"index {VERSION} (commit {repository.commit[:12]}, rattle-kit-"
-    run_command(["dpkg-deb", "--extract", f"{out}/{names[1]}", f"{folder}/inside"])
+    run_command(["dpkg-deb", "--extract", f"{out}/{names[-1]}", f"{folder}/inside"])
     said = [run_command([it, "--version"]).stdout for it in (f"{out}/{names[0]}", f"{folder}/inside/usr/bin/index")]
     check("its program tells the commit, also in the package", all(it.startswith(told) for it in said), said)
-    field = run_command(["dpkg-deb", "--field", f"{out}/{names[1]}", "Version"])
+    field = run_command(["dpkg-deb", "--field", f"{out}/{names[-1]}", "Version"])
     ends("its package has the version", field, 0, VERSION)
     text = written(f"{out}/{TAG}.txt")
     check("the text of its tag is that of CHANGELOG.md", text == TEXT, text)

@@ -1,0 +1,61 @@
+#!/usr/bin/env python3
+"""Makes one file of indexctl, to copy to any machine with Python 3.8 or later.
+
+The file is a zip archive that Python runs. The same sources give the same bytes: the entries are sorted, and their
+times are fixed."""
+from __future__ import annotations
+
+import argparse
+import io
+import os
+import sys
+import zipapp
+import zipfile
+from typing import Iterator, Tuple
+
+HERE = os.path.dirname(os.path.abspath(__file__))
+# a zip archive has no earlier moment
+TIME = (1980, 1, 1, 0, 0, 0)
+SHARED = os.path.join(os.path.dirname(HERE), "server", "lib", "package_index")
+MAIN = "import sys\n\nfrom indexctl.main import main\n\nsys.exit(main())\n"
+TAKEN = ("__init__.py", "hints.py", "names.py")
+LEFT_OUT = ("__main__.py", "build.py")
+SUFFIXES = (".py", ".html", ".css", ".js")
+
+
+def files_of(folder: str, package: str) -> Iterator[Tuple[str, bytes]]:
+    """The files of a package, by their paths in the archive."""
+    for at, inner, names in os.walk(folder):
+        inner[:] = [name for name in inner if name != "__pycache__"]
+        for name in names:
+            path = os.path.relpath(os.path.join(at, name), folder).replace(os.sep, "/")
+            if name.endswith(SUFFIXES) and path not in LEFT_OUT:
+                with open(os.path.join(at, name), "rb") as kept:
+                    yield f"{package}/{path}", kept.read()
+
+
+def build(target: str) -> None:
+    """Writes the one file."""
+    archive = io.BytesIO()
+    files = {"__main__.py": MAIN.encode(), **dict(files_of(HERE, "indexctl"))}
+    # of what it shares with the programs of the server, that which it imports
+    files.update({name: data for name, data in files_of(SHARED, "package_index") if os.path.basename(name) in TAKEN})
+    with zipfile.ZipFile(archive, "w") as made:
+        for name in sorted(files):
+            entry = zipfile.ZipInfo(name, TIME)
+            entry.external_attr = 0o100644 << 16
+            made.writestr(entry, files[name], zipfile.ZIP_DEFLATED, compresslevel=9)
+    archive.seek(0)
+    zipapp.create_archive(archive, target, "/usr/bin/env python3")
+    os.chmod(target, 0o755)
+
+
+def main() -> int:
+    parser = argparse.ArgumentParser(description="Makes one file of indexctl, which runs by Python 3.8 or later.")
+    parser.add_argument("target", metavar="TARGET", help="the file to write")
+    build(parser.parse_args().target)
+    return 0
+
+
+if __name__ == "__main__":
+    sys.exit(main())

@@ -1,0 +1,133 @@
+"""Changes: what is asked for, what became of it, and the record of what was accepted."""
+from __future__ import annotations
+
+import argparse
+import json
+import urllib.parse
+from contextlib import AbstractContextManager
+from dataclasses import replace
+from typing import Callable, Dict, Mapping, Optional, Tuple
+
+from indexctl.ends import REFUSED, WRONG, Stop
+from indexctl.names import project_of, sha256
+from indexctl.record import Record, no_record
+from indexctl.refusals import hint_of
+from indexctl.settings import find_setting
+from indexctl.terminal import note, say
+from indexctl.transport import Headers, Index, Request, foreign, object_of
+from indexctl.units import moment_now
+from package_index.names import normal
+
+Row = Mapping[str, object]
+NOTHING: Dict[str, str] = {}
+# what the index never answers by Already: the same again would be another attempt, another case, or a refusal
+NEVER_ALREADY = ("open_case", "record_attempt", "transfer", "close_case", "answer_case", "relinquish")
+
+
+def name_in(row: Row) -> str:
+    """The name of the project that a request is about, or an empty text."""
+    if row.get("name"):
+        return str(row["name"])
+    return project_of(str(row["file"])) if row.get("file") else ""
+
+
+class Desk:
+    """Asks for changes, says of each what became of it, and keeps the accepted ones in the record."""
+
+    def __init__(self, args: argparse.Namespace) -> None:
+        self.setting = find_setting(args)
+        self.index = Index(self.setting, args.again)
+        self.refused = 0
+        self.record: Optional[Record] = None
+
+    def token(self) -> str:
+        if not self.setting.token:
+            raise Stop(WRONG, f"There is no token in {self.setting.place}: set INDEX_TOKEN_FILE or INDEX_TOKEN, name a "
+                              "token-file in the profile, or write it into ~/.netrc.")
+        return self.setting.token
+
+    def room(self, line: Row, is_kept: bool) -> AbstractContextManager[Callable[[], None]]:
+        """The room in the record for a line. A listing needs no record, nor does a request that can't be accepted."""
+        if not is_kept or not self.setting.record:
+            return no_record()
+        self.record = self.record or Record(self.setting.record)
+        return self.record.room(line)
+
+    def send(self, what: str, row: Row, request: Request, token: Optional[str] = None, is_kept: bool = True,
+             more: Row = NOTHING) -> Tuple[int, str]:
+        """The status and the name of the answer to a change. An accepted one is in the record then."""
+        token, name = token or self.token(), name_in(row)
+        # of several indexes behind one address, nginx chooses by the last of these headers
+        headers: Headers = (*request.headers, ("X-Index-Token", token))
+        headers += (("X-Index-Name", normal(name)),) if name else ()
+        request = replace(request, headers=headers, is_once=row["do"] in NEVER_ALREADY)
+        line: Row = {"at": moment_now(), "caller": sha256(token)[:8], "index": self.setting.url, **more, **row}
+        with self.room(line, is_kept) as keep:
+            try:
+                reply = self.index.ask(what, request)
+            except KeyboardInterrupt:
+                note(f"{what}: this may have been done, and is in no record", "yellow")
+                raise
+            found = object_of(reply.body) or {}
+            answer = found.get("answer")
+            # `already` at a repeat: the reply to the first may be what was lost
+            if reply.status in (200, 201) and (answer == "accepted" or answer == "already" and reply.is_repeat):
+                keep()
+        if reply.status in (200, 201) and answer in ("accepted", "already"):
+            return reply.status, str(answer)
+        if answer in ("refused", "message", "fault") and isinstance(found.get("name"), str):
+            return reply.status, str(found["name"])
+        raise foreign(what, reply)
+
+    def post(self, what: str, row: Row, token: Optional[str] = None, is_kept: bool = True,
+             more: Row = NOTHING) -> Tuple[int, str]:
+        body = json.dumps(row).encode()
+        request = Request("POST", "/requests", (), lambda: [body], len(body))
+        return self.send(what, row, request, token, is_kept, more)
+
+    def tell(self, what: str, row: Row, status: int, answer: str) -> bool:
+        """Says what became of a change, and whether it is so now."""
+        if status in (200, 201):
+            say(f"{what}: {answer}" + (", nothing changed" if answer == "already" else ""))
+            return True
+        sentence = f"{what}: {status} {answer}. {hint_of(self.index, answer, row)}".rstrip()
+        if status == 401:
+            raise Stop(REFUSED, sentence)
+        self.refused += 1
+        note(sentence, "red")
+        return False
+
+    def change(self, what: str, token: Optional[str] = None, more: Row = NOTHING, **row: object) -> bool:
+        """Asks for a change by JSON, and says what became of it. Gives whether it is so now."""
+        return self.change_by(what, row, token, more)
+
+    def change_by(self, what: str, row: Row, token: Optional[str] = None, more: Row = NOTHING) -> bool:
+        """The same, for a request that is a row already."""
+        return self.tell(what, row, *self.post(what, row, token, more=more))
+
+    def delete(self, file: str) -> bool:
+        path = f"/files/{project_of(file)}/{urllib.parse.quote(file, safe='')}"
+        row = {"do": "delete", "file": file}
+        return self.tell(f"delete {file}", row, *self.send(f"delete {file}", row, Request("DELETE", path)))
+
+    def status(self) -> int:
+        return REFUSED if self.refused else 0
+
+    def is_user(self, user: str) -> bool:
+        """Whether there is such a user. The office alone may ask.
+
+        It asks to add the user with the office's own token. That can't be accepted: the token is taken, and the caller
+        has the office flag while this asks for none. UserExists is looked for first."""
+        row = {"do": "add_user", "user": user, "office": False, "token_sha256": sha256(self.token())}
+        status, answer = self.post(f"user {user}", row, is_kept=False)
+        if answer in ("UserExists", "TokenTaken"):
+            return answer == "UserExists"
+        self.tell(f"user {user}", row, status, answer)
+        raise Stop(self.status(), "Nothing was done.")
+
+    def caller(self) -> str:
+        """Whether the token is of the office, of another user, or of nobody.
+
+        It asks to allow `-`, which is no name, so that nothing can change."""
+        answer = self.post("the token", {"do": "allow", "name": "-"}, is_kept=False)[1]
+        return {"BadName": "office", "NotOffice": "user"}.get(answer, "nobody")

@@ -1,0 +1,118 @@
+"""Retention cases."""
+from __future__ import annotations
+
+import argparse
+import json
+import shutil
+import time
+
+from indexctl.cases import MEANS, CaseRow, lacks_text, ready_text
+from indexctl.changes import Desk
+from indexctl.command_line import argument, command
+from indexctl.commands.arguments import JSON, NAME, YES
+from indexctl.commands.listings import held
+from indexctl.ends import REFUSED, WRONG, Stop
+from indexctl.names import check_names
+from indexctl.probe import open_cases
+from indexctl.standings import held_names
+from indexctl.terminal import Columns, as_json, confirm, listing, note, print_block, printable, texts
+from indexctl.units import moment
+from indexctl.uploads import MOST_TEXT
+
+
+def means_text(row: CaseRow) -> str:
+    return ", ".join(means for means in MEANS if row.has(means)) or "nothing"
+
+
+CASE_COLUMNS: Columns = {
+    **texts("name", "kind", "candidate", "owners"), "opened": lambda row: moment(row.opened),
+    "attempts": lambda row: f"{row.attempts}, of which {row.sent} were sent", "by": means_text, "ready": ready_text,
+    "lacks": lacks_text, "tried": lambda row: str(row.contact), **texts("work", "why")}
+
+
+@command("case list", "lists the open cases with what each lacks, the soonest first", JSON)
+def case_list(args: argparse.Namespace) -> None:
+    """With a token of the office it also says whether a year has passed since the latest upload, which no answer shows.
+    It asks for a transfer that states that the home page is not quiet; such a transfer is always refused."""
+    desk = Desk(args)
+    rows, is_office = open_cases(desk, held_names(desk.index), int(time.time()))
+    listing(args, rows, {**texts("name", "candidate", "owners"), "sent": lambda row: f"{row.sent} of {row.attempts}",
+                         "ready": ready_text, "lacks": lacks_text})
+    if rows and not is_office:
+        note("The year since the latest upload was not looked at: that takes a token of the office.")
+
+
+@command("case show", "shows an open case with its texts", NAME, JSON)
+def case_show(args: argparse.Namespace) -> None:
+    desk, now = Desk(args), int(time.time())
+    found = held(desk.index, args.name)
+    if not found.case:
+        raise Stop(REFUSED, f"No case is open on {args.name}. It belongs to {', '.join(found.owners)}.")
+    rows, _ = open_cases(desk, [found], now)
+    if not rows:
+        raise Stop(REFUSED, f"The case of {args.name} has ended just now.")
+    if args.json:
+        print(json.dumps(as_json(rows[0]), indent=1))
+        return
+    print_block({head: printable(text(rows[0])) for head, text in CASE_COLUMNS.items()},
+                shutil.get_terminal_size().columns)
+
+
+@command("case open", "asks for a name whose owner can't be reached", NAME,
+         argument("--kind", required=True, choices=("continue", "reuse"),
+              help="continue the project, or reuse the name for another"),
+         argument("--contact", required=True, metavar="TEXT", help="how you tried to reach the owner"),
+         argument("--work", required=True, metavar="TEXT",
+                  help="what your fork improves, or which project needs the name"),
+         argument("--why", required=True, metavar="TEXT", help="why another name won't do"))
+def case_open(args: argparse.Namespace) -> int:
+    check_names(args.name)
+    for text in (args.contact, args.work, args.why):
+        size = len(text.encode("utf-8", "surrogateescape"))
+        if not 1 <= size <= MOST_TEXT:
+            raise Stop(WRONG, f"A text of a case has 1 to {MOST_TEXT} bytes, and {text[:60]!r} has {size}.")
+    desk = Desk(args)
+    desk.change(f"case of {args.name}: open", do="open_case", name=args.name, kind=args.kind, contact=args.contact,
+                work=args.work, why=args.why)
+    return desk.status()
+
+
+@command("case attempt", "records an attempt to reach the owner (office)", NAME,
+         argument("means", metavar="MEANS", choices=MEANS, help="profile, author or pages"),
+         argument("--not-sent", action="store_true", help="the owner has left no address of this kind"))
+def case_attempt(args: argparse.Namespace) -> int:
+    """Each counts from now on, and the same again is a second attempt. It is sent to the index once."""
+    check_names(args.name)
+    desk = Desk(args)
+    desk.change(f"case of {args.name}: attempt by {args.means}{', not sent' if args.not_sent else ''}",
+                do="record_attempt", name=args.name, means=args.means, sent=not args.not_sent)
+    return desk.status()
+
+
+@command("case answer", "ends a case as an owner", NAME)
+def case_answer(args: argparse.Namespace) -> int:
+    check_names(args.name)
+    desk = Desk(args)
+    desk.change(f"case of {args.name}: answer", do="answer_case", name=args.name)
+    return desk.status()
+
+
+@command("case close", "closes a case, as the office or its candidate", NAME)
+def case_close(args: argparse.Namespace) -> int:
+    check_names(args.name)
+    desk = Desk(args)
+    desk.change(f"case of {args.name}: close", do="close_case", name=args.name)
+    return desk.status()
+
+
+@command("case transfer", "passes a name to the candidate of its case (office)", NAME,
+         argument("--quiet", action="store_true", required=True,
+              help="you looked: the owner's home page shows no activity, or none is listed"), YES)
+def case_transfer(args: argparse.Namespace) -> int:
+    """The owners lose the name, which nothing gives back to them. --quiet is your statement, and has to be true."""
+    desk = Desk(args)
+    found = held(desk.index, args.name)
+    if found.case:
+        confirm(args, f"{found.name} passes from {', '.join(found.owners)} to {found.case.candidate}, for good.")
+    desk.change(f"case of {args.name}: transfer", do="transfer", name=args.name, quiet=True)
+    return desk.status()

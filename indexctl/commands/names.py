@@ -1,0 +1,80 @@
+"""Names and their owners."""
+from __future__ import annotations
+
+import argparse
+
+from indexctl.changes import Desk
+from indexctl.command_line import command
+from indexctl.commands.arguments import NAME, NAMES, USER, YES
+from indexctl.commands.cached import tell_uncache
+from indexctl.names import check_names, check_users
+from indexctl.standings import find_files, find_standing
+from indexctl.terminal import confirm
+from indexctl.units import counted
+from package_index.names import normal
+
+
+def each_name(args: argparse.Namespace, do: str) -> int:
+    """The same change for each of the names."""
+    check_names(*args.names)
+    desk = Desk(args)
+    for name in args.names:
+        desk.change(f"{do} {name}", do=do, name=name)
+    return desk.status()
+
+
+@command("name claim", "claims names that nobody holds", NAMES)
+def name_claim(args: argparse.Namespace) -> int:
+    return each_name(args, "claim")
+
+
+@command("name relinquish", "gives a name up, so that anybody may claim it", NAME, YES)
+def name_relinquish(args: argparse.Namespace) -> int:
+    check_names(args.name)
+    desk = Desk(args)
+    confirm(args, f"Anybody may claim {args.name} from then on.")
+    desk.change(f"relinquish {args.name}", do="relinquish", name=args.name)
+    return desk.status()
+
+
+@command("name prohibit", "prohibits names, and deletes their files (office)", NAMES, YES)
+def name_prohibit(args: argparse.Namespace) -> int:
+    """The files, owners, yanks and the case of each name go. What nginx has cached still goes out: run the
+    index-uncache lines that are printed, on the server."""
+    check_names(*args.names)
+    desk = Desk(args)
+    found = {name: (find_standing(desk.index, name), find_files(desk.index, name)[0]) for name in args.names}
+    there = [f"{name}: {counted(len(files), 'file')} of {', '.join(at.owners)}"
+             for name, (at, files) in found.items() if at.state == "held"]
+    if there:
+        confirm(args, f"This deletes files and takes names from their owners: {'; '.join(there)}.")
+    for name, (_, files) in found.items():
+        if desk.change(f"prohibit {name}", do="prohibit", name=name):
+            tell_uncache(normal(name), files)
+    return desk.status()
+
+
+@command("name allow", "frees names that were prohibited (office)", NAMES)
+def name_allow(args: argparse.Namespace) -> int:
+    return each_name(args, "allow")
+
+
+def each_owner(args: argparse.Namespace, do: str, said: str) -> int:
+    """The same change of owners, by this user, for each of the names."""
+    check_names(*args.names)
+    check_users(args.user)
+    desk = Desk(args)
+    for name in args.names:
+        desk.change(said.format(name=name, user=args.user), do=do, name=name, user=args.user)
+    return desk.status()
+
+
+@command("owner add", "makes a user an owner of names", USER, NAMES)
+def owner_add(args: argparse.Namespace) -> int:
+    """An owner may do everything with a name, also remove you. Give each pipeline a user of its own."""
+    return each_owner(args, "add_owner", "{name}: add owner {user}")
+
+
+@command("owner remove", "takes a user off the owners of names", USER, NAMES)
+def owner_remove(args: argparse.Namespace) -> int:
+    return each_owner(args, "remove_owner", "{name}: remove owner {user}")

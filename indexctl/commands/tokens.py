@@ -1,0 +1,64 @@
+"""Tokens and profiles."""
+from __future__ import annotations
+
+import argparse
+import getpass
+import json
+import re
+import secrets
+import sys
+
+from indexctl.changes import Desk
+from indexctl.command_line import command
+from indexctl.commands.arguments import JSON
+from indexctl.ends import REFUSED, WRONG, Stop
+from indexctl.names import sha256
+from indexctl.settings import TOKEN, read_profiles, without_password
+from indexctl.terminal import listing, texts
+
+
+@command("token new", "makes a token, and prints it once with its digest", JSON)
+def token_new(args: argparse.Namespace) -> None:
+    """Keep the token yourself, in a file of mode 0600. Give the office the digest alone."""
+    token = secrets.token_hex(32)
+    if args.json:
+        print(json.dumps({"token": token, "digest": sha256(token)}))
+    else:
+        print(f"token   {token}\ndigest  {sha256(token)}")
+
+
+@command("token digest", "prints the digest of a token that is typed or piped in")
+def token_digest(args: argparse.Namespace) -> None:
+    """The token is never a word of a command, since other users of the machine see those."""
+    try:
+        token = (getpass.getpass("token: ") if sys.stdin.isatty() else sys.stdin.read()).strip()
+    except (EOFError, UnicodeDecodeError):
+        token = ""
+    if not re.fullmatch(TOKEN, token):
+        raise Stop(WRONG, "Type or pipe in one line of plain characters, which is the token.")
+    print(sha256(token))
+
+
+@command("token check", "says which index you ask, and whether your token is known there", JSON)
+def token_check(args: argparse.Namespace) -> int:
+    """Nothing is changed by it."""
+    desk = Desk(args)
+    caller = desk.caller()
+    row = {"url": desk.setting.url, "from": desk.setting.place, "token": desk.setting.source, "caller": caller}
+    listing(args, [row], texts("url", "from", "token", "caller"))
+    return REFUSED if caller == "nobody" else 0
+
+
+@command("profile", "lists the profiles of ~/.config/indexctl.ini", JSON)
+def profile(args: argparse.Namespace) -> None:
+    """A profile is a section of that file:
+
+    [default]
+    url = https://packages.example
+    token-file = ~/.config/index-token
+    record = ~/index-record.jsonl
+
+    Further keys are `ca`, and `user` with `password-file` for the proxy."""
+    rows = [{"profile": name, **values, "url": without_password(values.get("url", ""))}
+            for name, values in read_profiles().items()]
+    listing(args, rows, texts("profile", "url", "token-file", "record"))

@@ -1,0 +1,109 @@
+"""Users: who there is, with which token, and what happens to the names of one who leaves."""
+from __future__ import annotations
+
+import argparse
+import secrets
+from typing import Optional, Tuple
+
+from indexctl.changes import Desk, Row
+from indexctl.command_line import argument, command
+from indexctl.commands.arguments import TOKEN_DIGEST, USER, USERS, YES
+from indexctl.ends import REFUSED, UNREACHED, WRONG, Stop
+from indexctl.names import DIGEST, check_users, sha256
+from indexctl.standings import Standing, held_names
+from indexctl.terminal import confirm
+
+
+def digest_of(args: argparse.Namespace) -> Tuple[str, Optional[str]]:
+    """The digest of a user's token, and the token if it was made here."""
+    if args.digest:
+        if not DIGEST.fullmatch(args.digest.lower()) or args.digest.lower() == sha256(""):
+            raise Stop(WRONG, "--digest takes the 64 digits that `indexctl token digest` prints.")
+        return args.digest.lower(), None
+    token = secrets.token_hex(32)
+    return sha256(token), token
+
+
+def give_token(desk: Desk, what: str, row: Row, token: Optional[str]) -> None:
+    """Asks for a change that makes a token known, and prints a token that was made here, once."""
+    try:
+        if desk.change_by(what, row) and token:
+            print(f"{row['user']}'s token, which is shown this once: {token}", flush=True)
+    except Stop as end:
+        lost = f" If it was done, its token is lost: use `indexctl user rotate {row['user']}`." if token else ""
+        raise Stop(end.status, f"{end}{lost if end.status == UNREACHED else ''}") from end
+
+
+@command("user add", "adds users; each gets a new token, which is printed once (office)", USERS,
+         argument("--office", action="store_true", help="makes it a user of the office, for good"), TOKEN_DIGEST, YES)
+def user_add(args: argparse.Namespace) -> int:
+    """A user is never removed, and the office flag never changes. --digest is for one user, who has made the token."""
+    check_users(*args.users)
+    if args.digest and len(args.users) > 1:
+        raise Stop(WRONG, "--digest is of one user's token. Add one user with it.")
+    desk = Desk(args)
+    if args.office:
+        confirm(args, f"{', '.join(args.users)} will be of the office for good: nothing takes the flag back.")
+    for user in args.users:
+        digest, token = digest_of(args)
+        row = {"do": "add_user", "user": user, "office": args.office, "token_sha256": digest}
+        give_token(desk, f"user {user}: add", row, token)
+    return desk.status()
+
+
+@command("user rotate", "gives a user another token at once (office)", USER, TOKEN_DIGEST)
+def user_rotate(args: argparse.Namespace) -> int:
+    """The old token ends at once. For a pipeline that must not stop, add a second user and let the two take turns."""
+    check_users(args.user)
+    desk = Desk(args)
+    digest, token = digest_of(args)
+    row = {"do": "set_token", "user": args.user, "token_sha256": digest}
+    give_token(desk, f"user {args.user}: another token", row, token)
+    return desk.status()
+
+
+@command("user lock", "gives users a token that nobody knows (office)", USERS)
+def user_lock(args: argparse.Namespace) -> int:
+    """The user stays, and owns what it owns. `user rotate` opens it again."""
+    check_users(*args.users)
+    desk = Desk(args)
+    for user in args.users:
+        desk.change(f"user {user}: lock", do="set_token", user=user, token_sha256=sha256(secrets.token_hex(32)))
+    return desk.status()
+
+
+@command("user leave", "passes a user's names to another, and locks the user (office)", USER,
+         argument("--to", metavar="HEIR", help="who owns the names from now on; needed if the user owns one alone"),
+         YES)
+def user_leave(args: argparse.Namespace) -> int:
+    """Only an owner may change owners. So the office gives the user a token that this program alone knows, and acts as
+    the user; nobody knows the token afterwards. An owner's act ends an open case of a name, so those end too."""
+    check_users(args.user, *([args.to] if args.to else []))
+    if args.to == args.user:
+        raise Stop(WRONG, f"{args.user} leaves, and can't own the names from then on. Name another user by --to.")
+    desk = Desk(args)
+    for user in (args.user, args.to):
+        if user and not desk.is_user(user):
+            raise Stop(REFUSED, f"There is no user {user}. Is the id spelled right? Nothing was done.")
+    names = [it for it in held_names(desk.index) if args.user in it.owners]
+    alone = [it.name for it in names if len(it.owners) == 1]
+    if alone and not args.to:
+        raise Stop(WRONG, f"{args.user} is the only owner of {', '.join(alone)}. Name another user by --to. Nothing "
+                          "was done.")
+    cases = [it.name for it in names if it.case]
+    confirm(args, f"{args.user} will be locked, and taken off: {', '.join(it.name for it in names) or 'no name'}."
+            + (f" The open cases of {', '.join(cases)} will end." if cases else ""))
+    token = secrets.token_hex(32)
+    if desk.change(f"user {args.user}: lock", do="set_token", user=args.user, token_sha256=sha256(token)):
+        for it in names:
+            pass_on(desk, it, args.user, args.to, token)
+    return desk.status()
+
+
+def pass_on(desk: Desk, found: Standing, user: str, heir: Optional[str], token: str) -> None:
+    """Puts the heir in the place of the user as an owner of this name, asking as the user."""
+    name, more = found.name, {"for": user}
+    if heir and heir not in found.owners:
+        if not desk.change(f"{name}: add owner {heir}", token, more, do="add_owner", name=name, user=heir):
+            return
+    desk.change(f"{name}: remove owner {user}", token, more, do="remove_owner", name=name, user=user)

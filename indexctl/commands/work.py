@@ -1,0 +1,98 @@
+"""Uploads, the page of the office, and the replay of a record."""
+from __future__ import annotations
+
+import argparse
+import json
+import os
+import time
+
+from indexctl.changes import Desk
+from indexctl.command_line import argument, command
+from indexctl.ends import REFUSED, WRONG, Stop
+from indexctl.names import sha256
+from indexctl.page import page_of, put_whole
+from indexctl.probe import open_cases
+from indexctl.replays import read_lines, replay_line, why_left
+from indexctl.standings import held_names
+from indexctl.terminal import note, say
+from indexctl.units import counted, read_moment
+from indexctl.uploads import files_of, upload_file
+
+
+@command("upload", "uploads wheels and source archives",
+         argument("paths", nargs="+", metavar="PATH",
+                  help="a file, or a folder of which each .whl and .tar.gz is taken"),
+         argument("--claim", action="store_true", help="claims a name that nobody holds"),
+         argument("--dry-run", action="store_true", help="checks all files, says what would go out, and ends"))
+def upload(args: argparse.Namespace) -> int:
+    """All files are read and checked before the first goes out: the name, the size, and the metadata inside, which has
+    Requires-Python. Wheels go first and source archives last, so that nobody builds what is there as a wheel a moment
+    later. A file that is there already with the same bytes is no error, so you may repeat a run. What passes by itself
+    (no connection, 500, 502, 503, 504) is tried again."""
+    files, done, status = files_of(args.paths), 0, 0
+    if args.dry_run:
+        for file in files:
+            requires = file.requires or "any"
+            say(f"{file.name}: {file.project}, {file.size} bytes, sha256 {file.digest}, Python {requires}")
+        return 0
+    desk = Desk(args)
+    desk.token()
+    try:
+        for file in files:
+            done += upload_file(desk, file, args.claim)
+    except Stop as end:
+        if end.status == WRONG:
+            raise
+        note(f"indexctl: {end}", "red")
+        status = end.status
+    say(f"{done} of {len(files)} files are there")
+    return status or (0 if done == len(files) else REFUSED)
+
+
+@command("page", "writes the page of the office into a folder",
+         argument("folder", metavar="DIR", help="a folder that is there"))
+def page(args: argparse.Namespace) -> None:
+    """The page, DIR/index.html, is one file with open cases, what is due, quotas and owners. It asks for nothing from
+    elsewhere. It is replaced as a whole. With a token of the office it also has the year since the latest upload."""
+    if not os.path.isdir(args.folder):
+        raise Stop(WRONG, f"{args.folder} is not a folder.")
+    desk, now = Desk(args), int(time.time())
+    names = held_names(desk.index)
+    cases, _ = open_cases(desk, names, now)
+    path = os.path.join(args.folder, "index.html")
+    put_whole(path, page_of(desk.setting.url, names, cases, now))
+    say(f"{path}: {counted(len(names), 'name')}, {counted(len(cases), 'open case')}")
+
+
+@command("replay", "asks again for the changes of a record, after a restore",
+         argument("file", metavar="RECORD", help="a record of indexctl (INDEX_RECORD), or nginx's log of changes"),
+         argument("--since", required=True, metavar="MOMENT",
+              help="when the backup was made, such as 2026-11-24T03:15:00Z, or the name of the backup"),
+         argument("--from", type=int, default=1, metavar="LINE", dest="first",
+              help="the line to begin at, after a replay that broke off"),
+         argument("--caller", metavar="DIGITS",
+                  help="asks for what the caller of these digits asked for, as if you had"),
+         argument("--dry-run", action="store_true", help="says what would be asked for, and ends"))
+def replay(args: argparse.Namespace) -> int:
+    """What you asked for yourself is asked for again, in its order, from the backup on. All else is listed, with who
+    has to repeat it."""
+    since = read_moment(args.since)
+    lines = [it for it in read_lines(args.file) if it.at >= since and it.number >= args.first]
+    desk = Desk(args)
+    mine, is_office = args.caller or sha256(desk.token())[:8], desk.caller() == "office"
+    left = 0
+    for line in lines:
+        why = why_left(line, desk.setting.url, mine, is_office)
+        if why:
+            left += 1
+            note(f"line {line.number} is left, {why}: {json.dumps(line.row)}", "yellow")
+        elif not args.dry_run:
+            try:
+                replay_line(desk, line)
+            except Stop as end:
+                raise Stop(end.status, f"line {line.number}: {end} Go on by --from {line.number}, or the line after "
+                                       "it.") from end
+        else:
+            say(f"line {line.number}: {json.dumps(line.row)}")
+    say(f"{counted(len(lines) - left, 'line')} of yours, {left} left, {counted(desk.refused, 'refusal')}")
+    return desk.status()

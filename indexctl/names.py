@@ -1,0 +1,36 @@
+"""Names that a person typed: checked before anything is asked for. The grammar is that of `package_index.names`."""
+from __future__ import annotations
+
+import hashlib
+import re
+
+from indexctl.ends import WRONG, Stop
+from package_index.names import is_name, is_user, read_file_name
+
+DIGEST = re.compile("[0-9a-f]{64}")
+
+
+def sha256(text: str) -> str:
+    return hashlib.sha256(text.encode()).hexdigest()
+
+
+def project_of(file: str) -> str:
+    """The project of a file name, in its normal form."""
+    spelled = read_file_name(file)
+    if not spelled:
+        raise Stop(WRONG, f"{file!r} is not the name of a wheel or of a .tar.gz.")
+    return spelled.project
+
+
+def check_names(*names: str) -> None:
+    """Stops unless each is a project's name, so that a slip is found before anything is asked for."""
+    for name in names:
+        if not is_name(name):
+            raise Stop(WRONG, f"{name!r} is not a project's name: letters, digits, `.`, `_` and `-`, at most 128, with "
+                              "a letter or digit at both ends.")
+
+
+def check_users(*users: str) -> None:
+    for user in users:
+        if not is_user(user):
+            raise Stop(WRONG, f"{user!r} is not a user id: 1 to 32 of the letters a to z and the digits 0 to 9.")

@@ -1,0 +1,67 @@
+"""The record: a line of JSON for each accepted change."""
+from __future__ import annotations
+
+import json
+import os
+from contextlib import contextmanager, suppress
+from typing import Callable, Iterator, Mapping
+
+from indexctl.ends import WRONG, Stop
+
+try:
+    import fcntl
+except ImportError:
+    # Windows has no locks of this kind: all but a record works there
+    HAS_LOCKS = False
+else:
+    HAS_LOCKS = True
+
+
+class Record:
+    """A file with a line of JSON for each accepted change: when, by whom (the first digits of the token's digest), and
+    what. The room for a line is taken before the change is asked for, so that a full disk can't forget it."""
+
+    def __init__(self, path: str) -> None:
+        self.path = path
+        if not HAS_LOCKS:
+            raise Stop(WRONG, f"The record {path} can't be kept on this system, which has no locks for it. Unset it, "
+                              "or run indexctl on Linux or macOS. Nothing was asked for.")
+        try:
+            self.file = os.open(path, os.O_RDWR | os.O_CREAT | os.O_CLOEXEC, 0o600)
+        except OSError as end:
+            raise Stop(WRONG, f"The record {path} can't be written: {end.strerror}. Nothing was asked for.") from end
+
+    def write(self, line: bytes, at: int) -> None:
+        while line:
+            count = os.pwrite(self.file, line, at)
+            line, at = line[count:], at + count
+        os.fsync(self.file)
+
+    @contextmanager
+    def room(self, row: Mapping[str, object]) -> Iterator[Callable[[], None]]:
+        """Gives what keeps this row. If that isn't called, the record stays as it was."""
+        line = f"{json.dumps(row)}\n".encode()
+        fcntl.flock(self.file, fcntl.LOCK_EX)
+        end, is_kept = os.fstat(self.file).st_size, []
+        try:
+            self.write(b" " * (len(line) - 1) + b"\n", end)
+        except OSError as why:
+            with suppress(OSError):
+                os.ftruncate(self.file, end)
+            raise Stop(WRONG, f"The record {self.path} can't be written: {why.strerror}. Make room, or name "
+                              f"another file. This was not asked for: {json.dumps(row)}") from why
+
+        def keep() -> None:
+            is_kept.append(True)
+            self.write(line, end)
+        try:
+            yield keep
+        finally:
+            if not is_kept:
+                os.ftruncate(self.file, end)
+            fcntl.flock(self.file, fcntl.LOCK_UN)
+
+
+@contextmanager
+def no_record() -> Iterator[Callable[[], None]]:
+    yield lambda: None

@@ -1,0 +1,43 @@
+"""What to do about a refusal, with the owners and the case looked up if its sentence names them."""
+from __future__ import annotations
+
+import time
+from contextlib import suppress
+from typing import Dict, Mapping
+
+from indexctl.cases import case_row
+from indexctl.ends import Stop
+from indexctl.standings import Standing, find_files, find_standing
+from indexctl.transport import Index
+from indexctl.units import YEAR, counted, due, human
+from package_index.hints import HINTS, fields_of, hint
+from package_index.names import read_file_name
+
+OF_STANDING = {"owners", "charge", "quota", "candidate", "lacks", "latest"}
+OF_FILES = {"files", "releases"}
+
+
+def hint_of(index: Index, answer: str, row: Mapping[str, object]) -> str:
+    """What to do about a refusal. The owners and the case are looked up if the sentence names them."""
+    name, file = str(row.get("name", "")), read_file_name(str(row.get("file", "")))
+    name = name or (file.project if file else "")
+    known = {"source": index.setting.source, "user": str(row.get("user", "")), "name": name}
+    asked = fields_of(HINTS.get(answer, ""))
+    # the refusal stands, even if nothing more can be looked up
+    with suppress(Stop):
+        if name and asked & OF_STANDING:
+            known.update(known_of_standing(find_standing(index, name)))
+        if name and asked & OF_FILES:
+            files, releases = find_files(index, name)
+            known.update(files=counted(len(files), "file"), releases=", ".join(releases) or "no files at all")
+    return hint(answer, **{key: text for key, text in known.items() if text})
+
+
+def known_of_standing(found: Standing) -> Dict[str, str]:
+    """What a sentence may name of a name's standing."""
+    known = {"owners": ", ".join(found.owners) or "nobody", "charge": human(found.charge), "quota": human(found.quota)}
+    if found.case:
+        row = case_row(found, found.case, int(time.time()), None)
+        known.update(candidate=row.candidate, lacks=", ".join(row.lacks) or "nothing that this clock sees",
+                     latest=due(row.opened + YEAR))
+    return known

@@ -1,0 +1,161 @@
+"""What the index shows: how names stand, its pages, and walks over all names."""
+from __future__ import annotations
+
+import functools
+import queue
+import threading
+import urllib.parse
+from dataclasses import dataclass, field
+from typing import Any, Callable, Dict, List, Optional, Sequence, Tuple, TypeVar
+
+from indexctl.ends import REFUSED, WRONG, Stop
+from indexctl.terminal import Progress
+from indexctl.transport import JSON_PAGE, Index, Request, foreign, object_of
+from package_index.hints import hint
+from package_index.names import normal
+
+Item = TypeVar("Item")
+Result = TypeVar("Result")
+SIDE_BY_SIDE = 8
+CASE_KINDS = {"attempts": int, "author": bool, "candidate": str, "contact": str, "kind": str, "opened": int,
+              "pages": bool, "profile": bool, "sent": int, "why": str, "work": str}
+# the largest number, and the latest moment, that a standing may have: both can be told in words
+MOST_NUMBER, LAST_MOMENT = 1 << 60, 250_000_000_000
+
+
+@dataclass(frozen=True)
+class Case:
+    """An open case, as the index shows it."""
+    kind: str
+    candidate: str
+    contact: str
+    work: str
+    why: str
+    opened: int
+    attempts: int
+    sent: int
+    profile: bool
+    author: bool
+    pages: bool
+    first: Optional[int]
+
+
+@dataclass(frozen=True)
+class Standing:
+    """How a name stands: free, prohibited, or held, with its owners, quota, charge and case. `given` is the reply."""
+    name: str
+    state: str
+    shown: str = ""
+    owners: List[str] = field(default_factory=list)
+    charge: int = 0
+    quota: int = 0
+    case: Optional[Case] = None
+    given: Dict[str, Any] = field(default_factory=dict)
+
+
+def is_number(value: object, most: int = MOST_NUMBER) -> bool:
+    """Whether a value is a number from 0 on, and at most so much. `True` is no number."""
+    return type(value) is int and 0 <= value <= most
+
+
+def is_standing(found: Dict[str, Any]) -> bool:
+    """Whether an object is the standing of a name, whole, so that what reads it needn't look again."""
+    if not isinstance(found.get("name"), str) or found.get("state") not in ("free", "prohibited", "held"):
+        return False
+    if found["state"] != "held":
+        return True
+    case, owners = found.get("case"), found.get("owners")
+    return (is_number(found.get("quota")) and is_number(found.get("charge")) and isinstance(found.get("shown"), str)
+            and isinstance(owners, list) and all(isinstance(it, str) for it in owners)
+            and (case is None or is_case(case)))
+
+
+def is_case(case: Any) -> bool:
+    return (isinstance(case, dict) and all(type(case.get(key)) is kind for key, kind in CASE_KINDS.items())
+            and is_number(case["opened"], LAST_MOMENT) and is_number(case["attempts"]) and is_number(case["sent"])
+            and (case.get("first") is None or is_number(case["first"], LAST_MOMENT)))
+
+
+def standing_of(found: Dict[str, Any]) -> Standing:
+    """The standing that an object says, by `is_standing`."""
+    if found["state"] != "held":
+        return Standing(found["name"], found["state"], given=found)
+    case = found.get("case")
+    made = None if case is None else Case(first=case.get("first"), **{key: case[key] for key in CASE_KINDS})
+    return Standing(found["name"], found["state"], found["shown"], found["owners"], found["charge"], found["quota"],
+                    made, found)
+
+
+def find_standing(index: Index, name: str) -> Standing:
+    """How a name stands."""
+    reply = index.ask(name, Request("GET", f"/names/{urllib.parse.quote(name, safe='')}"))
+    found = object_of(reply.body)
+    if reply.status == 200 and found and is_standing(found):
+        return standing_of(found)
+    if found and found.get("answer") in ("refused", "message"):
+        answer = str(found.get("name"))
+        raise Stop(REFUSED, f"{name}: {reply.status} {answer}. {hint(answer)}".rstrip())
+    raise foreign(name, reply)
+
+
+def find_page(index: Index, path: str, rows: str, key: str) -> Optional[Dict[str, Any]]:
+    """A page, of which the list `rows` has a text at `key` in each row, or None if there is none."""
+    reply = index.ask(path, Request("GET", path, (("Accept", JSON_PAGE),)))
+    found = object_of(reply.body) or {}
+    if reply.status == 404 and found.get("name") in ("NoProject", "NoIndexName"):
+        return None
+    listed = found.get(rows)
+    if reply.status != 200 or not isinstance(listed, list):
+        raise foreign(path, reply)
+    if not all(isinstance(it, dict) and isinstance(it.get(key), str) for it in listed):
+        raise foreign(path, reply)
+    return found
+
+
+def find_files(index: Index, name: str) -> Tuple[List[str], List[str]]:
+    """The names of a project's files, and its releases."""
+    found = find_page(index, f"/simple/{normal(name)}/", "files", "filename") or {"files": []}
+    return [it["filename"] for it in found["files"]], [str(it) for it in found.get("versions", [])]
+
+
+def side_by_side(function: Callable[[Item], Result], items: Sequence[Item], what: str) -> List[Result]:
+    """What a function gives for each item, in their order. Several threads ask; the first failure ends them all."""
+    asked: queue.SimpleQueue[Tuple[int, Item]] = queue.SimpleQueue()
+    given: queue.SimpleQueue[Tuple[int, List[Result], Optional[BaseException]]] = queue.SimpleQueue()
+    for pair in enumerate(items):
+        asked.put(pair)
+
+    def work() -> None:
+        while True:
+            try:
+                at, item = asked.get_nowait()
+            except queue.Empty:
+                return
+            try:
+                given.put((at, [function(item)], None))
+            except BaseException as end:
+                given.put((at, [], end))
+                return
+    for _ in range(min(SIDE_BY_SIDE, len(items))):
+        # they end with the program: Ctrl-C waits for none of them
+        threading.Thread(target=work, daemon=True).start()
+    found: Dict[int, Result] = {}
+    with Progress(what, len(items)) as progress:
+        for _ in items:
+            at, result, end = given.get()
+            if end:
+                raise end
+            found[at] = result[0]
+            progress.step()
+    return [found[at] for at in range(len(items))]
+
+
+def held_names(index: Index) -> List[Standing]:
+    """The standing of each held name, in the order of the index's list. One that is given up meanwhile is left out."""
+    listed = find_page(index, "/simple/", "projects", "name")
+    if listed is None:
+        raise Stop(WRONG, f"{index.setting.url} leads to several indexes, which have no list of names together. Name "
+                          "each by an address of its own.")
+    names = [it["name"] for it in listed["projects"]]
+    found = side_by_side(functools.partial(find_standing, index), names, "names")
+    return [it for it in found if it.state == "held"]

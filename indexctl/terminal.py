@@ -1,0 +1,140 @@
+"""What is printed: lines, tables, colours, progress, and a question before what can't be taken back."""
+from __future__ import annotations
+
+import argparse
+import dataclasses
+import json
+import os
+import shutil
+import sys
+import textwrap
+import threading
+import time
+from typing import Any, Callable, ClassVar, Dict, Mapping, Optional, Sequence, TextIO
+
+from indexctl.ends import WRONG, Stop
+
+Columns = Dict[str, Callable[[Any], str]]
+COLOURS = {"bold": "1", "dim": "2", "red": "31", "yellow": "33"}
+SECONDS_BETWEEN_DRAWINGS = 0.1
+
+
+def paint(text: str, colour: Optional[str], stream: Optional[TextIO] = None) -> str:
+    """The text in this colour if the stream is a terminal, else as it is."""
+    stream = stream or sys.stdout
+    is_plain = not stream.isatty() or os.environ.get("NO_COLOR") or os.environ.get("TERM") == "dumb"
+    return text if is_plain or not colour else f"\033[{COLOURS[colour]}m{text}\033[0m"
+
+
+def printable(value: object) -> str:
+    """The text of a value, without characters that move the cursor or turn the direction of writing."""
+    return "".join(it if it.isprintable() else f"\\u{ord(it):04x}" for it in str(value))
+
+
+class Progress:
+    """How far a walk has come, on one line of a terminal. Without a terminal it prints nothing."""
+
+    drawn: ClassVar[Optional[Progress]] = None
+    lock: ClassVar[threading.Lock] = threading.Lock()
+
+    def __init__(self, what: str, total: int) -> None:
+        self.what, self.total, self.done, self.last = what, total, 0, 0.0
+        self.is_watched = sys.stderr.isatty()
+
+    def __enter__(self) -> Progress:
+        return self
+
+    def __exit__(self, *_: object) -> None:
+        self.clear()
+
+    def step(self, count: int = 1) -> None:
+        self.done += count
+        now = time.monotonic()
+        if not self.is_watched or now - self.last < SECONDS_BETWEEN_DRAWINGS:
+            return
+        self.last = now
+        share = f"{self.what}: {self.done} of {self.total}, {100 * self.done // max(1, self.total)} %"
+        with Progress.lock:
+            print(f"\r{share[:shutil.get_terminal_size().columns - 1]}\033[K", end="", file=sys.stderr, flush=True)
+            Progress.drawn = self
+
+    @staticmethod
+    def clear() -> None:
+        with Progress.lock:
+            if Progress.drawn:
+                print("\r\033[K", end="", file=sys.stderr, flush=True)
+            Progress.drawn = None
+
+
+def say(text: str, colour: Optional[str] = None) -> None:
+    """Prints a line of what was done."""
+    Progress.clear()
+    print(paint(printable(text), colour), flush=True)
+
+
+def note(text: str, colour: Optional[str] = None) -> None:
+    """Prints a line on standard error."""
+    Progress.clear()
+    print(paint(printable(text), colour, sys.stderr), file=sys.stderr, flush=True)
+
+
+def confirm(args: argparse.Namespace, sentence: str) -> None:
+    """Asks before something that can't be taken back, unless --yes was given. Stops if the answer is not `yes`."""
+    if args.yes:
+        return
+    if not sys.stdin.isatty():
+        raise Stop(WRONG, f"{sentence} Nothing was done. If you mean it, repeat the command with --yes.")
+    note(sentence, "yellow")
+    try:
+        answer = input("Type `yes` to go on: ")
+    except EOFError:
+        answer = ""
+    if answer.strip() != "yes":
+        raise Stop(WRONG, "Nothing was done.")
+
+
+def texts(*heads: str) -> Columns:
+    """Columns whose cells are the texts of the fields, or of the keys, of these names; a list is joined by commas."""
+    def text_of(head: str) -> Callable[[Any], str]:
+        def text(row: Any) -> str:
+            found = row.get(head, "") if isinstance(row, dict) else getattr(row, head)
+            return ", ".join(found) if isinstance(found, list) else str(found)
+        return text
+    return {head: text_of(head) for head in heads}
+
+
+def as_json(row: Any) -> object:
+    return dataclasses.asdict(row) if dataclasses.is_dataclass(row) else row
+
+
+def listing(args: argparse.Namespace, rows: Sequence[Any], columns: Columns,
+            json_of: Callable[[Any], object] = as_json) -> None:
+    """Prints rows as JSON if --json was given, else as a table of these columns: each a head and what gives a cell."""
+    if args.json:
+        print(json.dumps([json_of(row) for row in rows], indent=1))
+        return
+    cells = [[printable(text(row)) for text in columns.values()] for row in rows]
+    if not cells:
+        note("none")
+        return
+    lines = [list(columns), *cells]
+    widths = [max(len(line[at]) for line in lines) for at in range(len(columns))]
+    most = shutil.get_terminal_size().columns
+    if sys.stdout.isatty() and sum(widths) + 2 * (len(widths) - 1) > most:
+        for line in cells:
+            print_block(dict(zip(columns, line)), most)
+        return
+    for at, line in enumerate(lines):
+        text = "  ".join(cell.ljust(width) for cell, width in zip(line, widths)).rstrip()
+        print(text if at else paint(text, "bold"))
+
+
+def print_block(pairs: Mapping[str, str], most: int) -> None:
+    """Prints the cells of one row below each other, for a terminal that is too narrow for a table."""
+    wide = max(map(len, pairs)) + 2
+    for at, (head, text) in enumerate(pairs.items()):
+        lines = textwrap.wrap(text, max(20, most - wide - 1), break_on_hyphens=False) or [""]
+        for number, line in enumerate(lines):
+            front = f"{head if not number else '':{wide}}"
+            print(f"{paint(front, 'dim')}{line if at else paint(line, 'bold')}".rstrip())
+    print()

@@ -1,0 +1,183 @@
+"""HTTP: requests and replies, what is asked again, and replies that no index gives."""
+from __future__ import annotations
+
+import base64
+import http.client
+import json
+import ssl
+import threading
+import time
+import urllib.parse
+import urllib.request
+from dataclasses import dataclass, replace
+from http.client import HTTPConnection, HTTPMessage, HTTPSConnection
+from typing import Any, Callable, Dict, Iterable, Optional, Tuple
+
+from indexctl.ends import REFUSED, UNREACHED, WRONG, Stop
+from indexctl.settings import Setting, is_loopback
+from indexctl.terminal import note
+from indexctl.units import counted
+from package_index.hints import hint
+
+Headers = Tuple[Tuple[str, str], ...]
+PASSING = (500, 502, 503, 504)
+MOST_SECONDS = 90
+JSON_PAGE = "application/vnd.pypi.simple.v1+json"
+
+
+@dataclass(frozen=True)
+class Reply:
+    """One reply. `is_repeat` says that the request had gone out before: what it asked for may have been done then."""
+    status: int
+    headers: HTTPMessage
+    body: bytes
+    is_repeat: bool = False
+
+
+@dataclass(frozen=True)
+class Request:
+    """One request. `pieces` gives its body, and is called again if it is sent again. `is_once` says that it never is:
+    the index would not answer Already to the second."""
+    method: str
+    path: str
+    headers: Headers = ()
+    pieces: Optional[Callable[[], Iterable[bytes]]] = None
+    length: int = 0
+    is_once: bool = False
+
+
+class NotSent(Exception):
+    """There is no connection, so nothing of a request went out."""
+
+
+class Index:
+    """The index at an address. What passes by itself is asked again, with a pause."""
+
+    def __init__(self, setting: Setting, again: int = 6) -> None:
+        self.setting, self.again = setting, max(0, again)
+        self.parts, self.kept = urllib.parse.urlsplit(setting.url), threading.local()
+        self.headers: Dict[str, str] = {"User-Agent": "indexctl"}
+        if setting.basic:
+            self.headers["Authorization"] = f"Basic {base64.b64encode(setting.basic.encode()).decode()}"
+        try:
+            self.trust = ssl.create_default_context(cafile=setting.ca) if self.parts.scheme == "https" else None
+        except (OSError, ssl.SSLError) as end:
+            raise Stop(WRONG, f"The certificates in {setting.ca} can't be read: {end}") from end
+
+    def opened(self, host: str, port: Optional[int]) -> HTTPConnection:
+        if self.trust:
+            return HTTPSConnection(host, port, timeout=MOST_SECONDS, context=self.trust)
+        return HTTPConnection(host, port, timeout=MOST_SECONDS)
+
+    def connection(self) -> HTTPConnection:
+        """A new connection, which is not open yet, through the proxy of the network if the environment names one."""
+        host, port = self.parts.hostname or "", self.parts.port
+        proxy = urllib.request.getproxies().get(self.parts.scheme) if self.trust else None
+        if proxy and not is_loopback(host) and not urllib.request.proxy_bypass(host):
+            through = urllib.parse.urlsplit(proxy if "//" in proxy else f"//{proxy}")
+            made = self.opened(through.hostname or "", through.port or 80)
+            made.set_tunnel(host, port or 443)
+            return made
+        return self.opened(host, port)
+
+    def connect(self, connection: HTTPConnection) -> None:
+        try:
+            connection.connect()
+        except ssl.SSLCertVerificationError as end:
+            raise Stop(WRONG, f"The certificate of {self.setting.url} is not trusted: {end.verify_message}. "
+                              "INDEX_CA, or `ca` of the profile, may name a file of certificates to trust.") from end
+        except OSError as end:
+            raise NotSent(end) from end
+
+    def once(self, request: Request) -> Reply:
+        """The reply to a request that goes out once, also to one that is answered before all of it went out."""
+        connection = self.connection()
+        try:
+            self.connect(connection)
+            connection.putrequest(request.method, request.path)
+            for name, value in {**self.headers, **dict(request.headers), "Content-Length": str(request.length)}.items():
+                connection.putheader(name, value)
+            connection.endheaders()
+            try:
+                for piece in request.pieces() if request.pieces else ():
+                    connection.send(piece)
+            except (BrokenPipeError, ConnectionResetError):
+                pass
+            reply = connection.getresponse()
+            return Reply(reply.status, reply.headers, reply.read())
+        finally:
+            connection.close()
+
+    def look(self, request: Request) -> Reply:
+        """The reply to a GET, on a connection that this thread keeps: behind nginx that spares a handshake for each."""
+        connection: Optional[HTTPConnection] = getattr(self.kept, "connection", None)
+        if connection is None:
+            connection = self.kept.connection = self.connection()
+        try:
+            if connection.sock is None:
+                self.connect(connection)
+            connection.request("GET", request.path, headers={**self.headers, **dict(request.headers)})
+            reply = connection.getresponse()
+            return Reply(reply.status, reply.headers, reply.read())
+        except BaseException:
+            connection.close()
+            raise
+
+    def ask(self, what: str, request: Request) -> Reply:
+        """The reply, once it is none that passes by itself. Stops if there is no such reply after all trials."""
+        is_repeat, why = False, ""
+        for trial in range(self.again + 1):
+            later, was_sent = "", True
+            try:
+                reply = (self.look if request.method == "GET" else self.once)(request)
+                if reply.status not in PASSING:
+                    return replace(reply, is_repeat=is_repeat)
+                why, later = f"{reply.status} {first_words(reply)}", reply.headers.get("Retry-After", "")
+            except NotSent as end:
+                why, was_sent = str(end.args[0]), False
+            except (OSError, http.client.HTTPException) as end:
+                why = repr(end)
+            is_repeat = is_repeat or was_sent
+            if request.is_once and was_sent:
+                raise Stop(UNREACHED, f"{what}: {why}. It was not sent again, since it may have been done. Look first: "
+                                      "`indexctl who` shows the name's owners, and `indexctl case show` its case.")
+            if trial < self.again:
+                pause = min(30, max(0.5 * 2 ** trial, int(later) if later.isdigit() else 0))
+                note(f"{what}: {why}. Again in {pause:g} s.")
+                time.sleep(pause)
+        maybe = " It may have been done, and is in no record then." if is_repeat and request.method != "GET" else ""
+        raise Stop(UNREACHED, f"{what}: {why}, {counted(self.again + 1, 'time')}. The index does not answer now."
+                              f"{maybe} Run this again later.")
+
+
+def first_words(reply: Reply) -> str:
+    """The name of an answer of the index, or what else the reply begins with."""
+    found = object_of(reply.body)
+    return str((found or {}).get("name") or (found or {}).get("answer") or reply.body[:100].decode("utf-8", "replace"))
+
+
+def object_of(body: bytes) -> Optional[Dict[str, Any]]:
+    """The JSON object that a body is, or None."""
+    try:
+        found = json.loads(body)
+    except (ValueError, RecursionError):
+        return None
+    return found if isinstance(found, dict) else None
+
+
+def foreign(what: str, reply: Reply) -> Stop:
+    """The end of a run that got an answer that no index gives."""
+    kind = reply.headers.get("Content-Type", "no type")
+    if reply.status == 401:
+        return Stop(REFUSED, f"{what}: 401. What stands in front of the index asks for a password: put it into "
+                             "~/.netrc, into the address (https://user:password@..), or into the profile by user and "
+                             "password-file.")
+    if reply.status in (301, 302, 303, 307, 308):
+        return Stop(WRONG, f"{what}: {reply.status}, a redirect to {reply.headers.get('Location')}. Name the index "
+                           "by its own address.")
+    if reply.status == 413:
+        return Stop(REFUSED, f"{what}: 413. {hint('BodyTooLarge')}")
+    if reply.status == 403:
+        return Stop(REFUSED, f"{what}: 403. What stands in front of the index forbids this: {reply.body[:100]!r}")
+    return Stop(UNREACHED, f"{what}: {reply.status} {kind}. This is no answer of an index: {reply.body[:100]!r}. Is "
+                           "the address right?")
