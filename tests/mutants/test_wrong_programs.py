@@ -13,8 +13,16 @@ from unproved import NotBuilt
 
 EDITS = edits()
 KILLS, MESSAGES = "tests/storage/test_kills.py::TestKilled", "tests/program/test_messages.py"
+FAULTS, CRASHES = "tests/storage/test_faults.py", "tests/storage/test_crashes.py"
 # by the name of an edit, the test that fails
 CAUGHT_BY = {
+    "crashes_index_is_told_before_it_is_made": f"{CRASHES}::test_a_crash_leaves_what_was_answered[init-0]",
+    "crashes_log_is_removed_before_an_opening": f"{CRASHES}::test_a_crash_leaves_what_was_answered[apply-0]",
+    "crashes_writes_cut_short_are_trusted": f"{CRASHES}::test_each_change_is_synced_twice_before_it_is_told",
+    "faults_failed_read_ends_the_server": f"{FAULTS}::test_a_read_that_fails_stops_its_request_alone",
+    "faults_first_version_is_told_as_other_tables": f"{FAULTS}::test_migration_has_every_row_or_is_told_as_store",
+    "faults_interrupted_read_ends_the_input": f"{FAULTS}::test_apply_ends_where_its_input_or_output_fails[read]",
+    "faults_interrupted_write_ends_the_output": f"{FAULTS}::test_apply_ends_where_its_input_or_output_fails[write]",
     "kills_init_removes_what_is_there": f"{KILLS}::test_init_leaves_nothing_or_an_index",
     "kills_report_removes_the_log": f"{KILLS}::test_reading_loses_nothing",
     "messages_accepted_connection_is_forgotten": f"{MESSAGES}::test_answered_before_the_client_ends_its_side",
@@ -23,13 +31,6 @@ CAUGHT_BY = {
 }
 # of those that are not moved yet, the command that caught it, and its line
 NOT_MOVED = {
-    "faults_failed_read_ends_the_server": "try-faults: late reads, ..., pread N EIO once: its end",
-    "faults_first_version_is_told_as_other_tables": "try-faults: migration, ...: its end",
-    "faults_interrupted_read_ends_the_input": "try-faults: streams, read N EINTR once: its end",
-    "faults_interrupted_write_ends_the_output": "try-faults: streams, write N EINTR once: its end",
-    "crashes_index_is_told_before_it_is_made": "try-crashes: init, entry N, writes ...",
-    "crashes_log_is_removed_before_an_opening": "try-crashes: apply, entry N, writes ...",
-    "crashes_writes_cut_short_are_trusted": "try-crashes: apply, answer N: its change is synced twice",
     "pip_clock_is_a_minute_fast": "try-with-pip: a case has the clock's moment",
     "pip_clock_is_read_once": "try-with-pip: a case has the clock's moment",
     "pip_flush_that_failed_is_not_told": "try-with-pip: a client that is gone is told by one line",

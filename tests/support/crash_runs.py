@@ -1,8 +1,13 @@
-"""The runs of which try-crashes makes images, each with its record and the rows that hold at each of its answers."""
+"""The runs of which images of a crash are made, each with its record and the rows that hold at each of its answers.
+
+They are thirty requests by `apply`, a large file by `serve`, `init`, the migration of version 1, and the opening of an
+index that was killed, whose log is copied into the file."""
+from __future__ import annotations
+
 import os
 from dataclasses import dataclass, replace
 
-from support.images import ANSWERED, SYNCED, read_record
+from support.images import ANSWERED, read_record
 from support.judge import copy_index, seen_by_sqlite
 from support.old_version import make_old_version
 from support.serving import OFFICE, Index, reply_to
@@ -29,12 +34,10 @@ class Recorded:
         answered = self.answers[number]
         return self.states[answered:answered + 2]
 
-    def without_syncs(self, name, is_left_out):
-        """The same run with a record in which these syncs are no syncs."""
-        kept = [not (entry.done == SYNCED and is_left_out(at, entry)) for at, entry in enumerate(self.entries)]
-        pairs = [pair for pair, is_kept in zip(zip(self.entries, self.answers), kept) if is_kept]
-        return replace(self, name=name, entries=tuple(entry for entry, _ in pairs),
-                       answers=tuple(number for _, number in pairs))
+    def without_syncs(self, left_out):
+        """The same run with a record in which the syncs at these places are no syncs."""
+        pairs = [pair for at, pair in enumerate(zip(self.entries, self.answers)) if at not in left_out]
+        return replace(self, entries=tuple(entry for entry, _ in pairs), answers=tuple(number for _, number in pairs))
 
 
 def content(path):
@@ -64,6 +67,15 @@ class Recording:
         self.path = f"{folder}/recorded/index.db"
         os.makedirs(f"{folder}/recorded", exist_ok=True)
         self.setting = {"LD_PRELOAD": self.library, "RECORD_UNDER": f"{folder}/recorded", "RECORD_TO": self.record}
+        self.known = {}
+
+    def run_of(self, name):
+        """The run of this name, which is recorded once."""
+        if name not in self.known:
+            made = {"apply": self.apply, "opening": self.opening, "init": self.init, "migration": self.migration,
+                    "serve": self.large}
+            self.known[name] = made[name]()
+        return self.known[name]
 
     def begin(self, first):
         copy_index(first or "", self.path)
@@ -73,16 +85,19 @@ class Recording:
         entries = tuple(read_record(self.record))
         return Recorded(name, first, entries, answers_begun(entries, is_served), tuple(states), before)
 
-    def lines(self, lines):
+    def apply(self):
         """Requests by `apply`, to its end."""
+        lines = lines_of(REQUESTS)
         first = self.begin(self.judge.new)
         run(self.program, "apply", "--db", self.path, given=b"".join(lines), setting=self.setting)
         states = [self.judge.rows(lines[:count]) for count in range(len(lines) + 1)]
         return self.recorded("apply", first, states)
 
-    def opening(self, killed, rows):
+    def opening(self):
         """An index that was killed is opened, checked and closed, and so its log is copied into the file."""
-        first = self.begin(killed)
+        lines = lines_of(REQUESTS)
+        killed = kill_after(self.program, copy_index(self.judge.new, f"{self.folder}/killed.db"), lines)
+        rows, first = self.judge.rows(lines), self.begin(killed)
         run(self.program, "check", "--db", self.path, setting=self.setting)
         return self.recorded("opening", first, (rows, rows))
 
@@ -128,9 +143,44 @@ def large_requests():
     ]
 
 
-def all_runs(recording, judge):
-    """The runs, and of each how large a share of the rounds it gets."""
-    lines = lines_of(REQUESTS)
-    killed = kill_after(recording.program, copy_index(judge.new, f"{recording.folder}/killed.db"), lines)
-    return [(recording.lines(lines), 0.45), (recording.opening(killed, judge.rows(lines)), 0.15),
-            (recording.init(), 0.15), (recording.migration(), 0.2), (recording.large(), 0.05)]
+class Opening:
+    """Opens images with the program, and holds what it finds to what may be there."""
+
+    def __init__(self, program, recording, path):
+        self.program, self.recording, self.path = program, recording, path
+
+    def wrong(self, run_of, number, image):
+        """What is wrong with an image of the crash behind this entry of a run, or None."""
+        allowed = run_of.allowed(number)
+        lay(image, self.path)
+        if None not in allowed:
+            is_sound, rows = seen_by_sqlite(self.path)
+            if not is_sound or rows not in (*allowed, *run_of.before):
+                return f"SQLite: {'sound' if is_sound else 'damaged'}, {rows}"
+        else:
+            again = run(self.program, "init", "--db", self.path, *OFFICE)
+            if again.stdout != b"created\n" and not again.stderr.startswith(b"index: NotEmpty\n"):
+                return f"init again: {again}"
+        checked = run(self.program, "check", "--db", self.path)
+        if (checked.returncode, checked.stdout, checked.stderr) != (0, b"0\n", b""):
+            return f"check: {checked}"
+        is_sound, rows = seen_by_sqlite(self.path)
+        if not is_sound or rows not in allowed:
+            return f"opened: {'sound' if is_sound else 'damaged'}, {rows}"
+        return None
+
+    def record_of(self, image):
+        """The record of an opening of this image."""
+        lay(image, self.recording.path)
+        run(self.program, "check", "--db", self.recording.path, setting=self.recording.setting)
+        return read_record(self.recording.record)
+
+
+def lay(image, path):
+    """Writes a database and its log to a path, or removes what is not in the image."""
+    for end, kept in zip(("", "-wal"), image):
+        if os.path.exists(path + end):
+            os.remove(path + end)
+        if kept is not None:
+            with open(path + end, "wb") as laid:
+                laid.write(kept)

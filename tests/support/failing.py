@@ -84,12 +84,7 @@ class Failing:
         return {**dict(zip(KINDS, numbers)), "failed": numbers[FAILED]}
 
 
-def faults_of(counted, kinds, trial, count):
-    """About so many faults of a run that makes these calls, as many of each kind, and how many there are in all."""
-    found, of_all = [], 0
-    for kind in kinds:
-        every = [Fault(kind, at, how, is_lasting) for at in range(1, counted[kind] + 1) for how in HOWS[kind]
-                 for is_lasting in ((False,) if how in ONCE_ONLY else (False, True))]
-        found += trial.chosen(every, max(1, count // len(kinds)))
-        of_all += len(every)
-    return found, of_all
+def faults_of(kind: str, calls: int) -> list[Fault]:
+    """Each fault of a run that makes so many calls of this kind."""
+    return [Fault(kind, at, how, is_lasting) for at in range(1, calls + 1) for how in HOWS[kind]
+            for is_lasting in ((False,) if how in ONCE_ONLY else (False, True))]

@@ -2,10 +2,9 @@
 import json
 import re
 
-from support.failing import FILE_KINDS, PEER_KINDS, faults_of
 from support.judge import answers_are_right, kept_lines, seen_by_sqlite
 from support.serving import JSON_PAGE, Index, parts_of, reply_to
-from support.workload import REQUESTS, STORE, lines_of, message_of, status_of
+from support.workload import REQUESTS, STORE, message_of, status_of
 
 MOMENT = 7
 LOOKS = ("/simple/", "/simple/frob/", "/files/frob/frob-1.0.tar.gz")
@@ -69,14 +68,14 @@ def as_text(value):
 class Judged:
     """Holds the replies of one run to what they have to be. A reply that did not come whole has no answer."""
 
-    def __init__(self, bench, name, served):
-        self.bench, self.name, self.served = bench, name, served
+    def __init__(self, runs, name, served):
+        self.runs, self.name, self.served = runs, name, served
         parts = [parts_of(reply) for reply in served.replies]
         self.whole = [part is not None and len(part[2]) == int(part[1][b"Content-Length"]) for part in parts]
         self.parts = parts
 
     def check(self, name, is_well, seen=None):
-        self.bench.trial.check(f"{self.name}: {name}", is_well, seen or (self.served.replies, self.served.said))
+        self.runs.looked(is_well, name, self.name, seen or (self.served.replies, self.served.said))
 
     def answers(self, unknown):
         """The answers to the requests. `unknown` is the answer to a request whose reply did not come."""
@@ -92,7 +91,7 @@ class Judged:
         """Each page and the file is that of the tables, or Store, or a part of a page that the server tells as cut."""
         if len(self.parts) < len(MESSAGES):
             return
-        wanted = shown(self.bench.judge.rows(lines))
+        wanted = shown(self.runs.judge.rows(lines))
         for text, part, reply, is_whole in zip(
                 wanted, *(found[-len(LOOKS):] for found in (self.parts, self.served.replies, self.whole))):
             is_right = is_whole and (part[2] in (text, STORE) or text is None and part[0] == 404)
@@ -101,42 +100,21 @@ class Judged:
             self.check("a look", is_right or is_cut, (text, reply, self.served.said))
 
 
-def try_serve(bench, share):
-    """Faults of files and of connections, half and half."""
-    lines = lines_of(REQUESTS, MOMENT)
-    setting = bench.failing.setting
-    bench.begin(bench.judge.new)
-    served = Served(bench.program, bench.path, setting(bench.under))
-    judged = Judged(bench, "serve without a fault", served)
-    judged.check("answers",
-                 tuple(judged.answers(None)) == bench.judge.answers(lines) and served.status == 0 and all(judged.whole))
-    judged.check("looks", [part[0] for part in judged.parts[-len(LOOKS):]] == [200] * len(LOOKS))
-    judged.looks_are_right(lines)
-    counted = bench.failing.counted()
-    for kinds, tries in ((FILE_KINDS, file_fault), (PEER_KINDS, peer_fault)):
-        found, of_all = faults_of(counted, kinds, bench.trial, int(bench.rounds * share / 2))
-        bench.trial.note(f"serve: {len(found)} of {of_all} faults of {', '.join(kinds)}")
-        for fault in bench.each(found):
-            bench.begin(bench.judge.new)
-            served = Served(bench.program, bench.path, setting(bench.under, fault))
-            tries(bench, Judged(bench, f"serve, {fault}", served), fault, lines)
-
-
-def file_fault(bench, judged, fault, lines):
+def file_fault(runs, judged, fault, lines):
     """The server goes on, or ends with Store. What was not asked any more was not answered."""
     answers = judged.answers(STORE)
     judged.check("each reply is whole", all(judged.whole[:len(REQUESTS)]))
-    judged.check("answers", answers_are_right(bench.judge, lines, answers))
+    judged.check("answers", answers_are_right(runs.judge, lines, answers))
     judged.statuses_are_right()
     said = judged.served.said.replace(b"index: connection: Cut\n", b"")
     status = judged.served.status
-    judged.check("its end", (status, said) == (0, b"") or status == 1 and fault.may_be_told(said, bench.path),
+    judged.check("its end", (status, said) == (0, b"") or status == 1 and fault.may_be_told(said, runs.path),
                  (status, judged.served.said))
     judged.looks_are_right(kept_lines(lines, answers)[0])
-    bench.is_kept(judged.name, lines, answers)
+    runs.is_kept(lines, tuple(answers), fault)
 
 
-def peer_fault(bench, judged, fault, lines):
+def peer_fault(runs, judged, fault, lines):
     """Connections that break off are named on standard error, and all others are served. A request whose reply was
     lost is made."""
     lost = [at for at, is_whole in enumerate(judged.whole) if not is_whole]
@@ -161,7 +139,7 @@ def peer_fault(bench, judged, fault, lines):
     judged.check("its end", is_well, (judged.served.status, judged.served.said, lost, count))
     judged.statuses_are_right()
     asked = tuple(lines[at] for at in made)
-    wanted, answers = bench.judge.answers(asked), judged.answers(None)
+    wanted, answers = runs.judge.answers(asked), judged.answers(None)
     judged.check("answers", all(answers[at] in (None, answer) for at, answer in zip(made, wanted)), (wanted, answers))
-    is_whole, rows = seen_by_sqlite(bench.path)
-    judged.check("the rows", is_whole and rows == bench.judge.rows(asked), (asked, rows))
+    is_whole, rows = seen_by_sqlite(runs.path)
+    judged.check("the rows", is_whole and rows == runs.judge.rows(asked), (asked, rows))

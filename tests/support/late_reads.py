@@ -1,10 +1,16 @@
 """Reads of the database's file that fail behind its opening: under `serve`, which caches nothing here, in a look and in
 a call; and in `report` and `check`."""
-import time
+from __future__ import annotations
 
+import random
+import time
+from dataclasses import dataclass
+
+from support.chance import chosen
 from support.failing import Fault
+from support.fault_runs import FaultRuns
 from support.faults_of_serve import look
-from support.judge import copy_index, seen_by_sqlite
+from support.judge import Judge, copy_index, seen_by_sqlite
 from support.running import run
 from support.serving import ACCEPTED, ALREADY, Index, parts_of, reply_to
 from support.workload import LARGE, REQUESTS, STORE, lines_of, message_of, of_file, of_name, upload
@@ -20,45 +26,55 @@ CALLS = (of_name("hello", "claim", "egg"), upload("abc", "frob-1.2.tar.gz", LARG
          of_name("abc", "unyank", "frob", release="1.1"), of_file("abc", "delete", "frob-1.1.tar.gz"))
 
 
-def try_late_reads(bench, share):
-    """Reads fail one by one: once, for a while, or for good."""
-    first = copy_index(bench.judge.new, f"{bench.folder}/first-read.db")
-    asked = run(bench.program, "apply", "--db", first, given=b"".join(lines_of(BEFORE, MOMENT)))
+@dataclass(frozen=True)
+class Asked:
+    """A request by its name, the message that asks it of `serve`, and the lines whose effect it has."""
+    name: str
+    message: bytes
+    lines: tuple[bytes, ...] = ()
+
+    def __str__(self) -> str:
+        return self.name
+
+
+JOBS = "report", "check"
+ALL = (*(Asked(f"GET {path}", look(path)) for path in LOOKS),
+       *(Asked(call[1]["do"], message_of(call), lines_of((call,), MOMENT)) for call in CALLS))
+
+
+def index_with_many(program: str, judge: Judge, path: str) -> str:
+    """An index with what was asked before, in this file."""
+    copy_index(judge.new, path)
+    asked = run(program, "apply", "--db", path, given=b"".join(lines_of(BEFORE, MOMENT)))
     answers = set(asked.stdout.splitlines())
-    bench.trial.check("late reads: the index", asked.returncode == 0 and answers == {ACCEPTED, ALREADY}, answers)
-    count = max(1, int(bench.rounds * share / (len(LOOKS) + len(CALLS) + 2) / 3))
-    for path in LOOKS:
-        LateReads(bench, first, f"GET {path}", look(path), ()).all(count)
-    for call in CALLS:
-        LateReads(bench, first, call[1]["do"], message_of(call), lines_of((call,), MOMENT)).all(count)
-    for job in ("report", "check"):
-        try_job(bench, first, job, count)
+    assert asked.returncode == 0 and answers == {ACCEPTED, ALREADY}, answers
+    return path
 
 
-def faults_at(trial, places, count):
+def faults_at(chance: random.Random, places: range, count: int) -> list[Fault]:
     """So many of these reads, which fail once; as many that fail for a while; and as many that fail for good."""
     return [Fault("pread", at, "EIO", is_lasting, milliseconds)
             for is_lasting, milliseconds in ((False, 0), (False, A_WHILE), (True, 0))
-            for at in trial.chosen(places, count)]
+            for at in chosen(chance, places, count)]
 
 
 class LateReads:
     """One message, which is sent twice to a server, and the lines whose effect it has."""
 
-    def __init__(self, bench, first, name, message, lines):
-        self.bench, self.first, self.name, self.message = bench, first, f"late reads, {name}", message
-        self.lines = lines_of(BEFORE, MOMENT) + lines
+    def __init__(self, runs: FaultRuns, first: str, asked: Asked) -> None:
+        self.runs, self.first, self.message = runs, first, asked.message
+        self.lines = lines_of(BEFORE, MOMENT) + asked.lines
 
-    def served(self, fault=None):
+    def served(self, fault: Fault | None = None) -> tuple[list[bytes], int, bytes, tuple[int, int]]:
         """What a new server replies to the message and to the same message behind it, its status, what it says, and
         the reads that its opening and the first message make."""
-        bench = self.bench
-        bench.begin(self.first)
-        with Index(bench.program, 2, bench.path, setting=bench.failing.setting(bench.under, fault), at=MOMENT,
+        runs = self.runs
+        runs.begin(self.first)
+        with Index(runs.program, 2, runs.path, setting=runs.failing.setting(runs.under, fault), at=MOMENT,
                    keep=0) as index:
-            opened = bench.failing.counted()["pread"]
+            opened = runs.failing.counted()["pread"]
             replies = [reply_to(index.port, self.message)]
-            read = bench.failing.counted()["pread"]
+            read = runs.failing.counted()["pread"]
             time.sleep(fault.milliseconds / 1_000 if fault else 0)
             try:
                 replies.append(reply_to(index.port, self.message))
@@ -66,47 +82,26 @@ class LateReads:
                 replies.append(b"")
             return replies, index.process.wait(timeout=30), index.errors(), (opened, read)
 
-    def check(self, name, is_well, seen):
-        self.bench.trial.check(f"{self.name}{name}", is_well, seen)
-
-    def all(self, count):
-        replies, status, said, (opened, read) = self.served()
-        self.check(" without a fault", (status, said) == (0, b""), (status, said))
-        self.right, places = replies, range(opened + 1, read + 1)
-        self.check(": it reads", len(places) > 0, (opened, read))
-        for fault in self.bench.each(faults_at(self.bench.trial, places, count)):
+    def all(self, count: int) -> None:
+        looked = self.runs.looked
+        right, status, said, (opened, read) = self.served()
+        looked((status, said) == (0, b""), "without a fault", status, said)
+        looked(read > opened, "it reads", opened, read)
+        for fault in self.runs.each(faults_at(self.runs.chance, range(opened + 1, read + 1), count)):
             replies, status, said, _ = seen = self.served(fault)
             part = parts_of(replies[0])
-            self.check(f", {fault}: the reply", part and (part[0], part[2]) == (500, STORE), seen)
-            has_ended = status == 1 and replies[1] == b"" and fault.may_be_told(said, self.bench.path)
+            looked(part and (part[0], part[2]) == (500, STORE), "the reply", fault, seen)
+            has_ended = status == 1 and replies[1] == b"" and fault.may_be_told(said, self.runs.path)
             goes_on = (status, said) == (0, b"")
             is_once = not fault.is_lasting and not fault.milliseconds
-            self.check(f", {fault}: its end", goes_on or has_ended and not is_once, seen)
+            looked(goes_on or has_ended and not is_once, "its end", fault, seen)
             is_made = goes_on and not fault.is_lasting
-            wanted = self.right[0] if is_made else replies[0] if goes_on else b""
-            self.check(f", {fault}: the next", replies[1] == wanted, (seen, self.right))
+            wanted = right[0] if is_made else replies[0] if goes_on else b""
+            looked(replies[1] == wanted, "the next", fault, seen, right)
             self.is_kept(fault, self.lines if is_made else lines_of(BEFORE, MOMENT))
 
-    def is_kept(self, fault, lines):
+    def is_kept(self, fault: Fault, lines: tuple[bytes, ...]) -> None:
         """The disk is well again: the rows are those of these lines."""
-        checked = run(self.bench.program, "check", "--db", self.bench.path)
-        self.check(f", {fault}: check", (checked.returncode, checked.stdout, checked.stderr) == (0, b"0\n", b""),
-                   checked)
-        is_whole, rows = seen_by_sqlite(self.bench.path)
-        self.check(f", {fault}: the rows", is_whole and rows == self.bench.judge.rows(lines), rows)
-
-
-def try_job(bench, first, job, count):
-    """`report` and `check` end as Store, and go through when they are run again."""
-    words = job, "--db", bench.path
-    bench.begin(first)
-    whole = run(bench.program, *words, setting=bench.failing.setting(bench.under))
-    places = range(1, bench.failing.counted()["pread"] + 1)
-    for fault in bench.each(faults_at(bench.trial, places, count)):
-        bench.begin(first)
-        ended = bench.run(fault, *words)
-        is_well = ended.returncode == 1 and not ended.stdout and fault.may_be_told(ended.stderr, bench.path)
-        bench.trial.check(f"late reads, {job}, {fault}: its end", is_well, ended)
-        again = run(bench.program, *words)
-        bench.trial.check(f"late reads, {job}, {fault}: again",
-                          (again.returncode, again.stdout, again.stderr) == (0, whole.stdout, b""), again)
+        self.runs.is_checked(fault)
+        is_whole, rows = seen_by_sqlite(self.runs.path)
+        self.runs.looked(is_whole and rows == self.runs.judge.rows(lines), "the rows", fault, rows)
