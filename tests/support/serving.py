@@ -11,6 +11,8 @@ import tempfile
 import time
 from contextlib import suppress
 
+from support import ports
+
 JSON_PAGE = "application/vnd.pypi.simple.v1+json"
 ACCEPTED, ALREADY = b'{"answer":"accepted"}', b'{"answer":"already"}'
 
@@ -21,12 +23,7 @@ def sha256(data):
 
 # the words of `init` for the user `office`, with the token `office`
 OFFICE = "--user", "office", "--token-sha256", sha256(b"office")
-
-
-def free_port():
-    """A port of loopback that nobody listens on."""
-    with socket.create_server(("127.0.0.1", 0)) as found:
-        return found.getsockname()[1]
+free_port = ports.free_port
 
 
 def listens(port, patience=10):
