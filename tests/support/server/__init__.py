@@ -1,1 +1,1 @@
-"""Parts of tools/try-operate; front and kept serve bench/bench-behind-nginx too."""
+"""What tests of server/ share; front serves bench/bench-behind-nginx too."""

@@ -1,24 +1,27 @@
-"""What stands for systemd in try-operate: a `systemctl` that starts and stops an index, and writes down what it is
-asked."""
+"""What stands for systemd: a `systemctl` that starts and stops an index, and writes down what it is asked."""
+from __future__ import annotations
+
 import http.server
 import os
 import signal
-import time
 from urllib.parse import unquote
 
 from support.proxy import InThread
+from support.server.front import Front
+from support.server.kept import Kept
+from support.server.waits import wait_for
 
 
 class Manager(InThread):
     """Stands for systemctl, in a folder for PATH: it stops and starts an index that is kept, and has nginx read its
     files again. `asked` is what it was asked."""
 
-    def __init__(self, folder, index=None, front=None):
+    def __init__(self, folder: str, index: Kept | None = None, front: Front | None = None):
         self.folder, self.index, self.front, self.asked = folder, index, front, []
         manager = self
 
         class Asked(http.server.BaseHTTPRequestHandler):
-            def do_GET(self):
+            def do_GET(self) -> None:
                 manager.do(unquote(self.path[1:]))
                 self.send_response_only(200)
                 self.end_headers()
@@ -30,16 +33,34 @@ class Manager(InThread):
                          f'exec curl -fsS "http://127.0.0.1:{self.server.server_port}/$(echo "$*" | tr " " +)"\n')
         os.chmod(script.name, 0o755)
 
-    def do(self, asked):
+    def do(self, asked: str) -> None:
         self.asked.append(asked.replace("+", " "))
         what, *units = asked.split("+")
         if self.index and "index.service" in units:
             if what == "stop":
-                self.index.is_wanted.clear()
-                while self.index.listens.is_set():
-                    time.sleep(0.02)
+                self.index.stop()
             if what == "start":
                 self.index.is_wanted.set()
         if self.front and "nginx.service" in units:
-            self.front.process.send_signal(signal.SIGHUP)
-            time.sleep(1)
+            reload(self.front.process.pid)
+
+
+def reload(nginx: int) -> None:
+    """Has nginx read its files again, and waits until no process serves by the old ones."""
+    before = workers(nginx)
+    os.kill(nginx, signal.SIGHUP)
+    wait_for(lambda: not any(is_serving(pid) for pid in before))
+
+
+def workers(nginx: int) -> list[int]:
+    with open(f"/proc/{nginx}/task/{nginx}/children") as children:
+        return [pid for pid in map(int, children.read().split()) if is_serving(pid)]
+
+
+def is_serving(pid: int) -> bool:
+    """Whether a process is a worker of nginx that takes connections."""
+    try:
+        with open(f"/proc/{pid}/cmdline") as line:
+            return line.read().rstrip("\0 ") == "nginx: worker process"
+    except OSError:
+        return False

@@ -1,4 +1,4 @@
-"""A network of try-operate's own: network namespaces, linked to each other and to nothing else."""
+"""A network of the tests' own: network namespaces, linked to each other and to nothing else."""
 import ctypes
 import os
 import subprocess

@@ -1,4 +1,4 @@
-"""Blocks of docs/OPERATING.md, which try-operate runs as a person pastes them."""
+"""Blocks of docs/OPERATING.md, which tests run as a person pastes them."""
 import re
 
 from support.places import TOP

@@ -1,0 +1,161 @@
+"""index-backup: copies under uploads, copies for which there is no room, and copies that are not well."""
+import os
+import shutil
+import sqlite3
+import threading
+import time
+from contextlib import closing
+
+import pytest
+from support.places import BIN, SERVER
+from support.running import run_command
+from support.server.expected import assert_ends
+from support.server.front import replaced
+from support.server.kept import Uploader
+from support.server.manager import Manager
+from support.serving import Index, accepted, make_index
+
+BACKUPS = 3
+
+
+@pytest.fixture
+def backups(folder):
+    os.mkdir(f"{folder}/backups")
+    return f"{folder}/backups"
+
+
+@pytest.fixture
+def backup(program, backups):
+    """Runs index-backup of a database into the folder `backups`, behind a line of a shell if one is given."""
+    def run(db, *words, shell=":"):
+        command = ["sh", "-c", f'{shell}; exec "$@"', "sh", f"{BIN}/index-backup", db, backups, *words]
+        return run_command(command, INDEX=program)
+    return run
+
+
+def files_of(path):
+    """The bytes of each file that the database has by itself, without its log."""
+    with closing(sqlite3.connect(f"file:{path}?immutable=1", uri=True)) as database:
+        return dict(database.execute("SELECT file, body FROM files JOIN blobs USING (file) WHERE live = 1"))
+
+
+def missing_in(path, files):
+    """Those files that the database has not, or has with other bytes."""
+    found = files_of(path)
+    return [it for it, body in files.items() if found.get(it) != body]
+
+
+@pytest.mark.slow
+def test_a_copy_under_uploads_has_what_was_acknowledged_before_and_serves_it(
+        program, index, backup, backups, chance, looked):
+    # some 30 uploads a second: with many more, a copy on a slow disk may never be of one moment
+    uploader = Uploader(index, "busy", time.monotonic() + 90, chance, pause=0.03)
+    uploader.start()
+    for at in range(BACKUPS):
+        time.sleep(1 + chance.random())
+        before = dict(uploader.files)
+        ended = backup(index.path, "2")
+        looked((ended.returncode, "tested in" in ended.stdout) == (0, True), ended.stdout)
+        copies = sorted(os.listdir(backups))
+        missing = missing_in(f"{backups}/{copies[-1]}", before)
+        looked(before and not missing, f"{len(before)} uploads before backup {at + 1}", missing)
+    uploader.stop()
+    looked(len(copies) == 2 and all(it.endswith(".db") for it in copies), "the last two are kept", copies)
+    with Index(program, path=f"{backups}/{copies[-1]}", patience=60) as copy:
+        missing = uploader.missing(copy, before)
+        looked(not missing, "the copy serves", missing)
+
+
+def test_a_copy_has_what_the_log_alone_has(index, backup, backups):
+    accepted(index.claim("quiet"))
+    accepted(index.upload("quiet", "quiet-1.0.tar.gz", b"new"))
+    assert files_of(index.path) == {}
+    assert_ends(backup(index.path), 0)
+    copy, = os.listdir(backups)
+    assert files_of(f"{backups}/{copy}") == {"quiet-1.0.tar.gz": b"new"}
+
+
+@pytest.fixture
+def filled(index):
+    """An index that serves, with ten files."""
+    accepted(index.claim("frob"))
+    for number in range(10):
+        accepted(index.upload("frob", f"frob-1.{number}.tar.gz", os.urandom(9_000)))
+    return index
+
+
+class TestNothingIsLeft:
+    """Of a backup that failed."""
+
+    def test_without_room_it_is_not_begun(self, filled, backup, backups, folder):
+        large = shutil.copy(filled.path, f"{folder}/hole.db")
+        # a file with a hole, longer than any disk here has room
+        os.truncate(large, 1 << 42)
+        # a copy that was begun would stop there
+        assert_ends(backup(large, shell="ulimit -f 100000"), 1, "make room, or keep fewer")
+        assert os.listdir(backups) == []
+
+    def test_a_disk_that_is_full_meanwhile_ends_it(self, filled, backup, backups):
+        # files of at most 40 blocks
+        assert_ends(backup(filled.path, shell="ulimit -f 40"), 1, "index-backup: ", "cp")
+        assert os.listdir(backups) == []
+
+    def test_a_page_that_was_overwritten(self, filled, backup, backups, folder):
+        assert_ends(backup(filled.path), 0)
+        copy, = os.listdir(backups)
+        damaged = shutil.move(f"{backups}/{copy}", f"{folder}/damaged.db")
+        with open(damaged, "r+b") as page:
+            page.seek(5 * 4096)
+            page.write(b"damaged")
+        assert_ends(backup(damaged), 1, "index check ended with status 1")
+        assert [it for it in os.listdir(backups) if it.endswith(".db")] == []
+
+    def test_a_file_with_other_bytes_of_the_same_length(self, filled, backup, backups, folder):
+        assert_ends(backup(filled.path), 0)
+        copy, = os.listdir(backups)
+        other = shutil.move(f"{backups}/{copy}", f"{folder}/other.db")
+        with closing(sqlite3.connect(other)) as database, database:
+            database.execute("UPDATE blobs SET body = zeroblob(length(body))"
+                             " WHERE file = (SELECT max(file) FROM blobs)")
+        assert_ends(backup(other), 1, "bytes that don't have their digest")
+        assert [it for it in os.listdir(backups) if it.endswith(".db")] == []
+
+
+class TestAnIndexThatNeverPauses:
+    """It is stopped for a copy if a unit is named, and only then."""
+
+    @pytest.fixture
+    def manager(self, folder):
+        with Manager(f"{folder}/manager") as made:
+            yield made
+
+    @pytest.fixture
+    def run(self, program, folder, backups, manager):
+        """Runs index-backup, with fewer trials, of a database that changes until its unit is stopped."""
+        db = make_index(program, f"{folder}/changing.db")
+        os.remove(f"{db}-wal")
+        shutil.copytree(SERVER, f"{folder}/server")
+        hurried = f"{folder}/server/bin/index-backup"
+        with open(f"{BIN}/index-backup") as text, open(hurried, "w") as script:
+            script.write(replaced(text.read(), **{"TRIALS = 20\n": "TRIALS = 2\n"}))
+        is_over = threading.Event()
+
+        def change():
+            while not manager.asked and not is_over.is_set():
+                os.utime(db)
+                time.sleep(0.001)
+
+        changing = threading.Thread(target=change, daemon=True)
+        changing.start()
+        setting = {"PATH": f"{manager.folder}:{os.environ['PATH']}", "INDEX": program}
+        yield lambda *words: run_command([hurried, db, backups, *words], **setting)
+        is_over.set()
+        changing.join()
+
+    def test_without_a_unit_there_is_no_copy(self, run, manager):
+        assert_ends(run(), 1, "2 trials", "--unit")
+        assert manager.asked == []
+
+    def test_with_a_unit_it_is_stopped_and_started(self, run, manager):
+        assert_ends(run("--unit", "one.service"), 0, "at trial 1")
+        assert manager.asked == ["stop one.service", "start one.service"]

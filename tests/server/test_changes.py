@@ -1,0 +1,63 @@
+"""nginx's log of changes: each change is a line of JSON, with what was asked and never with a token."""
+import json
+import re
+
+import pytest
+from support.server.front import Front
+from support.server.waits import wait_for
+from support.serving import accepted, sha256
+
+SECRET, OTHERS = "9f2d7c0b5e8a4163", "nobody's"
+MOMENT = re.compile(r"\d{4}-\d\d-\d\dT\d\d:\d\d:\d\d[+-]\d\d:\d\d")
+FILE = "/files/logged/logged-1.0.tar.gz"
+
+
+def logged(front: Front, number: int) -> list:
+    """The lines of the log, once there are so many: nginx writes a line after its reply."""
+    wait_for(lambda: len(front.changes()) >= number, seconds=10)
+    return front.changes()
+
+
+@pytest.fixture
+def refused(front):
+    """The status of the last of five changes, with a read among them."""
+    accepted(front.request(do="add_user", user="zoe", office=False, token_sha256=sha256(SECRET.encode())))
+    accepted(front.claim("Logged", SECRET))
+    headers = {"X_Index_Token": SECRET, "X_Index_SHA256": sha256(b"new")}
+    accepted(front.ask("PUT", FILE, b"new", **headers))
+    assert front.ask("GET", FILE)[0] == 200
+    accepted(front.ask("DELETE", f"{FILE}?why=old", **headers))
+    return front.claim('Quo"ted', OTHERS)[0]
+
+
+@pytest.fixture
+def lines(refused, front):
+    return logged(front, 5)
+
+
+def test_each_change_is_a_line_and_a_read_is_none(lines, refused):
+    assert [(it["method"], it["path"], it["status"]) for it in lines] == [
+        ("POST", "/requests", 200), ("POST", "/requests", 200), ("PUT", FILE, 201), ("DELETE", FILE, 200),
+        ("POST", "/requests", refused)]
+
+
+def test_a_line_has_what_was_asked(lines):
+    bodies = [it["body"] and json.loads(it["body"]) for it in lines]
+    assert bodies[1:] == [{"do": "claim", "name": "Logged"}, "", "", {"do": "claim", "name": 'Quo"ted'}]
+
+
+def test_a_line_tells_when_and_from_where(lines):
+    assert [it for it in lines if not MOMENT.fullmatch(it["at"]) or it["from"] != "127.0.0.1"] == []
+
+
+def test_no_line_has_a_token(lines, front):
+    with open(f"{front.folder}/index-changes.log") as log:
+        text = log.read()
+    assert text and SECRET not in text and OTHERS not in text, text
+
+
+def test_a_long_body_is_in_the_log(front):
+    body = json.dumps({"do": "claim", "name": "x" * 60_000})
+    front.ask("POST", "/requests", body, X_Index_Token="office")
+    last = logged(front, 1)[-1]
+    assert last["body"] == body, (last["status"], len(last["body"]))

@@ -1,0 +1,80 @@
+"""index-health: an index that fails or is silent is restarted, and one that is not there is told of."""
+import os
+import re
+import socket
+import subprocess
+import time
+
+import pytest
+from support.ports import free_port
+from support.running import run_command
+from support.server.expected import assert_ends
+from support.server.stand_ins import called, stand_ins
+from support.server.watched import HEALTH, Failed, look_at_health, unit
+from support.serving import Running
+
+RESTARTED = "systemctl try-restart index.service\n"
+
+
+@pytest.fixture
+def bin_folder(folder):
+    return f"{folder}/bin"
+
+
+@pytest.fixture
+def path(bin_folder):
+    return stand_ins(bin_folder, systemctl="")
+
+
+def test_an_index_that_answers_is_well_and_is_not_restarted(index, path, bin_folder):
+    assert_ends(look_at_health(path, f"http://127.0.0.1:{index.port}"), 0)
+    assert called(bin_folder) == ""
+
+
+def test_an_index_that_is_away_is_waited_for_and_is_not_restarted(path, bin_folder):
+    begun = time.monotonic()
+    ended = look_at_health(path, "--patience", "3", f"http://127.0.0.1:{free_port()}")
+    assert_ends(ended, 3, "nobody listens")
+    assert time.monotonic() - begun > 3
+    assert called(bin_folder) == ""
+
+
+def test_an_index_that_fails_is_restarted(path, bin_folder):
+    with Failed() as failed:
+        assert_ends(look_at_health(path, failed.url), 8, "500", "Store")
+    assert called(bin_folder) == RESTARTED
+
+
+def test_a_silent_index_is_restarted(path, bin_folder):
+    with socket.create_server(("127.0.0.1", 0)) as silent:
+        ended = look_at_health(path, "--patience", "1", f"http://127.0.0.1:{silent.getsockname()[1]}")
+    assert_ends(ended, 8, "no answer")
+    assert called(bin_folder) == RESTARTED
+
+
+class TestStart:
+    """index-health --start waits for the first answer, and ends if the program did."""
+
+    def test_a_start_that_succeeds(self, index):
+        words = [*HEALTH, "--start", str(index.process.pid), f"http://127.0.0.1:{index.port}"]
+        assert_ends(run_command(words), 0)
+
+    def test_a_start_that_hangs_is_waited_for_until_the_program_ends(self):
+        with Running(["sleep", "60"]) as hung:
+            words = [*HEALTH, "--start", str(hung.process.pid), f"http://127.0.0.1:{free_port()}"]
+            with Running(words, stdout=subprocess.PIPE, stderr=subprocess.STDOUT) as waits:
+                with pytest.raises(subprocess.TimeoutExpired):
+                    waits.process.wait(1.5)
+                hung.process.kill()
+                hung.process.wait()
+                said = waits.process.communicate(timeout=20)[0]
+        assert (waits.process.returncode, b"ended before" in said) == (3, True), said
+
+    def test_a_start_that_fails(self):
+        with Failed() as failed:
+            assert_ends(run_command([*HEALTH, "--start", str(os.getpid()), failed.url], 20), 8, "500")
+
+    def test_the_unit_waits_and_not_for_ever(self):
+        bound = re.search(r"^TimeoutStartSec=(\d+)min$", unit("index.service"), re.M)
+        assert bound and int(bound[1]) >= 5
+        assert re.search(r"^ExecStartPost=\S*/index-health --start \$MAINPID http", unit("index.service"), re.M)

@@ -1,0 +1,131 @@
+"""index-log on logs that a kill left, and on the same with a flipped bit."""
+import glob
+import os
+import shutil
+import subprocess
+import time
+
+import pytest
+from support.server.expected import assert_ends
+from support.server.logs import CLAIMS, Logs, bytes_of, claim
+from support.server.rows import verified
+from support.serving import Index, make_index
+
+FLIPS, KILLS = 12, 5
+
+
+@pytest.fixture
+def logs(program, folder):
+    return Logs(program, folder)
+
+
+@pytest.fixture
+def damaged(logs):
+    """A database whose log has a flipped bit in its middle."""
+    return logs.copy(logs.damaged_bit())
+
+
+def both(db):
+    return bytes_of(db, f"{db}-wal")
+
+
+def kept(db):
+    """What is in the folders in which damaged logs are kept."""
+    return [bytes_of(*sorted(glob.glob(f"{it}/*"))) for it in glob.glob(f"{os.path.dirname(db)}/damaged-*")]
+
+
+def test_a_flipped_bit_is_told_exactly_if_the_program_would_drop_something_for_it(logs, chance, looked, pytestconfig):
+    losses = 0
+    for bit in logs.bits(pytestconfig.option.rounds or FLIPS, chance):
+        db = logs.copy(bit)
+        ended, left = logs.log(db), logs.names(db)
+        losses += left != CLAIMS
+        looked(ended.returncode == (0 if left == CLAIMS else 3), bit, left, ended.returncode, ended.stdout)
+        looked(left == CLAIMS or f"about {CLAIMS - left} " in ended.stdout, bit, left, ended.stdout)
+    looked(losses, "no bit lost anything")
+
+
+def test_a_log_that_a_kill_left_in_the_midst_of_changes_is_not_damaged(logs, program, chance, looked, pytestconfig):
+    """The next opening has all that was acknowledged."""
+    for number in range(pytestconfig.option.rounds or KILLS):
+        db, acknowledged = make_index(program, f"{logs.folder}/killed{number}.db"), []
+        words = [program, "apply", "--db", db]
+        with subprocess.Popen(words, stdin=subprocess.PIPE, stdout=subprocess.PIPE) as applying:
+            until = time.monotonic() + chance.uniform(0.05, 0.5)
+            while time.monotonic() < until:
+                applying.stdin.write(claim(len(acknowledged)))
+                applying.stdin.flush()
+                acknowledged.append(applying.stdout.readline())
+            # one more, which may be under way
+            applying.stdin.write(claim(len(acknowledged)))
+            applying.stdin.flush()
+            time.sleep(chance.uniform(0, 0.01))
+            applying.kill()
+        ended, names = logs.log(db), logs.names(db)
+        looked(ended.returncode == 0, number, ended.stdout)
+        looked(names in (len(acknowledged), len(acknowledged) + 1), number, len(acknowledged), names)
+
+
+def test_a_start_with_a_sound_log(logs):
+    assert_ends(logs.report(logs.copy()), 0, f"name{CLAIMS - 1} ")
+
+
+class TestDamaged:
+    """A start with a damaged log is refused until the loss is accepted."""
+
+    def test_each_start_is_refused_and_both_files_are_kept_once(self, logs, damaged, looked):
+        before = both(damaged)
+        for _ in range(2):
+            ended = logs.report(damaged)
+            looked(ended.returncode == 3, ended.returncode, ended.stdout)
+            for said in ("would be dropped", "both files are kept in", "--accept"):
+                looked(said in ended.stdout, said, ended.stdout)
+            looked(both(damaged) == before, "a refused start changes nothing")
+            looked(kept(damaged) == [before], "what is kept")
+
+    def test_index_verify_refuses_it(self, logs, damaged):
+        assert_ends(verified(logs.program, damaged), 1, "would be dropped")
+
+    def test_an_accepted_loss_leaves_what_was_written_before_the_damage(self, logs, damaged):
+        before = both(damaged)
+        assert_ends(logs.log("--accept", damaged), 0, "cut there")
+        assert kept(damaged) == [before]
+        ended = logs.report(damaged)
+        assert_ends(ended, 0, "name0 ")
+        left = [line for line in ended.stdout.split("\n") if line.startswith("name")]
+        assert 0 < len(left) < CLAIMS, ended.stdout
+        assert kept(damaged) == [before]
+
+    def test_a_loss_is_not_accepted_before_both_files_are_kept(self, logs, damaged):
+        before = both(damaged)
+        # files may have three quarters of the log: more than the database has, and where the log would be cut
+        blocks = os.path.getsize(f"{damaged}-wal") * 3 // 4 // 512
+        assert_ends(logs.log("--accept", damaged, shell=f"ulimit -f {blocks}"), 1, "cp")
+        assert (both(damaged), kept(damaged)) == (before, [])
+
+    def test_a_loss_of_an_open_database_is_not_accepted(self, logs, damaged):
+        with Index(logs.program, path=logs.copy()) as index:
+            shutil.copy(f"{damaged}-wal", f"{index.path}-wal")
+            before = bytes_of(f"{index.path}-wal")
+            assert_ends(logs.log("--accept", index.path), 1, "has it open")
+            assert bytes_of(f"{index.path}-wal") == before
+
+
+def test_nothing_is_accepted_of_a_sound_log(logs):
+    db = logs.copy()
+    before = both(db)
+    assert_ends(logs.log("--accept", db), 0, "nothing that was acknowledged is missing")
+    assert (both(db), kept(db)) == (before, [])
+
+
+def test_a_database_without_a_log_has_no_commit_there(logs, program):
+    empty = make_index(program, f"{logs.folder}/empty.db")
+    os.remove(f"{empty}-wal")
+    assert_ends(logs.log(empty), 0, "no commit")
+
+
+@pytest.mark.parametrize("words", [[], ["--accept"]], ids=["a_look", "an_accepted_loss"])
+def test_where_no_database_is(logs, words):
+    none = f"{logs.folder}/none.db"
+    assert_ends(logs.log(*words, none), 1, "none.db: No such file")
+    assert not os.path.exists(none)

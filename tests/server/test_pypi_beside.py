@@ -1,0 +1,43 @@
+"""PyPI beside the index: a project of ours never comes from elsewhere, and one that nobody holds does."""
+import pytest
+from support.server.expected import assert_reply
+from support.server.front import Front
+from support.server.stranger import Stranger
+from support.serving import accepted
+
+
+@pytest.fixture
+def beside(kept_index, certificate, folder):
+    """nginx in front of the index, which holds frob, and of what stands for PyPI."""
+    with Stranger() as pypi, Front(f"{folder}/pypi", certificate, kept_index.port, pypi=pypi.port) as front:
+        accepted(kept_index.claim("frob"))
+        accepted(kept_index.upload("frob", "frob-1.0.tar.gz", b"ours"))
+        yield front
+
+
+def test_a_name_that_nobody_holds_is_pypis(beside):
+    assert_reply(beside.ask("GET", "/simple/other/"), 200, "text/html", b"a stranger's")
+
+
+def test_a_name_that_we_hold_is_ours_alone(beside):
+    page = beside.ask("GET", "/simple/frob/")
+    assert_reply(page, 200, None, b"frob-1.0")
+    assert b"99.0" not in page[2]
+
+
+def test_no_other_path_leads_to_pypi(beside):
+    assert_reply(beside.ask("GET", "/simple/x/../frob/"), 404, "application/json", b"NoRoute")
+
+
+def test_another_spelling_of_ours_is_moved(beside):
+    assert_reply(beside.ask("GET", "/simple/FROB/"), 301)
+
+
+def test_a_file_is_never_pypis(beside):
+    assert_reply(beside.ask("GET", "/files/frob/frob-99.0.tar.gz"), 404, None, b"NoFile")
+
+
+def test_a_name_of_ours_is_not_pypis_while_the_index_is_away(beside, kept_index):
+    with kept_index.away():
+        reply = beside.ask("GET", "/simple/frob/", Accept="x/y, */*")
+    assert_reply(reply, 503, "application/json", b"Unavailable")

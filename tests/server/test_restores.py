@@ -1,0 +1,197 @@
+"""index-restore: restores that are refused, killed and done, and that nothing is lost by any."""
+import datetime
+import glob
+import gzip
+import json
+import os
+import shutil
+import signal
+import sys
+
+import pytest
+from support.running import kill_after
+from support.server.expected import assert_ends, assert_reply
+from support.server.restores import KILLED, KILLS, names_of, restores
+from support.serving import make_index
+
+# more than any copy here is; without a look at the room a disk would be filled with a long one
+LIMIT = "ulimit -f 100000"
+
+
+@pytest.fixture
+def empty(program, folder, certificate):
+    with restores(program, folder, certificate) as by:
+        yield by
+
+
+@pytest.fixture
+def by(empty, chance):
+    empty.fill(chance)
+    return empty
+
+
+def cut(by):
+    copy = shutil.copy(by.copy, f"{by.work}/cut.db")
+    os.truncate(copy, os.path.getsize(copy) // 2)
+    return copy
+
+
+def text(by):
+    with open(f"{by.work}/text.db", "w") as made:
+        made.write("this is not a database\n" * 1000)
+    return made.name
+
+
+def large(by):
+    """A file with a hole, longer than any disk here has room."""
+    copy = shutil.copy(by.copy, f"{by.work}/large.db")
+    os.truncate(copy, 1 << 42)
+    return copy
+
+
+WRONG_COPIES = {
+    "a_path_that_is_not_there": (lambda by: f"{by.work}/nowhere.db", "No such file"),
+    "a_copy_that_was_cut": (cut, "damaged"),
+    "a_text": (text, "not a database"),
+    "a_copy_for_which_there_is_no_room": (large, "has room for"),
+    "an_older_copy": (lambda by: shutil.copy(by.copy, f"{by.backups}/index-20200101T000000Z.db"), "is newer"),
+    "the_database_itself": (lambda by: by.index.path, "the database itself"),
+    "no_path": (lambda by: "", "give the path"),
+}
+
+
+def assert_as_before(by, asked=()):
+    """The units were asked so, nothing stands beside the database, and no file is lost once the index started again."""
+    assert by.manager.asked == list(asked)
+    assert by.left() == []
+    by.index.starts_again()
+    assert by.missing() == []
+
+
+class TestRefused:
+    """What can't be restored is refused before the index is stopped, and nothing is lost."""
+
+    @pytest.mark.parametrize("what", WRONG_COPIES)
+    def test_a_wrong_copy(self, by, what):
+        copy, said = WRONG_COPIES[what]
+        assert_ends(by.run(copy(by), shell=LIMIT), 1, said)
+        assert_as_before(by)
+
+    def test_a_disk_that_is_full_meanwhile(self, by):
+        assert_ends(by.run(by.copy, shell="ulimit -f 40"), 1, "cp")
+        assert_as_before(by)
+
+    def test_another_index_than_the_one_that_answers(self, by, program):
+        os.mkdir(f"{by.work}/other")
+        other = make_index(program, f"{by.work}/other/index.db")
+        assert_ends(by.run(by.copy, db=other), 1, "no program has")
+        assert_as_before(by)
+
+    def test_an_index_that_goes_on_after_it_was_stopped(self, by):
+        assert_ends(by.run(by.copy, unit="other.service"), 1, "still has it open")
+        assert_as_before(by, ["stop other.service", "start other.service"])
+
+
+def test_killed_before_each_move_the_old_database_is_whole_or_the_copy_is_in_its_place(by, program, looked):
+    """Neither is lost."""
+    claims = [b'{"at":1,"token":"office","do":"claim","name":"killed"}\n']
+    for number in range(KILLS):
+        at = f"{by.work}/killed{number}"
+        os.mkdir(at)
+        kill_after(program, make_index(program, f"{at}/index.db"), claims)
+        killed = [sys.executable, "-c", KILLED, str(number)]
+        ended = by.run(by.copy, front=killed, unit="none.service", db=f"{at}/index.db", pypi=f"{by.work}/none", port=1)
+        looked(ended.returncode == -signal.SIGKILL, number, ended.stdout)
+        names = {it: names_of(it, by.work) for it in (f"{at}/index.db", *glob.glob(f"{at}/*/index.db"))}
+        looked(["killed"] in names.values(), number, names)
+        looked(names[f"{at}/index.db"] in (None, ["killed"], ["frob"]), number, names)
+
+
+def test_a_complete_copy_forgets_nothing_so_pypi_stays_on(by, looked):
+    with by.index.away():
+        for end in ("", "-wal"):
+            shutil.copy(by.index.path + end, f"{by.work}/complete.db{end}")
+    ended = by.run(f"{by.work}/complete.db", "--complete")
+    assert_ends(ended, 0)
+    looked("forgets" not in ended.stdout, ended.stdout)
+    looked(by.missing() == [], by.missing())
+    assert_reply(by.front.ask("GET", "/simple/other/"), 200, None, b"a stranger's")
+
+
+def logged(at, body):
+    """A line of nginx's log of changes, with the moment of a datetime, or without one."""
+    moment = {} if at is None else {"at": at.isoformat(timespec="seconds")}
+    return json.dumps({**moment, "body": body}) + "\n"
+
+
+class TestDone:
+    """A restore has what the copy has."""
+
+    def test_what_the_copy_has_is_there_and_is_the_indexs_alone(self, by):
+        assert_ends(by.run(by.copy), 0, "the index answers")
+        assert by.before and by.missing(by.before) == []
+        mode, owner = os.stat(by.index.path), os.stat(by.folder)
+        assert (mode.st_mode & 0o777, mode.st_uid) == (0o600, owner.st_uid)
+
+    def test_nginx_keeps_nothing_of_before(self, by):
+        assert_reply(by.front.ask("GET", "/files/frob/frob-2.0.tar.gz"), 200)
+        assert_ends(by.run(by.copy), 0)
+        assert_reply(by.front.ask("GET", "/files/frob/frob-2.0.tar.gz"), 404, None, b"NoFile")
+
+    def test_pypi_is_off_so_a_name_that_was_claimed_since_is_not_pypis(self, by):
+        assert_reply(by.front.ask("GET", "/simple/other/"), 200, None, b"a stranger's")
+        assert_ends(by.run(by.copy), 0, "PyPI was taken off")
+        assert_reply(by.front.ask("GET", "/simple/later/"), 404)
+
+    def test_what_was_there_before_can_be_had_back(self, by):
+        assert_ends(by.run(by.copy), 0)
+        aside, = by.left()
+        assert_ends(by.run(f"{by.folder}/{aside}/index.db"), 0, "the index answers")
+        assert by.missing() == []
+
+
+class TestChangesSince:
+    """The changes since the second of the copy are listed, oldest first, to be repeated."""
+
+    @pytest.fixture
+    def begun(self, by):
+        """The second in which the copy was begun, by its name."""
+        name = os.path.basename(by.copy)
+        return datetime.datetime.strptime(f"{name} +0000", "index-%Y%m%dT%H%M%SZ.db %z")
+
+    def listed(self, by):
+        """What is said, and the bodies of the changes that a restore lists."""
+        ended = by.run(by.copy)
+        aside, = by.left()
+        with open(f"{by.folder}/{aside}/changes") as changes:
+            return ended, [json.loads(line)["body"] for line in changes]
+
+    def test_a_change_before_the_copy_is_left_out_and_one_of_its_second_is_not(self, by, begun):
+        second, hour = datetime.timedelta(seconds=1), datetime.timezone(datetime.timedelta(hours=2))
+        with open(by.log, "w") as log:
+            log.write(logged(begun - second, "before"))
+            log.write(logged((begun - second).astimezone(hour), "before, by another clock"))
+            log.write(logged(begun, "a ban in the second of the copy"))
+            log.write(logged((begun + second).astimezone(hour), "after"))
+            log.write(logged(None, "without a time"))
+        ended, bodies = self.listed(by)
+        assert_ends(ended, 0, "nginx passed on 3 of them", "prohibit the project")
+        assert bodies == ["a ban in the second of the copy", "after", "without a time"]
+
+    def test_rotated_logs_are_read_too_and_the_oldest_first(self, by, begun):
+        """By when each was written: their names tell how often they were rotated."""
+        bodies = [f"change {number}" for number in range(12)]
+        for age, body in enumerate(reversed(bodies)):
+            path, moment = f"{by.log}.{age}" if age else by.log, begun.timestamp() + 1000 - 10 * age
+            line = logged(begun + datetime.timedelta(seconds=900 - 10 * age), body)
+            if age > 1:
+                path += ".gz"
+                with gzip.open(path, "wt") as log:
+                    log.write(line)
+            else:
+                with open(path, "w") as log:
+                    log.write(line)
+            os.utime(path, (moment, moment))
+        ended, listed = self.listed(by)
+        assert_ends(ended, 0, "nginx passed on 12 of them")
+        assert listed == bodies

@@ -1,0 +1,59 @@
+"""Three indexes behind one address, as server/nginx/shards.conf has it."""
+import json
+from contextlib import ExitStack
+
+import pytest
+from support.server.expected import assert_reply
+from support.server.front import Front
+from support.serving import Index, accepted
+
+# a name of each index as its owner writes it, the letters at the bounds, and figures
+NAMES = {"Frob": 0, "Ham": 1, "X-ray": 2, "frob": 0, "ham": 1, "x-ray": 2, "0ad": 0, "9base": 0, "Arc": 0, "F": 0,
+         "G": 1, "O": 1, "P": 2, "Z": 2, "a": 0, "f": 0, "g": 1, "o": 1, "p": 2, "z": 2}
+
+
+@pytest.fixture
+def indexes(program):
+    with ExitStack() as running:
+        yield [running.enter_context(Index(program, patience=60)) for _ in range(3)]
+
+
+@pytest.fixture
+def shards(indexes, certificate, folder):
+    with Front(f"{folder}/shards", certificate, *(it.port for it in indexes)) as front:
+        yield front
+
+
+def claim(front, name):
+    body = json.dumps({"do": "claim", "name": name})
+    return front.ask("POST", "/requests", body, X_Index_Name=name, X_Index_Token="office")
+
+
+@pytest.mark.parametrize("name", ["Frob", "Ham", "X-ray"])
+def test_a_name_is_on_its_index_with_its_page_and_files(name, indexes, shards):
+    normal = name.lower()
+    accepted(claim(shards, name))
+    assert_reply(indexes[NAMES[name]].ask("GET", f"/names/{name}"), 200, None, b'"held"')
+    accepted(shards.upload(normal, f"{normal}-1.0.tar.gz", name.encode()))
+    assert_reply(shards.ask("GET", f"/simple/{normal}/"), 200, "text/html", b"-1.0.tar.gz")
+    assert_reply(shards.ask("GET", f"/files/{normal}/{normal}-1.0.tar.gz"), 200, None, name.encode())
+
+
+def test_each_first_letter_in_both_cases_leads_to_its_index(indexes, shards, looked):
+    for name, at in NAMES.items():
+        looked(claim(shards, name)[0] == 200, name)
+        looked(b'"held"' in indexes[at].ask("GET", f"/names/{name}")[2], name, at)
+        reply = shards.ask("GET", f"/names/{name}")
+        looked(reply[0] == 200 and b'"held"' in reply[2], name, reply[0], reply[2])
+
+
+def test_a_post_without_a_name_is_refused(shards):
+    assert_reply(shards.claim("frob"), 404, "application/json", b"NoIndexName")
+
+
+@pytest.mark.parametrize("at", [0, 1, 2])
+def test_the_health_of_each_is_asked_by_its_number(at, indexes, shards):
+    indexes[at].process.kill()
+    indexes[at].process.wait()
+    status = [shards.ask("GET", f"/health?index={number}")[0] for number in range(3)]
+    assert status == [503 if number == at else 200 for number in range(3)]

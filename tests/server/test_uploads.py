@@ -1,0 +1,115 @@
+"""`indexctl upload` through nginx, with each of its ends."""
+import os
+import subprocess
+
+import pytest
+from support.server.expected import assert_ends, assert_reply
+from support.serving import accepted, free_port, sha256
+
+MOST = 16 << 20
+
+
+def test_a_dry_run_tells_the_files_and_wants_no_address(uploads):
+    ended = uploads.run("--dry-run", uploads.dist, INDEX_URL=None, INDEX_TOKEN=None)
+    assert_ends(ended, 0, "frob-0.9.tar.gz: frob, ")
+
+
+def test_a_dry_run_sends_nothing(uploads):
+    assert_ends(uploads.run("--dry-run", "--claim", uploads.dist), 0)
+    assert_ends(uploads.run(uploads.dist), 1, "NoProject", "--claim", "0 of 3 files are there")
+
+
+def test_claim_makes_the_projects_that_are_missing(uploads, packages):
+    other = [path for path, _ in packages["spam-nest"].values()]
+    ended = uploads.run("--claim", uploads.dist, *other)
+    assert_ends(ended, 0, "claim frob: accepted", "claim spam_nest: accepted", "5 of 5 files are there")
+
+
+def test_what_is_there_already_is_well(filled_index, uploads):
+    assert_ends(uploads.run(uploads.dist), 0, "is there already", "3 of 3 files are there")
+
+
+def test_a_wheel_tells_its_requires_python_on_the_page(filled_index, uploads, front):
+    assert_ends(uploads.run(uploads.wheel("frob", "1.2", requires=">=99")), 0, "frob-1.2")
+    page = front.ask("GET", "/simple/frob/", Accept="text/html")
+    assert_reply(page, 200, "text/html", b'data-requires-python="&gt;=99"')
+
+
+class TestRefused:
+    """What the index refuses ends with status 1, the refusal, and what to do."""
+
+    def test_a_token_of_nobody_is_told_once(self, filled_index, uploads):
+        assert_ends(uploads.run(uploads.dist, INDEX_TOKEN="x"), 1, "BadToken", "INDEX_TOKEN", "0 of 3")
+
+    def test_a_project_of_others(self, filled_index, uploads):
+        accepted(filled_index.request(do="add_user", user="ann", office=False, token_sha256=sha256(b"abc")))
+        assert_ends(uploads.run(uploads.wheel("frob", "2.0"), INDEX_TOKEN="abc"), 1, "NotOwner", "add_owner")
+
+    def test_other_bytes_of_a_file_that_is_there(self, filled_index, uploads):
+        ended = uploads.run(uploads.wheel("frob", "1.0", more="# other bytes"))
+        assert_ends(ended, 1, "FileNameTaken", "Raise the version")
+
+    def test_a_banned_file(self, filled_index, uploads):
+        accepted(filled_index.request(do="ban_file", file="frob-1.1-py3-none-any.whl"))
+        ended = uploads.run(f"{uploads.dist}/frob-1.1-py3-none-any.whl")
+        assert_ends(ended, 1, "FileBanned", "Raise the version")
+
+    def test_a_full_quota(self, filled_index, uploads):
+        accepted(filled_index.claim("small"))
+        accepted(filled_index.request(do="set_quota", name="small", quota=1))
+        assert_ends(uploads.run(uploads.wheel("small", "1.0")), 1, "OverQuota", "quota is full")
+
+    def test_a_prohibited_name(self, filled_index, uploads):
+        accepted(filled_index.request(do="prohibit", name="evil"))
+        assert_ends(uploads.run("--claim", uploads.wheel("evil", "1.0")), 1, "NameProhibited", "Ask the office")
+
+
+class TestWrong:
+    """What is wrong by itself ends with status 2 before anything goes out."""
+
+    def test_another_name_inside_sends_no_file_beside_it(self, filled_index, uploads):
+        fine = uploads.wheel("frob", "2.0")
+        assert_ends(uploads.run(fine, uploads.wheel("frob", "5.0", inside="spam")), 2, "the name inside is 'spam'")
+        assert_reply(filled_index.ask("GET", f"/files/frob/{os.path.basename(fine)}"), 404)
+
+    def test_a_file_above_16_mib_sends_no_file_beside_it(self, filled_index, uploads):
+        fine = uploads.wheel("frob", "2.0")
+        with open(f"{uploads.folder}/frob-6.0.tar.gz", "wb") as large:
+            large.truncate(MOST + 1)
+        assert_ends(uploads.run(fine, large.name), 2, f"{MOST + 1} bytes")
+        assert_reply(filled_index.ask("GET", f"/files/frob/{os.path.basename(fine)}"), 404)
+
+    def test_a_file_that_is_no_archive(self, uploads):
+        with open(f"{uploads.folder}/frob-7.0.tar.gz", "wb") as no_archive:
+            no_archive.write(b"no archive")
+        assert_ends(uploads.run(no_archive.name), 2, "can't be read")
+
+    def test_a_name_of_another_kind(self, uploads):
+        assert_ends(uploads.run(f"{uploads.folder}/frob-7.0.zip"), 2, "not the name of a wheel")
+
+    @pytest.mark.parametrize("setting, said", [
+        ({"INDEX_URL": None}, "INDEX_URL"), ({"INDEX_URL": "http://packages.example"}, "https"),
+        ({"INDEX_CA": None}, "INDEX_CA")], ids=["no_address", "an_address_in_the_clear", "an_unknown_certificate"])
+    def test_nothing_goes_to(self, uploads, filled_index, setting, said):
+        fine = uploads.wheel("frob", "2.0")
+        assert_ends(uploads.run(fine, **setting), 2, said)
+        assert_reply(filled_index.ask("GET", f"/files/frob/{os.path.basename(fine)}"), 404)
+
+
+class TestLate:
+    """An index that is away is asked again."""
+
+    def test_an_index_that_does_not_come_back_ends_with_status_3(self, uploads):
+        ended = uploads.run("--again", "1", uploads.dist, INDEX_URL=f"https://127.0.0.1:{free_port()}")
+        assert_ends(ended, 3, "Again in", "again later")
+
+    def test_an_index_that_comes_back_gets_the_files(self, filled_index, uploads):
+        # past nginx, which would wait in its place
+        words, setting = uploads.words(uploads.wheel("frob", "1.3"), INDEX_URL=f"http://127.0.0.1:{filled_index.port}")
+        with filled_index.away():
+            late = subprocess.Popen(words, stderr=subprocess.PIPE, stdout=subprocess.PIPE,
+                                    env={**os.environ, **setting}, text=True)
+            asked_again = late.stderr.readline()
+        said = late.communicate(timeout=60)[0]
+        assert "Again in" in asked_again
+        assert (late.returncode, "1 of 1 files are there" in said) == (0, True), said
