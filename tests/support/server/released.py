@@ -6,7 +6,7 @@ import sys
 
 from support.server.checks import check, ends
 from support.server.packaged import is_possible
-from support.server.watched import written
+from support.server.stand_ins import written
 from releases import COMMAND
 from support.running import run_command, write_below
 from support.places import TOP
