@@ -12,6 +12,7 @@ from support.wrong_programs import edits
 from unproved import NotBuilt
 
 EDITS = edits()
+GONE = "tests/clients/test_gone_clients.py"
 KILLS, MESSAGES = "tests/storage/test_kills.py::TestKilled", "tests/program/test_messages.py"
 FAULTS, CRASHES = "tests/storage/test_faults.py", "tests/storage/test_crashes.py"
 # by the name of an edit, the test that fails
@@ -25,15 +26,16 @@ CAUGHT_BY = {
     "faults_interrupted_write_ends_the_output": f"{FAULTS}::test_apply_ends_where_its_input_or_output_fails[write]",
     "kills_init_removes_what_is_there": f"{KILLS}::test_init_leaves_nothing_or_an_index",
     "kills_report_removes_the_log": f"{KILLS}::test_reading_loses_nothing",
+    "pip_clock_is_a_minute_fast": f"{GONE}::test_a_case_has_the_moment_of_the_clock",
+    "pip_clock_is_read_once": f"{GONE}::test_a_case_has_the_moment_of_the_clock",
+    "pip_flush_that_failed_is_not_told":
+        f"{GONE}::test_a_client_that_is_gone_before_its_reply_is_told_by_one_line_and_its_request_stands",
     "messages_accepted_connection_is_forgotten": f"{MESSAGES}::test_answered_before_the_client_ends_its_side",
     "messages_reply_ends_in_a_byte_more": f"{MESSAGES}::test_answered_before_the_client_ends_its_side",
     "messages_reply_waits_for_the_end_of_the_input": f"{MESSAGES}::test_answered_before_the_client_ends_its_side",
 }
 # of those that are not moved yet, the command that caught it, and its line
 NOT_MOVED = {
-    "pip_clock_is_a_minute_fast": "try-with-pip: a case has the clock's moment",
-    "pip_clock_is_read_once": "try-with-pip: a case has the clock's moment",
-    "pip_flush_that_failed_is_not_told": "try-with-pip: a client that is gone is told by one line",
     "program_accepting_is_tried_for_a_millisecond": "try-program: accept N EMFILE for N ms: the clients",
     "program_calls_of_the_files_tell_no_cause": "try-program: check, pwrite N ENOSPC from then on",
     "program_each_address_is_localhost": "try-program: 127.0.0.2: another address is told",

@@ -1,1 +1,1 @@
-"""What tools/try-with-clients consists of."""
+"""What the tests of clients share: the page of recipes, the people who follow them, and forms."""

@@ -90,3 +90,10 @@ class Service(Running):
         with open(f"/proc/{self.process.pid}/status") as kept:
             text = kept.read()
         return int(re.search(r"VmHWM:\s*(\d+) kB", text)[1]) << 10, int(re.search(r"Threads:\s*(\d+)", text)[1])
+
+    def waits_for_threads(self, count, patience=30):
+        """Returns once it has so many threads beside its first: as many clients are read."""
+        until = time.monotonic() + patience
+        while self.memory()[1] <= count:
+            assert time.monotonic() < until, f"the service has {self.memory()[1]} threads, and not {count + 1}"
+            time.sleep(0.02)

@@ -1,32 +1,42 @@
 """Somebody who follows the recipes of docs/USING.md: a home, a project, and a port of nginx."""
+from __future__ import annotations
+
 import os
 import shutil
+import signal
 import subprocess
-import sys
 import tempfile
+from collections.abc import Callable, Sequence
+from contextlib import suppress
 
-from support.clients.world import ANN, PASSWORD
-from support.server.checks import check
+from support.clients.world import ANN, PASSWORD, Gate, World
+from support.needed import want_command
 from support.running import run_command, write_below
+from support.seen import Seen, end_seen, is_ended
+from support.serving import JSON_PAGE
 
 SYSTEM, DEBIAN = "/usr/local/bin:/usr/bin:/bin", "/usr/bin/python3"
-# packages of Debian that are no commands, by what they bring
-MODULES = {"python3-pip": "pip", "python3-distlib": "distlib", "python3-setuptools": "setuptools"}
-JSON = "application/vnd.pypi.simple.v1+json"
 
 
-def is_installed(client):
-    """Whether a command is there, or a package of Debian's Python."""
-    if client in MODULES:
-        return run_command([DEBIAN, "-c", f"import {MODULES[client]}"]).returncode == 0
-    return bool(shutil.which(client))
+def machines_python() -> str:
+    """The python3 that is first on PATH, which may be another than Debian's. Below it a tool such as pyenv may have
+    put a script in its place."""
+    words = ["python3", "-c", "import sys; print(sys.executable)"]
+    return subprocess.run(words, stdout=subprocess.PIPE, check=True, timeout=60, text=True).stdout.strip()
+
+
+def want_module(python: str, name: str, package: str) -> None:
+    """The same as want_command for a module of a Python."""
+    if run_command([python, "-c", f"import {name}"]).returncode:
+        want_command(f"{python} -m {name}", package)
 
 
 class Person:
     """A person with a client. Each has a port of its own at nginx, so that its log tells what this client asked."""
 
-    def __init__(self, world, client, python=None, gate=None):
-        self.world, self.client, self.gate = world, client, gate or world.gate
+    def __init__(self, world: World, looked: Callable, follows: Sequence[str] = (), gate: Gate | None = None) -> None:
+        self.world, self.looked, self.gate = world, looked, gate or world.gate
+        self.declared, self.followed = {*follows, "A CA of your own"}, set()
         self.folder = tempfile.mkdtemp(dir=world.folder, prefix="person-")
         self.home, self.project = f"{self.folder}/home", f"{self.folder}/project"
         for it in (self.home, self.project):
@@ -36,103 +46,104 @@ class Person:
         self.setting = {"HOME": self.home, "PATH": f"{world.bin}:{SYSTEM}", "LC_ALL": "C.UTF-8", "NO_PROXY": "*",
                         "PYTHONDONTWRITEBYTECODE": "1", "PIP_DISABLE_PIP_VERSION_CHECK": "1", "PIP_NO_INPUT": "1",
                         "PYTHON_KEYRING_BACKEND": "keyring.backends.null.Keyring", "TERM": "dumb", "COLUMNS": "400"}
-        if python:
-            self.enter_environment(python)
         # what stands on the page is what all others trust by
         self.takes("A CA of your own")
 
-    def enter_environment(self, python):
+    def enter_environment(self, python: str) -> Person:
         """A virtual environment with the pip of this Python."""
         place = f"{self.folder}/environment"
         self.run([python, "-m", "venv", "--without-pip", "--system-site-packages", place])
         self.setting.update(PATH=f"{place}/bin:{self.setting['PATH']}", VIRTUAL_ENV=place)
+        return self
 
-    def filled(self, text):
+    def filled(self, text: str) -> str:
         """A text of the page with this index in place of packages.example, and with a token and a password."""
         for old, new in {"https://packages.example": self.url, "packages.example": "127.0.0.1", "YOUR-TOKEN": ANN,
                          "/etc/ssl/packages-ca.pem": self.gate.authority, "YOUR-PASSWORD": PASSWORD}.items():
             text = text.replace(old, new)
         return text
 
-    def recipe(self, name):
+    def recipe(self, name: str):
         recipe = self.world.recipes.get(name)
-        if not recipe or not recipe.is_tested:
-            raise SystemExit(f"docs/USING.md has no recipe {name!r} that is tested")
-        self.world.followed.add(name)
+        assert recipe and recipe.is_tested, f"docs/USING.md has no recipe {name!r} that is tested"
+        assert name in self.declared, f"the test does not say that it follows {name!r}"
+        self.followed.add(name)
         return recipe
 
-    def run(self, words, seconds=240, **more):
-        """The end of a command, in the project's folder."""
-        try:
-            return subprocess.run(words, stdin=subprocess.DEVNULL, stdout=subprocess.PIPE, stderr=subprocess.STDOUT,
-                                  timeout=seconds, env={**self.setting, **more}, cwd=self.project, text=True,
-                                  errors="replace")
-        except (subprocess.TimeoutExpired, OSError) as end:
-            return subprocess.CompletedProcess(words, -1, f"{end}")
+    def run(self, words: Sequence[str], seconds: float = 240, **more: str) -> subprocess.CompletedProcess:
+        """The end of a command, in the project's folder. What it started ends with it."""
+        with subprocess.Popen(words, stdin=subprocess.DEVNULL, stdout=subprocess.PIPE, stderr=subprocess.STDOUT,
+                              env={**self.setting, **more}, cwd=self.project, text=True, errors="replace",
+                              start_new_session=True) as process:
+            try:
+                said, _ = process.communicate(timeout=seconds)
+            except BaseException:
+                with suppress(ProcessLookupError):
+                    os.killpg(process.pid, signal.SIGKILL)
+                raise
+        return subprocess.CompletedProcess(words, process.returncode, said)
 
-    def does(self, name, **more):
+    def does(self, name: str, **more: str) -> subprocess.CompletedProcess:
         """The end of the commands of a recipe."""
         return self.run(["bash", "-euc", self.filled(self.recipe(name).text)], **more)
 
-    def takes(self, name):
+    def takes(self, name: str) -> None:
         """From now on the environment is as a recipe exports it."""
         script = f"set -a\n{self.filled(self.recipe(name).text)}\nenv -0"
         ended = self.run(["bash", "-euc", script])
         pairs = [it.partition("=") for it in ended.stdout.split("\0") if it]
         self.setting.update({key: value for key, _, value in pairs if key not in ("_", "SHLVL", "PWD", "OLDPWD")})
 
-    def writes(self, name):
-        """Writes the file of a recipe, behind what stands there."""
+    def writes(self, name: str, token: str = ANN) -> str:
+        """Writes the file of a recipe, behind what stands there, with this token in it."""
         recipe = self.recipe(name)
         path = recipe.path.replace("~", self.home) if recipe.path.startswith("~") else f"{self.project}/{recipe.path}"
         os.makedirs(os.path.dirname(path), exist_ok=True)
         with open(path, "a") as made:
-            made.write(self.filled(recipe.text))
+            made.write(self.filled(recipe.text.replace("YOUR-TOKEN", token)))
         return path
 
-    def puts(self, path, text):
+    def puts(self, path: str, text: str) -> None:
         write_below(self.project, path, text)
 
-    def reads(self, path):
+    def reads(self, path: str) -> str:
         try:
             with open(f"{self.project}/{path}") as kept:
                 return kept.read()
         except OSError as end:
             return repr(end)
 
-    def check(self, name, is_well, seen=None):
-        check(f"{self.client}: {name}", is_well, seen)
+    def made(self, folder: str = ".") -> list[str]:
+        """The names of the files in a folder of the project."""
+        return sorted(os.listdir(f"{self.project}/{folder}")) if os.path.isdir(f"{self.project}/{folder}") else []
 
-    def ends(self, name, ended, status, *said):
-        """The check that a command ended so and said each of these, however its lines are broken."""
-        text = " ".join(ended.stdout.split())
-        is_well = (ended.returncode == 0) == (status == 0) and all(it in text for it in said)
-        self.check(name, is_well, (ended.returncode, ended.stdout[-900:]))
+    def looks(self, is_well: bool, asked: object, came: object, awaited: object) -> None:
+        self.looked(is_well, Seen(asked, came, awaited))
 
-    def prints(self, name, printed, code="import frob; print(frob.VERSION)", words=("python3",)):
-        """The check that what was installed is this."""
+    def succeeds(self, ended: subprocess.CompletedProcess, *said: str) -> None:
+        """A command ended well, and said each of these."""
+        self.looked(is_ended(ended, True, *said), end_seen(ended, True, *said))
+
+    def fails(self, ended: subprocess.CompletedProcess, *said: str) -> None:
+        """A command did not end well, and said each of these."""
+        self.looked(is_ended(ended, False, *said), end_seen(ended, False, *said))
+
+    def prints(self, printed: str, code: str = "import frob; print(frob.VERSION)",
+               words: Sequence[str] = ("python3",)) -> None:
+        """What was installed is this."""
         ended = self.run([*words, "-c", code])
-        self.check(name, ended.stdout.strip().split("\n")[-1] == printed, ended.stdout[-300:])
+        self.looks(ended.stdout.strip().split("\n")[-1] == printed, code, ended.stdout, f"{printed} in the last line")
 
-    def asked(self):
+    def asked(self) -> list:
         return self.gate.asked_at(self.port)
 
-    def gets(self, kind, besides=()):
-        """The check that the pages that came were `JSON` or `HTML`, and that all was there that was asked for `besides`
-        these paths."""
+    def gets(self, kind: str, besides: Sequence[str] = ()) -> None:
+        """The pages that came were `JSON` or `HTML`, and all was there that was asked for `besides` these paths."""
         pages = [it for it in self.asked() if it[2].startswith("/simple/") and it[0] == "200"]
-        wanted = JSON if kind == "JSON" else "text/html"
-        self.check(f"gets {kind}", pages and all(it[3] == wanted for it in pages), pages)
+        wanted = JSON_PAGE if kind == "JSON" else "text/html"
+        self.looks(bool(pages) and all(it[3] == wanted for it in pages), "pages", pages, f"each as {wanted}")
         wrong = [it for it in self.asked() if it[0] not in ("200", "206", "301", "304") and it[2] not in besides]
-        self.check("asks for nothing that is not there", not wrong, wrong)
+        self.looks(not wrong, "pages and files", wrong, "nothing that is not there")
 
-    def leave(self):
+    def leave(self) -> None:
         shutil.rmtree(self.folder, ignore_errors=True)
-
-
-def pythons():
-    """The machine's Python and Debian's, if that is another and has pip, each by what the checks call its pip."""
-    found = {"pip": sys.executable}
-    if os.path.realpath(DEBIAN) != os.path.realpath(sys.executable) and is_installed("python3-pip"):
-        found["Debian's pip"] = DEBIAN
-    return found

@@ -1,22 +1,30 @@
 """What the clients find: an index with packages, behind nginx with TLS and a certificate of its own."""
+from __future__ import annotations
+
 import http.client
+import os
 import re
-import socket
 import threading
 from contextlib import ExitStack
 from http.server import BaseHTTPRequestHandler, ThreadingHTTPServer
 
+from support.clients.forms import Service
+from support.clients.page import read_recipes
 from support.clients.sources import make_isolated
-from support.places import SERVER
-from support.server.front import Front
 from support.packages import make_packages, make_wheel, wheel_files, wheel_name
+from support.places import SERVER, TOP
+from support.ports import free_port
 from support.running import run_command
-from support.serving import accepted, sha256
+from support.server.front import Front
+from support.server.kept import Kept
+from support.serving import Asking, accepted, sha256
 
+PAGE = f"{TOP}/docs/USING.md"
 REASON = "it was <broken>"
-PORTS = 48
+# one for each person: no test run has more people
+PORTS = 64
 ASKED = "$server_port $status $request_method $request_uri|$sent_http_content_type|$http_accept"
-ANN = "token-of-ann"
+ANN, BOB = "token-of-ann", "token:of:bob"
 READER, PASSWORD = "reader", "s3cret"
 # the module of a command
 SHOUT = """import frob
@@ -26,8 +34,8 @@ def main():
 """
 
 
-def made_packages(folder):
-    """The packages of the other tools, by project and file, each as its path and Requires-Python. And more: a release
+def made_packages(folder: str) -> dict:
+    """The packages of the other tests, by project and file, each as its path and Requires-Python. And more: a release
     for later Pythons, one that is not final, a command, a backend, and a source archive whose build asks for that."""
     made = {**make_packages(folder), "tiny-backend": {}, "shout": {}}
 
@@ -47,19 +55,20 @@ def made_packages(folder):
     return made
 
 
-def fill(index, packages):
-    """Uploads the packages past nginx, yanks frob 1.1, and adds ann, who owns `eggs`."""
+def fill(index: Asking, packages: dict) -> None:
+    """Uploads the packages past nginx, yanks frob 1.1, and adds ann, who owns `eggs`, and bob, who owns `ham`."""
     for project, files in packages.items():
         accepted(index.claim(project))
         for name, (path, requires) in files.items():
             with open(path, "rb") as file:
                 accepted(index.upload(project, name, file.read(), requires))
     accepted(index.request(do="yank", name="frob", release="1.1", reason=REASON))
-    accepted(index.request(do="add_user", user="ann", office=False, token_sha256=sha256(ANN.encode())))
-    accepted(index.claim("eggs", ANN))
+    for user, token, project in (("ann", ANN, "eggs"), ("bob", BOB, "ham")):
+        accepted(index.request(do="add_user", user=user, office=False, token_sha256=sha256(token.encode())))
+        accepted(index.claim(project, token))
 
 
-def make_authority(folder):
+def make_authority(folder: str) -> str:
     """A certificate of an authority, and one that it gave to 127.0.0.1: `ca.pem`, and `pem` with its `key`."""
     kind = ["-newkey", "ec", "-pkeyopt", "ec_paramgen_curve:prime256v1", "-nodes"]
     with open(f"{folder}/extensions", "w") as made:
@@ -75,27 +84,20 @@ def make_authority(folder):
     return f"{folder}/pem"
 
 
-def free_ports(count):
-    """So many ports of loopback that nobody listens on, each another."""
-    with ExitStack() as found:
-        listening = [found.enter_context(socket.create_server(("127.0.0.1", 0))) for _ in range(count)]
-        return [it.getsockname()[1] for it in listening]
-
-
 class Altered(ThreadingHTTPServer):
-    """An index whose pages have other texts at a pattern, in front of the one at this port. It is for --break."""
+    """An index whose pages have other texts at a pattern, in front of the one at this port. It is for breaks."""
 
     daemon_threads = True
 
-    def __init__(self, index_port, pattern, text):
+    def __init__(self, index_port: int, pattern: str, text: str) -> None:
         super().__init__(("127.0.0.1", 0), Passing)
         self.index_port, self.pattern, self.text = index_port, re.compile(pattern.encode()), text.encode()
 
-    def __enter__(self):
+    def __enter__(self) -> Altered:
         threading.Thread(target=self.serve_forever, kwargs={"poll_interval": 0.05}, daemon=True).start()
         return self
 
-    def __exit__(self, *_):
+    def __exit__(self, *_) -> None:
         self.shutdown()
         self.server_close()
 
@@ -103,7 +105,9 @@ class Altered(ThreadingHTTPServer):
 class Passing(BaseHTTPRequestHandler):
     """Passes one request on to the index, and its reply back."""
 
-    def do_GET(self):
+    server: Altered
+
+    def do_GET(self) -> None:
         body = self.rfile.read(int(self.headers.get("Content-Length", 0)))
         connection = http.client.HTTPConnection("127.0.0.1", self.server.index_port, timeout=60)
         connection.request(self.command, self.path, body, dict(self.headers.items()))
@@ -122,22 +126,23 @@ class Passing(BaseHTTPRequestHandler):
 
     do_POST = do_PUT = do_GET
 
-    def log_message(self, *_):
+    def log_message(self, *_) -> None:
         """Nothing is said of what passes."""
 
 
 class Gate(Front):
-    """nginx as server/nginx has it, with uploads by forms. It has a port for each recipe: so its log tells who asked
-    what."""
+    """nginx as server/nginx has it, with uploads by forms. It has a port for each person, so that its log tells who
+    asked what."""
 
-    def __init__(self, folder, certificate, index_port, service_port, has_password=False):
+    def __init__(self, folder: str, certificate: str, index_port: int, service_port: int, ports: int = PORTS,
+                 has_password: bool = False) -> None:
         super().__init__(folder, certificate, index_port)
         self.authority, self.log = certificate.replace("/pem", "/ca.pem"), f"{folder}/asked.log"
         self.trust.load_verify_locations(self.authority)
-        self.ports, self.taken, self.taking = free_ports(PORTS), 0, threading.Lock()
+        self.free = [free_port() for _ in range(ports)]
         with open(f"{folder}/conf.d/packages.conf") as kept:
             text = kept.read()
-        listens = "\n    ".join(f"listen 127.0.0.1:{port} ssl;" for port in self.ports)
+        listens = "\n    ".join(f"listen 127.0.0.1:{port} ssl;" for port in self.free)
         self.put("conf.d/packages.conf", text, **{f"listen 127.0.0.1:{self.port} ssl;": listens})
         self.port = self.next_port()
         self.put("conf.d/asked.conf", f"log_format asked '{ASKED}';\n")
@@ -149,13 +154,48 @@ class Gate(Front):
             self.put("readers", f"{READER}:{digest}\n")
             self.put("index/server.d/readers.conf", f"auth_basic packages;\nauth_basic_user_file {folder}/readers;\n")
 
-    def next_port(self):
-        """A port of nginx that no other recipe uses."""
-        with self.taking:
-            self.taken += 1
-            return self.ports[self.taken - 1]
+    def next_port(self) -> int:
+        """A port of nginx that no other person uses."""
+        return self.free.pop()
 
-    def asked_at(self, port):
+    def asked_at(self, port: int) -> list:
         """What was asked at this port, in order: the status, the method, the path, the reply's type, and Accept."""
         with open(self.log, errors="replace") as log:
             return re.findall(rf"^{port} (\d+) (\S+) ([^\s|]+)\|([^|\n]*)\|(.*)$", log.read(), re.M)
+
+
+class World:
+    """The index behind nginx, the recipes of docs/USING.md, and a folder for whoever follows them. A second nginx wants
+    a password of its readers."""
+
+    def __init__(self, program: str, folder: str, altered: str | None = None) -> None:
+        self.program, self.folder, self.bin, self.altered = program, folder, f"{folder}/bin", altered
+        self.recipes, self.unmarked = read_recipes(PAGE)
+        self.packages = made_packages(folder)
+        os.mkdir(self.bin)
+        # the one file that an operator gives to people
+        ended = run_command(["python3", "-B", f"{TOP}/indexctl/build.py", f"{self.bin}/indexctl"])
+        if ended.returncode:
+            raise SystemExit(f"indexctl/build.py ended with {ended.stdout}")
+
+    def __enter__(self) -> World:
+        certificate = make_authority(self.folder)
+        with ExitStack() as stack:
+            index = stack.enter_context(Kept(self.program, f"{self.folder}/index.db"))
+            fill(index, self.packages)
+            port = index.port
+            if self.altered:
+                pattern, _, text = self.altered.partition(" => ")
+                port = stack.enter_context(Altered(index.port, pattern, text)).server_port
+            service = stack.enter_context(Service(index.port))
+            self.gate = stack.enter_context(Gate(f"{self.folder}/gate", certificate, port, service.port))
+            self.locked = stack.enter_context(Gate(f"{self.folder}/locked", certificate, port, service.port, 8, True))
+            self.stack = stack.pop_all()
+        return self
+
+    def __exit__(self, *_) -> None:
+        self.stack.close()
+
+    def digest(self, file: str) -> str:
+        with open(self.packages[file.partition("-")[0]][file][0], "rb") as kept:
+            return sha256(kept.read())
