@@ -1,0 +1,175 @@
+"""Functions of index-health and index-uncache at their boundaries, without a server."""
+import hashlib
+import http.server
+import os
+import socket
+import threading
+from contextlib import contextmanager
+
+import pytest
+from support.programs import program_of
+from support.unit import calls, ends, raises
+
+HEALTH, UNCACHE = program_of("index-health"), program_of("index-uncache")
+WELL, ABSENT = HEALTH.Look(HEALTH.WELL), HEALTH.Look(HEALTH.ABSENT, "nobody listens")
+SILENT, FAILS = HEALTH.Look(HEALTH.RESTART, "no answer"), HEALTH.Look(HEALTH.RESTART, "500 Store", is_answer=True)
+
+
+@contextmanager
+def answering(reply):
+    class Answers(http.server.BaseHTTPRequestHandler):
+        def do_GET(self):
+            self.wfile.write(reply if self.path == "/names/x" else b"HTTP/1.1 404 x\r\n\r\n")
+
+    with http.server.HTTPServer(("127.0.0.1", 0), Answers) as serving:
+        threading.Thread(target=serving.serve_forever, kwargs={"poll_interval": 0.01}, daemon=True).start()
+        yield f"127.0.0.1:{serving.server_port}"
+        serving.shutdown()
+
+
+@pytest.mark.parametrize("reply, status, seen", [
+    (b"HTTP/1.1 200 OK\r\n\r\n{}", 0, ""), (b"HTTP/1.1 500 x\r\n\r\nStore\xff", 8, "500 Store\ufffd"),
+    (b"HTTP/1.1 201 x\r\n\r\n", 8, "201 "), (b"HTTP/1.1 500 x\r\n\r\n" + b"y" * 300, 8, "500 " + "y" * 200),
+    (b"garbage\r\n\r\n", 8, "no answer: BadStatusLine"), (b"", 3, "nobody listens: RemoteDisconnected")])
+def test_an_answer_tells_how_the_index_is(reply, status, seen):
+    with answering(reply) as address:
+        found = HEALTH.look(address, 60)
+    assert found.status == status and (found.seen == seen or seen and found.seen.startswith(seen) and ":" in seen)
+    assert found.is_answer == (status == 8 and seen[0] in "25")
+
+
+def test_who_says_nothing_in_time_is_restarted_and_who_is_away_is_not():
+    with socket.create_server(("127.0.0.1", 0)) as silent:
+        address = "127.0.0.1:%d" % silent.getsockname()[1]
+        assert HEALTH.look(address, 0.05)[::2] == (8, False)
+    found = HEALTH.look(address, 60)
+    assert (found.status, found.seen.partition(":")[0]) == (3, "nobody listens")
+
+
+def test_a_process_that_is_there_is_seen_also_if_it_is_anothers(monkeypatch):
+    assert HEALTH.is_there(os.getpid())
+    for end, is_there in ((ProcessLookupError(), False), (PermissionError(), True)):
+        asked = calls(monkeypatch, HEALTH.os, "kill", raises(end))
+        assert HEALTH.is_there(7) is is_there and asked == [(7, 0)]
+
+
+class Clock:
+    """Looks that give these, at a clock that goes on by a second at each pause."""
+
+    def __init__(self, monkeypatch, *looks):
+        self.now, self.left, self.slept = 100.0, list(looks), []
+        monkeypatch.setattr(HEALTH.time, "monotonic", lambda: self.now)
+        monkeypatch.setattr(HEALTH.time, "sleep", self.sleep)
+        self.asked = calls(monkeypatch, HEALTH, "look", lambda *_: self.left.pop(0))
+
+    def sleep(self, seconds):
+        self.slept.append(seconds)
+        self.now += 1
+
+
+@pytest.mark.parametrize("looks, found, pauses", [
+    ([WELL], WELL, 0), ([SILENT], SILENT, 0), ([FAILS], FAILS, 0), ([ABSENT, ABSENT, WELL], WELL, 2),
+    ([ABSENT] * 5, ABSENT, 4)])
+def test_somebody_who_listens_is_waited_for(monkeypatch, looks, found, pauses):
+    clock = Clock(monkeypatch, *looks)
+    assert HEALTH.looked("x:1", 3) == found and clock.slept == [0.2] * pauses and not clock.left
+    assert clock.asked == [("x:1", 3)] * len(looks)
+
+
+@pytest.mark.parametrize("looks, found", [
+    ([WELL], WELL), ([FAILS], FAILS), ([ABSENT, SILENT, WELL], WELL), ([ABSENT, SILENT, FAILS], FAILS)])
+def test_a_start_is_waited_for_and_an_answer_that_comes_too_late_is_none(monkeypatch, looks, found):
+    clock = Clock(monkeypatch, *looks)
+    monkeypatch.setattr(HEALTH, "is_there", lambda process: process == 7)
+    assert HEALTH.started("x:1", 60, 7) == found and not clock.left
+    assert clock.slept == [0.2] * (len(looks) - 1) and clock.asked == [("x:1", 60)] * len(looks)
+
+
+def test_a_start_that_ended_is_told(monkeypatch):
+    clock, there = Clock(monkeypatch, ABSENT, ABSENT), [True, True, False]
+    monkeypatch.setattr(HEALTH, "is_there", lambda _: there.pop(0))
+    assert HEALTH.started("x:1", 60, 7) == (3, "the process 7 ended before it answered", False) and not clock.left
+
+
+def test_the_words_of_a_look_and_its_status(monkeypatch, capsys):
+    looked, started = calls(monkeypatch, HEALTH, "looked", WELL), calls(monkeypatch, HEALTH, "started", FAILS)
+    assert ends(HEALTH, monkeypatch, capsys) == (0, "", "")
+    words = ["--start", "7", "--patience", "2.5", "http://x:9/y"]
+    assert ends(HEALTH, monkeypatch, capsys, *words) == (8, "", "index-health: 500 Store\n")
+    assert (looked, started) == ([("127.0.0.1:8080", 60)], [("x:9", 2.5, 7)])
+    ends(HEALTH, monkeypatch, capsys, "--start", "0", "http://x:9")
+    assert started[1] == ("x:9", 60, 0)
+    assert ends(HEALTH, monkeypatch, capsys, "a", "b")[0] == 2
+
+
+class Cache:
+    """nginx's folder with files of these keys, each where nginx has it."""
+
+    def __init__(self, folder, *keys):
+        self.folder = folder
+        for key in keys:
+            path = self.place(key)
+            path.parent.mkdir(parents=True, exist_ok=True)
+            path.write_bytes(b"\3\0\0" + bytes(20) + b"\nKEY: " + key.encode() + b"\nHTTP/1.1 200 OK\nKEY: no\n")
+
+    def place(self, key):
+        digest = hashlib.md5(key.encode()).hexdigest()
+        return self.folder / digest[-1] / digest[-3:-1] / digest
+
+    def left(self):
+        return {UNCACHE.key_of(f"{at}/{name}") for at, _, names in os.walk(self.folder) for name in names}
+
+
+KEYS = ("/files/frob/frob-1.0+x.tar.gz", "/files/frob/Frob-1.0-py3-none-any.whl", "/files/frob2/frob2-1.tar.gz",
+        "/files/fro/fro-1.tar.gz")
+
+
+def test_a_key_stands_at_the_head_of_a_file_and_is_where_nginx_has_it(tmp_path):
+    cache = Cache(tmp_path, *KEYS)
+    assert UNCACHE.place(str(tmp_path), KEYS[0]) == str(cache.place(KEYS[0]))
+    assert UNCACHE.key_of(str(cache.place(KEYS[0]))) == KEYS[0] and UNCACHE.key_of(f"{tmp_path}/none") == ""
+    for data, key in ((b"no key", ""), (b"\nKEY: \xff\n", "\ufffd"), (bytes(4089) + b"\nKEY: a\n", "a"),
+                      (bytes(4095) + b"\nKEY: a\n", "")):
+        (tmp_path / "x").write_bytes(data)
+        assert UNCACHE.key_of(str(tmp_path / "x")) == key
+
+
+@pytest.mark.parametrize("words, gone", [
+    (["frob", "frob-1.0+x.tar.gz"], KEYS[:1]), (["FROB", "FROB_1.0+x.tar.gz"], KEYS[:1]),
+    (["frob", "https://x/files/frob/frob-1.0%2Bx.tar.gz"], KEYS[:1]), (["Frob"], KEYS[:2])])
+def test_a_file_or_all_of_a_project_are_taken_out(tmp_path, monkeypatch, capsys, words, gone):
+    cache = Cache(tmp_path, *KEYS)
+    status, out, err = ends(UNCACHE, monkeypatch, capsys, *words, "--cache", f"{tmp_path}/")
+    assert (status, err, cache.left()) == (0, "", set(KEYS) - set(gone))
+    assert sorted(out.splitlines()) == sorted(f"removed {it}" for it in gone)
+
+
+def test_a_file_that_is_found_by_its_place_is_not_looked_for(tmp_path, monkeypatch, capsys):
+    Cache(tmp_path, *KEYS)
+    monkeypatch.setattr(UNCACHE.os, "walk", raises(AssertionError))
+    assert ends(UNCACHE, monkeypatch, capsys, "frob", "frob-1.0+x.tar.gz", "--cache", tmp_path)[0] == 0
+
+
+def test_what_nginx_does_not_keep_is_told_with_what_it_keeps(tmp_path, monkeypatch, capsys):
+    many = [f"/files/many/many-{number}.tar.gz" for number in range(11)]
+    cache = Cache(tmp_path, *KEYS, *many)
+    said = ends(UNCACHE, monkeypatch, capsys, "frob", "x.whl", "--cache", tmp_path)
+    kept = "Frob-1.0-py3-none-any.whl, frob-1.0+x.tar.gz"
+    assert said == (1, "", f"index-uncache: nginx keeps no /files/frob/x.whl, but {kept}\n")
+    said = ends(UNCACHE, monkeypatch, capsys, "none", "--cache", tmp_path)
+    assert said == (1, "", "index-uncache: nginx keeps no /files/none/\n")
+    assert ends(UNCACHE, monkeypatch, capsys, "many", "x", "--cache", tmp_path)[2].count("many-") == 9
+    assert cache.left() == {*KEYS, *many}
+
+
+def test_what_nginx_removed_meanwhile_is_told_as_removed(tmp_path, capsys):
+    UNCACHE.removed("frob", "x.whl", str(tmp_path / "none"))
+    assert capsys.readouterr().out == "removed /files/frob/x.whl\n"
+
+
+def test_a_folder_that_is_not_there_or_can_not_be_read_is_told(tmp_path, monkeypatch, capsys):
+    said = ends(UNCACHE, monkeypatch, capsys, "frob", "--cache", tmp_path / "none")
+    assert said == (2, "", f"index-uncache: {tmp_path}/none is not there; name nginx's folder by --cache\n")
+    monkeypatch.setattr(UNCACHE.os, "walk", lambda path, onerror: onerror(PermissionError(13, "denied")))
+    said = ends(UNCACHE, monkeypatch, capsys, "frob", "--cache", tmp_path)
+    assert said == (2, "", "index-uncache: [Errno 13] denied\n")

@@ -1,0 +1,164 @@
+"""Functions of index-metrics at their boundaries, without a server."""
+import http.server
+import os
+import subprocess
+import threading
+import types
+
+import pytest
+from support.programs import program_of
+from support.unit import calls, ends
+
+METRICS = program_of("index-metrics")
+
+
+def told(metrics):
+    return {(it.name, it.of) if it.of else it.name: it.value for it in metrics}
+
+
+@pytest.mark.parametrize("url, port", [
+    ("http://127.0.0.1:8080", 8080), ("https://packages.example", 443), ("http://packages.example", 80),
+    ("https://packages.example:8443/x", 8443)])
+def test_an_index_is_told_by_its_port_also_if_the_address_has_none(url, port):
+    assert METRICS.port_of(url) == port
+
+
+def test_a_line_has_the_port_and_the_part():
+    assert METRICS.line(METRICS.Metric("index_up", 1), 8080) == 'index_up{port="8080"} 1\n'
+    room = METRICS.Metric("index_room_bytes", 5, "nginx")
+    assert METRICS.line(room, 8080) == 'index_room_bytes{port="8080",of="nginx"} 5\n'
+
+
+def test_the_sizes_of_files_and_the_age_of_the_newest_copy(tmp_path):
+    db, backups = tmp_path / "a[b]" / "index.db", tmp_path / "backups"
+    for folder in (db.parent, backups, db.parent / "damaged-1", db.parent / "damaged-2"):
+        folder.mkdir()
+    assert told(METRICS.files(str(db), str(tmp_path / "none"))) == {
+        "index_database_bytes": 0, "index_log_bytes": 0, "index_damaged_logs": 2}
+    for path, length, at in ((db, 7, 1), (f"{db}-wal", 9, 1), (backups / "index-1.db", 10, 2000),
+                             (backups / "index-2.db", 20, 1000), (backups / "index-3.part", 40, 3000),
+                             (backups / "x.part", 100, 3000)):
+        with open(path, "wb") as made:
+            made.write(bytes(length))
+        os.utime(path, (at, at))
+    assert told(METRICS.files(str(db), str(backups))) == {
+        "index_database_bytes": 7, "index_log_bytes": 9, "index_damaged_logs": 2, "index_backups": 2,
+        "index_backups_bytes": 170, "index_backup_newest_seconds": 2000, "index_backup_parts": 2}
+    for name in os.listdir(backups):
+        os.remove(backups / name)
+    assert told(METRICS.files(str(db), str(backups)))["index_backup_newest_seconds"] == 0
+
+
+def test_the_room_of_folders_that_are_there(tmp_path, monkeypatch):
+    monkeypatch.setattr(METRICS.shutil, "disk_usage", lambda folder: types.SimpleNamespace(free=len(folder)))
+    assert told(METRICS.rooms({"a": str(tmp_path), "b": "/none"})) == {("index_room_bytes", "a"): len(str(tmp_path))}
+
+
+class Answers(http.server.BaseHTTPRequestHandler):
+    """Answers 200 to what asks for the standing of a name, and no other."""
+
+    def do_GET(self):
+        if self.path == "/cut/names/x":
+            self.wfile.write(b"garbage\r\n\r\n")
+            return
+        self.send_response_only({"/names/x": 200, "/made/names/x": 201}.get(self.path, 404))
+        self.end_headers()
+
+
+def test_whether_an_index_answers_and_how_long_that_took(monkeypatch):
+    monkeypatch.setenv("http_proxy", "http://127.0.0.1:9")
+    with http.server.HTTPServer(("127.0.0.1", 0), Answers) as serving:
+        threading.Thread(target=serving.serve_forever, kwargs={"poll_interval": 0.01}, daemon=True).start()
+        url = f"http://127.0.0.1:{serving.server_port}"
+        ups = [told(METRICS.looks(f"{url}{path}"))["index_up"] for path in ("", "/made", "/none", "/cut")]
+        serving.shutdown()
+    assert ups == [1, 0, 0, 0] and told(METRICS.looks(url))["index_up"] == 0
+    moments = iter([100.0, 100.123456])
+    monkeypatch.setattr(METRICS.time, "monotonic", lambda: next(moments))
+    assert told(METRICS.looks("http://127.0.0.1:9"))["index_look_seconds"] == 0.1235
+
+
+@pytest.mark.parametrize("status, begun, ended, found", [
+    (0, 10, 9.5, (1, 0.5)), (8, 70, 10, (0, 60)), (-1, 10, 9, (1, 1)), (0, 400, 300.5, None),
+    (0, 400, 299.5, (1, 100.5)),
+    (0, 29.5, None, None), (0, 30.5, None, (0, 30.5)), (0, None, None, None)])
+def test_the_last_look_of_a_check_of_health(monkeypatch, status, begun, ended, found):
+    now = 5_000.0
+    monkeypatch.setattr(METRICS.time, "clock_gettime", lambda clock: {METRICS.time.CLOCK_MONOTONIC: now}[clock])
+    lines = {"Status": status, **{f"{name}TimestampMonotonic": 0 if at is None else int(1e6 * (now - at))
+                                  for name, at in (("Start", begun), ("Exit", ended))}}
+    text = "".join(f"ExecMain{name}={value}\n" for name, value in lines.items())
+    asked = calls(monkeypatch, METRICS, "said", text)
+    seen = told(METRICS.last_look("it.service"))
+    assert seen == ({} if found is None else {"index_up": found[0], "index_look_seconds": found[1]})
+    names = "ExecMainStatus,ExecMainStartTimestampMonotonic,ExecMainExitTimestampMonotonic"
+    assert asked == [("systemctl", "show", f"--property={names}", "it.service")]
+
+
+def test_a_unit_that_never_ran_tells_nothing(monkeypatch):
+    monkeypatch.setattr(METRICS, "said", lambda *_: "")
+    assert told(METRICS.last_look("it.service")) == {}
+
+
+def test_what_a_command_says_or_nothing_if_it_fails(monkeypatch):
+    assert METRICS.said("echo", " a ") == "a"
+    assert METRICS.said("sh", "-c", "echo a; exit 1") == "" and METRICS.said("/nowhere/x") == ""
+    assert METRICS.said("sh", "-c", "echo a >&2") == ""
+
+    def late(words, timeout, **_):
+        raise subprocess.TimeoutExpired(words, timeout)
+
+    monkeypatch.setattr(METRICS.subprocess, "run", late)
+    assert METRICS.said("sleep") == ""
+
+
+@pytest.mark.parametrize("said, found", [("7", {"index_restarts": 7}), ("0", {"index_restarts": 0}), ("", {}),
+                                         ("n/a", {})])
+def test_the_restarts_of_a_unit(monkeypatch, said, found):
+    asked = calls(monkeypatch, METRICS, "said", said)
+    assert told(METRICS.restarts("it.service")) == found
+    assert asked == [("systemctl", "show", "--value", "--property", "NRestarts", "it.service")]
+
+
+def test_the_end_of_a_certificate_is_read_as_utc(tmp_path, monkeypatch):
+    monkeypatch.setenv("TZ", "Asia/Tokyo")
+    METRICS.time.tzset()
+    conf = tmp_path / "x.conf"
+    conf.write_text("# ssl_certificate /no;\nserver {\n  ssl_certificate_key /key;\n  ssl_certificate   /a.pem;\n}\n")
+    asked = calls(monkeypatch, METRICS, "said", "notAfter=Jan  2 03:04:05 1970 GMT")
+    assert told(METRICS.certificate(str(conf))) == {"index_certificate_end_seconds": 86400 + 3 * 3600 + 4 * 60 + 5}
+    assert asked == [("openssl", "x509", "-noout", "-enddate", "-in", "/a.pem")]
+    assert told(METRICS.certificate(str(tmp_path / "none"))) == {}
+    conf.write_text("server { }\n")
+    assert told(METRICS.certificate(str(conf))) == {} and len(asked) == 1
+    monkeypatch.delenv("TZ")
+    METRICS.time.tzset()
+
+
+def test_a_file_is_written_whole_for_everybody(tmp_path):
+    before = os.umask(0o077)
+    METRICS.write(str(tmp_path / "x.prom"), "text\n")
+    os.umask(before)
+    assert os.listdir(tmp_path) == ["x.prom"] and (tmp_path / "x.prom").read_text() == "text\n"
+    assert (tmp_path / "x.prom").stat().st_mode & 0o777 == 0o644
+
+
+def test_what_is_asked_by_the_words(tmp_path, monkeypatch, capsys):
+    seen = {}
+    for name in ("files", "rooms", "last_look", "looks", "restarts", "certificate"):
+        monkeypatch.setattr(METRICS, name, lambda *words, name=name: seen.__setitem__(name, words) or [])
+    monkeypatch.setattr(METRICS.time, "time", lambda: 1234.9)
+    monkeypatch.chdir(tmp_path)
+    assert ends(METRICS, monkeypatch, capsys, "x.db", "copies") == (0, 'index_written_seconds{port="8080"} 1234\n', "")
+    assert seen == {"files": (f"{tmp_path}/x.db", "copies"), "looks": ("http://127.0.0.1:8080",),
+                    "rooms": ({"database": str(tmp_path), "backups": "copies", "nginx": "/var/cache/nginx"},),
+                    "restarts": ("index.service",), "certificate": ("/etc/nginx/conf.d/packages.conf",)}
+    seen.clear()
+    words = ["x.db", "copies", "--health", "h.service", "--url", "http://x", "--unit", "u", "--nginx", "n",
+             "--out", "o"]
+    assert ends(METRICS, monkeypatch, capsys, *words) == (0, "", "")
+    assert (tmp_path / "o").read_text() == 'index_written_seconds{port="80"} 1234\n'
+    assert seen["last_look"] == ("h.service",) and "looks" not in seen
+    assert (seen["restarts"], seen["certificate"]) == (("u",), ("n",))
+    status, _, err = ends(METRICS, monkeypatch, capsys, "x.db", "copies", "--out", "none/o")
+    assert status == 1 and err.startswith("index-metrics: ") and "none/o" in err

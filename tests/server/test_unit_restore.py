@@ -1,0 +1,433 @@
+"""Functions of index-restore at their boundaries, without the program."""
+import contextlib
+import datetime
+import gzip
+import http.server
+import json
+import os
+import signal
+import socket
+import threading
+import types
+
+import pytest
+from support.library import ends as library_ends
+from support.programs import program_of
+from support.unit import calls, ends, raises
+
+RESTORE = program_of("index-restore")
+Refused = library_ends.Refused
+DATABASE = b"SQLite format 3\0"
+UTC = datetime.timezone.utc
+
+
+@pytest.fixture
+def copies(tmp_path):
+    """A folder with two copies, and none of them is the database."""
+    for name in ("index-20260101T000000Z.db", "index-20260102T000000Z.db"):
+        (tmp_path / name).write_bytes(DATABASE)
+    return tmp_path
+
+
+def refusal(copy, db, is_older=False):
+    with pytest.raises(Refused) as refused:
+        RESTORE.look_at_copy(str(copy), str(db), is_older)
+    return str(refused.value)
+
+
+def test_a_newer_copy_is_told_and_the_newest_is_taken(copies):
+    old, new, none = copies / "index-20260101T000000Z.db", copies / "index-20260102T000000Z.db", str(copies / "none")
+    assert refusal(old, none) == f"{old}: {new} is newer; name that one, or add --older"
+    RESTORE.look_at_copy(str(old), none, True)
+    RESTORE.look_at_copy(str(new), none, False)
+
+
+def test_only_copies_of_index_backup_are_newer(copies):
+    for name in ("index-20270101T000000Z.db.part", "xindex-20270101T000000Z.db", "index-later.db"):
+        (copies / name).write_bytes(DATABASE)
+    RESTORE.look_at_copy(str(copies / "index-20260102T000000Z.db"), "/none", False)
+    # one of another name is not compared
+    (copies / "index.db").write_bytes(DATABASE)
+    RESTORE.look_at_copy(str(copies / "index.db"), "/none", False)
+
+
+def test_what_is_no_copy_is_refused(copies):
+    (copies / "text.db").write_bytes(b"SQLite format 3\n and more")
+    copy = copies / "index-20260102T000000Z.db"
+    assert refusal("", "/none") == "no copy is named: give the path of a file that index-backup made"
+    assert refusal(copies / "none.db", "/none") == f"{copies}/none.db: No such file or directory"
+    assert refusal(copies / "text.db", "/none") == f"{copies}/text.db: not a database"
+    os.link(copy, copies / "index.db")
+    assert refusal(copy, copies / "index.db") == f"{copy}: this is the database itself, not a copy of it"
+    os.remove(copies / "index.db")
+    (copies / "index.db").write_bytes(DATABASE)
+    RESTORE.look_at_copy(str(copy), str(copies / "index.db"), False)
+
+
+@pytest.mark.parametrize("ends_there", [("",), ("", "-wal"), ("", "-wal", "-shm", "-journal")])
+def test_a_copy_is_put_beside_with_its_log_and_tested_before_it_is_given_away(tmp_path, monkeypatch, ends_there):
+    for end in ends_there:
+        (tmp_path / f"copy.db{end}").write_bytes(f"copy{end}".encode())
+    order, folder = [], tmp_path / "beside"
+
+    def tests(*words):
+        order.append(words)
+        assert sorted(os.listdir(folder)) == sorted(f"index.db{it}" for it in ends_there if it in ("", "-wal"))
+
+    monkeypatch.setattr(RESTORE, "run", tests)
+    monkeypatch.setattr(RESTORE, "sync", lambda path: order.append(("sync", path)))
+    monkeypatch.setattr(RESTORE.os, "chown", lambda *words: order.append(("chown", *words)))
+    RESTORE.put_beside(str(tmp_path / "copy.db"), str(folder), types.SimpleNamespace(st_uid=7, st_gid=8))
+    made = f"{folder}/index.db"
+    assert order == [(f"{RESTORE.HERE}/index-verify", made), ("chown", made, 7, 8), ("sync", made)]
+    assert folder.stat().st_mode & 0o777 == 0o700 and os.stat(made).st_mode & 0o777 == 0o600
+
+
+def test_units_are_started_once_if_they_were_stopped(monkeypatch):
+    asked, units = calls(monkeypatch, RESTORE, "run"), RESTORE.Units(["a", "b"])
+    units.start()
+    assert not asked
+    units.stop()
+    units.start()
+    units.start()
+    assert asked == [("systemctl", "stop", "a", "b"), ("systemctl", "start", "a", "b")]
+
+
+def test_units_are_started_also_if_their_stop_failed(monkeypatch):
+    units = RESTORE.Units(["a"])
+    monkeypatch.setattr(RESTORE, "run", raises(Refused("no")))
+    with pytest.raises(Refused):
+        units.stop()
+    asked = calls(monkeypatch, RESTORE, "run")
+    units.start()
+    assert asked == [("systemctl", "start", "a")]
+
+
+def test_a_lock_is_held_until_the_file_is_closed_and_none_is_left_open(tmp_path, monkeypatch):
+    assert RESTORE.take_lock(str(tmp_path / "none")) is None
+    (tmp_path / "index.db").touch()
+    asked = calls(monkeypatch, RESTORE, "lock")
+    with RESTORE.take_lock(str(tmp_path / "index.db")) as taken:
+        assert asked == [(taken, f"end that first (fuser {tmp_path}/index.db)")]
+    monkeypatch.setattr(RESTORE, "lock", raises(Refused("held")))
+    with pytest.raises(Refused, match="held"):
+        RESTORE.take_lock(str(tmp_path / "index.db"))
+
+
+@pytest.mark.parametrize("is_held", [True, False])
+def test_an_index_that_answers_has_to_be_that_of_the_database(tmp_path, monkeypatch, is_held):
+    (tmp_path / "index.db").touch()
+    monkeypatch.setattr(RESTORE, "lock", raises(Refused("held")) if is_held else lambda *_: None)
+    with socket.create_server(("127.0.0.1", 0)) as listening:
+        url = f"http://127.0.0.1:{listening.getsockname()[1]}"
+        if is_held:
+            RESTORE.look_at_index(str(tmp_path / "index.db"), url)
+        else:
+            with pytest.raises(Refused, match=f"{url} answers, but no program has {tmp_path}/index.db open"):
+                RESTORE.look_at_index(str(tmp_path / "index.db"), url)
+    # nobody listens there any more
+    RESTORE.look_at_index(str(tmp_path / "index.db"), url)
+
+
+def test_a_url_without_a_port_is_that_of_port_80(monkeypatch):
+    asked = calls(monkeypatch, RESTORE.socket, "create_connection", raises(ConnectionRefusedError()))
+    RESTORE.look_at_index("/none", "http://localhost")
+    assert asked == [(("localhost", 80),)]
+
+
+def test_pypi_is_taken_off_and_put_back_by_who_took_it_off(tmp_path, monkeypatch):
+    conf, asked = tmp_path / "x.conf", calls(monkeypatch, RESTORE, "run")
+    conf.write_text("on")
+    pypi, reloads = RESTORE.Pypi(str(conf)), ("systemctl", "try-reload-or-restart", "nginx.service")
+    pypi.put_back()
+    assert pypi.text() == RESTORE.PYPI_NONE and not asked
+    pypi.take_off()
+    assert not conf.exists() and asked == [reloads]
+    assert f"mv {conf}.off {conf}" in pypi.text() and "PyPI was taken off" in pypi.text()
+    RESTORE.Pypi(str(conf)).put_back()
+    assert not conf.exists()
+    pypi.put_back()
+    assert conf.read_text() == "on" and asked == [reloads] * 2
+    conf.unlink()
+    RESTORE.Pypi(str(conf)).take_off()
+    assert len(asked) == 2
+
+
+def test_an_exchange_keeps_all_old_files_and_takes_the_database_first(tmp_path, monkeypatch):
+    db, order = str(tmp_path / "index.db"), []
+    for end in RESTORE.ENDS:
+        with open(db + end, "w") as made:
+            made.write(f"old{end}")
+    (tmp_path / "made").write_text("new")
+    for name in ("mkdir", "link", "remove", "rename"):
+        real = getattr(os, name)
+        monkeypatch.setattr(RESTORE.os, name,
+                            lambda *it, name=name, real=real: (order.append((name, it[0])), real(*it)))
+    monkeypatch.setattr(RESTORE, "sync", lambda path: order.append(("sync", path)))
+    RESTORE.exchange(db, str(tmp_path / "made"), str(tmp_path / "aside"))
+    aside = str(tmp_path / "aside")
+    assert order == [("mkdir", aside), *(("link", db + it) for it in RESTORE.ENDS), ("sync", aside),
+                     *(("remove", db + it) for it in RESTORE.ENDS), ("rename", str(tmp_path / "made")),
+                     ("sync", str(tmp_path))]
+    assert (tmp_path / "index.db").read_text() == "new" and not os.path.exists(f"{db}-wal")
+    assert [(tmp_path / "aside" / f"index.db{it}").read_text() for it in RESTORE.ENDS] == [
+        f"old{it}" for it in RESTORE.ENDS]
+    assert (tmp_path / "aside").stat().st_mode & 0o777 == 0o700
+
+
+def test_an_exchange_that_fails_at_first_changes_nothing(tmp_path, monkeypatch):
+    (tmp_path / "index.db").write_text("old")
+    monkeypatch.setattr(RESTORE, "sync", raises(OSError("full")))
+    with pytest.raises(OSError, match="full"):
+        RESTORE.exchange(str(tmp_path / "index.db"), str(tmp_path / "made"), str(tmp_path / "aside"))
+    assert os.listdir(tmp_path) == ["index.db"] and os.stat(tmp_path / "index.db").st_nlink == 1
+
+
+def test_a_cache_is_emptied_of_what_nginx_keeps_and_of_nothing_else(tmp_path):
+    cache = tmp_path / "a[b]"
+    gone = [f"f/0a/{'1' * 32}", f"0/00/{'a' * 32}.0000000012"]
+    stays = [f"g/0a/{'1' * 32}", f"f/0a/{'1' * 31}", f"f/0a/{'1' * 33}", f"f/0a0/{'1' * 32}", f"f/0a/{'1' * 32}.x",
+             f"f/0a/{'A' * 32}"]
+    for path in gone + stays:
+        (cache / path).parent.mkdir(parents=True, exist_ok=True)
+        (cache / path).touch()
+    RESTORE.empty_cache(str(cache))
+    assert [it for it in gone + stays if (cache / it).exists()] == stays
+
+
+def test_what_nginx_removed_meanwhile_is_passed_over(tmp_path, monkeypatch):
+    for digit in "12":
+        (tmp_path / "f" / "00").mkdir(parents=True, exist_ok=True)
+        (tmp_path / "f" / "00" / (digit * 32)).touch()
+    asked = calls(monkeypatch, RESTORE.os, "remove", raises(FileNotFoundError()))
+    RESTORE.empty_cache(str(tmp_path))
+    assert len(asked) == 2
+
+
+@contextlib.contextmanager
+def server(*statuses):
+    """Answers with each of these statuses in turn, the last ones again; tells what it was asked."""
+    left, asked = list(statuses), []
+
+    class Answers(http.server.BaseHTTPRequestHandler):
+        def do_GET(self):
+            asked.append(self.path)
+            self.send_response_only(left.pop(0) if len(left) > 1 else left[0])
+            self.end_headers()
+            self.wfile.write(b' {"state":"free"}\n')
+
+    with http.server.HTTPServer(("127.0.0.1", 0), Answers) as serving:
+        threading.Thread(target=serving.serve_forever, kwargs={"poll_interval": 0.01}, daemon=True).start()
+        yield f"http://127.0.0.1:{serving.server_port}", asked
+        serving.shutdown()
+
+
+def test_the_first_answer_is_waited_for(monkeypatch):
+    slept = calls(monkeypatch, RESTORE.time, "sleep")
+    with server(500, 503, 200) as (url, asked):
+        assert RESTORE.first_answer(url, 0) == '{"state":"free"}'
+    assert asked == ["/names/x"] * 3 and slept == [(0.2,)] * 2
+
+
+@pytest.mark.parametrize("length, patience", [(0, 60), ((1 << 30) - 1, 60), (1 << 30, 90), (5 << 30, 210)])
+def test_a_large_database_has_longer_for_its_first_answer(monkeypatch, length, patience):
+    now = [1000.0]
+    monkeypatch.setattr(RESTORE.time, "monotonic", lambda: now[0])
+    monkeypatch.setattr(RESTORE.time, "sleep", lambda seconds: now.__setitem__(0, now[0] + 10))
+    given = []
+
+    class Refuses:
+        def __init__(self, address, timeout):
+            given.append((address, timeout))
+
+        request = staticmethod(raises(ConnectionRefusedError()))
+        close = staticmethod(lambda: None)
+
+    monkeypatch.setattr(RESTORE.http.client, "HTTPConnection", Refuses)
+    with pytest.raises(Refused, match=f"http://x:1 doesn't answer within {patience} s"):
+        RESTORE.first_answer("http://x:1", length)
+    assert given == [("x:1", patience)] * (patience // 10)
+
+
+def test_the_moment_of_a_copy_is_that_of_its_name_or_of_its_last_write(tmp_path):
+    assert RESTORE.begun_at("/x/index-20260102T030405Z.db").isoformat() == "2026-01-02T03:04:05+00:00"
+    other = tmp_path / "copy.db"
+    other.touch()
+    os.utime(other, (1_000, 2_000))
+    assert RESTORE.begun_at(str(other)) == datetime.datetime.fromtimestamp(2_000, UTC)
+
+
+@pytest.mark.parametrize("line, is_since", [
+    ('{"at":"2026-01-02T03:04:05+00:00"}', True), ('{"at":"2026-01-02T03:04:04+00:00"}', False),
+    ('{"at":"2026-01-02T05:04:04+02:00"}', False), ('{"at":"2026-01-02T01:04:05-02:00"}', True),
+    ('{"time":"2026-01-02T03:04:04+00:00"}', False), ('{"body":"no time"}', True), ("no JSON", True), ("[1]", True),
+    ('{"at":"2026-01-01T00:00:00"}', True)])
+def test_a_change_counts_from_the_second_of_the_copy_on_and_without_a_time_too(line, is_since):
+    assert RESTORE.is_since(line, datetime.datetime(2026, 1, 2, 3, 4, 5, tzinfo=UTC)) is is_since
+
+
+def test_changes_come_oldest_first_from_rotated_logs(tmp_path):
+    log = tmp_path / "changes.log"
+    for name, text, written in (("changes.log", "third", 30), ("changes.log.1", "second", 20)):
+        (tmp_path / name).write_text(f'{{"body":"{text}"}}\n')
+        os.utime(tmp_path / name, (written, written))
+    with gzip.open(tmp_path / "changes.log.2.gz", "wb") as old:
+        old.write(b'{"body":"first"}\n\n{"body":"\xff","at":"2026-01-01T00:00:00+00:00"}\n')
+    os.utime(tmp_path / "changes.log.2.gz", (10, 10))
+    (tmp_path / "changes.log.folder").mkdir()
+    (tmp_path / "other.log").write_text("{}\n")
+    since = datetime.datetime.fromtimestamp(0, UTC)
+    said = RESTORE.changes_since(str(log), since, str(tmp_path / "made"))
+    made = [json.loads(it)["body"] for it in (tmp_path / "made").read_text().splitlines()]
+    assert made == ["first", "\ufffd", "second", "third"]
+    assert said == f"nginx passed on 4 of them. They are in {tmp_path}/made, oldest first."
+    later = datetime.datetime(2026, 1, 1, 0, 0, 1, tzinfo=UTC)
+    assert "passed on 3 of" in RESTORE.changes_since(str(log), later, str(tmp_path / "made"))
+
+
+def test_no_log_of_changes_is_told(tmp_path):
+    said = RESTORE.changes_since(str(tmp_path / "none[1].log"), datetime.datetime.now(UTC), str(tmp_path / "made"))
+    assert said.startswith(f"There is no {tmp_path}/none[1].log. Look for POST") and not (tmp_path / "made").exists()
+
+
+class World:
+    """A database, a copy beside it in another folder, and the words of a restore; nothing is stopped or tested."""
+
+    def __init__(self, tmp_path, monkeypatch, **changed):
+        self.folder, self.order = tmp_path / "var", []
+        os.mkdir(self.folder)
+        os.mkdir(tmp_path / "copies")
+        self.db, self.copy = str(self.folder / "index.db"), str(tmp_path / "copies" / "index-20260101T000000Z.db")
+        for path, text in ((self.db, "old"), (f"{self.db}-wal", "log"), (self.copy, "new")):
+            with open(path, "wb") as made:
+                made.write(DATABASE + text.encode())
+        (tmp_path / "pypi.conf").touch()
+        self.words = types.SimpleNamespace(**{
+            "copy": self.copy, "older": False, "complete": False, "url": "http://x:1", "cache": ["/c/"],
+            "changes": str(tmp_path / "changes.log"), "with_pypi": str(tmp_path / "pypi.conf"), **changed})
+        self.units = RESTORE.Units(["a.service"])
+        monkeypatch.setattr(RESTORE, "run", lambda *it: self.order.append(" ".join(it)))
+        monkeypatch.setattr(RESTORE, "empty_cache", lambda it: self.order.append(f"empty {it}"))
+        monkeypatch.setattr(RESTORE, "look_at_index", lambda *_: None)
+        monkeypatch.setattr(RESTORE, "first_answer", lambda url, length: f"{url} {length}")
+
+    def into_place(self):
+        return RESTORE.put_into_place(self.words, self.db, self.units, "now")
+
+    def is_as_before(self):
+        with open(self.db, "rb") as kept:
+            return kept.read() == DATABASE + b"old" and sorted(os.listdir(self.folder)) == ["index.db", "index.db-wal"]
+
+
+def test_a_copy_is_tested_before_the_units_stop_and_caches_are_emptied_last(tmp_path, monkeypatch):
+    world = World(tmp_path, monkeypatch)
+    assert world.into_place() == f"{world.folder}/before-now"
+    assert world.order == [f"{RESTORE.HERE}/index-verify {world.folder}/restoring-now/index.db",
+                           "systemctl stop a.service", "systemctl try-reload-or-restart nginx.service", "empty /c"]
+    assert sorted(os.listdir(world.folder)) == ["before-now", "index.db"]
+    assert not signal.pthread_sigmask(signal.SIG_BLOCK, []) & set(RESTORE.SIGNALS)
+
+
+def test_nobody_stops_a_restore_while_files_are_moved(tmp_path, monkeypatch):
+    world, seen = World(tmp_path, monkeypatch), []
+    monkeypatch.setattr(RESTORE, "exchange",
+                        lambda *_: seen.append(signal.pthread_sigmask(signal.SIG_BLOCK, []) >= set(RESTORE.SIGNALS)))
+    world.into_place()
+    assert seen == [True]
+
+
+@pytest.mark.parametrize("end", [Refused("no"), OSError("full")])
+def test_an_exchange_that_fails_puts_pypi_back_and_leaves_no_copy(tmp_path, monkeypatch, end):
+    world = World(tmp_path, monkeypatch)
+    monkeypatch.setattr(RESTORE, "exchange", raises(end))
+    with pytest.raises(type(end)):
+        world.into_place()
+    assert world.is_as_before() and (tmp_path / "pypi.conf").exists()
+    assert not signal.pthread_sigmask(signal.SIG_BLOCK, []) & set(RESTORE.SIGNALS)
+
+
+def test_a_copy_that_is_complete_leaves_pypi_on(tmp_path, monkeypatch, capsys):
+    world = World(tmp_path, monkeypatch, complete=True)
+    assert RESTORE.restore(world.words, world.db, world.units) == ""
+    assert (tmp_path / "pypi.conf").exists() and "systemctl try-reload-or-restart nginx.service" not in world.order
+    assert capsys.readouterr().out.endswith("the index answers: http://x:1 19\n")
+
+
+def test_the_usual_caches_are_emptied_if_none_is_named(tmp_path, monkeypatch):
+    world = World(tmp_path, monkeypatch, cache=None)
+    world.into_place()
+    assert world.order[-2:] == [f"empty {it}" for it in RESTORE.CACHES]
+
+
+def test_a_restore_tells_what_it_forgets(tmp_path, monkeypatch, capsys):
+    world = World(tmp_path, monkeypatch)
+    (world.folder / "restoring-before").mkdir()
+    (tmp_path / "changes.log").write_text('{"body":"x"}\n')
+    said = RESTORE.restore(world.words, world.db, world.units)
+    aside, = world.folder.glob("before-*")
+    assert "1. Changes since 2026-01-01 00:00:00 UTC.\n   nginx passed on 1 of them." in said
+    assert f"index-restore {aside}/index.db\n" in said and "PyPI was taken off" in said
+    assert "systemctl start a.service" in world.order and not (world.folder / "restoring-before").exists()
+    assert capsys.readouterr().out.startswith(f"{world.copy} is in its place; what was there is in {aside}\n")
+    assert (aside / "changes").exists()
+
+
+def test_changes_that_can_not_be_gathered_are_told(tmp_path, monkeypatch):
+    world = World(tmp_path, monkeypatch)
+    monkeypatch.setattr(RESTORE, "changes_since", raises(OSError("a bad block")))
+    said = RESTORE.restore(world.words, world.db, world.units)
+    assert f"They could not be gathered from {world.words.changes}: a bad block" in said
+
+
+def test_room_is_wanted_for_the_copy_and_its_log_twice(tmp_path, monkeypatch):
+    world = World(tmp_path, monkeypatch)
+    with open(f"{world.copy}-wal", "wb") as log:
+        log.write(bytes(5))
+    asked = calls(monkeypatch, RESTORE, "want_room", raises(Refused("no room")))
+    with pytest.raises(Refused, match="no room"):
+        RESTORE.restore(world.words, world.db, world.units)
+    assert asked == [(str(world.folder), len(DATABASE) + 3 + 10)] and world.is_as_before() and not world.order
+
+
+def test_a_database_in_no_folder_is_told(tmp_path, monkeypatch):
+    world = World(tmp_path, monkeypatch)
+    with pytest.raises(Refused, match="/none: no such folder"):
+        RESTORE.restore(world.words, "/none/index.db", world.units)
+
+
+def test_units_start_however_it_ends(monkeypatch, capsys):
+    def stops(words, db, units):
+        units.stop()
+        raise Refused("no")
+
+    asked = calls(monkeypatch, RESTORE, "run")
+    monkeypatch.setattr(RESTORE, "restore", stops)
+    assert ends(RESTORE, monkeypatch, capsys, "copy")[::2] == (1, "index-restore: no\n")
+    assert asked == [("systemctl", it, "index-health.timer", "index.service") for it in ("stop", "start")]
+    asked.clear()
+    ends(RESTORE, monkeypatch, capsys, "copy", "--unit", "a", "--unit", "b")
+    assert asked == [("systemctl", it, "a", "b") for it in ("stop", "start")]
+
+
+def test_units_that_do_not_start_are_told(monkeypatch, capsys):
+    def stopped(words, db, units):
+        units.are_stopped = True
+        return "all is well\n"
+
+    monkeypatch.setattr(RESTORE, "restore", stopped)
+    monkeypatch.setattr(RESTORE, "run", raises(Refused("it hangs")))
+    assert ends(RESTORE, monkeypatch, capsys, "copy") == (1, "all is well\n", "index-restore: it hangs\n")
+
+
+def test_the_words_of_a_restore(tmp_path, monkeypatch, capsys):
+    os.symlink(tmp_path / "real.db", tmp_path / "link.db")
+    asked = calls(monkeypatch, RESTORE, "restore", "")
+    before = os.umask(0o022)
+    assert ends(RESTORE, monkeypatch, capsys, "copy", "--db", tmp_path / "link.db")[0] == 0
+    assert os.umask(before) == 0o077
+    words, db, _ = asked[0]
+    assert (db, words.older, words.complete, words.cache) == (str(tmp_path / "real.db"), False, False, None)
+    ends(RESTORE, monkeypatch, capsys, "copy", "--older", "--complete", "--cache", "a", "--cache", "b")
+    words, db, _ = asked[1]
+    assert (db, words.older, words.complete, words.cache) == ("/var/lib/index/index.db", True, True, ["a", "b"])
+    os.umask(before)
