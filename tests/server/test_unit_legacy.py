@@ -316,7 +316,8 @@ def test_what_a_client_is_told(monkeypatch, capsys, answer, status, said):
         head, body = asked(serving, message(form(WHEEL, DATA), "abc"))
     assert head.startswith(f"HTTP/1.1 {status}") and body.startswith(said), (head, body)
     assert given == [("x:1", WHEEL, "abc")] and "\r\nConnection: close" in head
-    more = {"401": 'WWW-Authenticate: Basic realm="index"', "503": "Retry-After: 2"}.get(status[:3], "Content-Type: text")
+    headers = {"401": 'WWW-Authenticate: Basic realm="index"', "503": "Retry-After: 2"}
+    more = headers.get(status[:3], "Content-Type: text/plain")
     assert f"\r\n{more}" in head and f"\r\nContent-Length: {len(body.encode())}" in head
     assert capsys.readouterr().err == f"{status[:3]} {WHEEL}\n"
 
