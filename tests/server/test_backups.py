@@ -97,7 +97,7 @@ class TestNothingIsLeft:
 
     def test_a_disk_that_is_full_meanwhile_ends_it(self, filled, backup, backups):
         # files of at most 40 blocks
-        assert_ends(backup(filled.path, shell="ulimit -f 40"), 1, "index-backup: ", "cp")
+        assert_ends(backup(filled.path, shell="ulimit -f 40"), 1, "index-backup: cp --reflink=auto")
         assert os.listdir(backups) == []
 
     def test_a_page_that_was_overwritten(self, filled, backup, backups, folder):

@@ -7,7 +7,7 @@ import time
 
 import pytest
 from support.server.expected import assert_ends
-from support.server.logs import CLAIMS, Logs, bytes_of, claim
+from support.server.logs import CLAIMS, HEAD, Logs, bytes_of, claim
 from support.server.rows import verified
 from support.serving import Index, make_index
 
@@ -34,15 +34,25 @@ def kept(db):
     return [bytes_of(*sorted(glob.glob(f"{it}/*"))) for it in glob.glob(f"{os.path.dirname(db)}/damaged-*")]
 
 
+def loses(logs, bit, looked):
+    """Whether the program drops something for this flipped bit; index-log has to tell just that."""
+    db = logs.copy(bit)
+    ended, left = logs.log(db), logs.names(db)
+    looked(ended.returncode == (0 if left == CLAIMS else 3), bit, left, ended.returncode, ended.stdout)
+    looked(left == CLAIMS or f"about {CLAIMS - left} " in ended.stdout, bit, left, ended.stdout)
+    return left != CLAIMS
+
+
 def test_a_flipped_bit_is_told_exactly_if_the_program_would_drop_something_for_it(logs, chance, looked, pytestconfig):
-    losses = 0
-    for bit in logs.bits(pytestconfig.option.rounds or FLIPS, chance):
-        db = logs.copy(bit)
-        ended, left = logs.log(db), logs.names(db)
-        losses += left != CLAIMS
-        looked(ended.returncode == (0 if left == CLAIMS else 3), bit, left, ended.returncode, ended.stdout)
-        looked(left == CLAIMS or f"about {CLAIMS - left} " in ended.stdout, bit, left, ended.stdout)
-    looked(losses, "no bit lost anything")
+    bits = logs.bits(pytestconfig.option.rounds or FLIPS, chance)
+    looked(any([loses(logs, bit, looked) for bit in bits]), "no bit lost anything")
+
+
+def test_a_flipped_bit_of_the_header_is_told_as_the_loss_of_all(logs, chance, looked):
+    """A bit of each of its 8 numbers, but not of its first byte, by which the program sees that a log is emptied."""
+    for at in range(0, HEAD, 4):
+        bit = 8 * at + chance.randrange(0 if at else 8, 32)
+        looked(loses(logs, bit, looked), bit)
 
 
 def test_a_log_that_a_kill_left_in_the_midst_of_changes_is_not_damaged(logs, program, chance, looked, pytestconfig):
@@ -100,7 +110,7 @@ class TestDamaged:
         before = both(damaged)
         # files may have three quarters of the log: more than the database has, and where the log would be cut
         blocks = os.path.getsize(f"{damaged}-wal") * 3 // 4 // 512
-        assert_ends(logs.log("--accept", damaged, shell=f"ulimit -f {blocks}"), 1, "cp")
+        assert_ends(logs.log("--accept", damaged, shell=f"ulimit -f {blocks}"), 1, "index-log: cp --")
         assert (both(damaged), kept(damaged)) == (before, [])
 
     def test_a_loss_of_an_open_database_is_not_accepted(self, logs, damaged):

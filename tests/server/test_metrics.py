@@ -47,14 +47,6 @@ def seen(program, words, path, folder):
     return found
 
 
-@pytest.fixture
-def down(words, path, folder):
-    """What is written of an index that does not answer, and its port."""
-    port, out = free_port(), f"{folder}/out.prom"
-    assert_ends(run_command([*METRICS, *words, "--url", f"http://127.0.0.1:{port}", "--out", out], PATH=path), 0)
-    return written(out), port, out
-
-
 def test_an_index_that_is_up(seen):
     assert seen.get("index_up") == 1 and 0 < seen["index_look_seconds"] < 30, seen
 
@@ -95,8 +87,10 @@ def test_each_alarm_asks_for_what_is_written(seen):
     assert asked - {name.partition(",")[0] for name in seen} == set()
 
 
-def test_an_index_that_is_down_is_written_for_all_to_read(down):
-    text, port, out = down
+def test_an_index_that_is_down_is_written_for_all_to_read(words, path, folder):
+    port, out = free_port(), f"{folder}/out.prom"
+    assert_ends(run_command([*METRICS, *words, "--url", f"http://127.0.0.1:{port}", "--out", out], PATH=path), 0)
+    text = written(out)
     assert f'\nindex_up{{port="{port}"}} 0\n' in text, text
     assert stat.S_IMODE(os.stat(out).st_mode) == 0o644
 

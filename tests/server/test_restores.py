@@ -78,7 +78,8 @@ class TestRefused:
         assert_as_before(by)
 
     def test_a_disk_that_is_full_meanwhile(self, by):
-        assert_ends(by.run(by.copy, shell="ulimit -f 40"), 1, "cp")
+        # files of at most 40 blocks
+        assert_ends(by.run(by.copy, shell="ulimit -f 40"), 1, "index-restore: cp --reflink=auto")
         assert_as_before(by)
 
     def test_another_index_than_the_one_that_answers(self, by, program):

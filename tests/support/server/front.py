@@ -1,4 +1,6 @@
 """nginx as server/nginx has it, in front of indexes on loopback, with a certificate that is made on the spot."""
+from __future__ import annotations
+
 import http.client
 import json
 import os
@@ -9,8 +11,9 @@ import ssl
 import subprocess
 
 from support.places import SERVER
+from support.ports import free_port
 from support.running import run_command
-from support.serving import Asking, Running, exchange, free_port, listens
+from support.serving import Asking, Running, exchange, listens
 
 # What a distribution's nginx.conf says around the server.
 MAIN = """worker_processes 2;
@@ -33,7 +36,7 @@ http {{
 """
 
 
-def replaced(text, **places):
+def replaced(text: str, **places: str) -> str:
     """The text with each of these in another place, which has to be there."""
     for old, new in places.items():
         if old not in text:
@@ -42,12 +45,13 @@ def replaced(text, **places):
     return text
 
 
-def kept(name):
+def kept(name: str) -> str:
+    """The text of a file of server/nginx."""
     with open(f"{SERVER}/nginx/{name}") as conf:
         return conf.read()
 
 
-def has_ipv6():
+def has_ipv6() -> bool:
     """Whether this machine has a loopback of IPv6."""
     try:
         socket.create_server(("::1", 0), family=socket.AF_INET6).close()
@@ -56,7 +60,8 @@ def has_ipv6():
     return True
 
 
-def make_certificate(folder):
+def make_certificate(folder: str) -> str:
+    """The path of a certificate for loopback, with its key beside it."""
     host = ["-subj", "/CN=127.0.0.1", "-addext", "subjectAltName=IP:127.0.0.1,IP:::1"]
     kind = ["-x509", "-newkey", "ec", "-pkeyopt", "ec_paramgen_curve:prime256v1", "-nodes", "-days", "2"]
     ended = run_command(["openssl", "req", *kind, *host, "-keyout", f"{folder}/key", "-out", f"{folder}/pem"])
@@ -68,7 +73,7 @@ def make_certificate(folder):
 class Nginx(Running):
     """nginx in a folder of its own, on a free port. The files of `conf.d` there say what it serves."""
 
-    def __init__(self, folder):
+    def __init__(self, folder: str):
         self.folder, self.port = folder, free_port()
         os.makedirs(f"{folder}/conf.d")
         with open(f"{folder}/nginx.conf", "w") as conf:
@@ -76,12 +81,12 @@ class Nginx(Running):
         words = ["nginx", "-p", folder, "-e", f"{folder}/error.log", "-c", f"{folder}/nginx.conf"]
         super().__init__(words, stdout=subprocess.DEVNULL, stderr=subprocess.DEVNULL)
 
-    def put(self, target, text, **places):
+    def put(self, target: str, text: str, **places: str) -> None:
         os.makedirs(os.path.dirname(f"{self.folder}/{target}"), exist_ok=True)
         with open(f"{self.folder}/{target}", "w") as made:
             made.write(replaced(text, **places))
 
-    def __enter__(self):
+    def __enter__(self) -> Nginx:
         tested = run_command([*self.words, "-t"])
         if tested.returncode:
             raise SystemExit(f"nginx refuses its configuration: {tested.stdout}")
@@ -91,7 +96,7 @@ class Nginx(Running):
             raise SystemExit("nginx does not listen")
         return self
 
-    def errors(self):
+    def errors(self) -> list[str]:
         """What nginx says of itself. That the index was away is an error, and that a page changed as it was read,
         critical."""
         with open(f"{self.folder}/error.log", errors="replace") as log:
@@ -102,7 +107,8 @@ class Front(Nginx, Asking):
     """nginx in front of the indexes at these ports of loopback, or at these addresses; with several, as shards.conf has
     it. A plain one speaks no TLS."""
 
-    def __init__(self, folder, certificate, *behind, pypi=None, is_plain=False):
+    def __init__(self, folder: str, certificate: str, *behind: int | str, pypi: int | None = None,
+                 is_plain: bool = False):
         super().__init__(folder)
         self.certificate, self.url = certificate, f"http{'' if is_plain else 's'}://127.0.0.1:{self.port}"
         self.trust = ssl.create_default_context(cafile=certificate)
@@ -123,15 +129,19 @@ class Front(Nginx, Asking):
             self.put("index/server.d/with-pypi.conf", kept("with-pypi.conf"),
                      **{"https://pypi.org": f"http://127.0.0.1:{pypi}"})
 
-    def ask(self, method, path, body=None, host="127.0.0.1", **headers):
+    def __enter__(self) -> Front:
+        super().__enter__()
+        return self
+
+    def ask(self, method: str, path: str, body=None, host: str = "127.0.0.1", **headers) -> tuple:
         connection = http.client.HTTPSConnection(host, self.port, timeout=60, context=self.trust)
         return exchange(connection, method, path, body, headers)
 
-    def changes(self):
+    def changes(self) -> list[dict]:
         """The lines of the log of changes."""
         with open(f"{self.folder}/index-changes.log", errors="replace") as log:
             return [json.loads(line) for line in log]
 
 
-def is_here():
+def is_here() -> bool:
     return all(map(shutil.which, ("nginx", "openssl")))

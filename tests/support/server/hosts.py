@@ -31,8 +31,9 @@ class Named(Asking):
 def listen_of_a_host() -> tuple[str, int]:
     """Where an index on a host of its own listens, by server/systemd/other-host.conf."""
     with open(f"{SERVER}/systemd/other-host.conf") as kept:
-        address, port = LISTEN.search(kept.read()).groups()
-    return address, int(port)
+        found = LISTEN.search(kept.read())
+    assert found, "other-host.conf does not say where the index listens"
+    return found[1], int(found[2])
 
 
 @dataclass

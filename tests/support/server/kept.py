@@ -26,7 +26,9 @@ class Kept(Asking):
         self.where = where
         self.is_wanted, self.is_over = threading.Event(), threading.Event()
         self.listens = threading.Event()
-        self.starts, self.index, self.faults = 0, None, []
+        self.starts = 0
+        self.faults: list[SystemExit] = []
+        self.index: Index
         self.keeper = threading.Thread(target=self.keep, daemon=True)
 
     def keep(self) -> None:
@@ -97,7 +99,8 @@ class Uploader(threading.Thread):
     def __init__(self, index: Asking, project: str, until: float, chance: random.Random, pause: float = 0):
         super().__init__(daemon=True)
         self.index, self.project, self.until, self.pause = index, project, until, pause
-        self.chance, self.files = random.Random(chance.random()), {}
+        self.chance = random.Random(chance.random())
+        self.files: dict[str, bytes] = {}
         while index.claim(project)[0] == 503:
             time.sleep(0.5)
 

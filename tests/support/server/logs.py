@@ -40,7 +40,8 @@ class Logs:
 
     def bits(self, count: int, chance: random.Random) -> list[int]:
         """Some bits of the log, but none of the bytes by which index-log decides."""
-        length, found = 8 * os.path.getsize(f"{self.whole}-wal"), []
+        length = 8 * os.path.getsize(f"{self.whole}-wal")
+        found: list[int] = []
         while len(found) < count:
             bit = chance.randrange(length)
             if bit >= 8 and (bit // 8 - HEAD) % (FRONT + PAGE) != GATE:

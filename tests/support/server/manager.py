@@ -17,7 +17,8 @@ class Manager(InThread):
     files again. `asked` is what it was asked."""
 
     def __init__(self, folder: str, index: Kept | None = None, front: Front | None = None):
-        self.folder, self.index, self.front, self.asked = folder, index, front, []
+        self.folder, self.index, self.front = folder, index, front
+        self.asked: list[str] = []
         manager = self
 
         class Asked(http.server.BaseHTTPRequestHandler):

@@ -1,7 +1,10 @@
 """A network of the tests' own: network namespaces, linked to each other and to nothing else."""
+from __future__ import annotations
+
 import ctypes
 import os
 import subprocess
+from collections.abc import Iterator, Sequence
 from contextlib import ExitStack, contextmanager
 
 from support.running import run_command
@@ -16,19 +19,20 @@ class Refused(Exception):
     """This machine refuses a call or a command that makes a network."""
 
 
-def call(name, *words):
+def call(name: str, *words: int) -> None:
     """A call of the C library."""
     if getattr(LIBC, name)(*words):
         raise Refused(f"{name}(CLONE_NEWNET): {os.strerror(ctypes.get_errno())}")
 
 
-def ip(words, under=()):
+def ip(words: str, under: Sequence[str] = ()) -> None:
+    """Runs `ip` with these words, under a command if one is given."""
     ended = run_command([*under, "ip", *words.split()])
     if ended.returncode:
         raise Refused(f"ip {words}: {ended.stdout.strip()}")
 
 
-def forget_hosts():
+def forget_hosts() -> None:
     """nginx's host forgets where the others are, and what it has for one that it did not find."""
     ip("neighbour flush dev switch")
 
@@ -36,13 +40,15 @@ def forget_hosts():
 class Host:
     """A host with an address and a cable. `under` are the words of a command that becomes one on this host."""
 
-    def __init__(self, at):
-        self.at, self.address, self.under = at, HOSTS[at], ()
+    def __init__(self, at: int):
+        self.at, self.address = at, HOSTS[at]
+        self.under: Sequence[str] = ()
         words = ["unshare", "--net", "sh", "-c", "echo ready; exec sleep 600"]
         self.holder = subprocess.Popen(words, stdin=subprocess.DEVNULL, stdout=subprocess.PIPE,
                                        stderr=subprocess.STDOUT, text=True)
 
-    def __enter__(self):
+    def __enter__(self) -> Host:
+        assert self.holder.stdout
         said = self.holder.stdout.readline()
         try:
             if said != "ready\n":
@@ -58,13 +64,14 @@ class Host:
             raise
         return self
 
-    def __exit__(self, *_):
+    def __exit__(self, *_: object) -> None:
         self.holder.kill()
         self.holder.wait()
-        self.holder.stdout.close()
+        if self.holder.stdout:
+            self.holder.stdout.close()
 
     @contextmanager
-    def unplugged(self):
+    def unplugged(self) -> Iterator[None]:
         """The host's cable is out as long as the block lasts, and nginx's host has noticed, as it does in seconds."""
         ip("link set eth0 down", self.under)
         forget_hosts()
@@ -77,16 +84,16 @@ class Host:
 class Loopback:
     """An address of loopback that stands for a host, with a cable that stays in."""
 
-    def __init__(self, at):
+    def __init__(self, at: int):
         self.address, self.under = f"127.0.0.{at + 2}", ()
 
     @contextmanager
-    def unplugged(self):
+    def unplugged(self) -> Iterator[None]:
         yield
 
 
 @contextmanager
-def of_its_own():
+def of_its_own() -> Iterator[None]:
     """The caller's thread, and what it starts, has a network of its own as long as the block lasts, with a switch for
     hosts."""
     before = os.open("/proc/thread-self/ns/net", os.O_RDONLY)
@@ -105,12 +112,13 @@ def of_its_own():
 
 
 @contextmanager
-def three_hosts():
+def three_hosts() -> Iterator[tuple[list, Refused | None]]:
     """Three hosts in a network of their own, or three addresses of loopback and what was refused."""
     with ExitStack() as made:
         try:
             made.enter_context(of_its_own())
-            hosts, refused = [made.enter_context(Host(at)) for at in range(len(HOSTS))], None
+            hosts: list[Host] | list[Loopback] = [made.enter_context(Host(at)) for at in range(len(HOSTS))]
+            refused = None
         except Refused as end:
             made.close()
             hosts, refused = [Loopback(at) for at in range(len(HOSTS))], end

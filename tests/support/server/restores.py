@@ -44,7 +44,9 @@ class Restores:
     def __init__(self, work: str, program: str, index: Kept, front: Front, manager: Manager):
         self.work, self.program, self.index, self.front, self.manager = work, program, index, front, manager
         self.folder, self.backups, self.log = os.path.dirname(index.path), f"{work}/backups", f"{work}/changes.log"
-        self.before, self.after, self.copy = {}, {}, ""
+        self.before: dict[str, bytes] = {}
+        self.after: dict[str, bytes] = {}
+        self.copy = ""
         os.mkdir(self.backups)
 
     def upload(self, file: str, body: bytes, files: dict) -> None:

@@ -11,7 +11,8 @@ class Asked(threading.Thread):
 
     def __init__(self, call: Callable[..., tuple], *words: object, **more: object):
         super().__init__(daemon=True)
-        self.call, self.reply, self.seconds = lambda: call(*words, **more), None, 0.0
+        self.call, self.seconds = lambda: call(*words, **more), 0.0
+        self.reply: tuple | None = None
         self.start()
 
     def run(self) -> None:
@@ -19,6 +20,7 @@ class Asked(threading.Thread):
         self.reply = self.call()
         self.seconds = time.monotonic() - begun
 
-    def ended(self) -> tuple | None:
+    def ended(self) -> tuple:
+        """The reply, or an empty one if the request failed."""
         self.join()
-        return self.reply
+        return self.reply or (None, {}, b"")

@@ -16,19 +16,20 @@ class Uploads:
 
     def __init__(self, front: Front, packages: dict, folder: str):
         self.folder, self.dist = folder, f"{folder}/dist"
-        self.setting = {"INDEX_URL": front.url, "INDEX_CA": front.certificate, "INDEX_TOKEN": "office"}
+        self.setting: dict[str, str | None] = {"INDEX_URL": front.url, "INDEX_CA": front.certificate,
+                                               "INDEX_TOKEN": "office"}
         os.mkdir(self.dist)
         for file, (path, _) in packages["frob"].items():
             shutil.copy(path, f"{self.dist}/{file}")
 
     def words(self, *words: str, **setting: str | None) -> tuple[list[str], dict[str, str]]:
         """The command and its environment. A setting of None is left out."""
-        setting = {name: value for name, value in {**self.setting, **setting}.items() if value is not None}
-        return [*INDEXCTL, "upload", *words], setting
+        found = {name: value for name, value in {**self.setting, **setting}.items() if value is not None}
+        return [*INDEXCTL, "upload", *words], found
 
     def run(self, *words: str, **setting: str | None) -> subprocess.CompletedProcess:
-        words, setting = self.words(*words, **setting)
-        return run_command(words, **setting)
+        command, found = self.words(*words, **setting)
+        return run_command(command, **found)
 
     def wheel(self, name: str, version: str, inside: str | None = None, more: str = "", requires: str = "") -> str:
         """The path of a wheel whose metadata may have another name than the file."""
