@@ -1,5 +1,9 @@
 """Many requests at once from one process, each on a connection of its own, and how long each waits for the end of its
-reply."""
+reply.
+
+wrk does less than parts of bench need: it asks again when a reply came, and not when a request is due, so a slow server
+is asked less; it counts a wait from the first byte that it sends, and not from the connect, so a full listen queue is
+not seen; and it sends one kind of request."""
 import re
 import select
 import socket

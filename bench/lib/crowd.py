@@ -1,5 +1,5 @@
 """What bench measures of many connections at once: how long clients wait for a small page, beside nginx with the same
-bytes."""
+bytes. A wait counts from the connect on, which wrk leaves out."""
 import multiprocessing
 import os
 import statistics

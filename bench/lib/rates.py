@@ -11,6 +11,7 @@ import time
 from contextlib import ExitStack, contextmanager, nullcontext
 
 from lib.figures import ROUNDS, goal, line, load
+from lib.load import rate
 from lib.servers import check_same, fetched
 from support.serving import JSON_PAGE, Index, Running, accepted, free_port, listens
 
@@ -97,12 +98,12 @@ def claims_between(index):
         claimer.join()
 
 
-def rates(client, addresses, length):
+def rates(addresses):
     """The requests a second of each address in each round. The addresses take turns."""
     seen = {name: [] for name in addresses}
     for _ in range(ROUNDS):
         for name, url in addresses.items():
-            seen[name].append(client.rate(url, SECONDS, length))
+            seen[name].append(rate(url, SECONDS))
     return seen
 
 
@@ -128,17 +129,17 @@ MEASURED = (
 MEASURED_FIRST = (("page", "asked first", {"http.server": 2}), ("file", "asked first", {}))
 
 
-def measure(client, index, servers, lengths, measured):
+def measure(index, servers, lengths, measured):
     for name, asking, goals in measured:
         addresses = {"index": f"http://127.0.0.1:{index.port}{PATHS[name]}"}
         addresses.update((server, f"http://127.0.0.1:{port}/{name}") for server, (_, port) in servers.items())
         check_same(addresses, fetched(addresses["index"]))
         with claims_between(index) if "between" in asking else nullcontext():
-            seen = rates(client, addresses, lengths[name])
+            seen = rates(addresses)
         tell_rates(name, f"{WHAT[name]}{lengths[name]:,} bytes, {asking}", seen, goals)
 
 
-def bench_rates(program, client):
+def bench_rates(program):
     """Beside the servers of files. A server that keeps nothing answers each request as one that asks first."""
     with tempfile.TemporaryDirectory() as folder, ExitStack() as running:
         os.chmod(folder, 0o755)
@@ -153,5 +154,5 @@ def bench_rates(program, client):
             running.enter_context(Running(words, stdout=subprocess.DEVNULL, stderr=subprocess.DEVNULL))
             if not listens(port, patience=5):
                 raise SystemExit(f"bench: nobody listens on port {port}")
-        measure(client, index, servers, lengths, MEASURED)
-        measure(client, keeps_none, servers, lengths, MEASURED_FIRST)
+        measure(index, servers, lengths, MEASURED)
+        measure(keeps_none, servers, lengths, MEASURED_FIRST)

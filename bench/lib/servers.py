@@ -1,8 +1,15 @@
 """What bench and bench-behind-nginx share: what is installed here, and bytes that all servers have to give."""
+import os
 import subprocess
 import urllib.request
 
 from support.serving import JSON_PAGE
+
+
+def want_program(path):
+    """Ends the run if the built program is missing."""
+    if not os.access(path, os.X_OK):
+        raise SystemExit(f"no program is at {path}: `tools/build` builds it; --program PATH names another")
 
 
 def first_line_of(*words):
