@@ -21,10 +21,11 @@ SECONDS_TO_END = 30
 
 @dataclass(frozen=True)
 class Ended:
-    """How a run of tests ended: the status of pytest (1 if tests failed), the names of those that failed, and what it
-    printed."""
+    """How a run of tests ended: the status of pytest (1 if tests failed), the names of those that failed and of those
+    that could not be run, and what it printed."""
     status: int
-    failed: frozenset
+    failed: frozenset[str]
+    errors: frozenset[str]
     said: str
 
     def has_failed(self, name: str) -> bool:
@@ -46,7 +47,7 @@ def copy_rooms(copy: str) -> str:
 def run_tests(top: str, names: Iterable[str], *words: str, seconds: float = 400) -> Ended:
     """Runs tests, by their names from the top, in a copy or in the repository itself. A run that takes longer is
     interrupted, and has the status -1. What it started ends with it."""
-    command = [sys.executable, "-B", "-m", "pytest", *names, "-q", "-rf", "--tb=short", "-n", "0", *words]
+    command = [sys.executable, "-B", "-m", "pytest", *names, "-q", "-rfE", "--tb=short", "-n", "0", *words]
     with subprocess.Popen(command, cwd=top, stdin=subprocess.DEVNULL, stdout=subprocess.PIPE, stderr=subprocess.STDOUT,
                           text=True, errors="replace", start_new_session=True, env=environment()) as run:
         status = None
@@ -57,11 +58,12 @@ def run_tests(top: str, names: Iterable[str], *words: str, seconds: float = 400)
             said = interrupted(run)
         finally:
             end_session(run)
-    failed = re.findall(r"^FAILED (\S+(?: \S+)*?)(?: - .*)?$", said, re.M)
-    return Ended(-1 if status is None else status, frozenset(failed), said)
+    failed, errors = (frozenset(re.findall(rf"^{how} (\S+(?: \S+)*?)(?: - .*)?$", said, re.M))
+                      for how in ("FAILED", "ERROR"))
+    return Ended(-1 if status is None else status, failed, errors, said)
 
 
-def environment() -> dict:
+def environment() -> dict[str, str]:
     """What a run finds in its environment: nothing of the run that started it."""
     kept = {name: value for name, value in os.environ.items() if not name.startswith("PYTEST_")}
     return {**kept, "PYTHONDONTWRITEBYTECODE": "1", "COLUMNS": "200"}

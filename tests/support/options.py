@@ -45,6 +45,10 @@ def add_options(parser) -> None:
                     "no clause refuses one")
     group.addoption("--share", type=share, metavar="K/N", help="a share of what --breaks and --build run, and the "
                     "mutants of Python, by turns: each whose place is K, modulo N")
+    group.addoption("--mutants", type=whole_number, metavar="N", help="also make so many mutants of server/ and "
+                    "indexctl/: ten seconds each")
+    group.addoption("--mutant-jobs", type=whole_number, metavar="N", default=2, help="so many of them at once; 2 if "
+                    "not given")
     group.addoption("--alter", metavar="'PATTERN => TEXT'", help="for a break: pages are altered on their way from the "
                     "index")
     group.addoption("--kept-programs", metavar="FOLDER", help="where wrong programs are kept that were built")

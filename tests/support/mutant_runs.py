@@ -1,0 +1,195 @@
+"""Mutants of server/ and indexctl/, and whether tests see them: first the unit tests of the room, and if these let one
+through, the tests that are known to see what is wrong in its file, by the breaks of tests/mutants."""
+from __future__ import annotations
+
+import ast
+import concurrent.futures
+import glob
+import json
+import math
+import os
+import random
+import tempfile
+import threading
+from collections import Counter
+from dataclasses import dataclass, field
+
+from support.breaks import all_breaks
+from support.inner_runs import Ended, copy_rooms, run_tests
+from support.places import TOP
+from support.python_mutants import Mutant, drawn, mutants_of
+
+EQUIVALENT = f"{TOP}/tests/mutants/equivalent.json"
+# of those that are another program, so many parts of a hundred are caught
+WANTED = 0.85
+# by chance fewer are caught of a few mutants: in one run of so many of a room that catches just what is wanted
+BY_CHANCE = 1_000
+# how long the unit tests may take on one mutant, the others of its file, and one test of these
+SECONDS_OF_UNITS, SECONDS_OF_ROOM, SECONDS_OF_TEST = 120, 300, 90
+# the rooms, and their tests for a file that no break changes
+ROOMS = {"server": "tests/server", "indexctl": "tests/indexctl"}
+# what is only run by `tools/package`, whose tests build the package
+LEFT_OUT = ("indexctl/build.py",)
+
+
+class Broken(Exception):
+    """The tests can't say anything of mutants."""
+
+
+def python_files() -> dict[str, str]:
+    """The text of each Python program and module of the rooms, by its path."""
+    found = {}
+    for path in sorted(glob.glob(f"{TOP}/server/bin/*") + glob.glob(f"{TOP}/server/lib/**/*.py", recursive=True)
+                       + glob.glob(f"{TOP}/indexctl/**/*.py", recursive=True)):
+        with open(path, encoding="utf-8") as kept:
+            text = kept.read()
+        file = os.path.relpath(path, TOP)
+        if file not in LEFT_OUT and (file.endswith(".py") or text.partition("\n")[0].endswith("python3")):
+            found[file] = text
+    return found
+
+
+def equivalents() -> dict[tuple[str, str, str, str], str]:
+    """Why mutants that were read are the same program, by what stays the same if lines move."""
+    with open(EQUIVALENT, encoding="utf-8") as kept:
+        return {(it["file"], it["function"], it["old"], it["new"]): it["why"] for it in json.load(kept)}
+
+
+def seen_by_file() -> dict[str, list[str]]:
+    """By a file of the rooms, the test files that see a break of it, those that see most of them first."""
+    seen: dict[str, Counter[str]] = {}
+    for it in all_breaks():
+        for path in {path for path, *_ in it.changes}:
+            seen.setdefault(path, Counter()).update(name.partition("::")[0] for name in it.caught)
+    return {path: [name for name, _ in counts.most_common() if os.path.exists(f"{TOP}/{name}")]
+            for path, counts in seen.items()}
+
+
+def units_of(file: str) -> list[str]:
+    """The unit tests of the room of a file, and of the other if the file is one that they share."""
+    rooms = ROOMS.values() if file.startswith("server/lib/") else [ROOMS[file.partition("/")[0]]]
+    return [os.path.relpath(it, TOP) for room in rooms for it in sorted(glob.glob(f"{TOP}/{room}/test_unit_*.py"))]
+
+
+def others_of(file: str, table: dict[str, list[str]]) -> list[str]:
+    """The other tests of a file: by the breaks, or those of its room."""
+    room = ROOMS[file.partition("/")[0]]
+    found = table.get(file) or [os.path.relpath(it, TOP) for it in sorted(glob.glob(f"{TOP}/{room}/test_*.py"))]
+    return [it for it in found if not os.path.basename(it).startswith("test_unit_")]
+
+
+@dataclass
+class Result:
+    """What became of a mutant: the test that caught it, or none."""
+    mutant: Mutant
+    caught_by: str = ""
+    why_equivalent: str = ""
+
+    def __str__(self) -> str:
+        if self.why_equivalent:
+            return f"the same program: {self.mutant}"
+        return f"caught by {self.caught_by}: {self.mutant}" if self.caught_by else f"SURVIVED: {self.mutant}"
+
+
+@dataclass
+class MutantRuns:
+    """Runs tests on mutants, one after the other in each of some copies."""
+    program: str
+    until: float = math.inf
+    table: dict[str, list[str]] = field(default_factory=seen_by_file)
+    known: dict[tuple[str, ...], bool] = field(default_factory=dict)
+    lock: threading.Lock = field(default_factory=threading.Lock)
+    copies: threading.local = field(default_factory=threading.local)
+
+    def all(self, mutants: list[Mutant], jobs: int, clock) -> list[Result]:
+        """What becomes of each of these, until the time is over."""
+        with tempfile.TemporaryDirectory() as folder, concurrent.futures.ThreadPoolExecutor(jobs) as pool:
+            os.chmod(folder, 0o755)
+            self.folder = folder
+            return [it for it in pool.map(lambda one: self.one(one) if clock() < self.until else None, mutants) if it]
+
+    def copy(self) -> str:
+        """The copy of this thread."""
+        if not hasattr(self.copies, "path"):
+            self.copies.path = copy_rooms(f"{self.folder}/{threading.get_ident()}")
+        return str(self.copies.path)
+
+    def one(self, mutant: Mutant) -> Result:
+        why = equivalents().get(mutant.key, "")
+        if why:
+            return Result(mutant, why_equivalent=why)
+        copy = self.copy()
+        for tests, seconds in ((units_of(mutant.file), SECONDS_OF_UNITS),
+                               (others_of(mutant.file, self.table), SECONDS_OF_ROOM)):
+            if not tests or not self.pass_as_it_is(copy, tuple(tests), seconds):
+                continue
+            with open(f"{copy}/{mutant.file}", "w", encoding="utf-8") as made:
+                made.write(mutant.source)
+            try:
+                ended = self.run(copy, tests, seconds)
+            finally:
+                with open(f"{TOP}/{mutant.file}", encoding="utf-8") as right, \
+                        open(f"{copy}/{mutant.file}", "w", encoding="utf-8") as made:
+                    made.write(right.read())
+            if caught_by(ended, tests):
+                return Result(mutant, caught_by(ended, tests))
+        return Result(mutant)
+
+    def run(self, copy: str, tests: list[str] | tuple[str, ...], seconds: float) -> Ended:
+        return run_tests(copy, tests, "-x", "--program", self.program, "--timeout", str(SECONDS_OF_TEST),
+                         seconds=seconds)
+
+    def pass_as_it_is(self, copy: str, tests: tuple[str, ...], seconds: float) -> bool:
+        """Whether these tests pass where nothing is wrong, which is looked at once: else they would catch anything."""
+        with self.lock:
+            if tests not in self.known:
+                ended = self.run(copy, tests, 4 * seconds)
+                if ended.status not in (0, 5):
+                    raise Broken(f"{', '.join(tests)} fail where nothing is wrong: {ended.said[-3_000:]}")
+                self.known[tests] = ended.status == 0
+            return self.known[tests]
+
+
+def caught_by(ended: Ended, tests: list[str]) -> str:
+    """The test that failed, or the file that can't be imported; or none."""
+    if ended.status == -1:
+        return f"{tests[0]}: it took too long"
+    if ended.status == 1 or ended.status == 2 and ended.errors:
+        return sorted([*ended.failed, *ended.errors])[0]
+    if ended.status in (0, 5):
+        return ""
+    raise Broken(f"pytest ended with {ended.status}: {ended.said[-2_000:]}")
+
+
+def draw(count: int, seed: object) -> list[Mutant]:
+    """So many mutants of all files, the same for one seed and the same texts."""
+    every = [it for file, text in python_files().items() for it in mutants_of(file, text)]
+    return drawn(every, count, random.Random(str(seed)))
+
+
+def least_caught(count: int) -> int:
+    """How many of so many have to be caught: of few mutants fewer, so that a room that catches what is wanted does not
+    fail by chance."""
+    if count >= 200:
+        return math.ceil(WANTED * count)
+    below = 0.0
+    for least in range(count + 1):
+        below += math.comb(count, least) * WANTED ** least * (1 - WANTED) ** (count - least)
+        if below > 1 / BY_CHANCE:
+            return least
+    return count
+
+
+def functions_of(text: str) -> set[str]:
+    """The names of functions and methods of a text, as mutants have them."""
+    found = {""}
+
+    def walk(node: ast.AST, name: str) -> None:
+        for it in ast.iter_child_nodes(node):
+            is_named = isinstance(it, (ast.FunctionDef, ast.AsyncFunctionDef, ast.ClassDef))
+            inner = f"{name}.{it.name}".lstrip(".") if is_named else name
+            found.add(inner)
+            walk(it, inner)
+
+    walk(ast.parse(text), "")
+    return found
