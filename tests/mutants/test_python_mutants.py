@@ -71,8 +71,8 @@ def test_mutants_are_caught(pytestconfig, program):
         json.dump([{**it.mutant.told(), "caught_by": it.caught_by, "same": it.why_equivalent} for it in results], kept)
     others = [it for it in results if not it.why_equivalent]
     caught = [it for it in others if it.caught_by]
-    first = (f"seed {seed}: {len(caught)} of {len(others)} mutants are caught, {len(results) - len(others)} are the same "
-             f"program by {os.path.basename(EQUIVALENT)}, {len(drawn) - len(results)} were not tried")
+    first = (f"seed {seed}: {len(caught)} of {len(others)} mutants are caught, {len(results) - len(others)} are the "
+             f"same program by {os.path.basename(EQUIVALENT)}, {len(drawn) - len(results)} were not tried")
     said = "\n".join([first, *(str(it) for it in results)])
     print(said)
     assert others and len(caught) >= least_caught(len(others)), said
