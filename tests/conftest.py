@@ -29,6 +29,13 @@ def pytest_configure(config):
     config.looked, config.ended = 0, {"passed": 0, "failed": 0, "skipped": 0}
 
 
+@pytest.hookimpl(tryfirst=True)
+def pytest_cmdline_main(config):
+    """Workers get the tests of one group together, so that what they share is made once."""
+    if getattr(config.option, "numprocesses", None) and config.option.dist == "no":
+        config.option.dist = "loadgroup"
+
+
 @pytest.hookimpl(optionalhook=True)
 def pytest_configure_node(node):
     node.workerinput["seed"] = node.config.seed

@@ -1,1 +1,1 @@
-"""Parts of tools/try-indexctl."""
+"""What the tests of indexctl share."""

@@ -1,6 +1,5 @@
 """An index of made-up names, for the page of the office."""
-from support.indexctl.control import digest, line
-from support.indexctl.tasks import DAY, upload_line
+from support.indexctl.control import DAY, line, upload_line, user_lines
 from support.packages import wheel_name
 
 USERS = "amara", "bea", "chidi", "dana", "ewan", "farid", "greta", "hugo", "ines", "jonas", "pipeline"
@@ -37,8 +36,7 @@ CASES = (
 
 def lines_of(now, markup=False):
     """The lines that make the index, as seen at this moment; with markup in a text, as an attacker would have it."""
-    for user in USERS:
-        yield line(1, "office", "add_user", user=user, office=False, token_sha256=digest(user))
+    yield from user_lines(*USERS)
     for name, (owners, size) in NAMES.items():
         first, *others = owners.split()
         yield line(now - 500 * DAY, first, "claim", name=name)

@@ -1,0 +1,39 @@
+"""What the tests of indexctl share: a certificate, folders that nginx reads, and an index that nobody changes."""
+from __future__ import annotations
+
+import os
+from typing import Iterator
+
+import pytest
+from support.indexctl.control import Control
+from support.indexctl.tools import needs
+
+
+@pytest.fixture(scope="module")
+def open_folder(shared_folder: str) -> str:
+    """A folder that nginx's own user reads too."""
+    os.chmod(shared_folder, 0o755)
+    return shared_folder
+
+
+@pytest.fixture(scope="module")
+def certificate(open_folder: str) -> str:
+    """A certificate for loopback, which nobody vouches for."""
+    needs("openssl", "openssl")
+    needs("nginx", "nginx")
+    from support.server.front import make_certificate
+    return str(make_certificate(open_folder))
+
+
+@pytest.fixture(scope="module")
+def still_url(program: str) -> Iterator[str]:
+    """The address of an index on which the tests of a file change nothing that another one reads."""
+    from support.serving import Index
+    with Index(program) as index:
+        yield f"http://127.0.0.1:{index.port}"
+
+
+@pytest.fixture
+def by(folder: str, still_url: str) -> Control:
+    """indexctl for that index, with an empty home."""
+    return Control(folder, still_url)

@@ -1,0 +1,2 @@
+"""The tables of an index."""
+TABLES = "users", "names", "owners", "files", "blobs", "yanks", "cases", "bans"
