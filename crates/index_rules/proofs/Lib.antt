@@ -35,6 +35,7 @@ pub mod StepOwners
 pub mod StepUsers
 pub mod StepCases
 pub mod BindLemmas
+pub mod ServeLemmas
 pub mod MoveLemmas
 pub mod TransferLemmas
 pub mod AloneWords

@@ -22,6 +22,7 @@ use Rattle.index_rules.specs.PastNames.{state_after, quota_after, last_upload_af
 use Rattle.index_rules.specs.PastNames.{yank_after}
 use Rattle.index_rules.specs.PastCases.{Case, case_after, is_unanswered_after}
 use Rattle.index_rules.specs.Legal.{IsLegal, verdict_after}
+use Rattle.index_rules.specs.StandsFor.{body_after}
 use Rattle.index_rules.specs.PastFiles.{is_undeleted_after, size_after, charge_after}
 
 -- ---- a token has one bearer
@@ -78,6 +79,27 @@ KeepsBans (begins user token) = Unit {0}
 KeepsBans (more h e) =
     KeepsBans h
     × ((f : Bytes) (first : Bytes × ℕ) → IsUploadOf e.call.request f first → HasBan h f → ⊥)
+
+-- ---- what is served of a file
+
+-- the one is the other, or what it was before its newest entries
+abbrev pub IsFrontOf : History → History → Type 0
+IsFrontOf earlier (begins user token) = earlier ≡ begins user token
+IsFrontOf earlier (more h e) = (earlier ≡ more h e) ⊎ IsFrontOf earlier h
+
+-- what is served of a file name is bound for good: at any two points of the history at which bytes
+-- of it are served, these have one digest and one size
+abbrev pub ServesBound : History → Type 0
+ServesBound h =
+    (one other : History) → IsFrontOf one h → IsFrontOf other h
+    → (f first second : Bytes) → body_after one f ≡ Some first → body_after other f ≡ Some second
+    → (sha256 first ≡ sha256 second) × (length first ≡ length second)
+
+-- at each point of it they are those of an upload of the file
+abbrev pub ServesUploads : History → Type 0
+ServesUploads h =
+    (at : History) → IsFrontOf at h
+    → (f body : Bytes) → body_after at f ≡ Some body → HasUpload at f (sha256 body, length body)
 
 -- ---- what moves a charge, a state, the owners
 

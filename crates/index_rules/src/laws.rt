@@ -6,7 +6,7 @@ ghost use Rattle.index_rules.specs.Legal.{IsLegal};
 ghost use Rattle.index_rules.specs.Tables.{Tables};
 ghost use Rattle.index_rules.specs.Sound.{IsSound};
 ghost use Rattle.index_rules.specs.StandsFor.{StandsFor};
-ghost use Rattle.index_rules.specs.Laws.{BindsFiles, DeclaresBodies, HasOneBearerOfEach, KeepsBans, MovesAsRecorded, StandsAlone, TransfersWereReady};
+ghost use Rattle.index_rules.specs.Laws.{BindsFiles, DeclaresBodies, HasOneBearerOfEach, KeepsBans, MovesAsRecorded, ServesBound, ServesUploads, StandsAlone, TransfersWereReady};
 
 /// A token has one bearer: no two users bear one digest.
 #[tactic(auto, using(crate::proofs::StandsOn::one_bearer_of_each))]
@@ -22,6 +22,14 @@ pub fn file_names_are_bound()
     ensures bound { (h : History) → IsLegal h → BindsFiles h }
     ensures declared { (h : History) → IsLegal h → DeclaresBodies h }
     ensures bans { (h : History) → IsLegal h → KeepsBans h }
+{}
+
+/// So what is served is bound: bytes that are served of one file name, at any two points of one history, have the same
+/// digest and size. They are those of an upload of it.
+#[tactic(auto, using(crate::proofs::ServeLemmas::serves_uploads))]
+pub fn served_bytes_are_bound()
+    ensures bound { (h : History) → IsLegal h → ServesBound h }
+    ensures uploads { (h : History) → ServesUploads h }
 {}
 
 /// An entry moves what its request says, and only for its own name: an upload adds its size to the charge and is of a
