@@ -2,13 +2,15 @@
 
 In memory each is made in each run. With `--breaks`, or by turns with `--share`, each is made in a copy of the rooms,
 and its tests are run there, and have to fail."""
+import glob
 import os
 import tempfile
 
 import pytest
-from support.breaks import all_breaks
+from support.breaks import all_breaks, names_of
+from support.places import TOP
 
-BREAKS = all_breaks()
+BREAKS, ROOMS = all_breaks(), ("server", "indexctl", "clients")
 # the longest part of a run of one break, in seconds: some start three kinds of servers first
 LONGEST = 600
 
@@ -30,6 +32,23 @@ def test_can_be_made(one):
     assert one.texts() or one.program or one.alter
     assert one.caught, "it names no test that sees it"
     assert not one.unknown_tests(), "no file has these tests"
+
+
+def files_with_breaks():
+    """The test files of server/ and indexctl/, and those of clients that a break names; not those of units."""
+    named = {name.partition("::")[0] for it in BREAKS for name in it.caught}
+    files = [os.path.relpath(it, TOP) for room in ROOMS for it in sorted(glob.glob(f"{TOP}/tests/{room}/test_*.py"))]
+    return [it for it in files if not os.path.basename(it).startswith("test_unit_")
+            and (it in named or "clients" not in it)]
+
+
+@pytest.mark.parametrize("file", files_with_breaks())
+def test_each_test_stands_at_a_break(file):
+    """So each of them has failed once."""
+    if [it for it in BREAKS if not it.is_moved and it.room == file.split("/")[1]]:
+        pytest.skip("breaks of this room are not moved yet")
+    seen = {name.partition("[")[0] for it in BREAKS for name in it.caught}
+    assert not [it for it in names_of(file) if it not in seen and it.rpartition("::")[0] not in seen]
 
 
 @pytest.mark.by_turns("breaks")

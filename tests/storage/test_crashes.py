@@ -16,11 +16,15 @@ from support.judge import Judge
 
 ROUNDS = 400
 # each run by its name, its part of the rounds, and in how many tests they are made
-RUNS = {"apply": (0.45, 5), "opening": (0.15, 2), "init": (0.15, 2), "migration": (0.2, 2), "serve": (0.05, 1)}
+RUNS = {"apply": (0.45, 5), "opening": (0.15, 2), "init": (0.15, 2), "migration": (0.2, 4), "serve": (0.05, 4)}
 # of so many images one is opened with a record, and crashes again
 AGAIN = 5
 # how many images of a run without syncs are made at once, and how often
 MOST_SPOILT, TRIALS = 250, 3
+
+
+# a program that is not proved takes ten times as long for the large file of `serve`
+pytestmark = pytest.mark.timeout(1_200)
 
 
 @pytest.fixture(scope="module")

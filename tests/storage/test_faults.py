@@ -25,6 +25,10 @@ ROUNDS = 600
 OF_INIT, OF_MIGRATION, OF_APPLY, OF_LATE_READS, OF_STREAMS, OF_SERVE = 0.1, 0.1, {0: 0.25, 16: 0.15}, 0.1, 0.1, 0.3
 
 
+# a program that is not proved takes ten times as long for the many files that are read late
+pytestmark = pytest.mark.timeout(1_200)
+
+
 @pytest.fixture(scope="module")
 def failing(shared_folder):
     return Failing(shared_folder)

@@ -106,6 +106,13 @@ def tests_of(path: str) -> dict:
     return found
 
 
+def names_of(path: str) -> list[str]:
+    """The names of the tests of a file, as `caught` has them."""
+    return [f"{path}::{name}" for name in tests_of(path) if name.startswith("test")] + [
+        f"{path}::{name}::{each}" for name, methods in tests_of(path).items() for each in methods
+        if each.startswith("test")]
+
+
 def has_test(name: str) -> bool:
     """Whether a file has a test of this name, whose parameters are not looked at."""
     path, *inside = name.partition("[")[0].split("::")
