@@ -1,4 +1,6 @@
 """Forms as twine sends them, and index-legacy-upload to send them to."""
+from __future__ import annotations
+
 import base64
 import re
 import socket
@@ -6,6 +8,7 @@ import subprocess
 import sys
 import time
 from contextlib import suppress
+from typing import Optional, Tuple
 
 from support.places import BIN
 from support.serving import Running, sha256
@@ -23,12 +26,16 @@ sys.exit(service.main())
 """
 
 
-def field(name, value, file=None):
+# the status of a reply, the reason beside it, and all of it as text; nothing if there is none
+Reply = Optional[Tuple[int, str, str]]
+
+
+def field(name: str, value: bytes, file: str | None = None) -> bytes:
     disposition = f'form-data; name="{name}"' + (f'; filename="{file}"' if file is not None else "")
     return f"--{BOUNDARY}\r\nContent-Disposition: {disposition}\r\n\r\n".encode() + value + b"\r\n"
 
 
-def form(file, data, **fields):
+def form(file: str, data: bytes, **fields: str | None) -> bytes:
     """A form as twine sends it. `action` is the field `:action`; one that is None is left out."""
     project = file.rpartition("-")[0] if file.endswith(".tar.gz") else file.partition("-")[0]
     fields = {"action": "file_upload", "protocol_version": "1", "name": project, "sha256_digest": sha256(data),
@@ -38,7 +45,7 @@ def form(file, data, **fields):
     return b"".join([*parts, field("content", data, file), END])
 
 
-def message(body, token="office", method="POST", **headers):
+def message(body: bytes, token: str = "office", method: str = "POST", **headers) -> bytes:
     """A whole request with this body, by its bytes. A header that is None is left out."""
     basic = base64.b64encode(f"__token__:{token}".encode()).decode()
     lines = {"Host": "x", "Content-Type": f"multipart/form-data; boundary={BOUNDARY}", "Content-Length": len(body),
@@ -47,9 +54,8 @@ def message(body, token="office", method="POST", **headers):
     return f"{method} /legacy/ HTTP/1.1\r\n{text}\r\n".encode() + body
 
 
-def sent(port, *pieces, pause=0, patience=90):
-    """The reply to these pieces (its status, the reason beside it, and all of it as text), or nothing; and the seconds
-    until the connection ended."""
+def sent(port: int, *pieces: bytes, pause: float = 0, patience: float = 90) -> tuple[Reply, float]:
+    """The reply to these pieces, and the seconds until the connection ended."""
     begun, reply = time.monotonic(), b""
     with socket.create_connection(("127.0.0.1", port), timeout=patience) as peer, suppress(ConnectionError):
         for piece in pieces:
@@ -64,12 +70,12 @@ def sent(port, *pieces, pause=0, patience=90):
 class Service(Running):
     """index-legacy-upload on a free port, in front of an index on this port."""
 
-    def __init__(self, index_port, *more, is_hasty=False):
+    def __init__(self, index_port: int, *more: str, is_hasty: bool = False) -> None:
         words = [sys.executable, "-B", "-c", HASTY, COMMAND] if is_hasty else [sys.executable, "-B", COMMAND]
         words += ["--listen", "127.0.0.1:0", "--index", f"127.0.0.1:{index_port}", *more]
         super().__init__(words, stdout=subprocess.PIPE, stderr=subprocess.DEVNULL)
 
-    def __enter__(self):
+    def __enter__(self) -> Service:
         super().__enter__()
         line = self.process.stdout.readline()
         found = re.fullmatch(rb"listening on 127\.0\.0\.1:(\d+)\n", line)
@@ -79,19 +85,19 @@ class Service(Running):
         self.port = int(found[1])
         return self
 
-    def ask(self, body, token="office", **headers):
+    def ask(self, body: bytes, token: str = "office", **headers) -> Reply:
         return sent(self.port, message(body, token, **headers))[0]
 
-    def post(self, file, data, token="office", **fields):
+    def post(self, file: str, data: bytes, token: str = "office", **fields: str | None) -> Reply:
         return self.ask(form(file, data, **fields), token)
 
-    def memory(self):
+    def memory(self) -> tuple[int, int]:
         """The most memory that it has had in use, in bytes, and its threads now."""
         with open(f"/proc/{self.process.pid}/status") as kept:
-            text = kept.read()
-        return int(re.search(r"VmHWM:\s*(\d+) kB", text)[1]) << 10, int(re.search(r"Threads:\s*(\d+)", text)[1])
+            rows = dict(row.split(":", 1) for row in kept)
+        return int(rows["VmHWM"].split()[0]) << 10, int(rows["Threads"])
 
-    def waits_for_threads(self, count, patience=30):
+    def waits_for_threads(self, count: int, patience: float = 30) -> None:
         """Returns once it has so many threads beside its first: as many clients are read."""
         until = time.monotonic() + patience
         while self.memory()[1] <= count:

@@ -9,6 +9,7 @@ import tempfile
 from collections.abc import Callable, Sequence
 from contextlib import suppress
 
+from support.clients.page import Recipe
 from support.clients.world import ANN, PASSWORD, Gate, World
 from support.needed import want_command
 from support.running import run_command, write_below
@@ -36,7 +37,8 @@ class Person:
 
     def __init__(self, world: World, looked: Callable, follows: Sequence[str] = (), gate: Gate | None = None) -> None:
         self.world, self.looked, self.gate = world, looked, gate or world.gate
-        self.declared, self.followed = {*follows, "A CA of your own"}, set()
+        self.declared = {*follows, "A CA of your own"}
+        self.followed: set[str] = set()
         self.folder = tempfile.mkdtemp(dir=world.folder, prefix="person-")
         self.home, self.project = f"{self.folder}/home", f"{self.folder}/project"
         for it in (self.home, self.project):
@@ -63,7 +65,7 @@ class Person:
             text = text.replace(old, new)
         return text
 
-    def recipe(self, name: str):
+    def recipe(self, name: str) -> Recipe:
         recipe = self.world.recipes.get(name)
         assert recipe and recipe.is_tested, f"docs/USING.md has no recipe {name!r} that is tested"
         assert name in self.declared, f"the test does not say that it follows {name!r}"
@@ -83,9 +85,9 @@ class Person:
                 raise
         return subprocess.CompletedProcess(words, process.returncode, said)
 
-    def does(self, name: str, **more: str) -> subprocess.CompletedProcess:
+    def does(self, name: str) -> subprocess.CompletedProcess:
         """The end of the commands of a recipe."""
-        return self.run(["bash", "-euc", self.filled(self.recipe(name).text)], **more)
+        return self.run(["bash", "-euc", self.filled(self.recipe(name).text)])
 
     def takes(self, name: str) -> None:
         """From now on the environment is as a recipe exports it."""

@@ -1,4 +1,6 @@
 """Source archives and projects whose build asks for a backend, which comes from the index."""
+from __future__ import annotations
+
 import io
 import os
 import tarfile
@@ -35,19 +37,19 @@ def build_sdist(folder, config_settings=None):
 PYPROJECT = '[build-system]\nrequires = ["tiny_backend"]\nbuild-backend = "tiny_backend"\n'
 
 
-def project_files(name, version):
+def project_files(name: str, version: str) -> dict[str, str]:
     """The files of a project that the backend builds."""
     return {"NAME": f"{name} {version}\n", "pyproject.toml": PYPROJECT,
             "PKG-INFO": f"Metadata-Version: 2.1\nName: {name}\nVersion: {version}\n"}
 
 
-def make_project(folder, name, version):
+def make_project(folder: str, name: str, version: str) -> None:
     for inner, text in project_files(name, version).items():
         with open(os.path.join(folder, inner), "w") as made:
             made.write(text)
 
 
-def make_isolated(folder):
+def make_isolated(folder: str) -> tuple[str, str]:
     """The paths of the backend's wheel, and of the source archive of frob 0.8, whose build asks for it."""
     backend, archive = f"{folder}/{wheel_name('tiny_backend', '1.0')}", f"{folder}/frob-0.8.tar.gz"
     make_wheel(backend, wheel_files("tiny_backend", "1.0", BACKEND))

@@ -37,7 +37,7 @@ def main():
 def made_packages(folder: str) -> dict:
     """The packages of the other tests, by project and file, each as its path and Requires-Python. And more: a release
     for later Pythons, one that is not final, a command, a backend, and a source archive whose build asks for that."""
-    made = {**make_packages(folder), "tiny-backend": {}, "shout": {}}
+    made: dict = {**make_packages(folder), "tiny-backend": {}, "shout": {}}
 
     def add(project, name, version, code, requires="", needs=(), more=()):
         file = wheel_name(name, version)
@@ -153,6 +153,10 @@ class Gate(Front):
             digest = run_command(["openssl", "passwd", "-apr1", PASSWORD]).stdout.strip()
             self.put("readers", f"{READER}:{digest}\n")
             self.put("index/server.d/readers.conf", f"auth_basic packages;\nauth_basic_user_file {folder}/readers;\n")
+
+    def __enter__(self) -> Gate:
+        super().__enter__()
+        return self
 
     def next_port(self) -> int:
         """A port of nginx that no other person uses."""
