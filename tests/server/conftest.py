@@ -41,6 +41,8 @@ def front(kept_index: Kept, certificate: str, folder: str) -> Iterator[Front]:
     """nginx in front of that index, which has nothing to complain of."""
     with Front(f"{folder}/front", certificate, kept_index.port) as nginx:
         yield nginx
+        # pytest shows it if the test failed
+        print(nginx.log())
         assert not nginx.errors()
 
 

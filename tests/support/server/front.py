@@ -96,11 +96,15 @@ class Nginx(Running):
             raise SystemExit("nginx does not listen")
         return self
 
+    def log(self) -> str:
+        """What nginx says of itself and of requests that failed."""
+        with open(f"{self.folder}/error.log", errors="replace") as log:
+            return log.read()
+
     def errors(self) -> list[str]:
         """What nginx says of itself. That the index was away is an error, and that a page changed as it was read,
         critical."""
-        with open(f"{self.folder}/error.log", errors="replace") as log:
-            return [line for line in log if re.search(r"\[(alert|emerg)\]", line)]
+        return [line for line in self.log().splitlines() if re.search(r"\[(alert|emerg)\]", line)]
 
 
 class Front(Nginx, Asking):
