@@ -15,6 +15,8 @@ EDITS = edits()
 GONE = "tests/clients/test_gone_clients.py"
 KILLS, MESSAGES = "tests/storage/test_kills.py::TestKilled", "tests/program/test_messages.py"
 FAULTS, CRASHES = "tests/storage/test_faults.py", "tests/storage/test_crashes.py"
+CACHE, CAUSES, CONTROLS, ENDS, REFUSED, SHUT, SIZES = (
+    f"tests/program/test_{it}.py" for it in ("cache", "causes", "controls", "ends", "refused_memory", "shut", "sizes"))
 # by the name of an edit, the test that fails
 CAUGHT_BY = {
     "crashes_index_is_told_before_it_is_made": f"{CRASHES}::test_a_crash_leaves_what_was_answered[init-0]",
@@ -31,37 +33,50 @@ CAUGHT_BY = {
     "pip_flush_that_failed_is_not_told":
         f"{GONE}::test_a_client_that_is_gone_before_its_reply_is_told_by_one_line_and_its_request_stands",
     "messages_accepted_connection_is_forgotten": f"{MESSAGES}::test_answered_before_the_client_ends_its_side",
+    "messages_fourth_accept_header_is_want_of_memory": f"{MESSAGES}::test_the_type_is_chosen_by_all_accept_headers",
     "messages_reply_ends_in_a_byte_more": f"{MESSAGES}::test_answered_before_the_client_ends_its_side",
     "messages_reply_waits_for_the_end_of_the_input": f"{MESSAGES}::test_answered_before_the_client_ends_its_side",
-}
-# of those that are not moved yet, the command that caught it, and its line
-NOT_MOVED = {
-    "program_accepting_is_tried_for_a_millisecond": "try-program: accept N EMFILE for N ms: the clients",
-    "program_calls_of_the_files_tell_no_cause": "try-program: check, pwrite N ENOSPC from then on",
-    "program_each_address_is_localhost": "try-program: 127.0.0.2: another address is told",
-    "program_mistake_is_printed_as_it_is": "try-program: a mistake ...",
-    "program_path_is_printed_as_it_is": "try-program: apply: a path ...",
-    "program_row_of_one_name_ends_the_server": "try-program: a row of x that is no record: ...",
-    "program_shut_store_is_not_seen": "try-program: fdatasync N EIO once: its end",
-    "program_want_of_memory_is_not_told": "try-program: serve: b'GET /simple/Frob ...",
-    "sizes_first_file_alone_is_found_again": "try-sizes: files that are kept are found again",
-    "sizes_nothing_is_kept": "try-sizes: what is kept takes memory: ...",
-    "sizes_owner_513_is_want_of_memory": "try-sizes: 1,100 owners in memory",
-    "sizes_ten_times_as_much_is_kept_by_default": "try-sizes: what is kept by default takes no more than it may: ...",
-    "program_want_of_memory_is_told_as_store": "try-program: the stored run in memory, allocation N refused",
+    "program_accepting_is_tried_for_a_millisecond":
+        f"{SHUT}::test_a_connection_that_cannot_be_accepted_is_tried_again_and_no_client_sees_it",
+    "program_apply_reads_sixteen_mebibytes": f"{SIZES}::test_lines_in_memory[many-bytes]",
+    "program_calls_of_the_files_tell_no_cause": f"{CAUSES}::test_a_call_that_fails_on_a_database_of_version_1",
+    "program_check_prints_at_most_nine": f"{ENDS}::test_check_counts_wrong_charges",
+    "program_each_address_is_localhost": f"{ENDS}::test_serve_listens_where_it_is_asked_to_and_says_where",
+    "program_last_client_is_answered_first": "tests/program/test_order.py::"
+                                             "test_clients_that_wait_are_answered_in_their_order",
+    "program_mistake_is_printed_as_it_is": f"{CONTROLS}::test_a_mistake_is_printed_with_its_line_feeds_alone",
+    "program_path_is_printed_as_it_is": f"{CONTROLS}::test_a_path_is_printed_without_controls",
+    "program_row_of_one_name_ends_the_server":
+        f"{SHUT}::test_an_invalid_row_of_one_name_that_is_looked_up_ends_no_server",
+    "program_salts_of_new_logs_are_constant":
+        f"{CAUSES}::test_the_logs_of_two_new_files_with_page_sums_have_other_salts",
+    "program_shut_store_is_not_seen":
+        f"{SHUT}::test_a_sync_that_fails_once_ends_serve_and_what_it_acknowledged_is_there",
+    "program_spoilt_release_is_want_of_memory":
+        f"{SHUT}::test_an_invalid_row_is_a_fault_of_the_store_and_not_of_memory",
+    "program_want_of_memory_is_not_told":
+        f"{REFUSED}::test_a_message_gets_its_reply_or_a_fault_that_changed_nothing",
+    "program_want_of_memory_is_told_as_store":
+        f"{REFUSED}::test_a_line_gets_its_verdict_or_a_fault_that_changed_nothing",
+    "sizes_first_file_alone_is_found_again": f"{CACHE}::test_files_are_found_again_and_the_oldest_goes_first",
+    "sizes_json_page_is_never_found_again": f"{CACHE}::test_a_page_is_found_again",
+    "sizes_newest_file_goes_first": f"{CACHE}::test_files_are_found_again_and_the_oldest_goes_first",
+    "sizes_no_more_is_kept_than_by_default":
+        f"{CACHE}::test_what_is_kept_takes_as_much_memory_as_it_may_and_no_more[more-than-by-default]",
+    "sizes_nothing_is_kept": f"{CACHE}::test_files_are_found_again_and_the_oldest_goes_first",
+    "sizes_owner_513_is_want_of_memory": f"{SIZES}::test_1100_owners",
+    "sizes_root_page_is_never_found_again": f"{CACHE}::test_a_page_is_found_again",
+    "sizes_root_page_of_eight_mebibytes_is_want_of_memory":
+        f"{SIZES}::test_a_root_page_of_above_eight_mebibytes[HTML]",
+    "sizes_ten_times_as_much_is_kept_by_default":
+        f"{CACHE}::test_what_is_kept_takes_as_much_memory_as_it_may_and_no_more[by-default]",
 }
 # of a whole run, and of the tests of one program
 LONGEST, LONGEST_OF_TESTS = 3_600, 1_200
 
 
-def each_by_name():
-    """Those that are not moved yet are skipped."""
-    return [pytest.param(it, marks=pytest.mark.skip(f"not moved yet: {NOT_MOVED[it]}") if it in NOT_MOVED else ())
-            for it in EDITS]
-
-
 def test_each_names_an_edit_and_a_test():
-    assert sorted([*CAUGHT_BY, *NOT_MOVED]) == sorted(EDITS)
+    assert sorted(CAUGHT_BY) == sorted(EDITS)
     assert not [it for it in CAUGHT_BY.values() if not has_test(it)]
 
 
@@ -85,7 +100,7 @@ def wrong_program(pytestconfig, tmp_path_factory):
 
 @pytest.mark.by_turns("build")
 @pytest.mark.timeout(LONGEST)
-@pytest.mark.parametrize("name", each_by_name())
+@pytest.mark.parametrize("name", EDITS)
 def test_is_caught(wrong_program, name):
     try:
         program = wrong_program(name)

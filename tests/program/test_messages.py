@@ -11,7 +11,7 @@ from contextlib import suppress
 import pytest
 from support.judge import copy_index, seen_by_sqlite
 from support.running import run
-from support.serving import Index, make_index, parts_of, reply_to
+from support.serving import JSON_PAGE, Index, make_index, parts_of, reply_to
 from support.messages import TOO_LONG, WELL_FORMED, cut_messages_of, odd_message
 from support.workload import REQUESTS, lines_of
 
@@ -178,3 +178,14 @@ def test_odd_at_random(index, looked, chance, pytestconfig, batch):
         way, message = chance.choice(WAYS), odd_message(chance)
         fault = fault_behind(index, way, message, chance)
         looked(fault is None, told(way, message, fault))
+
+
+@pytest.mark.parametrize("count", [1, 2, 3, 4, 5, 8, 60])
+def test_the_type_is_chosen_by_all_accept_headers(index, looked, count):
+    """Only the last of so many headers names a type that can be served; without it there is none."""
+    others = b"Accept: image/png\r\n" * (count - 1)
+    for last, wanted in ((JSON_PAGE.encode(), 200), (b"image/gif", 406)):
+        message = b"GET /simple/ HTTP/1.1\r\n" + others + b"Accept: " + last + b"\r\n\r\n"
+        status, headers, _ = parts_of(reply_to(index.port, message, PATIENCE)) or (0, {}, b"")
+        looked(status == wanted, f"{count} headers, the last of which is {last}", status)
+        looked(status != 200 or headers[b"Content-Type"] == last, headers)

@@ -24,6 +24,8 @@ WELL_FORMED = [
     b"DELETE /files/frob/frob-1.0.tar.gz HTTP/1.1\r\n" + STRANGER + b"\r\n",
     post(BODY),
     post(CASE),
+    b"GET /simple/frob/ HTTP/1.1\r\nAccept: text/html;q=0.5\r\nAccept: image/png\r\nAccept:\r\n"
+    b"Accept: */*;q=0.1\r\n\r\n",
 ]
 # heads with more lines than one may have: they have no end yet, but no more bytes would make them right
 TOO_LONG = [method + b" /simple/ HTTP/1.1\r\n" + b"X-Many: x\r\n" * 65 for method in (b"GET", b"HEAD")]

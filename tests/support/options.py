@@ -35,6 +35,8 @@ def add_options(parser) -> None:
                     "its own default")
     group.addoption("--seconds", type=whole_number, metavar="N", help="how long a test goes on that could go on for "
                     "ever")
+    group.addoption("--step", type=whole_number, metavar="N", default=50, help="of what is tried one by one, such as "
+                    "allocations of whole runs, one of so many; 50 if not given")
     group.addoption("--seed", type=int, metavar="N", default=random.randrange(10 ** 6), help="of what is random; "
                     "printed first")
     group.addoption("--breaks", action="store_true", help="also make each break of tests/mutants in a copy, and run "

@@ -88,6 +88,6 @@ def look(random, chooser):
         "/simple",
         f"/names/{spelled}", f"/files/{spelled}/{quote(file, safe='+!')}"))
     target += random.choice(("", "", "", "", "?a=/b", "?"))
-    accepts = [ACCEPTS.drawn(random) for _ in range(random.choice((1, 1, 1, 2)))]
+    accepts = [ACCEPTS.drawn(random) for _ in range(random.choice((1, 1, 1, 2, 4)))]
     lines = [header("Accept", accept) for accept in accepts if accept is not None]
     return head(random.choice(("GET", "GET", "GET", "HEAD")), target, *lines)

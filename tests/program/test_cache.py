@@ -1,0 +1,143 @@
+"""What is cached of files and pages is found again, the oldest file goes first, and all of it takes no more memory than
+it may.
+
+Whether an answer was cached shows in how many allocations the server makes for it, which no load of the machine
+changes."""
+import os
+import sqlite3
+from contextlib import closing
+
+import pytest
+from support.refusals import rests
+from support.serving import JSON_PAGE, Index, make_index, sha256
+
+MEBIBYTE = 1 << 20
+# what is kept without --keep-recent
+DEFAULT = 256 * MEBIBYTE
+# of what a large file takes beside its bytes, and of what the system gives and takes in pages of its own
+SLACK = 4 * MEBIBYTE
+TYPES = {"JSON": JSON_PAGE, "HTML": "text/html", "HTML-of-version-1": "application/vnd.pypi.simple.v1+html"}
+# rows of a page: an allocation or more for each if it is made anew
+MANY = 40
+
+
+def path_of(number):
+    return f"/files/frob/frob-{number}.tar.gz"
+
+
+class Counted(Index):
+    """A server whose allocations are counted, and which keeps up to so many bytes."""
+
+    def __init__(self, program, path, refusals, keep):
+        refusals.begin()
+        self.refusals = refusals
+        super().__init__(program, path=path, keep=keep, patience=60, setting=refusals.setting)
+
+    def cost(self, path, **headers):
+        """How many allocations the server makes for a look."""
+        rests(self.process)
+        before = self.refusals.numbers[0]
+        status = self.ask("GET", path, **headers)[0]
+        rests(self.process)
+        assert status == 200, (path, status)
+        return self.refusals.numbers[0] - before
+
+
+def costs_of_files(program, path, refusals, keep, chance):
+    """What looks at six files of a mebibyte cost, each at the first time, and by turns at the others; a change that
+    concerns none of them comes between. At the end those at all six again, the newest first."""
+    with Counted(program, path, refusals, keep) as index:
+        index.claim("frob")
+        for number in range(6):
+            index.upload("frob", f"frob-{number}.tar.gz", chance.randbytes(MEBIBYTE))
+        first = [index.cost(path_of(number)) for number in range(6)]
+        index.claim("more")
+        newest_first = [index.cost(path_of(number)) for number in (5, 4, 3, 2, 1, 0)]
+        two = [index.cost(path_of(number)) for number in (0, 1) * 10]
+        return first, newest_first, two
+
+
+def test_files_are_found_again_and_the_oldest_goes_first(program, folder, refusals, chance, looked):
+    """Four of them are kept: behind six looks the last four, of which none is found anew when it is looked at again."""
+    kept = costs_of_files(program, f"{folder}/kept.db", refusals, 4 * MEBIBYTE, chance)
+    none = costs_of_files(program, f"{folder}/none.db", refusals, 0, chance)
+    least = min(it for part in none for it in part)
+    for name, costs in zip(("first looks", "the newest four", "two by turns"), (kept[0], kept[1][:4], kept[2][2:])):
+        are_found = [it < least / 2 for it in costs]
+        looked(are_found == [name != "first looks"] * len(costs), name, costs, least)
+    looked(all(it >= least for it in kept[1][4:]), "the oldest two", kept[1], least)
+
+
+def fill(path, count):
+    """Adds so many names, and so many files of the name `frob`, that are the bytes `abc`."""
+    digest = bytes.fromhex(sha256(b"abc"))
+    with closing(sqlite3.connect(path)) as database:
+        held = [("frob", 1, "frob", 1 << 40, 3 * count, count, 11),
+                *((f"n{number}", 1, f"n{number}", 1 << 30, 0, 0, None) for number in range(count))]
+        database.executemany("INSERT INTO names VALUES (?, ?, ?, ?, ?, ?, ?)", held)
+        database.executemany("INSERT INTO owners VALUES (?, 'office')", [(row[0],) for row in held])
+        files = [f"frob-{number}.tar.gz" for number in range(count)]
+        database.executemany("INSERT INTO files VALUES (?, ?, ?, ?, ?, ?, ?)",
+                             [(file, "frob", file[5:-7], digest, 3, "", 1) for file in files])
+        database.executemany("INSERT INTO blobs VALUES (?, ?)", [(file, b"abc") for file in files])
+        database.commit()
+
+
+@pytest.mark.parametrize("accept", TYPES)
+@pytest.mark.parametrize("path", ["/simple/", "/simple/frob/"], ids=["root-page", "page-of-a-project"])
+def test_a_page_is_found_again(program, index_file, refusals, looked, path, accept):
+    fill(index_file, MANY)
+    costs = {}
+    for keep in (8 * MEBIBYTE, 0):
+        with Counted(program, index_file, refusals, keep) as index:
+            costs[keep] = [index.cost(path, Accept=TYPES[accept]) for _ in range(5)]
+    kept, none = costs.values()
+    looked(min(none) > MANY and kept[0] > MANY, "each is made anew", kept, none)
+    looked(max(kept[1:]) < MANY / 2, "it is found again", kept, none)
+
+
+# memory
+
+@pytest.fixture(scope="module")
+def large_files(shared_folder, program):
+    """An index with 300 files of a mebibyte of the name `frob`, which is closed."""
+    path, rows = make_index(program, f"{shared_folder}/large.db"), []
+    with closing(sqlite3.connect(path)) as database:
+        database.execute("INSERT INTO names VALUES ('frob', 1, 'frob', ?, ?, 300, 11)", (1 << 40, 300 * MEBIBYTE))
+        database.execute("INSERT INTO owners VALUES ('frob', 'office')")
+        for number in range(300):
+            body, file = os.urandom(MEBIBYTE), f"frob-{number}.tar.gz"
+            rows.append((file, "frob", f"{number}", bytes.fromhex(sha256(body)), MEBIBYTE, "", 1))
+            database.execute("INSERT INTO files VALUES (?, ?, ?, ?, ?, ?, ?)", rows[-1])
+            database.execute("INSERT INTO blobs VALUES (?, ?)", (file, body))
+        database.commit()
+    return path
+
+
+def peak(program, path, looks, keep):
+    """The bytes that a server takes at most once it listens, which keeps up to so many, or as many as it likes."""
+    with Index(program, path=path, keep=keep, patience=120) as index:
+        with open(f"/proc/{index.process.pid}/clear_refs", "w") as refs:
+            refs.write("5")
+        for number in looks:
+            status, _, body = index.ask("GET", path_of(number))
+            assert (status, len(body)) == (200, MEBIBYTE)
+        with open(f"/proc/{index.process.pid}/status") as kept:
+            return 1024 * next(int(row.split()[1]) for row in kept if row.startswith("VmHWM:"))
+
+
+# by name --keep-recent, how many bytes that is, and how many files are looked at
+KEPT = {"8-MiB": (8 * MEBIBYTE, 8 * MEBIBYTE, 40), "by-default": (None, DEFAULT, 300),
+        "more-than-by-default": (300 * MEBIBYTE, 300 * MEBIBYTE, 300)}
+
+
+@pytest.mark.slow
+@pytest.mark.timeout(900)
+@pytest.mark.parametrize("kept", KEPT)
+def test_what_is_kept_takes_as_much_memory_as_it_may_and_no_more(program, large_files, looked, kept):
+    """Many files are looked at, the last of them twice."""
+    keep, most, count = KEPT[kept]
+    none = peak(program, large_files, range(10), 0)
+    taken = peak(program, large_files, [*range(count), *range(count - 20, count)], keep)
+    looked(taken >= none + most - 3 * SLACK // 2 - (most // 4 if count < 300 else 0), "it is kept", none, taken)
+    looked(taken <= none + most + SLACK, "no more", none, taken)
