@@ -6,6 +6,7 @@ import os
 import re
 import shutil
 import time
+from contextlib import suppress
 from dataclasses import dataclass
 
 import pytest
@@ -42,7 +43,9 @@ def office(program, shared_folder):
         left = os.listdir(folder)
         with open(f"{folder}/index.html", encoding="utf-8") as page:
             text = page.read()
-        os.makedirs(f"{folder}/index.html.part/inside", exist_ok=True)
+        with suppress(FileNotFoundError):
+            os.remove(f"{folder}/index.html.part")
+        os.makedirs(f"{folder}/index.html.part/inside")
         refused = by.run("page", folder)
         shutil.rmtree(f"{folder}/index.html.part", ignore_errors=True)
     with open(f"{folder}/index.html", encoding="utf-8") as page:

@@ -10,6 +10,7 @@ import subprocess
 import sys
 
 import pytest
+from indexctl.commands import COMMANDS
 from support.indexctl.control import Control, assert_ends, environment
 from support.indexctl.tools import needs
 from support.places import SERVER, TOP
@@ -122,8 +123,7 @@ def test_pages_have_commands_that_are_there_with_options_that_they_take(plain, l
     texts, helps = typed(), {}
     looked(len(texts) > 30, texts)
     for text in texts:
-        words = [it for it in shlex.split(text) if re.fullmatch("[a-z-]+", it) and not it.startswith("-")]
-        path = next((path for path in (tuple(words[:2]), tuple(words[:1])) if is_path(path)), tuple(words[:2]))
+        path = path_of(shlex.split(text))
         if path not in helps:
             helps[path] = plain.run(*path, "--help")
         ended = helps[path]
@@ -131,11 +131,10 @@ def test_pages_have_commands_that_are_there_with_options_that_they_take(plain, l
         looked(all(it in ended.stdout for it in re.findall(r" (--[a-z-]+)", text)), text, ended.stdout[-500:])
 
 
-def is_path(words):
-    """Whether these words are a command, or a group of commands."""
-    from indexctl.commands import COMMANDS
-    paths = {it.path for it in COMMANDS}
-    return " ".join(words) in paths or len(words) == 1 and any(it.startswith(f"{words[0]} ") for it in paths)
+def path_of(words):
+    """The words that name a command: the first, and the second if that is a verb's place."""
+    is_alone = words[0] in {it.path for it in COMMANDS} or len(words) == 1 or not re.fullmatch("[a-z]+", words[1])
+    return tuple(words[:1 if is_alone else 2])
 
 
 @pytest.mark.parametrize("path", MODULES)

@@ -1,0 +1,157 @@
+"""The record: its room, its lock and its mode."""
+from __future__ import annotations
+
+import errno
+import fcntl
+import json
+import multiprocessing
+import os
+
+import pytest
+from indexctl import record as records
+from indexctl.ends import WRONG, Stop
+from indexctl.record import Record
+
+
+def keep_rows(path, who, count, at_once):
+    record = Record(path)
+    at_once.wait()
+    for number in range(count):
+        with record.room({"who": who, "number": number}) as keep:
+            keep()
+
+
+def test_two_at_once_lose_no_row_of_one_record(folder):
+    """With a lock that is shared they do: of 60 rows each, run side by side."""
+    path, at_once = f"{folder}/record", multiprocessing.Barrier(2)
+    both = [multiprocessing.Process(target=keep_rows, args=(path, who, 60, at_once)) for who in "ab"]
+    for it in both:
+        it.start()
+    for it in both:
+        it.join()
+    with open(path, encoding="utf-8") as kept:
+        rows = [json.loads(line) for line in kept]
+    assert [[row["number"] for row in rows if row["who"] == who] for who in "ab"] == [list(range(60))] * 2
+
+
+def try_lock(path, found):
+    """Puts whether a lock on this file can be had at once."""
+    with open(path, "rb+") as other:
+        try:
+            fcntl.flock(other, fcntl.LOCK_SH | fcntl.LOCK_NB)
+            found.put(True)
+        except BlockingIOError:
+            found.put(False)
+
+
+def is_free(path):
+    found = multiprocessing.Queue()
+    other = multiprocessing.Process(target=try_lock, args=(path, found))
+    other.start()
+    is_it = found.get(timeout=30)
+    other.join()
+    return is_it
+
+
+def test_nobody_else_has_even_a_shared_lock_while_room_is_taken(folder):
+    path = f"{folder}/record"
+    record = Record(path)
+    with record.room({"a": 1}):
+        assert not is_free(path)
+    assert is_free(path)
+
+
+def test_the_lock_is_given_back_if_the_change_fails(folder):
+    path = f"{folder}/record"
+    record = Record(path)
+    with pytest.raises(KeyboardInterrupt):
+        with record.room({"a": 1}):
+            raise KeyboardInterrupt
+    assert is_free(path) and os.path.getsize(path) == 0
+
+
+def test_room_is_taken_whole_before_the_change(tmp_path):
+    path = tmp_path / "record"
+    with Record(str(path)).room({"a": 1}) as keep:
+        assert path.read_bytes() == b" " * 8 + b"\n"
+        keep()
+        assert path.read_bytes() == b'{"a": 1}\n'
+
+
+def test_room_that_is_not_used_is_given_back(tmp_path):
+    record = Record(str(tmp_path / "record"))
+    for is_kept in (True, False, True):
+        with record.room({"kept": is_kept}) as keep:
+            if is_kept:
+                keep()
+    assert (tmp_path / "record").read_text() == '{"kept": true}\n' * 2
+
+
+def test_nobody_else_may_read_a_new_record(tmp_path):
+    old = os.umask(0)
+    try:
+        Record(str(tmp_path / "record"))
+    finally:
+        os.umask(old)
+    assert (tmp_path / "record").stat().st_mode & 0o777 == 0o600
+
+
+def test_a_record_that_is_there_goes_on(tmp_path):
+    (tmp_path / "record").write_text("{}\n")
+    with Record(str(tmp_path / "record")).room({"a": 1}) as keep:
+        keep()
+    assert (tmp_path / "record").read_text() == '{}\n{"a": 1}\n'
+
+
+def test_a_row_is_written_whole_though_the_system_takes_it_in_pieces(tmp_path, monkeypatch):
+    written = os.pwrite
+    monkeypatch.setattr(os, "pwrite", lambda file, data, at: written(file, data[:3], at))
+    with Record(str(tmp_path / "record")).room({"a": 1, "b": "2"}) as keep:
+        keep()
+    assert json.loads((tmp_path / "record").read_text()) == {"a": 1, "b": "2"}
+
+
+def test_room_and_row_are_on_the_disk_before_the_run_goes_on(tmp_path, monkeypatch):
+    synced, sync = [], os.fsync
+    monkeypatch.setattr(os, "fsync", lambda file: synced.append((tmp_path / "record").read_bytes()) or sync(file))
+    with Record(str(tmp_path / "record")).room({"a": 1}) as keep:
+        assert synced == [b" " * 8 + b"\n"]
+        keep()
+        assert synced[1:] == [b'{"a": 1}\n']
+
+
+def test_a_disk_that_is_full_leaves_the_record_as_it_was(tmp_path, monkeypatch):
+    (tmp_path / "record").write_text("{}\n")
+    record, written = Record(str(tmp_path / "record")), os.pwrite
+
+    def full(file, data, at):
+        if at > 5:
+            raise OSError(errno.ENOSPC, "No space left on device")
+        return written(file, data[:4], at)
+    monkeypatch.setattr(os, "pwrite", full)
+    with pytest.raises(Stop, match="No space left on device.*This was not asked for") as end:
+        with record.room({"a": 1}):
+            raise AssertionError("the change was asked for")
+    assert end.value.status == WRONG and (tmp_path / "record").read_text() == "{}\n"
+
+
+def test_a_record_in_no_folder_is_told(tmp_path):
+    with pytest.raises(Stop, match="can't be written: No such file.*Nothing was asked for") as end:
+        Record(str(tmp_path / "none" / "record"))
+    assert end.value.status == WRONG
+
+
+def test_a_record_is_not_given_to_other_programs(tmp_path):
+    assert not os.get_inheritable(Record(str(tmp_path / "record")).file)
+
+
+def test_a_system_without_locks_keeps_no_record(tmp_path, monkeypatch):
+    monkeypatch.setattr(records, "HAS_LOCKS", False)
+    with pytest.raises(Stop, match="can't be kept on this system") as end:
+        Record(str(tmp_path / "record"))
+    assert end.value.status == WRONG and not (tmp_path / "record").exists()
+
+
+def test_without_a_record_nothing_is_kept():
+    with records.no_record() as keep:
+        keep()

@@ -1,0 +1,83 @@
+"""What a refusal says to do, with what its sentence names looked up."""
+from __future__ import annotations
+
+import json
+
+import pytest
+from indexctl import refusals
+from indexctl.ends import UNREACHED, Stop
+from indexctl.units import YEAR, due
+from package_index.hints import HINTS
+from support.indexctl.rows import CASE, OPENED, FakeIndex, case_of, held, reply
+
+HELD = {"name": "frob", "state": "held", "shown": "Frob", "owners": ["ann", "bea"], "quota": 2048, "charge": 1024,
+        "case": {**CASE, "sent": 2}}
+FILES = {"files": [{"filename": "a-1.tar.gz"}], "versions": ["1", "2"]}
+
+
+def index_of(*values):
+    return FakeIndex(*(reply(200, json.dumps(it).encode()) for it in values))
+
+
+def said(answer, *values, **row):
+    return refusals.hint_of(index_of(*values), answer, row)
+
+
+def test_a_token_says_where_it_is_from():
+    assert "which comes from INDEX_TOKEN." in said("BadToken")
+
+
+def test_a_user_is_named():
+    assert said("NoUser", user="bob").startswith("There is no user bob.")
+
+
+@pytest.mark.parametrize("row", [{"name": "frob"}, {"file": "frob-1.0.tar.gz"}, {"name": "frob", "file": "x-1.tar.gz"}])
+def test_owners_are_looked_up_by_the_name_or_the_file(row):
+    index = index_of(HELD)
+    assert refusals.hint_of(index, "NameHeld", row).startswith(
+        "It belongs to ann, bea. Ask for `indexctl owner add YOU frob`")
+    assert [it.path for it in index.asked] == ["/names/frob"]
+
+
+def test_a_quota_and_a_charge_are_told_in_words():
+    assert "full: 1.0 KiB of 2.0 KiB." in said("OverQuota", HELD, name="frob")
+
+
+def test_files_and_releases_are_counted():
+    assert said("FilesRemain", FILES, name="frob").startswith("It still has 1 file.")
+    assert "The name has 1, 2." in said("NoRelease", FILES, name="frob")
+    assert "The name has no files at all." in said("NoRelease", {"files": []}, name="frob")
+
+
+def test_what_a_case_lacks_is_told():
+    assert "1 more attempt sent" in said("TooFewAttempts", HELD, name="frob")
+    whole = {**HELD, "case": {**CASE, "opened": 1, "first": 1}}
+    assert said("TooEarly", whole, name="frob") == "It lacks nothing that this clock sees."
+    assert said("CaseOpen", HELD, name="frob").startswith("bob has opened a case")
+
+
+def test_nothing_is_looked_up_that_no_sentence_names():
+    index = index_of()
+    assert refusals.hint_of(index, "NameProhibited", {"name": "frob"}) == HINTS["NameProhibited"]
+    assert index.asked == []
+
+
+def test_a_refusal_stands_though_nothing_more_can_be_looked_up(monkeypatch):
+    def fail(*_):
+        raise Stop(UNREACHED, "x")
+    monkeypatch.setattr(refusals, "find_standing", fail)
+    said_then = refusals.hint_of(FakeIndex(), "NameHeld", {"name": "frob"})
+    assert said_then.startswith("It belongs to ... Ask for `indexctl owner add YOU frob`")
+
+
+def test_what_is_no_refusal_has_no_hint():
+    assert said("Other", name="frob") == ""
+
+
+def test_the_year_ends_a_year_after_the_opening():
+    known = refusals.known_of_standing(held(case=case_of()))
+    assert (known["latest"], known["candidate"]) == (due(OPENED + YEAR), "bob")
+
+
+def test_a_name_that_nobody_holds_is_nobody_s():
+    assert refusals.known_of_standing(held(owners=[]))["owners"] == "nobody"

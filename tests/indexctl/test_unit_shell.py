@@ -1,0 +1,74 @@
+"""Texts of the manual page, of help and of completion."""
+from __future__ import annotations
+
+import argparse
+
+import pytest
+from indexctl import command_line, shell
+from indexctl.command_line import Command, argument
+from indexctl.commands import COMMANDS
+
+
+@pytest.mark.parametrize("text, made", [
+    ("a-b", "a\\-b"), (".a", "\\&.a"), ("'a", "\\&'a"), ("a \n b", "a b"), ("a\\b", "a\\eb"),
+    ("say `x y` now", "say \\fBx y\\fR now"), ("", "")])
+def test_a_text_is_escaped_for_a_manual_page(text, made):
+    assert shell.roff(text) == made
+
+
+def test_paragraphs_are_filled_and_examples_stand_as_they_are():
+    assert shell.roff_body("a\nb\n\n[x]\ny\n\n    c\n    d\n\ne") == [
+        ".PP", "a b", ".PP", ".nf", "[x]", "y", ".fi", ".PP", ".nf", "c", "d", ".fi", ".PP", "e"]
+    assert shell.roff_body("") == []
+
+
+def command(*arguments):
+    def run(_):
+        """More of it."""
+    return Command("noun verb", "does this", arguments, run)
+
+
+def test_after_a_command_come_choices_and_options():
+    made = command(argument("means", choices=("a", "b")), argument("-q", "--quiet"), argument("name"),
+                   argument("--kind", choices=("x",)))
+    assert shell.completed(made) == ["a", "b", "--help", "--profile", "--again", "--quiet", "--kind"]
+
+
+def test_the_manual_of_a_command_has_its_usage_and_each_argument_with_help():
+    made = command(argument("name", metavar="NAME"), argument("means", metavar="MEANS", help="how it was"),
+                   argument("-q", "--quiet", action="store_true", help="says nothing"))
+    parser = argparse.ArgumentParser(prog="indexctl noun verb")
+    assert shell.manual_of(made, parser) == [
+        ".SS", "indexctl noun verb", "Does this.", ".PP", "More of it.", ".TP", ".B MEANS", "how it was.", ".TP",
+        ".B \\-\\-quiet", "says nothing."]
+
+
+def test_a_summary_becomes_a_sentence():
+    assert command_line.sentence("does this") == "Does this."
+
+
+def test_each_command_is_parsed_with_its_function_and_the_common_defaults():
+    top, made = command_line.parsers(COMMANDS)
+    assert set(made) == {it.path for it in COMMANDS}
+    args = top.parse_args(["case", "transfer", "frob", "--quiet"])
+    assert (args.name, args.quiet, args.yes, args.json, args.again, args.profile) == ("frob", True, False, False, 6,
+                                                                                      None)
+    assert args.function.__name__ == "case_transfer"
+    args = top.parse_args(["names", "--again", "2", "--profile", "x", "--json"])
+    assert (args.again, args.profile, args.json) == (2, "x", True)
+
+
+@pytest.mark.parametrize("words", [[], ["case"], ["case", "open", "x"], ["case", "transfer", "x"], ["nmaes"],
+                                   ["replay", "x"], ["user", "add"], ["quota", "set", "x"],
+                                   ["case", "open", "x", "--kind", "y", "--contact", "a", "--work", "b", "--why", "c"]])
+def test_a_line_that_lacks_something_is_refused(words, capsys):
+    with pytest.raises(SystemExit) as end:
+        command_line.parsers(COMMANDS)[0].parse_args(words)
+    assert end.value.code == 2 and "usage: indexctl" in capsys.readouterr().err
+
+
+def test_help_says_what_stands_where():
+    text = command_line.epilog()
+    assert [it for it in text.splitlines() if it.endswith(":")] == ["environment:", "files:", "status:"]
+    assert max(map(len, text.splitlines())) <= 100
+    assert "\n  INDEX_URL               the address of the index" in text

@@ -1,0 +1,128 @@
+"""What the index shows: standings that are whole, pages, and walks."""
+from __future__ import annotations
+
+import json
+import threading
+
+import pytest
+from indexctl import standings
+from indexctl.ends import REFUSED, UNREACHED, WRONG, Stop
+from support.indexctl.rows import CASE, FakeIndex, reply
+
+HELD = {"name": "frob", "state": "held", "shown": "Frob", "owners": ["ann"], "quota": 5, "charge": 3, "case": None}
+MOST = 1 << 60
+
+
+@pytest.mark.parametrize("value, is_number", [(0, True), (MOST, True), (MOST + 1, False), (-1, False), (True, False),
+                                              (1.0, False), ("1", False), (None, False)])
+def test_a_number_is_whole_and_not_too_large(value, is_number):
+    assert standings.is_number(value) == is_number
+
+
+@pytest.mark.parametrize("changed", [
+    {"name": 1}, {"name": None}, {"state": "sold"}, {"state": None}, {"shown": None}, {"owners": "ann"},
+    {"owners": ["ann", 1]}, {"owners": None}, {"quota": None}, {"quota": -1}, {"charge": "3"}, {"charge": MOST + 1},
+    {"case": []}, {"case": {}}, {"case": 1}])
+def test_a_standing_is_whole_or_none(changed):
+    assert standings.is_standing(HELD) and not standings.is_standing({**HELD, **changed})
+
+
+@pytest.mark.parametrize("state", ["free", "prohibited"])
+def test_a_name_that_nobody_holds_has_no_more(state):
+    assert standings.is_standing({"name": "x", "state": state})
+    found = standings.standing_of({"name": "x", "state": state})
+    assert (found.owners, found.case, found.quota, found.given) == ([], None, 0, {"name": "x", "state": state})
+
+
+@pytest.mark.parametrize("changed, is_case", [
+    ({}, True), ({"first": None}, True), ({"opened": 250_000_000_000}, True), ({"opened": 250_000_000_001}, False),
+    ({"first": 250_000_000_000}, True), ({"first": 250_000_000_001}, False), ({"first": "1"}, False),
+    ({"attempts": MOST + 1}, False), ({"attempts": -1}, False), ({"sent": -1}, False), ({"sent": True}, False),
+    ({"pages": 1}, False), ({"author": None}, False), ({"profile": "x"}, False), ({"candidate": None}, False),
+    ({"kind": 1}, False), ({"why": None}, False), ({"work": 3}, False), ({"contact": []}, False)])
+def test_a_case_is_whole_or_none(changed, is_case):
+    assert standings.is_case({**CASE, **changed}) == is_case
+
+
+def test_a_standing_has_what_the_index_gave():
+    found = standings.standing_of({**HELD, "case": CASE})
+    assert (found.name, found.state, found.shown, found.owners) == ("frob", "held", "Frob", ["ann"])
+    assert (found.quota, found.charge, found.case) == (5, 3, standings.Case(**CASE))
+    assert standings.standing_of(HELD).case is None
+
+
+def as_reply(status, value):
+    return reply(status, json.dumps(value).encode(), Content_Type="application/json")
+
+
+def test_a_name_is_asked_for_by_its_path():
+    index = FakeIndex(as_reply(200, HELD))
+    assert standings.find_standing(index, "a/b").name == "frob"
+    assert (index.asked[0].method, index.asked[0].path) == ("GET", "/names/a%2Fb")
+
+
+def test_a_name_that_is_refused_says_what_to_do():
+    with pytest.raises(Stop, match="^x: 400 BadName. This is not a project's name") as end:
+        standings.find_standing(FakeIndex(as_reply(400, {"answer": "refused", "name": "BadName"})), "x")
+    assert end.value.status == REFUSED
+
+
+@pytest.mark.parametrize("status, value", [(200, {"name": "x"}), (500, HELD), (201, HELD), (200, [])])
+def test_what_is_no_standing_is_no_answer(status, value):
+    with pytest.raises(Stop, match="This is no answer of an index") as end:
+        standings.find_standing(FakeIndex(as_reply(status, value)), "x")
+    assert end.value.status == UNREACHED
+
+
+@pytest.mark.parametrize("name", ["NoProject", "NoIndexName"])
+def test_a_page_that_is_not_there_is_none(name):
+    assert standings.find_page(FakeIndex(as_reply(404, {"name": name})), "/simple/", "projects", "name") is None
+
+
+@pytest.mark.parametrize("status, value", [
+    (404, {"name": "Other"}), (200, {"name": "NoProject"}), (200, {"projects": {}}), (500, {"projects": []}),
+    (200, {"projects": [{"name": "a"}, {"name": 1}]}), (200, {"projects": ["a"]})])
+def test_a_page_of_another_form_is_no_answer(status, value):
+    with pytest.raises(Stop, match="This is no answer of an index"):
+        standings.find_page(FakeIndex(as_reply(status, value)), "/simple/", "projects", "name")
+
+
+def test_a_project_has_files_and_releases():
+    index = FakeIndex(as_reply(200, {"files": [{"filename": "a-1.tar.gz"}], "versions": ["1"]}))
+    assert standings.find_files(index, "A_b") == (["a-1.tar.gz"], ["1"])
+    assert index.asked[0].path == "/simple/a-b/"
+    assert dict(index.asked[0].headers) == {"Accept": "application/vnd.pypi.simple.v1+json"}
+
+
+def test_a_project_that_is_not_there_has_none():
+    assert standings.find_files(FakeIndex(as_reply(404, {"name": "NoProject"})), "a") == ([], [])
+
+
+def test_what_is_asked_side_by_side_comes_in_order():
+    assert standings.side_by_side(lambda it: it * 2, list(range(50)), "x") == [it * 2 for it in range(50)]
+    assert standings.side_by_side(lambda it: it, [], "x") == []
+
+
+def test_eight_are_asked_at_once():
+    together = threading.Barrier(8, timeout=20)
+    assert len(standings.side_by_side(lambda _: together.wait(), list(range(8)), "x")) == 8
+
+
+def test_the_first_failure_ends_a_walk():
+    def fail(it):
+        if it == 3:
+            raise Stop(UNREACHED, "no 3")
+        return it
+    with pytest.raises(Stop, match="no 3"):
+        standings.side_by_side(fail, list(range(20)), "x")
+
+
+def test_a_name_that_is_given_up_meanwhile_is_left_out():
+    index = FakeIndex(as_reply(200, {"projects": [{"name": "a"}]}), as_reply(200, {"name": "a", "state": "free"}))
+    assert standings.held_names(index) == []
+
+
+def test_several_indexes_behind_one_address_have_no_list():
+    with pytest.raises(Stop, match="leads to several indexes") as end:
+        standings.held_names(FakeIndex(as_reply(404, {"name": "NoIndexName"})))
+    assert end.value.status == WRONG

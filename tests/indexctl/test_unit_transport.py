@@ -1,0 +1,165 @@
+"""What is asked again and how long after, and what replies that no index gives are told as."""
+from __future__ import annotations
+
+import http.client
+
+import pytest
+from indexctl import transport
+from indexctl.ends import REFUSED, UNREACHED, WRONG, Stop
+from indexctl.transport import Index, NotSent, Request
+from support.indexctl.rows import SETTING, reply
+
+OK, BUSY = reply(200, b"{}"), reply(503, b'{"name":"Unavailable"}')
+GET, POST = Request("GET", "/x"), Request("POST", "/x", (), lambda: [b""], 0)
+
+
+class Trial:
+    """An index whose ends of each trial are given, and the pauses between them."""
+
+    def __init__(self, monkeypatch, ends, again=6):
+        self.index, self.left, self.pauses = Index(SETTING, again), list(ends), []
+        monkeypatch.setattr(self.index, "look", self.end)
+        monkeypatch.setattr(self.index, "once", self.end)
+        monkeypatch.setattr(transport.time, "sleep", self.pauses.append)
+
+    def end(self, _):
+        found = self.left.pop(0)
+        if isinstance(found, Exception):
+            raise found
+        return found
+
+
+@pytest.fixture
+def trial(monkeypatch):
+    return lambda ends, again=6: Trial(monkeypatch, ends, again)
+
+
+@pytest.mark.parametrize("status", [200, 201, 400, 404, 409, 413, 501, 505])
+def test_a_reply_that_stays_is_taken_at_once(trial, status):
+    one = trial([reply(status, b"")])
+    found = one.index.ask("x", GET)
+    assert (found.status, found.is_repeat, one.pauses) == (status, False, [])
+
+
+@pytest.mark.parametrize("status", [500, 502, 503, 504])
+def test_what_passes_by_itself_is_asked_again(trial, status):
+    one = trial([reply(status, b""), OK])
+    found = one.index.ask("x", GET)
+    assert (found.status, found.is_repeat, one.pauses) == (200, True, [0.5])
+
+
+def test_pauses_double_up_to_thirty_seconds(trial):
+    one = trial([BUSY] * 9, again=8)
+    with pytest.raises(Stop, match="503 Unavailable, 9 times. The index does not answer now. Run this again") as end:
+        one.index.ask("x", GET)
+    assert end.value.status == UNREACHED and one.pauses == [0.5, 1, 2, 4, 8, 16, 30, 30]
+
+
+@pytest.mark.parametrize("later, pause", [("7", 7), ("0", 0.5), ("3600", 30), ("soon", 0.5), ("", 0.5)])
+def test_a_pause_is_what_the_reply_asks_for_within_bounds(trial, later, pause):
+    one = trial([reply(503, b"", Retry_After=later), OK])
+    one.index.ask("x", GET)
+    assert one.pauses == [pause]
+
+
+def test_none_is_asked_again_if_that_was_asked_for(trial):
+    with pytest.raises(Stop, match="1 time. "):
+        trial([BUSY], again=0).index.ask("x", GET)
+    with pytest.raises(Stop, match="1 time. "):
+        trial([BUSY], again=-3).index.ask("x", GET)
+
+
+@pytest.mark.parametrize("end", [ConnectionResetError(), http.client.IncompleteRead(b""), TimeoutError()])
+def test_a_connection_that_breaks_is_asked_again_as_a_repeat(trial, end):
+    assert trial([end, OK]).index.ask("x", POST).is_repeat
+
+
+def test_what_never_went_out_is_no_repeat(trial):
+    assert not trial([NotSent("no route"), OK]).index.ask("x", POST).is_repeat
+    assert trial([NotSent("no route"), BUSY, OK]).index.ask("x", POST).is_repeat
+    assert trial([BUSY, NotSent("no route"), OK]).index.ask("x", POST).is_repeat
+
+
+ONCE = Request("POST", "/x", (), lambda: [b""], 0, True)
+
+
+def test_what_is_sent_once_is_not_sent_again(trial):
+    with pytest.raises(Stop, match="It was not sent again, since it may have been done") as end:
+        trial([BUSY]).index.ask("x", ONCE)
+    assert end.value.status == UNREACHED
+
+
+def test_what_is_sent_once_is_sent_again_if_it_never_went_out(trial):
+    assert trial([NotSent("no route"), OK]).index.ask("x", ONCE).status == 200
+
+
+@pytest.mark.parametrize("request_, ends, said", [
+    (POST, [BUSY, BUSY], True), (POST, [NotSent("a"), NotSent("b")], False), (GET, [BUSY, BUSY], False)])
+def test_a_change_without_a_reply_may_have_been_done(trial, request_, ends, said):
+    with pytest.raises(Stop) as end:
+        trial(ends, again=1).index.ask("x", request_)
+    assert ("It may have been done, and is in no record then." in str(end.value)) == said
+
+
+@pytest.mark.parametrize("status, end, said", [
+    (401, REFUSED, "asks for a password"), (301, WRONG, "a redirect to https://b"), (302, WRONG, "a redirect"),
+    (303, WRONG, "a redirect"), (307, WRONG, "a redirect"), (308, WRONG, "a redirect"),
+    (413, REFUSED, "takes no file of this size"), (403, REFUSED, "forbids this: b'abc"),
+    (200, UNREACHED, "text/html. This is no answer of an index: b'abc"), (304, UNREACHED, "This is no answer")])
+def test_a_foreign_reply_is_told_as_what_it_is(status, end, said):
+    found = transport.foreign("x", reply(status, b"abc", Content_Type="text/html", Location="https://b"))
+    assert found.status == end and str(found).startswith(f"x: {status}") and said in str(found)
+
+
+def test_a_foreign_reply_is_told_by_its_first_hundred_bytes():
+    said = str(transport.foreign("x", reply(200, b"a" * 200)))
+    assert f"'{'a' * 100}'" in said and "no type" in said
+
+
+@pytest.mark.parametrize("body, found", [(b"{}", {}), (b'{"a": 1}', {"a": 1}), (b"[]", None), (b"", None),
+                                         (b"\xff", None), (b"[" * 100_000, None), (b"null", None)])
+def test_an_object_is_one_of_json(body, found):
+    assert transport.object_of(body) == found
+
+
+@pytest.mark.parametrize("body, said", [(b'{"name": "Store"}', "Store"), (b'{"answer": "fault"}', "fault"),
+                                        (b"{}", "{}"), (b"<html>" + b"x" * 200, "<html>" + "x" * 94),
+                                        (b"\xff", "\ufffd")])
+def test_a_reply_is_told_by_its_name_or_its_first_bytes(body, said):
+    assert transport.first_words(reply(500, body)) == said
+
+
+def index_of(url, **setting):
+    return Index(transport.replace(SETTING, url=url, **setting))
+
+
+def test_a_connection_is_to_the_address(monkeypatch):
+    monkeypatch.setenv("HTTPS_PROXY", "http://proxy.test:3128")
+    found = index_of("http://127.0.0.1:8080").connection()
+    assert (found.host, found.port, found.timeout, found._tunnel_host) == ("127.0.0.1", 8080, 90, None)
+    assert index_of("http://[::1]:8080").connection().host == "::1"
+
+
+@pytest.mark.parametrize("url, proxy, no_proxy, host, port, tunnel", [
+    ("https://packages.test", "http://proxy.test:3128", "", "proxy.test", 3128, "packages.test"),
+    ("https://packages.test", "proxy.test", "", "proxy.test", 80, "packages.test"),
+    ("https://packages.test", "http://proxy.test:3128", "packages.test", "packages.test", 443, None),
+    ("https://127.0.0.1:9", "http://proxy.test:3128", "", "127.0.0.1", 9, None),
+    ("https://packages.test:9", "", "", "packages.test", 9, None)])
+def test_a_connection_goes_through_the_proxy_of_the_network(monkeypatch, url, proxy, no_proxy, host, port, tunnel):
+    for name, value in (("https_proxy", proxy), ("no_proxy", no_proxy)):
+        monkeypatch.delenv(name.upper(), raising=False)
+        monkeypatch.setenv(name, value)
+    found = index_of(url).connection()
+    assert (found.host, found.port, found._tunnel_host) == (host, port, tunnel)
+
+
+def test_the_password_of_the_proxy_is_a_header():
+    assert index_of("http://127.0.0.1", basic="ann:\u00e9").headers["Authorization"] == "Basic YW5uOsOp"
+    assert "Authorization" not in index_of("http://127.0.0.1").headers
+
+
+def test_certificates_that_can_t_be_read_are_told(tmp_path):
+    with pytest.raises(Stop, match="The certificates in .*none can't be read") as end:
+        index_of("https://packages.test", ca=str(tmp_path / "none"))
+    assert end.value.status == WRONG
