@@ -8,6 +8,7 @@ from collections.abc import Callable, Iterator
 
 import pytest
 from support.clients.curl import REASON, Curl, bytes_of, digest_of, fill, run_python
+from support.clients.world import altered
 from support.packages import make_packages
 from support.proxy import Proxy
 from support.running import run_command
@@ -16,6 +17,8 @@ from support.serving import JSON_PAGE, Index, sha256
 
 PIP = shlex.split(os.environ.get("PIP", "python3 -m pip"))
 WHEEL, YANKED = "frob-1.0-py3-none-any.whl", "frob-1.1-py3-none-any.whl"
+# what a name that nobody holds is asked for
+FREE_NAME = "more"
 FIXED, OTHER = "spam_nest-1.0+fix.1-py3-none-any.whl", "spam_nest-2.0-py3-none-any.whl"
 
 
@@ -25,14 +28,15 @@ def packages(shared_folder: str) -> dict:
 
 
 @pytest.fixture(scope="module")
-def filled_index(program: str, shared_folder: str, packages: dict) -> Iterator[Index]:
-    """An index with two users, two names and their files, which nobody changes."""
+def port(program: str, shared_folder: str, packages: dict, pytestconfig: pytest.Config) -> Iterator[int]:
+    """The port of an index with two users, two names and their files, which nobody changes."""
     def look(is_well, seen):
         assert is_well, seen
 
     with Index(program) as index:
         fill(Curl(index.port, shared_folder, look), packages)
-        yield index
+        with altered(index.port, pytestconfig.option.alter) as at:
+            yield at
         assert index.errors() == b""
 
 
@@ -90,9 +94,9 @@ class Pip:
 
 
 @pytest.fixture(params=[JSON_PAGE, "text/html"], ids=["JSON", "HTML"])
-def pip(filled_index, folder, packages, looked, request) -> Iterator[Pip]:
+def pip(port, folder, packages, looked, request) -> Iterator[Pip]:
     """pip that gets pages of one type: a proxy asks for HTML in the place of what pip asks for."""
-    with Proxy(filled_index.port, accept=None if request.param == JSON_PAGE else request.param) as proxy:
+    with Proxy(port, accept=None if request.param == JSON_PAGE else request.param) as proxy:
         yield Pip(proxy, request.param, folder, packages, looked)
 
 
@@ -133,7 +137,7 @@ def test_another_digest_is_refused(pip):
 
 
 def test_a_free_name_has_no_distribution(pip):
-    pip.refuses("No matching distribution", "more")
+    pip.refuses("No matching distribution", FREE_NAME)
 
 
 def test_pip_tells_the_versions_that_are_not_yanked(pip, looked):
@@ -143,8 +147,8 @@ def test_pip_tells_the_versions_that_are_not_yanked(pip, looked):
     pip.gets_pages()
 
 
-def test_pip_needs_no_proxy_between(filled_index, folder, packages):
+def test_pip_needs_no_proxy_between(port, folder, packages):
     words = ["download", "--isolated", "--no-cache-dir", "--disable-pip-version-check", "--no-deps", "-d", folder]
-    ended = run_command([*PIP, *words, "--index-url", f"http://127.0.0.1:{filled_index.port}/simple/", "frob"], 240)
+    ended = run_command([*PIP, *words, "--index-url", f"http://127.0.0.1:{port}/simple/", "frob"], 240)
     assert ended.returncode == 0, end_seen(ended, True)
     assert bytes_of(f"{folder}/{WHEEL}") == bytes_of(packages["frob"][WHEEL][0])

@@ -5,7 +5,8 @@ import http.client
 import os
 import re
 import threading
-from contextlib import ExitStack
+from collections.abc import Iterator
+from contextlib import ExitStack, contextmanager
 from http.server import BaseHTTPRequestHandler, ThreadingHTTPServer
 
 from support.clients.forms import Service
@@ -102,6 +103,17 @@ class Altered(ThreadingHTTPServer):
         self.server_close()
 
 
+@contextmanager
+def altered(port: int, how: str | None) -> Iterator[int]:
+    """The port of an index whose pages are altered as --alter says, `PATTERN => TEXT`, or its own if they are not."""
+    if not how:
+        yield port
+        return
+    pattern, _, text = how.partition(" => ")
+    with Altered(port, pattern, text) as made:
+        yield made.server_port
+
+
 class Passing(BaseHTTPRequestHandler):
     """Passes one request on to the index, and its reply back."""
 
@@ -187,10 +199,7 @@ class World:
         with ExitStack() as stack:
             index = stack.enter_context(Kept(self.program, f"{self.folder}/index.db"))
             fill(index, self.packages)
-            port = index.port
-            if self.altered:
-                pattern, _, text = self.altered.partition(" => ")
-                port = stack.enter_context(Altered(index.port, pattern, text)).server_port
+            port = stack.enter_context(altered(index.port, self.altered))
             service = stack.enter_context(Service(index.port))
             self.gate = stack.enter_context(Gate(f"{self.folder}/gate", certificate, port, service.port))
             self.locked = stack.enter_context(Gate(f"{self.folder}/locked", certificate, port, service.port, 8, True))
