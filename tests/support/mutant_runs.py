@@ -9,6 +9,7 @@ import json
 import math
 import os
 import random
+import shutil
 import tempfile
 import threading
 from collections import Counter
@@ -97,7 +98,8 @@ class MutantRuns:
     program: str
     until: float = math.inf
     table: dict[str, list[str]] = field(default_factory=seen_by_file)
-    known: dict[tuple[str, ...], bool] = field(default_factory=dict)
+    same: dict[tuple[str, str, str, str], str] = field(default_factory=equivalents)
+    known: dict[str, concurrent.futures.Future[bool]] = field(default_factory=dict)
     lock: threading.Lock = field(default_factory=threading.Lock)
     copies: threading.local = field(default_factory=threading.local)
 
@@ -115,45 +117,39 @@ class MutantRuns:
         return str(self.copies.path)
 
     def one(self, mutant: Mutant) -> Result:
-        why = equivalents().get(mutant.key, "")
+        why = self.same.get(mutant.key, "")
         if why:
             return Result(mutant, why_equivalent=why)
-        copy = self.copy()
+        copy, path = self.copy(), f"{self.copy()}/{mutant.file}"
         for tests, seconds in ((units_of(mutant.file), SECONDS_OF_UNITS),
                                (others_of(mutant.file, self.table), SECONDS_OF_ROOM)):
-            if not tests or not self.pass_as_it_is(copy, tuple(tests), seconds):
-                continue
-            with open(f"{copy}/{mutant.file}", "w", encoding="utf-8") as made:
+            with open(path, "w", encoding="utf-8") as made:
                 made.write(mutant.source)
-            try:
-                ended = self.run(copy, tests, seconds)
-            finally:
-                with open(f"{TOP}/{mutant.file}", encoding="utf-8") as right, \
-                        open(f"{copy}/{mutant.file}", "w", encoding="utf-8") as made:
-                    made.write(right.read())
-            if caught_by(ended, tests):
-                return Result(mutant, caught_by(ended, tests))
+            ended = self.run(copy, tests, seconds) if tests else None
+            shutil.copyfile(f"{TOP}/{mutant.file}", path)
+            found = caught_by(ended, tests) if ended else ""
+            if found and self.passes_as_it_is(copy, found, seconds):
+                return Result(mutant, found)
         return Result(mutant)
 
-    def run(self, copy: str, tests: list[str] | tuple[str, ...], seconds: float) -> Ended:
+    def run(self, copy: str, tests: list[str], seconds: float) -> Ended:
         return run_tests(copy, tests, "-x", "--program", self.program, "--timeout", str(SECONDS_OF_TEST),
                          seconds=seconds)
 
-    def pass_as_it_is(self, copy: str, tests: tuple[str, ...], seconds: float) -> bool:
-        """Whether these tests pass where nothing is wrong, which is looked at once: else they would catch anything."""
+    def passes_as_it_is(self, copy: str, test: str, seconds: float) -> bool:
+        """Whether this test passes where nothing is wrong: else it would catch anything. It is looked at once."""
         with self.lock:
-            if tests not in self.known:
-                ended = self.run(copy, tests, 4 * seconds)
-                if ended.status not in (0, 5):
-                    raise Broken(f"{', '.join(tests)} fail where nothing is wrong: {ended.said[-3_000:]}")
-                self.known[tests] = ended.status == 0
-            return self.known[tests]
+            is_known = test in self.known
+            one = self.known.setdefault(test, concurrent.futures.Future())
+        if not is_known:
+            one.set_result("::" not in test or self.run(copy, [test], seconds).status == 0)
+        return one.result()
 
 
 def caught_by(ended: Ended, tests: list[str]) -> str:
     """The test that failed, or the file that can't be imported; or none."""
     if ended.status == -1:
-        return f"{tests[0]}: it took too long"
+        return f"{tests[0]}, which took too long"
     if ended.status == 1 or ended.status == 2 and ended.errors:
         return sorted([*ended.failed, *ended.errors])[0]
     if ended.status in (0, 5):
@@ -163,8 +159,9 @@ def caught_by(ended: Ended, tests: list[str]) -> str:
 
 def draw(count: int, seed: object) -> list[Mutant]:
     """So many mutants of all files, the same for one seed and the same texts."""
-    every = [it for file, text in python_files().items() for it in mutants_of(file, text)]
-    return drawn(every, count, random.Random(str(seed)))
+    texts = python_files()
+    every = [it for file, text in texts.items() for it in mutants_of(file, text)]
+    return drawn(every, texts, count, random.Random(str(seed)))
 
 
 def least_caught(count: int) -> int:

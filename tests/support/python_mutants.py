@@ -4,8 +4,9 @@ A text is changed in the place of one node and nowhere else, so comments and the
 from __future__ import annotations
 
 import ast
+import functools
 import random
-from collections.abc import Iterator
+from collections.abc import Iterator, Mapping
 from dataclasses import dataclass
 
 COMPARED = {ast.Lt: "<=", ast.LtE: "<", ast.Gt: ">=", ast.GtE: ">", ast.Eq: "!=", ast.NotEq: "==", ast.In: "not in",
@@ -204,31 +205,42 @@ def is_none(node: ast.AST) -> bool:
 
 
 def mutants_of(file: str, text: str) -> list[Mutant]:
-    """Each mutant of a program that is still Python and another tree, in the order of their places."""
-    places, tree = Places(text), ast.parse(text)
-    before, found = ast.dump(tree), {}
-    for node, function in nodes_of(tree):
+    """Each mutant of a program, in the order of their places. Not all of them are programs: see is_program."""
+    places, found = Places(text), {}
+    for node, function in nodes_of(ast.parse(text)):
         for kind, at, new in edits_of(node, places):
             made = places.with_new(at, new)
-            try:
-                is_other = ast.dump(ast.parse(made)) != before
-            except (SyntaxError, ValueError):
-                continue
-            if is_other and made not in found:
+            if made != text and made not in found:
                 old, after = places.lines(at, new)
                 found[made] = Mutant(file, function, kind, at.lineno, at.col_offset, old, after, made)
     return sorted(found.values(), key=lambda it: (it.line, it.column, it.kind, it.new))
 
 
-def drawn(mutants: list[Mutant], count: int, chance: random.Random) -> list[Mutant]:
-    """So many of them: by turns one of each kind, so that a rare kind comes as well."""
+@functools.lru_cache(maxsize=64)
+def tree_of(text: str) -> str:
+    return ast.dump(ast.parse(text))
+
+
+def is_program(mutant: Mutant, text: str) -> bool:
+    """Whether a mutant of this text is Python, and another tree."""
+    try:
+        return ast.dump(ast.parse(mutant.source)) != tree_of(text)
+    except (SyntaxError, ValueError):
+        return False
+
+
+def drawn(mutants: list[Mutant], texts: Mapping[str, str], count: int, chance: random.Random) -> list[Mutant]:
+    """So many of them that are programs: by turns one of each kind, so that a rare kind comes as well."""
     by_kind: dict[str, list[Mutant]] = {}
     for it in mutants:
         by_kind.setdefault(it.kind, []).append(it)
+    for those in by_kind.values():
+        chance.shuffle(those)
     chosen: list[Mutant] = []
     while len(chosen) < count and by_kind:
         for kind in sorted(by_kind):
-            chosen.append(by_kind[kind].pop(chance.randrange(len(by_kind[kind]))))
+            one = by_kind[kind].pop()
+            chosen += [one] if is_program(one, texts[one.file]) else []
             if not by_kind[kind]:
                 del by_kind[kind]
     return chosen[:count]
