@@ -89,6 +89,7 @@ def test_a_length_above_the_limit_is_refused_by_the_head_alone(curl, path, metho
     curl.ask(path, "-X", method, "-H", f"Content-Length: {length}").tells(413, b'"name":"BodyTooLarge"')
 
 
+@pytest.mark.slow
 def test_a_file_of_just_the_limit_is_taken_given_back_and_deleted(curl, folder):
     path, file = f"{folder}/large", "/files/frob/frob-0.1.tar.gz"
     with open(path, "wb") as large:

@@ -78,6 +78,7 @@ def test_an_index_that_stays_away_is_waited_for_some_seconds(looked):
     looked(7 < took < 30, Seen("a form", f"{took:.1f} s", "7 to 30 s"))
 
 
+@pytest.mark.slow
 def test_many_large_forms_at_once_take_the_memory_of_four(looked):
     with BrokenIndex(taking) as busy, Service(busy.port) as service:
         bodies = [form(f"frob-10.{at}.tar.gz", bytes(LARGEST)) for at in range(12)]

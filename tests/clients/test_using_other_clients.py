@@ -67,6 +67,7 @@ def test_pdm_locks_and_installs(person):
     person.gets("JSON")
 
 
+@pytest.mark.slow
 @pytest.mark.follows("pipenv", "pipenv, lock and install", client="pipenv")
 def test_pipenv_locks_and_installs(person):
     person.writes("pipenv")
@@ -74,6 +75,7 @@ def test_pipenv_locks_and_installs(person):
     person.gets("JSON")
 
 
+@pytest.mark.slow
 @pytest.mark.follows("tox", "tox, run", client="tox")
 def test_tox_installs_what_an_environment_needs(person):
     person.writes("tox")
@@ -89,6 +91,7 @@ def test_nox_installs_what_a_session_needs(person):
     person.gets("JSON")
 
 
+@pytest.mark.slow
 @pytest.mark.follows("pipx", client="pipx")
 def test_pipx_installs_a_command(person):
     """A command in an environment of its own. What pipx itself would like to have newer is not there."""
@@ -97,6 +100,7 @@ def test_pipx_installs_a_command(person):
     person.gets("JSON", besides=[f"/simple/{it}/" for it in ("pip", "setuptools", "wheel")])
 
 
+@pytest.mark.slow
 @pytest.mark.follows("pip by its environment", "build", client="pyproject-build")
 def test_build_takes_the_backend_from_the_index(person):
     person.takes("pip by its environment")
