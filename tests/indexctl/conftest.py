@@ -6,7 +6,7 @@ from typing import Iterator
 
 import pytest
 from support.indexctl.control import Control
-from support.indexctl.tools import needs
+from support.needed import want_command
 
 
 @pytest.fixture(scope="module")
@@ -19,8 +19,8 @@ def open_folder(shared_folder: str) -> str:
 @pytest.fixture(scope="module")
 def certificate(open_folder: str) -> str:
     """A certificate for loopback, which nobody vouches for."""
-    needs("openssl", "openssl")
-    needs("nginx", "nginx")
+    want_command("openssl", "openssl")
+    want_command("nginx", "nginx-light")
     from support.server.front import make_certificate
     return str(make_certificate(open_folder))
 

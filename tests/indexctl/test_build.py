@@ -61,7 +61,7 @@ def test_it_writes_the_page_of_the_office(program, one_file, folder):
         ended = run(one_file, "page", folder, **{**by.setting, "INDEX_TOKEN": "office"})
         assert ended.returncode == 0, ended.stdout
         assert_ends(by.run("page", f"{folder}/home"), 0)
-    assert os.path.getsize(f"{folder}/index.html") == os.path.getsize(f"{folder}/home/index.html") > 10_000
+    assert os.path.getsize(f"{folder}/index.html") == os.path.getsize(f"{folder}/home/index.html") > 5_000
 
 
 def test_it_holds_what_it_runs_and_no_more(one_file):

@@ -12,7 +12,7 @@ import sys
 import pytest
 from indexctl.commands import COMMANDS
 from support.indexctl.control import Control, assert_ends, environment
-from support.indexctl.tools import needs
+from support.needed import want_command
 from support.places import SERVER, TOP
 
 GROUPS = ("token", "profile", "user", "name", "owner", "file", "release", "quota", "quotas", "names", "who", "owned-by",
@@ -82,7 +82,7 @@ def test_the_manual_page_says_what_a_word_may_be(manual):
 
 
 def test_groff_reads_the_manual_page(manual):
-    needs("groff", "groff")
+    want_command("groff", "groff")
     page = subprocess.run(["groff", "-man", "-Tutf8", "-ww"], input=manual, stdout=subprocess.PIPE,
                           stderr=subprocess.PIPE, text=True, timeout=30)
     assert (page.returncode, page.stderr) == (0, "")
