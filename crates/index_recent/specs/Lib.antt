@@ -1,3 +1,4 @@
 pub mod Kept
+pub mod Room
 pub mod Shown
 pub mod Spared

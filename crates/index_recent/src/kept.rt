@@ -1,8 +1,8 @@
 //! What is kept of the last looks.
-ghost use Rattle.std.specs.Prelude.{◌≡◌, ◌≤◌, ◌<◌, ◌+◌, IfOk, IfSome, true, filter, length, vec_len};
-ghost use Rattle.std.specs.List.{Contains};
+ghost use Rattle.std.specs.Prelude.{◌≡◌, ◌↔◌, ◌≤◌, ◌<◌, ◌+◌, Err, IfOk, IfSome, IsTrue, None};
+ghost use Rattle.std.specs.Prelude.{drop, filter, length, option_copied, vec_len};
 ghost use Rattle.index_desk.specs.Pages.{project_of_page};
-ghost use Rattle.index_recent.specs.Kept.{AreLeft, body_bytes};
+ghost use Rattle.index_recent.specs.Kept.{AreLeft, AreNewest, HasNoPage, IsBodyAmong, IsPageAmong, body_bytes, kept_of};
 ghost use Rattle.index_recent.specs.Spared.{spares_file, spares_body};
 
 use index_desk::PageKey;
@@ -21,15 +21,10 @@ pub(crate) struct KeptBody {
 
 /// What is kept of a file.
 pub(crate) fn body_of<'a>(bodies: &'a [KeptBody], file: &FileName) -> Option<&'a KeptBody>
-    ensures { IfSome result (λ kept.
-        (kept.now.file ≡ file.now) × Contains bodies.now kept.now) }
+    ensures there { IfSome result (IsBodyAmong bodies.now file.now) }
+    ensures found { option_copied result ≡ kept_of file.now bodies.now }
 {
-    for kept in bodies {
-        if kept.file == *file {
-            return Some(kept);
-        }
-    }
-    None
+    bodies.iter().find(|kept| kept.file == *file)
 }
 
 /// Whether a change leaves the bytes of a file as they are. Of a prohibition this is not known.
@@ -67,6 +62,7 @@ pub(crate) fn keep_newest(bodies: &mut Vec<KeptBody>, most_kept: usize, room: us
     requires some { 0 < most_kept }
     requires counted { body_bytes bodies.old.items < 18446744073709551616 }
     ensures kept { AreLeft bodies.old.items bodies.new.items }
+    ensures newest { AreNewest bodies.old.items bodies.new.items }
     ensures bytes { (result ≡ body_bytes bodies.new.items) × (result ≤ room) }
     ensures few { length bodies.new.items < most_kept }
 {
@@ -81,6 +77,7 @@ pub(crate) fn keep_newest(bodies: &mut Vec<KeptBody>, most_kept: usize, room: us
 fn remove_first(bodies: &mut Vec<KeptBody>) -> usize
     requires { 0 < vec_len bodies.old }
     ensures kept { AreLeft bodies.old.items bodies.new.items }
+    ensures oldest { bodies.new.items ≡ drop 1 bodies.old.items }
     ensures bytes { body_bytes bodies.old.items ≡ result + body_bytes bodies.new.items }
     ensures fewer { length bodies.new.items + 1 ≡ length bodies.old.items }
 {
@@ -91,12 +88,16 @@ fn remove_first(bodies: &mut Vec<KeptBody>) -> usize
 }
 
 /// Whether memory was wanting.
-pub(crate) fn is_out_of_memory<T>(found: &Result<T, Fault>) -> bool {
+pub(crate) fn is_out_of_memory<T>(found: &Result<T, Fault>) -> bool
+    ensures { IsTrue result ↔ (found.now ≡ Err Fault.OutOfMemory) }
+{
     matches!(found, Err(Fault::OutOfMemory))
 }
 
 /// Whether memory was wanting in a walk.
-pub(crate) fn is_walk_out_of_memory(end: &Result<(), WalkEnd>) -> bool {
+pub(crate) fn is_walk_out_of_memory(end: &Result<(), WalkEnd>) -> bool
+    ensures { IsTrue result ↔ (end.now ≡ Err WalkEnd.OutOfMemory) }
+{
     matches!(end, Err(WalkEnd::OutOfMemory))
 }
 
@@ -124,20 +125,17 @@ pub(crate) fn page_of<'a>(
     page: PageKey<'_>,
     served: Served,
 ) -> Option<&'a KeptPage>
-    ensures { IfSome result (λ kept. (kept.now.project ≡ project_of_page page.entry)
-        × ((kept.now.served ≡ served) × Contains pages.now kept.now)) }
+    ensures there { IfSome result (IsPageAmong pages.now (project_of_page page.entry) served) }
+    ensures none { result ≡ None → HasNoPage pages.now (project_of_page page.entry) served }
 {
-    for kept in pages {
-        if kept.served == served && is_of(&kept.project, page) {
-            return Some(kept);
-        }
-    }
-    None
+    pages
+        .iter()
+        .find(|kept| kept.served == served && is_of(&kept.project, page))
 }
 
 /// Whether a page is of this project.
 fn is_of(project: &Option<NormalName>, page: PageKey<'_>) -> bool
-    ensures { result ≡ true → project.now ≡ project_of_page page.entry }
+    ensures { IsTrue result ↔ (project.now ≡ project_of_page page.entry) }
 {
     match (project, page) {
         (None, PageKey::Root) => true,

@@ -1,8 +1,16 @@
 //! Books that keep the last bodies and pages.
-ghost use Rattle.std.specs.Prelude.{◌≡◌, ◌≤◌, ◌<◌, ◌+◌, [], filter, length, true};
+ghost use Rattle.std.specs.Prelude.{◌≡◌, ◌≤◌, ◌<◌, ◌+◌, [], Err, IfOk, IfSome, None, Some};
+ghost use Rattle.std.specs.Prelude.{filter, length, option_copied, option_map, true};
 ghost use Rattle.std.specs.List.{All};
-ghost use Rattle.index_recent.specs.Kept.{IsKeptBody, IsKeptPage, body_bytes, page_bytes};
+ghost use Rattle.index_recent.specs.Kept.{AreNewest, HasNoPage, IsKeptBody, IsKeptPage, body_bytes, kept_of, page_bytes};
 ghost use Rattle.index_recent.specs.Spared.{spares_body};
+ghost use Rattle.std.specs.FinMap.{get};
+ghost use Rattle.index_desk.specs.Pages.{project_of_page};
+ghost use Rattle.index_rules.specs.Facts.{Sees};
+ghost use Rattle.index_rules.specs.Results.{Returns, ReturnsItems};
+ghost use Rattle.index_rules.specs.TableRows.{file_rows_in, held_rows_in, name_rows_in};
+ghost use Rattle.index_rules.specs.Verdict.{is_held as is_held_lem};
+ghost use Rattle.index_rules.specs.Walks.{to_taker};
 ghost use Rattle.index_recent.specs.declared.recent.TheConstants.{MOST_BODIES, MOST_PAGES};
 
 use crate::kept::{
@@ -41,6 +49,7 @@ pub struct Recent<B: Books> {
 }
 
 impl<B: Books> Recent<B> {
+    ghost use Rattle.index_recent.specs.Room.{KeepsNothing};
     ghost use Rattle.index_recent.specs.Shown.{books_of, most_bytes};
 
     /// These books, of which nothing is kept yet. Later up to so many bytes are.
@@ -74,9 +83,7 @@ impl<B: Books> Recent<B> {
     /// Lets go of all that is kept if a look ran out of memory, so that the next one has it.
     fn forget_if(&mut self, is_out_of_memory: bool)
         ensures books { self.new.books ≡ self.old.books }
-        ensures none { is_out_of_memory ≡ true →
-            (self.new.bodies.items ≡ []) × (self.new.pages.items ≡ []) }
-        ensures bytes { is_out_of_memory ≡ true → self.new.used ≡ 0 }
+        ensures none { is_out_of_memory ≡ true → KeepsNothing self.new }
     {
         if is_out_of_memory {
             self.bodies.clear();
@@ -120,6 +127,7 @@ impl<B: Books> Recent<B> {
     fn forget_oldest(&mut self, room: usize)
         requires { room ≤ self.old.most }
         ensures books { (self.new.books ≡ self.old.books) × (self.new.most ≡ self.old.most) }
+        ensures newest { AreNewest self.old.bodies.items self.new.bodies.items }
         ensures few { (length self.new.bodies.items < MOST_BODIES) × (self.new.pages.items ≡ []) }
         ensures bytes { (self.new.used ≡ body_bytes self.new.bodies.items)
             × (self.new.used ≤ room) }
@@ -130,6 +138,8 @@ impl<B: Books> Recent<B> {
 }
 
 impl<B: Books> Books for Recent<B> {
+    ghost use Rattle.index_recent.specs.Room.{LooksOrForgets, WalksOrForgets};
+
     ghost tables = { λ recent. B.tables recent.books };
 
     ghost IsHonest = { λ recent. B.IsHonest recent.books };
@@ -146,7 +156,10 @@ impl<B: Books> Books for Recent<B> {
         self.books.failure_count()
     }
 
-    fn view(&mut self, alloc: Global, keys: &Keys) -> Result<View, Fault> {
+    fn view(&mut self, alloc: Global, keys: &Keys) -> Result<View, Fault>
+        ensures { LooksOrForgets B.Books self.old self.new result
+            (λ T found. IfOk found (Sees T keys.now)) }
+    {
         let found = self.books.view(alloc, keys);
         self.forget_if(is_out_of_memory(&found));
         found
@@ -157,31 +170,46 @@ impl<B: Books> Books for Recent<B> {
         self.books.write(alloc, change)
     }
 
-    fn is_held(&mut self, alloc: Global, name: &NormalName) -> Result<bool, Fault> {
+    fn is_held(&mut self, alloc: Global, name: &NormalName) -> Result<bool, Fault>
+        ensures { LooksOrForgets B.Books self.old self.new result
+            (λ T found. Returns found (is_held_lem (get T.names name.now))) }
+    {
         let found = self.books.is_held(alloc, name);
         self.forget_if(is_out_of_memory(&found));
         found
     }
 
-    fn bytes_of(&mut self, alloc: Global, file: &FileName) -> Result<Option<Sealed>, Fault> {
+    fn bytes_of(&mut self, alloc: Global, file: &FileName) -> Result<Option<Sealed>, Fault>
+        ensures { LooksOrForgets B.Books self.old self.new result
+            (λ T found. Returns found (get T.bodies file.now)) }
+    {
         let found = self.books.bytes_of(alloc, file);
         self.forget_if(is_out_of_memory(&found));
         found
     }
 
-    fn names(&mut self, alloc: Global) -> Result<Vec<NameRow>, Fault> {
+    fn names(&mut self, alloc: Global) -> Result<Vec<NameRow>, Fault>
+        ensures { LooksOrForgets B.Books self.old self.new result
+            (λ T found. ReturnsItems found (name_rows_in T)) }
+    {
         let found = self.books.names(alloc);
         self.forget_if(is_out_of_memory(&found));
         found
     }
 
-    fn files_of(&mut self, alloc: Global, name: &NormalName) -> Result<Vec<FileRow>, Fault> {
+    fn files_of(&mut self, alloc: Global, name: &NormalName) -> Result<Vec<FileRow>, Fault>
+        ensures { LooksOrForgets B.Books self.old self.new result
+            (λ T found. ReturnsItems found (file_rows_in T name.now)) }
+    {
         let found = self.books.files_of(alloc, name);
         self.forget_if(is_out_of_memory(&found));
         found
     }
 
-    fn walk_held<K: NameTaker>(&mut self, alloc: Global, taker: &mut K) -> Result<(), WalkEnd> {
+    fn walk_held<K: NameTaker>(&mut self, alloc: Global, taker: &mut K) -> Result<(), WalkEnd>
+        ensures { WalksOrForgets B.Books self.old self.new held_rows_in
+            (to_taker K.takes K.stops taker.old taker.new) result }
+    {
         let end = self.books.walk_held(alloc, taker);
         self.forget_if(is_walk_out_of_memory(&end));
         end
@@ -192,7 +220,10 @@ impl<B: Books> Books for Recent<B> {
         alloc: Global,
         name: &NormalName,
         taker: &mut K,
-    ) -> Result<(), WalkEnd> {
+    ) -> Result<(), WalkEnd>
+        ensures { WalksOrForgets B.Books self.old self.new (λ T. file_rows_in T name.now)
+            (to_taker K.takes K.stops taker.old taker.new) result }
+    {
         let end = self.books.walk_files(alloc, name, taker);
         self.forget_if(is_walk_out_of_memory(&end));
         end
@@ -204,7 +235,11 @@ impl<B: Books> Books for Recent<B> {
 }
 
 impl<B: Books> Keeper for Recent<B> {
-    fn kept_body(&self, file: &FileName) -> Option<&Sealed> {
+    ghost use Rattle.index_recent.specs.Room.{FindsBody, FindsPage};
+
+    fn kept_body(&self, file: &FileName) -> Option<&Sealed>
+        ensures { FindsBody B.Books self.now file.now result }
+    {
         match body_of(self.bodies.as_slice(), file) {
             Some(kept) => Some(&kept.body),
             None => None,
@@ -220,7 +255,9 @@ impl<B: Books> Keeper for Recent<B> {
         let _ = self.bodies.push(KeptBody { file, body });
     }
 
-    fn kept_page(&self, page: PageKey<'_>, served: Served) -> Option<&[u8]> {
+    fn kept_page(&self, page: PageKey<'_>, served: Served) -> Option<&[u8]>
+        ensures { FindsPage B.Books self.now (project_of_page page.entry) served result }
+    {
         match page_of(self.pages.as_slice(), page, served) {
             Some(kept) => Some(kept.text.as_slice()),
             None => None,
