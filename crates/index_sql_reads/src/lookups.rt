@@ -173,8 +173,7 @@ pub(crate) fn has_release<S: Alter>(
     name: &NormalName,
     release: &Release,
 ) -> Result<bool, Fault>
-    ensures { Gets S.Store conn.old conn.new result
-        (λ T. has_release_in T name.now release.now) }
+    ensures { Gets S.Store conn.old conn.new result (λ T. has_release_in T name.now release.now) }
 {
     if has_usual_file(alloc, conn, name, release, b".tar.gz")? {
         return Ok(true);

@@ -48,8 +48,7 @@ impl<S: Alter> SqlBooks<S> {
     pub fn adopt(alloc: Global, conn: Connection<S>) -> Result<SqlBooks<S>, Unopened<S>>
         requires outside { conn.in_transaction ≡ false }
         ensures found { IfOk result (HaveTables S.Store (IsFound (state S.Store conn).now)) }
-        ensures history { IfOk result
-            (HaveTables S.Store (StandAsFound (state S.Store conn).now)) }
+        ensures history { IfOk result (HaveTables S.Store (StandAsFound (state S.Store conn).now)) }
         ensures one_bearer { IfOk result (HaveTables S.Store HasOneBearer) }
         ensures meta { IfOk result (HaveMeta S.Store (AreHandedOn (state S.Store conn).now)) }
         ensures opened { IfOk result (AreOpened S.Store IsRaised conn) }
@@ -166,8 +165,7 @@ fn refuse_other<S: Alter>(conn: Connection<S>) -> Unopened<S>
 
 /// Makes the index of a database of version 1.
 fn migrate_and_adopt<S: Alter>(conn: Connection<S>) -> Result<SqlBooks<S>, Unopened<S>>
-    requires { RestsAs S.Store
-        (λ s. HasCleanDisk s → IsTrue s.is_open → TellsFirst s.now) conn }
+    requires { RestsAs S.Store (λ s. HasCleanDisk s → IsTrue s.is_open → TellsFirst s.now) conn }
     ensures adopts { Adopts S.Store (StoreForRefusal S.Store asks_of_migration) conn result }
     ensures fault { IfErr result (λ refused. IsFault refused.why) }
 {
