@@ -190,7 +190,8 @@ class Reply:
 @pytest.mark.parametrize("status, body, name", [
     (201, b'{"answer":"accepted"}', "accepted"), (200, b'{"answer":"already"}', "already"),
     (200, b'{"name":"accepted"}', "accepted"), (409, b'{"name":"FileNameTaken"}', "FileNameTaken"),
-    (400, b'{"name":"BadText","answer":"x"}', "BadText"), (400, b'{"answer":"BadText"}', "BadText")])
+    (400, b'{"name":"BadText","answer":"x"}', "BadText"), (400, b'{"answer":"BadText"}', "BadText"),
+    (400, b'{"name":"BadText"' + b" " * ((1 << 16) - 18) + b"}", "BadText")])
 def test_an_answer_of_the_index(monkeypatch, status, body, name):
     reply, made = Reply(status, body), upload(file="frob-1+x.tar.gz")
     monkeypatch.setattr(LEGACY.http.client, "HTTPConnection", reply)
@@ -271,6 +272,9 @@ def test_a_connection_is_shut_once_its_time_is_over_and_not_before():
     with LEGACY.within(0.01, peer, socket.SHUT_RD):
         assert shut.wait(60)
     assert shut.way == socket.SHUT_RD
+    with LEGACY.within(60, peer):
+        # one that still waits must not keep the service from its end
+        assert all(it.daemon for it in threading.enumerate() if isinstance(it, threading.Timer))
     # what is shut already is no fault
     with LEGACY.within(0, types.SimpleNamespace(shutdown=raises(OSError()))):
         pass
@@ -325,6 +329,8 @@ def test_what_a_client_is_told(monkeypatch, capsys, answer, status, said):
 @pytest.mark.parametrize("data, status", [
     (message(b"", method="GET"), "405 this address takes uploads by POST alone"),
     (message(form(WHEEL, DATA), Content_Length=None), "411"), (message(form(WHEEL, DATA), Content_Length="-1"), "411"),
+    (message(form(WHEEL, DATA), Content_Length="9x"), "411"), (message(b"", Content_Length="9" * 18), "413"),
+    (message(b"", Content_Length="9" * 19), "411"),
     (message(form(WHEEL, DATA), Transfer_Encoding="chunked"), "411"),
     (message(b""), "400 the form is empty"), (message(b"", Content_Length=MOST + (1 << 20) + 1), "413"),
     (message(form(WHEEL, DATA), Content_Type="text/plain"), "400 this is not a form"),
@@ -371,6 +377,16 @@ def test_not_more_forms_are_read_at_once_than_may_be(monkeypatch):
     assert not freed
 
 
+def test_the_service_ends_though_a_client_is_silent(monkeypatch):
+    begun = time.monotonic()
+    with service(monkeypatch, at_once=1) as (serving, _):
+        silent = socket.create_connection(serving.server_address)
+        while serving.free._value:
+            time.sleep(0.001)
+    with silent:
+        assert time.monotonic() - begun < LEGACY.SILENT_SECONDS / 2
+
+
 def test_a_thread_that_can_not_be_started_frees_its_place(monkeypatch):
     with service(monkeypatch, at_once=1) as (serving, _):
         monkeypatch.setattr(LEGACY.ThreadingMixIn, "process_request", raises(RuntimeError("no thread")))
@@ -382,7 +398,7 @@ def test_a_thread_that_can_not_be_started_frees_its_place(monkeypatch):
 @pytest.mark.parametrize("text, place", [("127.0.0.1:0", ("127.0.0.1", 0)), ("x:65535", ("x", 65535)),
                                          ("::1:80", ("::1", 80))])
 def test_a_place_to_listen(text, place):
-    assert LEGACY.place(text) == place
+    assert LEGACY.place(text) == place and type(LEGACY.place(text)[1]) is int
 
 
 @pytest.mark.parametrize("text", ["8080", ":8080", "x:", "x:65536", "x:-1", "x:a"])

@@ -106,6 +106,11 @@ def test_a_commit_that_is_cut_off_counts_as_one():
     assert seen(log_of([1, 3])[:place(3)]) == (True, place(1) + 8, told)
 
 
+def test_a_commit_that_is_cut_off_counts_behind_others_too():
+    log = flipped(log_of([1, 1, 3])[:place(4)], place(0) + FRONT)
+    assert seen(log)[2] == "damaged after 0 sound commits; about 3 acknowledged ones would be dropped"
+
+
 def test_a_frame_of_page_0_is_none():
     log = bytearray(log_of([1, 1]))
     log[place(1):place(1) + 4] = bytes(4)

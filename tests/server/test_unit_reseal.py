@@ -2,6 +2,7 @@
 import os
 import sqlite3
 import struct
+import types
 from contextlib import closing
 
 import pytest
@@ -107,6 +108,23 @@ def test_a_database_with_damage_is_refused(tmp_path, monkeypatch):
     with pytest.raises((Refused, sqlite3.DatabaseError)):
         RESEAL.make(str(world.db), str(world.new), str(world.part))
     assert not world.new.exists() and "sqlite3" not in [words[0] for words in world.asked]
+
+
+def test_what_sqlite_finds_is_refused(tmp_path, monkeypatch):
+    world, said = World(tmp_path, monkeypatch), [("row 1 missing",)] * 9
+    rows = types.SimpleNamespace(fetchall=lambda: said)
+    stands = types.SimpleNamespace(close=lambda: None, execute=lambda text: rows)
+    monkeypatch.setattr(RESEAL.sqlite3, "connect", lambda path: {f"{world.part}/copy.db": stands}[path])
+    with pytest.raises(Refused) as refused:
+        RESEAL.make(str(world.db), str(world.new), str(world.part))
+    assert str(refused.value) == f"integrity_check: {said[:3]}" and not world.new.exists()
+
+
+def test_a_link_to_a_database_is_followed_and_one_to_a_new_file_is_not(tmp_path, monkeypatch, capsys):
+    os.symlink(tmp_path / "real.db", tmp_path / "link.db")
+    asked = calls(monkeypatch, RESEAL, "make", lambda _, new, part: open(new, "w").close())
+    ends(RESEAL, monkeypatch, capsys, tmp_path / "link.db", tmp_path / "new.db")
+    assert asked == [(f"{tmp_path}/real.db", f"{tmp_path}/new.db", f"{tmp_path}/new.db.part")]
 
 
 @pytest.mark.parametrize("end, said", [(None, ""), (Refused("no"), "no"), (OSError("full"), "full"),

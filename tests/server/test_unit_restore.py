@@ -346,6 +346,14 @@ def test_an_exchange_that_fails_puts_pypi_back_and_leaves_no_copy(tmp_path, monk
     assert not signal.pthread_sigmask(signal.SIG_BLOCK, []) & set(RESTORE.SIGNALS)
 
 
+def test_a_copy_that_can_not_be_put_beside_is_told_and_stops_nothing(tmp_path, monkeypatch):
+    world = World(tmp_path, monkeypatch)
+    monkeypatch.setattr(RESTORE, "put_beside", raises(Refused("no such copy")))
+    with pytest.raises(Refused, match="no such copy"):
+        world.into_place()
+    assert world.is_as_before() and not world.order and not world.units.are_stopped
+
+
 def test_a_copy_that_is_complete_leaves_pypi_on(tmp_path, monkeypatch, capsys):
     world = World(tmp_path, monkeypatch, complete=True)
     assert RESTORE.restore(world.words, world.db, world.units) == ""
@@ -370,6 +378,19 @@ def test_a_restore_tells_what_it_forgets(tmp_path, monkeypatch, capsys):
     assert "systemctl start a.service" in world.order and not (world.folder / "restoring-before").exists()
     assert capsys.readouterr().out.startswith(f"{world.copy} is in its place; what was there is in {aside}\n")
     assert (aside / "changes").exists()
+
+
+def test_the_folder_of_the_old_files_is_named_by_the_moment_in_utc(tmp_path, monkeypatch):
+    world = World(tmp_path, monkeypatch)
+    monkeypatch.setenv("TZ", "Asia/Tokyo")
+    RESTORE.time.tzset()
+    before = datetime.datetime.now(UTC).replace(microsecond=0)
+    RESTORE.restore(world.words, world.db, world.units)
+    monkeypatch.delenv("TZ")
+    RESTORE.time.tzset()
+    aside, = world.folder.glob("before-*")
+    stamp = datetime.datetime.strptime(f"{aside.name}+0000", "before-%Y%m%dT%H%M%SZ%z")
+    assert before <= stamp <= datetime.datetime.now(UTC)
 
 
 def test_changes_that_can_not_be_gathered_are_told(tmp_path, monkeypatch):

@@ -1,13 +1,12 @@
 """The rules of index-verify on tables by SQLite, without the program."""
 import hashlib
 import sqlite3
-import subprocess
 import types
 from contextlib import closing
 
 import pytest
 from support.programs import program_of
-from support.unit import calls, ends, raises
+from support.unit import ends, raises
 
 VERIFY = program_of("index-verify")
 BODY = b"a body"
@@ -118,31 +117,35 @@ def test_what_rules_call(function, text, value):
     assert VERIFY.FUNCTIONS[function](text) == value
 
 
-def ended(monkeypatch, *statuses):
-    """The commands that the programs are asked by, which end with these statuses."""
-    left = list(statuses)
-    return calls(monkeypatch, VERIFY.subprocess, "run",
-                 lambda words: subprocess.CompletedProcess(words, left.pop(0), " said \n"))
+def stand_ins(folder, monkeypatch, log=0, index=0):
+    """Programs that end with these statuses, and the file of what they were asked."""
+    for name, status in (("index-log", log), ("index", index)):
+        (folder / name).write_text(f'#!/bin/sh\necho {name} "$@" >> {folder}/asked\n'
+                                   f"echo ' {name}'\necho ' said ' >&2\nexit {status}\n")
+        (folder / name).chmod(0o755)
+    monkeypatch.setattr(VERIFY, "HERE", str(folder))
+    monkeypatch.setattr(VERIFY, "PROGRAM", str(folder / "index"))
+    return folder / "asked"
 
 
 def test_both_programs_look_at_a_copy(tmp_path, monkeypatch):
-    asked = ended(monkeypatch, 0, 0)
+    asked = stand_ins(tmp_path, monkeypatch)
     assert VERIFY.fault_by_program(str(tmp_path / "x.db")) is None
-    assert asked == [([f"{VERIFY.HERE}/index-log", f"{tmp_path}/x.db"],),
-                     ([VERIFY.PROGRAM, "check", "--db", f"{tmp_path}/x.db"],)]
+    assert asked.read_text() == f"index-log {tmp_path}/x.db\nindex check --db {tmp_path}/x.db\n"
 
 
-@pytest.mark.parametrize("statuses, said", [((3,), "index-log ended with status 3: said"),
-                                            ((0, 1), "index check ended with status 1: said")])
-def test_what_a_program_finds_is_told(monkeypatch, statuses, said):
-    asked = ended(monkeypatch, *statuses)
-    assert VERIFY.fault_by_program("x.db") == said and len(asked) == len(statuses)
+@pytest.mark.parametrize("log, index, said", [(3, 0, "index-log ended with status 3: index-log\n said"),
+                                              (0, 1, "index check ended with status 1: index\n said")])
+def test_what_a_program_finds_is_told(tmp_path, monkeypatch, log, index, said):
+    asked = stand_ins(tmp_path, monkeypatch, log, index)
+    assert VERIFY.fault_by_program("x.db") == said
+    assert len(asked.read_text().splitlines()) == (1 if log else 2)
 
 
 @pytest.mark.parametrize("length, said", [(0, None), (4096, None), (4097, "index check: the log was not brought into "
                                                                          "the copy")])
 def test_a_log_that_stays_is_told(tmp_path, monkeypatch, length, said):
-    ended(monkeypatch, 0, 0)
+    stand_ins(tmp_path, monkeypatch)
     (tmp_path / "x.db-wal").write_bytes(bytes(length))
     assert VERIFY.fault_by_program(str(tmp_path / "x.db")) == said
 
