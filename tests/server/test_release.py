@@ -1,0 +1,74 @@
+"""What tools/release hands out, and what it refuses to make a release of. The steps are those of one repository."""
+from __future__ import annotations
+
+import pytest
+from support.needed import want_command
+from support.running import run_command
+from support.server.expected import assert_ends
+from support.server.released import TAG, TEXT, VERSION, Releases
+from support.server.stand_ins import written
+
+pytestmark = [pytest.mark.slow, pytest.mark.xdist_group("release"), pytest.mark.timeout(600)]
+PROGRAM, PACKAGE = f"index-{VERSION}-amd64", f"package-index_{VERSION}_amd64.deb"
+NAMES = (PROGRAM, "indexctl", PACKAGE)
+
+
+@pytest.fixture(scope="session")
+def releases(tmp_path_factory: pytest.TempPathFactory) -> Releases:
+    for command, package in (("dh", "debhelper"), ("dpkg-buildpackage", "dpkg-dev"), ("help2man", "help2man"),
+                             ("make", "make"), ("strip", "binutils"), ("cc", "gcc"), ("git", "git")):
+        want_command(command, package)
+    return Releases(str(tmp_path_factory.mktemp("release")))
+
+
+def test_a_release_ends_with_the_command_that_makes_its_tag(releases):
+    command = f"git tag --annotate --file {releases.out}/{TAG}.txt {TAG} {releases.commit}\n"
+    assert_ends(releases.made, 0, command)
+
+
+def test_its_sums_are_right(releases):
+    assert_ends(releases.made, 0)
+    summed = run_command(["sh", "-c", 'cd "$1" && sha256sum --check SHA256SUMS', "sh", releases.out])
+    assert (summed.returncode, summed.stdout) == (0, "".join(f"{it}: OK\n" for it in NAMES))
+
+
+def test_its_program_tells_the_commit_also_in_the_package(releases, tmp_path, looked):
+    assert_ends(releases.made, 0)
+    told = f"index {VERSION} (commit {releases.commit[:12]}, rattle-kit-"
+    run_command(["dpkg-deb", "--extract", f"{releases.out}/{PACKAGE}", str(tmp_path)])
+    for path in (f"{releases.out}/{PROGRAM}", f"{tmp_path}/usr/bin/index"):
+        said = run_command([path, "--version"]).stdout
+        looked(said.startswith(told), path, said, told)
+
+
+def test_its_package_has_the_version(releases):
+    assert_ends(releases.made, 0)
+    assert_ends(run_command(["dpkg-deb", "--field", f"{releases.out}/{PACKAGE}", "Version"]), 0, VERSION)
+
+
+def test_the_text_of_its_tag_is_that_of_the_changelog(releases):
+    assert_ends(releases.made, 0)
+    assert written(f"{releases.out}/{TAG}.txt") == TEXT
+
+
+def test_a_release_made_again_from_its_tag_is_the_same(releases):
+    assert_ends(releases.again, 0)
+    assert releases.sums("first") and releases.sums("first") == releases.sums("again")
+
+
+@pytest.mark.parametrize("what, said", [
+    ("a tag that is there", f"there is a tag {TAG}"), ("no section", "has no section for 9.8.8"),
+    ("another constant", f"has the version {VERSION}, not 9.8.6"), ("changes", "not committed"),
+    ("changes", "CHANGELOG.md"), ("not yet released", f"{VERSION} is not yet released"),
+    ("another commit", "the program tells"), ("a folder that is there", "is there already")])
+def test_what_is_no_release_is_refused(releases, what, said):
+    assert_ends(releases.refused[what], 1, said)
+
+
+def test_nothing_is_made_of_what_is_refused(releases):
+    assert not releases.refused["made"]
+
+
+def test_a_release_of_a_program_that_is_built_is_the_same(releases):
+    assert_ends(releases.of_a_program, 0, f" {TAG} {releases.commit}\n")
+    assert releases.sums("first") and releases.sums("first") == releases.sums("built")
