@@ -1,5 +1,9 @@
-"""Units for several indexes on one machine, made from those for one: an instance is the port that its index listens
-on."""
+#!/usr/bin/python3
+"""Makes templates of units in a folder, for several indexes on one machine: an instance is the port that its index
+listens on."""
+from __future__ import annotations
+
+import sys
 
 TEMPLATED = ("index.service", "index-backup.service", "index-backup.timer", "index-health.service",
              "index-health.timer", "index-metrics.service", "index-metrics.timer")
@@ -22,9 +26,10 @@ RUN = (
 FOLDER = "ExecStartPre=/bin/mkdir -p -m 700 /var/backups/index/%i\n"
 
 
-def template(name, unit):
+def template(name: str, unit: str) -> str:
     """The template of this unit. What is changed is in lines that systemd reads, and not in comments."""
-    lines, is_run = [], False
+    lines: list[str] = []
+    is_run = False
     for line in unit.splitlines(keepends=True):
         # a line goes on after a backslash
         is_run = line.startswith(("Exec", "Environment=")) or is_run and lines[-1].endswith("\\\n")
@@ -34,3 +39,17 @@ def template(name, unit):
             line = FOLDER + line
         lines.append(line)
     return "".join(lines)
+
+
+def main() -> None:
+    folder, = sys.argv[1:]
+    for name in TEMPLATED:
+        with open(f"{folder}/{name}", encoding="utf-8") as kept:
+            text = kept.read()
+        unit, kind = name.split(".")
+        with open(f"{folder}/{unit}@.{kind}", "w", encoding="utf-8") as made:
+            made.write(template(name, text))
+
+
+if __name__ == "__main__":
+    main()
