@@ -13,6 +13,7 @@ import pytest
 from support.indexctl.control import Control, assert_ends, filled, put
 from support.indexctl.page import DRIVER, Reader, rendered, title_of
 from support.indexctl.sample import CASES, MARKUP, NAMES, USERS, lines_of
+from support.needed import want_module
 from support.places import NGINX, SERVER, TOP
 from support.running import run_command
 from support.serving import Index
@@ -139,7 +140,7 @@ def test_a_search_for_what_is_not_there_leaves_nothing(driven):
 
 
 def test_the_html_has_no_error_of_a_parser(office):
-    html5lib = pytest.importorskip("html5lib", reason="html5lib is not installed (Debian: python3-html5lib)")
+    html5lib = want_module("html5lib", "python3-html5lib")
     with open(f"{TOP}/indexctl/page.html", encoding="utf-8") as kept:
         empty = kept.read().replace('"{', '"').replace('}"', '"')
     for text in (office.text, empty):
