@@ -8,6 +8,7 @@ from collections.abc import Callable, Iterator
 
 import pytest
 from support.clients.curl import REASON, Curl, bytes_of, digest_of, fill, run_python
+from support.clients.person import want_module
 from support.clients.world import altered
 from support.packages import make_packages
 from support.proxy import Proxy
@@ -96,6 +97,8 @@ class Pip:
 @pytest.fixture(params=[JSON_PAGE, "text/html"], ids=["JSON", "HTML"])
 def pip(port, folder, packages, looked, request) -> Iterator[Pip]:
     """pip that gets pages of one type: a proxy asks for HTML in the place of what pip asks for."""
+    if PIP[0] == "python3":
+        want_module("python3", "pip", "python3-pip")
     with Proxy(port, accept=None if request.param == JSON_PAGE else request.param) as proxy:
         yield Pip(proxy, request.param, folder, packages, looked)
 

@@ -20,10 +20,12 @@ SYSTEM, DEBIAN = "/usr/local/bin:/usr/bin:/bin", "/usr/bin/python3"
 
 
 def machines_python() -> str:
-    """The python3 that is first on PATH, which may be another than Debian's. Below it a tool such as pyenv may have
-    put a script in its place."""
+    """The python3 that is first on PATH, which may be another than Debian's, and has to have pip. A tool such as pyenv
+    may have put a script in its place."""
     words = ["python3", "-c", "import sys; print(sys.executable)"]
-    return subprocess.run(words, stdout=subprocess.PIPE, check=True, timeout=60, text=True).stdout.strip()
+    found = subprocess.run(words, stdout=subprocess.PIPE, check=True, timeout=60, text=True).stdout.strip()
+    want_module(found, "pip", "python3-pip")
+    return found
 
 
 def want_module(python: str, name: str, package: str) -> None:

@@ -149,7 +149,7 @@ class Gate(Front):
     def __init__(self, folder: str, certificate: str, index_port: int, service_port: int, ports: int = PORTS,
                  has_password: bool = False) -> None:
         super().__init__(folder, certificate, index_port)
-        self.authority, self.log = certificate.replace("/pem", "/ca.pem"), f"{folder}/asked.log"
+        self.authority, self.asked_log = certificate.replace("/pem", "/ca.pem"), f"{folder}/asked.log"
         self.trust.load_verify_locations(self.authority)
         self.free = [free_port() for _ in range(ports)]
         with open(f"{folder}/conf.d/packages.conf") as kept:
@@ -158,7 +158,7 @@ class Gate(Front):
         self.put("conf.d/packages.conf", text, **{f"listen 127.0.0.1:{self.port} ssl;": listens})
         self.port = self.next_port()
         self.put("conf.d/asked.conf", f"log_format asked '{ASKED}';\n")
-        self.put("index/server.d/asked.conf", f"access_log {self.log} asked;\n")
+        self.put("index/server.d/asked.conf", f"access_log {self.asked_log} asked;\n")
         with open(f"{SERVER}/nginx/legacy.conf") as kept:
             self.put("index/server.d/legacy.conf", kept.read(), **{"127.0.0.1:8090": f"127.0.0.1:{service_port}"})
         if has_password:
@@ -176,7 +176,7 @@ class Gate(Front):
 
     def asked_at(self, port: int) -> list:
         """What was asked at this port, in order: the status, the method, the path, the reply's type, and Accept."""
-        with open(self.log, errors="replace") as log:
+        with open(self.asked_log, errors="replace") as log:
             return re.findall(rf"^{port} (\d+) (\S+) ([^\s|]+)\|([^|\n]*)\|(.*)$", log.read(), re.M)
 
 
