@@ -42,13 +42,21 @@ def files_with_breaks():
             and (it in named or "clients" not in it)]
 
 
+def without_a_break():
+    """The tests of without_a_break.txt, which no break names yet."""
+    with open(f"{TOP}/tests/mutants/without_a_break.txt", encoding="utf-8") as kept:
+        return kept.read().split()
+
+
 @pytest.mark.parametrize("file", files_with_breaks())
 def test_each_test_stands_at_a_break(file):
-    """So each of them has failed once."""
+    """So each of them has failed once. Of those in without_a_break.txt nobody has seen it: the list may only become
+    shorter."""
     if [it for it in BREAKS if not it.is_moved and it.room == file.split("/")[1]]:
         pytest.skip("breaks of this room are not moved yet")
     seen = {name.partition("[")[0] for it in BREAKS for name in it.caught}
-    assert not [it for it in names_of(file) if it not in seen and it.rpartition("::")[0] not in seen]
+    unseen = {it for it in names_of(file) if it not in seen and it.rpartition("::")[0] not in seen}
+    assert not unseen - {*without_a_break()}
 
 
 @pytest.mark.by_turns("breaks")
