@@ -10,17 +10,12 @@ from typing import Callable
 from top import PROGRAM
 
 
-def parser_of(text: str, rounds: int | None = None, what: str = "",
-              has_program: bool = True) -> argparse.ArgumentParser:
-    """The options of a command, of which `text` says what it does. `rounds` is the default of --rounds, and `what` says
-    of what these are."""
+def parser_of(text: str, has_program: bool = True) -> argparse.ArgumentParser:
+    """The options of a command, of which `text` says what it does."""
     parser = argparse.ArgumentParser(description=text, formatter_class=argparse.RawDescriptionHelpFormatter)
     if has_program:
         parser.add_argument("--program", metavar="PATH", type=os.path.abspath, default=PROGRAM,
                             help="the built program; crates/index/out/index if left out")
-    if rounds is not None:
-        parser.add_argument("--rounds", metavar="N", type=whole_number, default=rounds,
-                            help=f"{what}; {rounds} if left out")
     return parser
 
 
@@ -32,17 +27,15 @@ def whole_number(word: str) -> int:
 
 
 class Trial:
-    """Counts checks, and prints those that failed, or all."""
+    """Counts checks, and prints those that failed."""
 
-    def __init__(self, prints_all: bool = False) -> None:
-        self.passed, self.failed, self.prints_all = 0, 0, prints_all
+    def __init__(self) -> None:
+        self.passed, self.failed = 0, 0
 
     def check(self, name: str, is_well: object, seen: object = None) -> bool:
         """Counts one check, prints what was seen if it failed, and returns whether it passed."""
         if is_well:
             self.passed += 1
-            if self.prints_all:
-                print(f"ok {name}", flush=True)
             return True
         self.failed += 1
         print(f"FAILED {name}: {str(seen)[:3000]}", flush=True)
