@@ -125,12 +125,18 @@ class MutantRuns:
                                (others_of(mutant.file, self.table), SECONDS_OF_ROOM)):
             with open(path, "w", encoding="utf-8") as made:
                 made.write(mutant.source)
-            ended = self.run(copy, tests, seconds) if tests else None
+            found = self.caught(copy, tests, seconds) if tests else ""
             shutil.copyfile(f"{TOP}/{mutant.file}", path)
-            found = caught_by(ended, tests) if ended else ""
             if found and self.passes_as_it_is(copy, found, seconds):
                 return Result(mutant, found)
         return Result(mutant)
+
+    def caught(self, copy: str, tests: list[str], seconds: float) -> str:
+        """The test that catches what is in the copy: it fails again by itself, so not by chance."""
+        found = caught_by(self.run(copy, tests, seconds), tests)
+        if "::" in found and self.run(copy, [found], seconds).status == 0:
+            return ""
+        return found
 
     def run(self, copy: str, tests: list[str], seconds: float) -> Ended:
         return run_tests(copy, tests, "-x", "--program", self.program, "--timeout", str(SECONDS_OF_TEST),
