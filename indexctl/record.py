@@ -27,7 +27,7 @@ class Record:
             raise Stop(WRONG, f"The record {path} can't be kept on this system, which has no locks for it. Unset it, "
                               "or run indexctl on Linux or macOS. Nothing was asked for.")
         try:
-            self.file = os.open(path, os.O_RDWR | os.O_CREAT | os.O_CLOEXEC, 0o600)
+            self.file = os.open(path, os.O_RDWR | os.O_CREAT, 0o600)
         except OSError as end:
             raise Stop(WRONG, f"The record {path} can't be written: {end.strerror}. Nothing was asked for.") from end
 
