@@ -9,7 +9,7 @@ from contextlib import closing
 
 import pytest
 from support.refusals import rests
-from support.serving import JSON_PAGE, Index, make_index, sha256
+from support.serving import JSON_PAGE, Index, sha256
 
 MEBIBYTE = 1 << 20
 # what is kept without --keep-recent
@@ -17,7 +17,7 @@ DEFAULT = 256 * MEBIBYTE
 # of what a large file takes beside its bytes, and of what the system gives and takes in pages of its own
 SLACK = 4 * MEBIBYTE
 TYPES = {"JSON": JSON_PAGE, "HTML": "text/html", "HTML-of-version-1": "application/vnd.pypi.simple.v1+html"}
-# rows of a page: an allocation or more for each if it is made anew
+# rows of a page
 MANY = 40
 
 
@@ -92,23 +92,22 @@ def test_a_page_is_found_again(program, index_file, refusals, looked, path, acce
         with Counted(program, index_file, refusals, keep) as index:
             costs[keep] = [index.cost(path, Accept=TYPES[accept]) for _ in range(5)]
     kept, none = costs.values()
-    looked(min(none) > MANY and kept[0] > MANY, "each is made anew", kept, none)
-    looked(max(kept[1:]) < MANY / 2, "it is found again", kept, none)
+    looked(kept[0] >= min(none), "at first it is made", kept, none)
+    looked(max(kept[1:]) < min(none) / 2, "it is found again", kept, none)
 
 
 # memory
 
-@pytest.fixture(scope="module")
-def large_files(shared_folder, program):
-    """An index with 300 files of a mebibyte of the name `frob`, which is closed."""
-    path, rows = make_index(program, f"{shared_folder}/large.db"), []
+def fill_with_large_files(path, count):
+    """Adds so many files of a mebibyte of the name `frob`."""
     with closing(sqlite3.connect(path)) as database:
-        database.execute("INSERT INTO names VALUES ('frob', 1, 'frob', ?, ?, 300, 11)", (1 << 40, 300 * MEBIBYTE))
+        database.execute("INSERT INTO names VALUES ('frob', 1, 'frob', ?, ?, ?, 11)",
+                         (1 << 40, count * MEBIBYTE, count))
         database.execute("INSERT INTO owners VALUES ('frob', 'office')")
-        for number in range(300):
+        for number in range(count):
             body, file = os.urandom(MEBIBYTE), f"frob-{number}.tar.gz"
-            rows.append((file, "frob", f"{number}", bytes.fromhex(sha256(body)), MEBIBYTE, "", 1))
-            database.execute("INSERT INTO files VALUES (?, ?, ?, ?, ?, ?, ?)", rows[-1])
+            row = file, "frob", f"{number}", bytes.fromhex(sha256(body)), MEBIBYTE, "", 1
+            database.execute("INSERT INTO files VALUES (?, ?, ?, ?, ?, ?, ?)", row)
             database.execute("INSERT INTO blobs VALUES (?, ?)", (file, body))
         database.commit()
     return path
@@ -116,7 +115,7 @@ def large_files(shared_folder, program):
 
 def peak(program, path, looks, keep):
     """The bytes that a server takes at most once it listens, which keeps up to so many, or as many as it likes."""
-    with Index(program, path=path, keep=keep, patience=120) as index:
+    with Index(program, path=path, keep=keep, patience=600) as index:
         with open(f"/proc/{index.process.pid}/clear_refs", "w") as refs:
             refs.write("5")
         for number in looks:
@@ -126,18 +125,23 @@ def peak(program, path, looks, keep):
             return 1024 * next(int(row.split()[1]) for row in kept if row.startswith("VmHWM:"))
 
 
-# by name --keep-recent, how many bytes that is, and how many files are looked at
-KEPT = {"8-MiB": (8 * MEBIBYTE, 8 * MEBIBYTE, 40), "by-default": (None, DEFAULT, 300),
-        "more-than-by-default": (300 * MEBIBYTE, 300 * MEBIBYTE, 300)}
+# an index of so many files of a mebibyte is opened fast, also by a program that was not proved
+FEW = 40
+# by name --keep-recent, at least and at most how many bytes that takes, and how many files are looked at
+KEPT = {"8-MiB": (8 * MEBIBYTE, 4 * MEBIBYTE, 8 * MEBIBYTE, FEW), "by-default": (None, DEFAULT // 2, DEFAULT, 300),
+        "more-than-by-default": (300 * MEBIBYTE, 288 * MEBIBYTE, 300 * MEBIBYTE, 300)}
 
 
 @pytest.mark.slow
-@pytest.mark.timeout(900)
+@pytest.mark.timeout(1_800)
 @pytest.mark.parametrize("kept", KEPT)
-def test_what_is_kept_takes_as_much_memory_as_it_may_and_no_more(program, large_files, looked, kept):
+def test_what_is_kept_takes_as_much_memory_as_it_may_and_no_more(program, is_proved, index_file, looked, kept):
     """Many files are looked at, the last of them twice."""
-    keep, most, count = KEPT[kept]
-    none = peak(program, large_files, range(10), 0)
-    taken = peak(program, large_files, [*range(count), *range(count - 20, count)], keep)
-    looked(taken >= none + most - 3 * SLACK // 2 - (most // 4 if count < 300 else 0), "it is kept", none, taken)
+    keep, least, most, count = KEPT[kept]
+    if not is_proved and count > FEW:
+        pytest.skip("a program that was not proved takes minutes to open so large an index")
+    path = fill_with_large_files(index_file, count)
+    none = peak(program, path, range(10), 0)
+    taken = peak(program, path, [*range(count), *range(count - 20, count)], keep)
+    looked(taken >= none + least, "it is kept", none, taken)
     looked(taken <= none + most + SLACK, "no more", none, taken)

@@ -78,6 +78,7 @@ def test_a_message_to_a_server_that_caches_gets_its_reply_or_a_fault(refusing, h
     refusing.message(KEPT, at, held_index, KEPT_BYTES)
 
 
+@pytest.mark.slow
 @SHARED
 @IN_MEMORY
 def test_the_stored_run_answers_its_lines_or_ends(refusing, share, is_in_memory, looked):
@@ -93,6 +94,7 @@ def test_the_stored_run_answers_its_lines_or_ends(refusing, share, is_in_memory,
             refusing.is_kept(name, kept)
 
 
+@pytest.mark.slow
 @SHARED
 def test_init_makes_an_index_or_none(refusing, share, end, looked):
     words = "init", "--db", refusing.path, *OFFICE
@@ -105,6 +107,7 @@ def test_init_makes_an_index_or_none(refusing, share, end, looked):
         refusing.is_kept(name, ())
 
 
+@pytest.mark.slow
 @SHARED
 def test_a_migration_has_every_row(refusing, share, folder, looked):
     """Of a database of version 1, by `check`."""
@@ -115,6 +118,7 @@ def test_a_migration_has_every_row(refusing, share, folder, looked):
         looked(refusing.rows_behind(refusing.path) == wanted, f"{name}: the rows")
 
 
+@pytest.mark.slow
 @SHARED
 @pytest.mark.parametrize("command", ["check", "report", "serve"])
 def test_what_reads_alone_changes_no_row(refusing, share, logged_index, end, looked, command):
