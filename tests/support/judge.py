@@ -12,6 +12,8 @@ TABLES = ("meta", "users", "names", "owners", "files", "blobs", "yanks", "cases"
 LOG = "-wal"
 # the answer to what asks nothing, for which the tables are not looked at
 MESSAGE = b'{"answer":"message"'
+# in seconds: a program that is not proved takes long for many large files, and longer on a busy machine
+PATIENCE = 600
 
 
 def copy_index(path, to):
@@ -62,7 +64,7 @@ class Judge:
 
     def answers(self, lines):
         if lines not in self.known_answers:
-            ended = run(self.program, "apply", given=b"".join(lines))
+            ended = run(self.program, "apply", given=b"".join(lines), patience=PATIENCE)
             if ended.returncode or ended.stderr:
                 raise RuntimeError(f"apply over memory ended with {ended}")
             self.known_answers[lines] = tuple(ended.stdout.splitlines())
@@ -71,7 +73,7 @@ class Judge:
     def rows(self, lines):
         if lines not in self.known_rows:
             path = copy_index(self.new, f"{self.folder}/judge.db")
-            ended = run(self.program, "apply", "--db", path, given=b"".join(lines))
+            ended = run(self.program, "apply", "--db", path, given=b"".join(lines), patience=PATIENCE)
             if (ended.returncode, tuple(ended.stdout.splitlines())) != (0, self.answers(lines)):
                 raise RuntimeError(f"apply over a database differs from apply over memory: {ended}")
             self.known_rows[lines] = rows_of(path)

@@ -10,7 +10,7 @@ from support.chance import chosen
 from support.failing import Fault
 from support.fault_runs import FaultRuns
 from support.faults_of_serve import look
-from support.judge import Judge, copy_index, seen_by_sqlite
+from support.judge import PATIENCE, Judge, copy_index, seen_by_sqlite
 from support.running import run
 from support.serving import ACCEPTED, ALREADY, Index, parts_of, reply_to
 from support.workload import LARGE, REQUESTS, STORE, lines_of, message_of, of_file, of_name, upload
@@ -45,7 +45,7 @@ ALL = (*(Asked(f"GET {path}", look(path)) for path in LOOKS),
 def index_with_many(program: str, judge: Judge, path: str) -> str:
     """An index with what was asked before, in this file."""
     copy_index(judge.new, path)
-    asked = run(program, "apply", "--db", path, given=b"".join(lines_of(BEFORE, MOMENT)))
+    asked = run(program, "apply", "--db", path, given=b"".join(lines_of(BEFORE, MOMENT)), patience=PATIENCE)
     answers = set(asked.stdout.splitlines())
     assert asked.returncode == 0 and answers == {ACCEPTED, ALREADY}, answers
     return path
