@@ -4,7 +4,7 @@ import socket
 from collections.abc import Callable, Iterator
 
 import pytest
-from support.clients.curl import Curl, bytes_of, fill, shown
+from support.clients.curl import Curl, bytes_of, fill
 from support.needed import want_command
 from support.packages import make_packages
 from support.seen import Seen
@@ -144,26 +144,3 @@ def test_a_message_that_breaks_off_is_refused(curl, looked, message, fault):
     got = whole(curl.port, message)
     is_refused = got.startswith(b"HTTP/1.1 400 Bad Request\r\n") and b'"name":"%b"' % fault in got
     looked(is_refused, Seen(message, got[:200], fault))
-
-
-def test_all_is_there_after_a_restart(program, folder, packages, looked):
-    want_command("curl", "curl")
-    path = make_index(program, f"{folder}/index.db")
-    with Index(program, path=path) as index:
-        curl = Curl(index.port, folder, looked)
-        fill(curl, packages)
-        before = shown(curl)
-    looked(all(end == (0, "200") for _, end, _ in before), Seen("what a reader sees", before, 200))
-    with Index(program, path=path) as index:
-        again = shown(Curl(index.port, folder, looked))
-        looked(again == before, Seen("the same after a restart", again, before))
-        looked(index.errors() == b"", Seen("standard error", index.errors(), "nothing"))
-
-
-def test_two_requests_and_the_program_ends(program, folder, looked):
-    want_command("curl", "curl")
-    with Index(program, requests=2) as index:
-        curl = Curl(index.port, folder, looked)
-        for _ in range(2):
-            curl.ask("/simple/").tells(200)
-        looked(index.process.wait(timeout=60) == 0, Seen("--requests 2", index.process.returncode, 0))
