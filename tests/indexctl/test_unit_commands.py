@@ -168,7 +168,8 @@ def test_a_token_that_may_be_lost_is_told(run, monkeypatch, status, said):
     run.desk.change_by = fail
     with pytest.raises(Stop, match="^No reply.") as end:
         run("user", "add", "eve")
-    assert end.value.status == status and ("its token is lost: use `indexctl user rotate eve`" in str(end.value)) == said
+    assert end.value.status == status
+    assert ("its token is lost: use `indexctl user rotate eve`" in str(end.value)) == said
 
 
 def test_a_locked_user_has_a_token_that_nobody_knows(run, capsys):
@@ -304,7 +305,7 @@ def test_a_case_is_shown_with_its_texts(run, capsys):
                  "opened     2001-09-09 01:46 UTC"):
         assert said in out
     run("case", "show", "a", "--json")
-    assert {key: rows_of(capsys)[key] for key in ("name",)} == {"name": "a"}
+    assert rows_of(capsys)["candidate"] == "bob"
 
 
 @pytest.mark.parametrize("case, said", [(None, "No case is open on a. It belongs to ann."),
