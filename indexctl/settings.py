@@ -16,6 +16,8 @@ from indexctl.ends import WRONG, Stop
 PROFILES = "~/.config/indexctl.ini"
 KEYS = ("url", "token-file", "ca", "record", "user", "password-file")
 TOKEN = "[!-~]([ -~]*[!-~])?"
+# of a token or a password, in characters: a file that has more is something else
+MOST_SECRET = 4_096
 
 
 @dataclass(frozen=True)
@@ -35,7 +37,7 @@ def read_secret(path: str, what: str) -> str:
     path = os.path.expanduser(path)
     try:
         with open(path, encoding="ascii") as kept:
-            mode, text = os.fstat(kept.fileno()).st_mode, kept.read(4096).strip()
+            mode, text = os.fstat(kept.fileno()).st_mode, kept.read(MOST_SECRET + 1).strip()
     except (OSError, UnicodeDecodeError) as end:
         raise Stop(WRONG, f"{what}: {path} can't be read: {end}") from end
     if os.name == "nt":
@@ -46,7 +48,7 @@ def read_secret(path: str, what: str) -> str:
     if mode & 0o077 and not (credentials and os.path.dirname(os.path.abspath(path)) == credentials):
         raise Stop(WRONG, f"{what}: other users may read {path}. Use `chmod 600 {path}`, and ask for another token if "
                           "they did.")
-    if not re.fullmatch(TOKEN, text):
+    if len(text) > MOST_SECRET or not re.fullmatch(TOKEN, text):
         raise Stop(WRONG, f"{what}: {path} does not hold one line of plain characters.")
     return text
 

@@ -39,6 +39,16 @@ def test_a_secret_that_others_may_read_is_refused(home, mode):
     assert end.value.status == WRONG
 
 
+@pytest.mark.parametrize("size, is_taken", [(4_096, True), (4_097, False), (9_000, False)])
+def test_a_longer_file_is_no_secret_and_is_not_cut(home, size, is_taken):
+    path = put(home / "s", "a" * size)
+    if is_taken:
+        assert settings.read_secret(path, "x") == "a" * size
+    else:
+        with pytest.raises(Stop, match="does not hold one line"):
+            settings.read_secret(path, "x")
+
+
 def test_a_credential_of_systemd_may_have_another_mode(home, monkeypatch):
     path = put(home / "credentials" / "s", "abc", 0o444)
     monkeypatch.setenv("CREDENTIALS_DIRECTORY", str(home / "credentials"))
