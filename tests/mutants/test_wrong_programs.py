@@ -15,7 +15,7 @@ EDITS = edits()
 GONE = "tests/clients/test_gone_clients.py"
 KILLS, MESSAGES = "tests/storage/test_kills.py::TestKilled", "tests/program/test_messages.py"
 FAULTS, CRASHES = "tests/storage/test_faults.py", "tests/storage/test_crashes.py"
-CACHE, CAUSES, CONTROLS, ENDS, REFUSED, SHUT, SIZES = (
+CACHE, CAUSES, CONTROLS, ENDS, MEMORY, SHUT, SIZES = (
     f"tests/program/test_{it}.py" for it in ("cache", "causes", "controls", "ends", "refused_memory", "shut", "sizes"))
 # by the name of an edit, the test that fails
 CAUGHT_BY = {
@@ -55,9 +55,9 @@ CAUGHT_BY = {
     "program_spoilt_release_is_want_of_memory":
         f"{SHUT}::test_an_invalid_row_is_a_fault_of_the_store_and_not_of_memory",
     "program_want_of_memory_is_not_told":
-        f"{REFUSED}::test_a_message_gets_its_reply_or_a_fault_that_changed_nothing",
+        f"{MEMORY}::test_a_message_gets_its_reply_or_a_fault_that_changed_nothing",
     "program_want_of_memory_is_told_as_store":
-        f"{REFUSED}::test_a_line_gets_its_verdict_or_a_fault_that_changed_nothing",
+        f"{MEMORY}::test_a_line_gets_its_verdict_or_a_fault_that_changed_nothing",
     "sizes_first_file_alone_is_found_again": f"{CACHE}::test_files_are_found_again_and_the_oldest_goes_first",
     "sizes_json_page_is_never_found_again": f"{CACHE}::test_a_page_is_found_again",
     "sizes_newest_file_goes_first": f"{CACHE}::test_files_are_found_again_and_the_oldest_goes_first",
