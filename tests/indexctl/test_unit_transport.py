@@ -2,6 +2,7 @@
 from __future__ import annotations
 
 import http.client
+import socket
 
 import pytest
 from indexctl import transport
@@ -163,3 +164,17 @@ def test_certificates_that_can_t_be_read_are_told(tmp_path):
     with pytest.raises(Stop, match="The certificates in .*none can't be read") as end:
         index_of("https://packages.test", ca=str(tmp_path / "none"))
     assert end.value.status == WRONG
+
+
+def test_a_connection_that_broke_is_told(trial):
+    with pytest.raises(Stop, match=r"^x: ConnectionResetError\(\), 1 time\."):
+        trial([ConnectionResetError()], again=0).index.ask("x", GET)
+
+
+def test_where_nobody_listens_nothing_goes_out():
+    with socket.socket() as taken:
+        taken.bind(("127.0.0.1", 0))
+        index = index_of(f"http://127.0.0.1:{taken.getsockname()[1]}")
+        for send in (index.once, index.look):
+            with pytest.raises(NotSent):
+                send(GET)
