@@ -94,13 +94,20 @@ const FILE: Route = Route {
     front: IN_BYTES,
 };
 
+/// A file that is not there, so that none is kept.
+const NO_FILE: Route = Route {
+    message: "GET /files/frob/frob-1.1.tar.gz HTTP/1.1\r\n\r\n",
+    calls: &[BooksCall::BytesOf],
+    front: "HTTP/1.1 404 Not Found\r\n",
+};
+
 const STANDING: Route = Route {
     message: "GET /names/frob HTTP/1.1\r\n\r\n",
     calls: &[BooksCall::View],
     front: IN_JSON,
 };
 
-const LOOKS: &[Route] = &[ROOT, PAGE, PAGE_OF_NO_TYPE, FILE, STANDING];
+const LOOKS: &[Route] = &[ROOT, PAGE, PAGE_OF_NO_TYPE, FILE, NO_FILE, STANDING];
 
 const ROOT_HEAD: Route = Route {
     message: "HEAD /simple/ HTTP/1.1\r\n\r\n",
@@ -307,7 +314,7 @@ fn assert_forgotten<B: Books + Drop>(
 #[test]
 fn what_is_kept_goes_where_memory_runs_out(rt: HostRuntime) {
     let site = &Site::new(rt.alloc()).expect(&rt, "routes");
-    for look in [ROOT, PAGE, STANDING] {
+    for look in [ROOT, PAGE, NO_FILE, STANDING] {
         assert_forgotten(&rt, site, new_books(&rt), &look);
     }
 }
