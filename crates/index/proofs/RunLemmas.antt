@@ -141,7 +141,7 @@ module _ {D : Type 0} {g : Ghosts D} where
 
   none_of : (start : Image) (first : Held (FileStore D g)) → IsOpened first → FindsIn start (file_state first)
       → has_any_of (file_state first).now.schema index_schema.tables ≡ false → HoldsNone start
-  none_of start first opened finds free = record { db = (file_state first).now; only = only_of start first opened finds; free = free }
+  none_of start first opened finds free = record { db = (file_state first).now; sound = (opened.1 opened.0.is_open).0; only = only_of start first opened finds; free = free }
 
   -- a new index between an opening and a close
   pub created_by : (T : Tables) (start : Image) (first last : Held (FileStore D g)) (files : Files D) → IsOpened first → FindsIn start (file_state first)
@@ -168,6 +168,7 @@ module _ {D : Type 0} {g : Ghosts D} where
       → LeavesAsWas Made (file_state first) (file_state last) → Refused Made start (file_state last)
   refused_by Made start first last opened finds leaves = record {
     db = (file_state first).now;
+    sound = (opened.1 opened.0.is_open).0;
     only = only_of start first opened finds;
     left = leaves.left opened.0.is_open opened.0.clean;
   }

@@ -1,7 +1,7 @@
 -- Two files that are opened, and a run that does nothing on them.
 use Rattle.std.specs.Prelude.{◌≡◌, ◌⊎◌, ◌<◌, Bool, true, false, length, IsTrue, IfSome}
 use Rattle.std.specs.Prelude.{Option, Some, None, Result, Ok, Err, IfOk, IfErr}
-use Rattle.sqlite.specs.Effect.{Database}
+use Rattle.sqlite.specs.Effect.{Database, IsDatabase}
 use Rattle.sqlite.specs.FileStore.{recovers}
 use Rattle.sqlite.specs.declared.FileStore.{FileStore}
 use Rattle.sqlite.specs.Files.{AreFoundIn, HoldsDatabase, IsBlankAs, IsCleanLeft, IsEmpty}
@@ -147,6 +147,7 @@ module _ {D : Type 0} {g : disk.Ghosts D} where
 pub record Refused
     (Made : Database → Trees → Type 0) (start : Image) (now : State) : Type 0 where
   pub db : Database
+  pub sound : IsDatabase db
   pub only : HoldsOnly start db
   pub left : (found : Trees) → now.may_leave found
       → (found ≡ db.trees) ⊎ ((now.is_open ≡ false) × Made db found)

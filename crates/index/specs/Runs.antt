@@ -3,7 +3,7 @@
 use Rattle.std.specs.Prelude.{◌≡◌, ◌⊎◌, ◌↔◌, Bool, false, IsTrue, None, Some, IfSome}
 use Rattle.std.specs.Prelude.{Result, IfOk, IfErr, IsErrOf}
 use Rattle.sqlite.specs.Closing.{HoldsAlone}
-use Rattle.sqlite.specs.Effect.{Database}
+use Rattle.sqlite.specs.Effect.{Database, IsDatabase}
 use Rattle.sqlite.specs.declared.FileStore.{FileStore}
 use Rattle.sqlite.specs.Files.{IsClosed, image_of, over_files}
 use Rattle.sqlite.specs.Held.{Held}
@@ -97,6 +97,8 @@ pub record Interrupted {D : Type 0} {g : Ghosts D}
 -- they held a database in which no table has the name of one of an index
 pub record HoldsNone (image : Image) : Type 0 where
   pub db : Database
+  -- its trees list this schema
+  pub sound : IsDatabase db
   pub only : HoldsOnly image db
   pub free : has_any_of db.schema index_schema.tables ≡ false
 

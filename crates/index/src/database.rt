@@ -1,5 +1,5 @@
 //! The index in a database of SQLite: made or adopted, worked on, and closed.
-ghost use Rattle.std.specs.Prelude.{◌≡◌, false, ℕ, Result, Err, None, Some, IfOk, IfErr, IfSome, IsTrue};
+ghost use Rattle.std.specs.Prelude.{◌≡◌, false, ℕ, Result, Err, None, Some, IfOk, IfErr, IfSome, IsTrue, OnErr};
 ghost use Rattle.sqlite.specs.Closing.{IsCopied};
 ghost use Rattle.sqlite.specs.Files.{IsClosed, file_state, over_files};
 ghost use Rattle.sqlite.specs.Held.{AreDatabases, state};
@@ -157,6 +157,9 @@ pub fn work_on<S: Start, W: Work>(
     // No next run finds anything but what this one leaves.
     ensures leads { WorkLeadsOn ⟦<FileFrom<S> as Disk>⟧ (W.task work.old work.new)
         (image_at S.Start) result }
+
+    // Where nothing was done on the files, no work was.
+    ensures idle { OnErr result (work.new ≡ work.old) }
 {
     match open_there(rt, path, start) {
         Ok(conn) => work_and_close(rt, conn, work),
@@ -214,6 +217,7 @@ fn work_and_close<D: Disk + Drop, W: Work>(
     requires outside { conn.in_transaction ≡ false }
     ensures ends { (start : Image) → IsOpenedOn start conn → EndsRunOn D.Disk
         (W.task work.old work.new) start result }
+    ensures idle { OnErr result (work.new ≡ work.old) }
 {
     match work_in(rt, conn, work) {
         Ok((conn, end)) => Ok(Finished {
@@ -278,6 +282,7 @@ fn work_in<S: Alter + Drop, W: Work>(
     ensures refused { IfErr result (λ left. HasCleanDisk (state S.Store left.conn)
         → LeavesAsWas IsRaised (state S.Store conn) (state S.Store left.conn)) }
     ensures why { IfErr result (λ left. IsWhyUnfound S.Store conn left.conn left.why) }
+    ensures idle { OnErr result (work.new ≡ work.old) }
 {
     match SqlBooks::adopt(rt.alloc(), conn) {
         Ok(books) => {
