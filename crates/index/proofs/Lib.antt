@@ -1,8 +1,10 @@
 pub mod ChainLemmas
 pub mod FaultLemmas
 pub mod FreshLemmas
+pub mod GoesOnLemmas
 pub mod JobLemmas
 pub mod NewFileLemmas
 pub mod OfficeLemmas
 pub mod OpeningLemmas
 pub mod RunLemmas
+pub mod ThereLemmas

@@ -40,6 +40,7 @@ use Rattle.index_tables.specs.Opened.{IsRefusedAs, IsTaken}
 use Rattle.index_tables.specs.declared.opening.Unopened.{Unopened}
 use Rattle.sqlite.specs.WalReads.{AreClean}
 use Rattle.index.specs.declared.database.Unclosed.{Unclosed}
+use Rattle.index.proofs.ThereLemmas.{not_same, there_by}
 use Rattle.index.specs.Openings.{HoldsOnly, IsCleanClosed, LeavesOfShut, OpensAgain, Refused}
 use Rattle.index.specs.Runs.{Began, Created, CreatedInLog, FindsOnly, Holds, HoldsAfterCrash, HoldsCurrent, HoldsNone, Interrupted, IsMadeNew, LeavesAsWas, LeavesOnly, Ran, Worked}
 
@@ -128,8 +129,8 @@ module _ {D : Type 0} {g : Ghosts D} where
 
   -- work between an opening and a close that failed
   pub interrupted_by : (Told : Tables → Type 0) (Left : Tables → Tables → Type 0) (start : Image) (first last : Held (FileStore D g)) (store : FileStore D g) → IsOpened first → FindsIn start (file_state first)
-      → Began Told Left (file_state first).now (file_state last).may_leave → IsClosed last store → OpensAgain last.store → Interrupted Told Left start store
-  interrupted_by Told Left start first last store opened finds began closed again = record {
+      → Began Told Left (file_state first).now (file_state last).may_leave → ((T : Tables) → (T' : Tables) × (¬ Left T T')) → IsClosed last store → OpensAgain last.store → Interrupted Told Left start store
+  interrupted_by Told Left start first last store opened finds began other closed again = record {
     before = began.before;
     held = holds_of start first began.before opened finds began.found;
     told = began.told;
@@ -137,6 +138,7 @@ module _ {D : Type 0} {g : Ghosts D} where
     last = last;
     closed = closed;
     next = found_next (Left began.before) last again began.left;
+    there = there_by (Left began.before) last.store again began.left (other began.before);
   }
 
   none_of : (start : Image) (first : Held (FileStore D g)) → IsOpened first → FindsIn start (file_state first)
@@ -162,6 +164,7 @@ module _ {D : Type 0} {g : Ghosts D} where
         last = last;
         closed = closed;
         next = found_next (λ found. found ≡ T) last again left;
+        there = there_by (λ found. found ≡ T) last.store again left (not_same T);
       }
 
   pub refused_by : (Made : Database → Trees → Type 0) (start : Image) (first last : Held (FileStore D g)) → IsOpened first → FindsIn start (file_state first)

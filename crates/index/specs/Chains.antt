@@ -72,16 +72,22 @@ pub record BreaksOff
   pub held : Holds start before
   pub told : TellsBy task result before
   pub left : FindsOnly next (MayLeaveBy task result before)
+  pub there : ¬ HoldsNone next
+
+-- where there was something of an index, there is still
+abbrev pub KeepsSome : Image → Image → Type 0
+KeepsSome start next = (¬ HoldsNone start) → ¬ HoldsNone next
 
 -- A run leads from the files that it found to the next ones. After an init whatever index is found
 -- was there, or is the new one, made where there was nothing of an index.
 abbrev pub LeadsOn : Run → Image → Image → Type 0
 LeadsOn (InitRun user token) start next =
-    FindsOnly next (λ found.
+    KeepsSome start next
+    × FindsOnly next (λ found.
     Holds start found ⊎ (HoldsNone start × (found ≡ first_tables user token)))
 LeadsOn (EndedRun task result) start next = EndsOn task result start next
 LeadsOn (CutRun task result) start next = BreaksOff task result start next
-LeadsOn UnusedRun start next = FindsOnly next (Holds start)
+LeadsOn UnusedRun start next = KeepsSome start next × FindsOnly next (Holds start)
 
 -- so do runs one after the other
 abbrev pub LeadTo : List Run → Image → Image → Type 0

@@ -1,6 +1,7 @@
 pub mod Causes
 pub mod Chains
 pub mod Ends
+pub mod GoesOn
 pub mod Jobs
 pub mod Openings
 pub mod Printed

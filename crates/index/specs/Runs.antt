@@ -80,6 +80,14 @@ abbrev pub LeavesOnly : (Trees → Type 0) → (Tables → Type 0) → Type 0
 LeavesOnly may_leave Are =
     (db : Trees) → may_leave db → (T : Tables) → (AreCurrent db → T ≡ tables_in db) → Are T
 
+-- they held a database in which no table has the name of one of an index
+pub record HoldsNone (image : Image) : Type 0 where
+  pub db : Database
+  -- its trees list this schema
+  pub sound : IsDatabase db
+  pub only : HoldsOnly image db
+  pub free : has_any_of db.schema index_schema.tables ≡ false
+
 -- They held an index with some tables, the work told this of them, and a crash leaves what it may
 -- leave of it. So it does of some connection whose close left this store: whatever index the next
 -- run finds in what a crash leaves of that, has such tables.
@@ -93,14 +101,8 @@ pub record Interrupted {D : Type 0} {g : Ghosts D}
   pub last : Held (FileStore D g)
   pub closed : IsClosed last store
   pub next : (image : Image) → MayLeave last image → FindsOnly image (Left before)
-
--- they held a database in which no table has the name of one of an index
-pub record HoldsNone (image : Image) : Type 0 where
-  pub db : Database
-  -- its trees list this schema
-  pub sound : IsDatabase db
-  pub only : HoldsOnly image db
-  pub free : has_any_of db.schema index_schema.tables ≡ false
+  -- and an index is there
+  pub there : (image : Image) → MayLeave last image → ¬ HoldsNone image
 
 -- they held nothing of an index, and hold a new one with these tables
 pub record Created {D : Type 0}
@@ -118,6 +120,7 @@ pub record CreatedInLog {D : Type 0} {g : Ghosts D}
   pub last : Held (FileStore D g)
   pub closed : IsClosed last store
   pub next : (image : Image) → MayLeave last image → FindsOnly image (λ found. found ≡ T)
+  pub there : (image : Image) → MayLeave last image → ¬ HoldsNone image
 
 -- ---- a run of work on the index in two files
 

@@ -1,0 +1,261 @@
+-- The history after any runs goes on from the one before them.
+use Rattle.std.proofs.Common.{◌≡◌, ◌⊎◌, ◌∙◌, ℕ, Bool, true, false, cond, List, [], ◌∷◌, Option, Some, None, Result, Ok, Err, length, refl, sym, ap, subst, inl, inr}
+use Rattle.std.proofs.lemmas.Bool.{true≢false, cases_lt}
+use Rattle.sqlite.specs.Recovery.{Image}
+use Rattle.index_digest.specs.Digest.{sha256}
+use Rattle.index_names.specs.FileName.{project_of}
+use Rattle.index_names.specs.Project.{read_name}
+use Rattle.index_cli.specs.Connections.{Exchange}
+use Rattle.index_cli.specs.declared.end.LineEnd.{LineEnd}
+use Rattle.index_cli.specs.Lines.{longest_line}
+use Rattle.index_cli.specs.Serving.{AnswersEach, AnswersOne}
+use Rattle.index_cli.specs.Telling.{TellsAsked, TellsLines}
+use Rattle.index_cli.specs.TellsCalls.{TellsCalls}
+use Rattle.index_cli.proofs.Choices.{Ends-choice, ServesCalls-choice, TellsCalls-choice}
+use Rattle.index_desk.specs.Rules.{by_history}
+use Rattle.index_http.specs.Ends.{Ends}
+use Rattle.index_http.specs.Exchanges.{Acts, Replies, RepliesTo, RepliesToInput}
+use Rattle.index_http.specs.Replies.{Reply}
+use Rattle.index_http.specs.declared.end.IoEnd.{IoEnd}
+use Rattle.index_http.specs.declared.end.IoEnd.TheVariants as io
+use Rattle.index_json.specs.Line.{line_of}
+use Rattle.index_json.specs.declared.line.Line.{Line}
+use Rattle.index_json.specs.declared.line.Line.TheVariants as line
+use Rattle.index_message.specs.Requests.{HttpRequest}
+use Rattle.index_message.specs.declared.message.Message.{Message}
+use Rattle.index_message.specs.declared.message.Message.TheVariants.{Faulty, Whole}
+use Rattle.index_rules.specs.declared.answer.Answer.{Answer}
+use Rattle.index_rules.specs.declared.answer.Answer.TheVariants.{Accepted, Already, Refused, Fault}
+use Rattle.index_rules.specs.declared.call.Call.{Call}
+use Rattle.index_rules.specs.declared.call.Request.{Request}
+use Rattle.index_rules.specs.declared.call.Request.TheVariants.{Upload, Delete, BanFile, Prohibit}
+use Rattle.index_rules.specs.History.{History, begins, more, is_read_as}
+use Rattle.index_rules.specs.Laws.{HasUpload, IsUploadOf}
+use Rattle.index_rules.specs.Legal.{IsLegal, history_after}
+use Rattle.index_rules.specs.Maps.{Bytes, same}
+use Rattle.index_rules.specs.PastFiles.{is_undeleted_after, is_undeleted_by, last_body_after, last_body_by}
+use Rattle.index_rules.specs.Requests.{read_file}
+use Rattle.index_rules.specs.StandsFor.{body_after}
+use Rattle.index_rules.specs.Tables.{Tables}
+use Rattle.index_rules.proofs.BindLemmas.{binds_files}
+use Rattle.index_rules.proofs.OwnerLists.{same-is}
+use Rattle.index.specs.declared.end.End.{End}
+use Rattle.index.specs.Chains.{Carries, ComesByRun, ComesByRuns, KeepsSome, LeadTo, LeadsOn, MayBecome, MayCarry}
+use Rattle.index.specs.Chains.{Run, InitRun, EndedRun, CutRun, UnusedRun}
+use Rattle.index.specs.GoesOn.{BindServed, GoesOn, IsFrontOf, StandOn}
+use Rattle.index.proofs.ChainLemmas.{stand_by_runs}
+use Rattle.std.proofs.Math.Logic.{∥∥₁_map}
+use Rattle.index.specs.Runs.{HoldsNone}
+use Rattle.index.specs.Tasks.{Task, AnswerLines, AnswerConnections, WriteReport, CountWrong}
+use Rattle.index.proofs.ThereLemmas.{current_is_there}
+
+-- ---- what is served is an upload
+
+-- what was read is the text
+is_read : (read : Option Bytes) (f : Bytes) → is_read_as read f ≡ true → read ≡ Some f
+is_read None f is = absurd (true≢false (sym is))
+is_read (Some x) f is = ap Some (sym (same-is f x is))
+
+-- what was taken away isn't there
+still : (b before : Bool) → cond b false before ≡ true → before ≡ true
+still true before is = absurd (true≢false (sym is))
+still false before is = is
+
+-- these are the digest and the size of bytes
+abbrev IsOf : Bytes → Bytes × ℕ → Type 0
+IsOf body first = (sha256 body, length body) ≡ first
+
+-- a file that is undeleted after a request was so before, with these bytes, or the request uploads it
+uploads_or_was : (r : Request) (f : Bytes) (before : Bool) (body : Bytes) → is_undeleted_by r f before ≡ true
+    → IsUploadOf r f (sha256 (last_body_by r f body), length (last_body_by r f body)) ⊎ ((before ≡ true) × (last_body_by r f body ≡ body))
+uploads_or_was (Upload file declared bytes requires) f before body is = by (is_read_as (read_file file) f) refl is
+  where
+    by : (b : Bool) → is_read_as (read_file file) f ≡ b → cond b true before ≡ true
+        → ((read_file file ≡ Some f) × IsOf (cond b bytes body) (sha256 bytes, length bytes)) ⊎ ((before ≡ true) × (cond b bytes body ≡ body))
+    by true read is = inl (is_read (read_file file) f read, refl)
+    by false read is = inr (is, refl)
+uploads_or_was (Delete file) f before body is = inr (still (is_read_as (read_file file) f) before is, refl)
+uploads_or_was (BanFile file) f before body is = inr (still (is_read_as (read_file file) f) before is, refl)
+uploads_or_was (Prohibit name) f before body is = inr (still (is_read_as (read_name name) (project_of f)) before is, refl)
+uploads_or_was r f before body is = inr (is, refl)
+
+-- the bytes of an undeleted file are those of an upload
+undeleted_upload : (h : History) (f : Bytes) → is_undeleted_after h f ≡ true → HasUpload h f (sha256 (last_body_after h f), length (last_body_after h f))
+undeleted_upload (begins user token) f is = true≢false (sym is)
+undeleted_upload (more h e) f is = elim (uploads_or_was e.call.request f (is_undeleted_after h f) (last_body_after h f) is) [
+  | inl now ↦ inl now
+  | inr was ↦ inr (subst (λ body. HasUpload h f (sha256 body, length body)) (sym was.1) (undeleted_upload h f was.0))
+]
+
+-- so are the bytes that are served
+served_upload : (h : History) (f body : Bytes) → body_after h f ≡ Some body → HasUpload h f (sha256 body, length body)
+served_upload h f body is = by (is_undeleted_after h f) refl is
+  where
+    by : (b : Bool) → is_undeleted_after h f ≡ b → cond b (Some (last_body_after h f)) None ≡ Some body → HasUpload h f (sha256 body, length body)
+    by true there is =
+        let same : last_body_after h f ≡ body = cc in
+        subst (λ body. HasUpload h f (sha256 body, length body)) same (undeleted_upload h f there)
+    by false gone is = absurd cc
+
+-- an upload of a front is one of the whole
+of_front : (h one : History) (f : Bytes) (first : Bytes × ℕ) → IsFrontOf one h → HasUpload one f first → HasUpload h f first
+of_front (begins user token) one f first front has = subst (λ h. HasUpload h f first) front has
+of_front (more h e) one f first (inl is) has = subst (λ h. HasUpload h f first) is has
+of_front (more h e) one f first (inr front) has = inr (of_front h one f first front has)
+
+served_bound : (h : History) → IsLegal h → (one : History) → IsFrontOf one h → BindServed one h
+served_bound h legal one front f first second is is' =
+    let same = binds_files h legal f (sha256 first, length first) (sha256 second, length second)
+      (of_front h one f (sha256 first, length first) front (served_upload one f first is))
+      (served_upload h f second is') in
+    (ap (λ it. it.0) same, ap (λ it. it.1) same)
+
+-- ---- fronts
+
+itself : (h : History) → IsFrontOf h h
+itself (begins user token) = refl
+itself (more h e) = inl refl
+
+longer : (a b c : History) → IsFrontOf a b → IsFrontOf b c → IsFrontOf a c
+longer a b (begins user token) front is = subst (IsFrontOf a) is front
+longer a b (more h e) front (inl is) = subst (IsFrontOf a) is front
+longer a b (more h e) front (inr earlier) = inr (longer a b h front earlier)
+
+as_is : (h h' : History) → h' ≡ h → IsFrontOf h h'
+as_is h h' is = subst (IsFrontOf h) (sym is) (itself h)
+
+after_call : (h : History) (call : Call) (answer : Answer) → IsFrontOf h (history_after h call answer)
+after_call h call Accepted = inr (itself h)
+after_call h call Already = itself h
+after_call h call (Refused refusal) = itself h
+after_call h call (Fault fault) = itself h
+
+after_call_is : (h : History) (call : Call) (answer : Answer) (h' : History) → h' ≡ history_after h call answer → IsFrontOf h h'
+after_call_is h call answer h' is = subst (IsFrontOf h) (sym is) (after_call h call answer)
+
+-- ---- what is told of lines
+
+told_asked : (asked : Option Line) (h : History) (text : List ℕ) (h' : History) → TellsAsked by_history asked h text h' → IsFrontOf h h'
+told_asked None h text h' it = as_is h h' it.1
+told_asked (Some (line.Call call)) h text h' it = after_call_is h call it.0 h' it.3
+told_asked (Some (line.Standing name)) h text h' it = as_is h h' it.1
+
+told_lines : (h : History) (lines : List (List ℕ)) (text : List ℕ) (h' : History) → TellsLines by_history h lines text h' → IsFrontOf h h'
+told_lines h [] text h' it = as_is h h' it.1
+told_lines h (asked ∷ lines) text h' it =
+    longer h it.2 h' (elim (cases_lt longest_line (length asked)) [
+      | inl long ↦ told_asked None h it.0 it.2 (it.3.1 long)
+      | inr short ↦ told_asked (line_of asked) h it.0 it.2 (it.3.0 short)
+    ]) (told_lines it.2 lines it.1 h' it.4)
+
+-- ---- what is answered on connections
+
+acted : (Cause : Type 0) (by_put : Bool) (h : History) (call : Option Call) (reply : Reply) (h' : History) → Acts by_history Cause by_put h call reply h' → IsFrontOf h h'
+acted Cause by_put h None reply h' it = as_is h h' it.1
+acted Cause by_put h (Some call) reply h' it = after_call_is h call it.0 h' it.3
+
+replied : (Cause : Type 0) (at : ℕ) (h : History) (request : HttpRequest) (body : Bytes) (reads : Bool) (reply : Reply) (h' : History)
+    → Replies by_history Cause at h request body reads reply h' → IsFrontOf h h'
+replied Cause at h request body true reply h' it = as_is h h' it.1
+replied Cause at h request body false reply h' it = acted Cause _ h _ reply h' it
+
+replied_to : (Cause : Type 0) (at : ℕ) (h : History) (message : Message) (text : Bytes) (h' : History) → RepliesTo by_history Cause at h message text h' → IsFrontOf h h'
+replied_to Cause at h (Faulty fault is_head) text h' it = as_is h h' it.1
+replied_to Cause at h (Whole request body) text h' it = replied Cause at h request body _ it.0 h' it.2
+
+sent : (IsReply : Bytes → Type 0) (h h' : History) → ((text : Bytes) → IsReply text → IsFrontOf h h') → (before after : Option Bytes) (result : Result (Unit {0}) IoEnd)
+    → Ends IsReply (h' ≡ h) before after result → IsFrontOf h h'
+sent IsReply h h' front before after (Ok done) it = front it.0 it.1
+sent IsReply h h' front before after (Err (io.WriteFault count)) it = front it.0 it.1
+sent IsReply h h' front before after (Err (io.Cut count)) it = front it.0 it.1
+sent IsReply h h' front before after (Err io.ReadFault) it = as_is h h' it.0
+sent IsReply h h' front before after (Err io.OutOfMemory) it = as_is h h' it.0
+
+answered_each : (exchanges : List Exchange) (h h' : History) → AnswersEach by_history exchanges h h' → IsFrontOf h h'
+answered_each [] h h' it = as_is h h' it
+answered_each (exchange ∷ earlier) h h' it =
+    longer h it.0 h' (answered_each earlier h it.0 it.1)
+    (sent _ it.0 h' (λ text is. replied_to _ exchange.at it.0 is.1 text h' is.4) exchange.had exchange.has it.2.ended it.2.ends)
+
+-- ---- what may be left
+
+become : (h h' : History) (calls : List Call) (answers : List Answer) (T : Tables) → MayBecome h h' calls answers T → IsFrontOf h h'
+become h h' [] [] T it = as_is h h' (sym it)
+become h h' [] (answer ∷ answers) T it = absurd it
+become h h' (call ∷ calls) [] T it = absurd it
+become h h' (call ∷ calls) (Accepted ∷ answers) T it = longer h (history_after h call Accepted) h' (after_call h call Accepted) (become (history_after h call Accepted) h' calls answers T it.1)
+become h h' (call ∷ calls) (Already ∷ answers) T it = become h h' calls answers T it
+become h h' (call ∷ calls) (Refused refusal ∷ answers) T it = become h h' calls answers T it
+become h h' (call ∷ calls) (Fault fault ∷ answers) T (inl it) = become h h' calls answers T it
+become h h' (call ∷ calls) (Fault fault ∷ answers) T (inr it) = after_call_is h call Accepted h' (sym it.2)
+
+-- ---- a run
+
+carried_on : (task : Task) (result : Result ℕ End) (h h' : History) (T' : Tables) → Carries task result h h' T' → IsFrontOf h h'
+carried_on (AnswerLines given left had has) result h h' T' it =
+    (Ends-choice (IsFrontOf h h') (λ lines text T. TellsLines by_history h lines text h') (λ a lines text T. Unit {0}) T'
+    (λ lines text told. (told_lines h lines text h' told, tt)) given left had has it.0 it.2).0
+carried_on (AnswerConnections at requests) result h h' T' it = answered_each it.2.exchanges h h' it.2.answered
+carried_on (WriteReport had has) result h h' T' it = as_is h h' it
+carried_on CountWrong result h h' T' it = as_is h h' it
+
+may_carry_on : (task : Task) (result : Result ℕ End) (h h' : History) (T' : Tables) → MayCarry task result h h' T' → IsFrontOf h h'
+may_carry_on (AnswerLines given left had has) result h h' T' it =
+    (Ends-choice (IsFrontOf h h') (TellsCalls (MayBecome h h')) (λ a lines text T. Unit {0}) T'
+    (λ lines text told. ((TellsCalls-choice (IsFrontOf h h') T' (MayBecome h h') (λ a calls answers T. Unit {0}) (λ calls answers left. (become h h' calls answers T' left, tt)) lines text told).0, tt))
+    given left had has it.0 it.2).0
+may_carry_on (AnswerConnections at requests) result h h' T' it =
+    (ServesCalls-choice (IsFrontOf h h') T' (MayBecome h h') (λ a calls answers T. Unit {0}) (λ calls answers left. (become h h' calls answers T' left, tt)) at it.0 it.2).0
+may_carry_on (WriteReport had has) result h h' T' it = as_is h h' it
+may_carry_on CountWrong result h h' T' it = as_is h h' it
+
+-- from a history of a kind on one goes
+abbrev From : (History → Type 0) → History → Type 0
+From Was h' = (h : History) × Was h × IsFrontOf h h'
+
+by_run : (run : Run) (start next : Image) (it : LeadsOn run start next) → (¬ HoldsNone start) → (Was : History → Type 0) (h' : History)
+    → ComesByRun run start next it Was h' → From Was h'
+by_run (InitRun user token) start next it some Was h' (inl was) = (h', was, itself h')
+by_run (InitRun user token) start next it some Was h' (inr new) = absurd (some new.0)
+by_run (EndedRun task result) start next it some Was h' comes = (comes.0, comes.1, carried_on task result comes.0 h' it.after comes.4)
+by_run (CutRun task result) start next it some Was h' comes = (comes.0, comes.1, may_carry_on task result comes.0 h' comes.4.0 comes.4.2)
+by_run UnusedRun start next it some Was h' comes = (h', comes, itself h')
+
+there_by_run : (run : Run) (start next : Image) → LeadsOn run start next → KeepsSome start next
+there_by_run (InitRun user token) start next it = it.0
+there_by_run (EndedRun task result) start next it = λ some. current_is_there next it.after it.left
+there_by_run (CutRun task result) start next it = λ some. it.there
+there_by_run UnusedRun start next it = it.0
+
+by_runs : (runs : List Run) (start last : Image) (leads : LeadTo runs start last) → (¬ HoldsNone start) → (Was : History → Type 0) (h' : History)
+    → ComesByRuns runs start last leads Was h' → From Was h'
+by_runs [] start last leads some Was h' comes = (h', comes, itself h')
+by_runs (run ∷ runs) start last leads some Was h' comes =
+    let later = by_runs runs leads.0 last leads.2 (there_by_run run start leads.0 leads.1 some) (λ h. IsLegal h × ComesByRun run start leads.0 leads.1 Was h) h' comes in
+    let first = by_run run start leads.0 leads.1 some Was later.0 later.1.1 in
+    (first.0, first.1, longer first.0 later.0 h' first.2 later.2)
+
+there_by_runs : (runs : List Run) (start last : Image) → LeadTo runs start last → KeepsSome start last
+there_by_runs [] start last leads = λ some none. some (subst HoldsNone leads none)
+there_by_runs (run ∷ runs) start last leads = λ some. there_by_runs runs leads.0 last leads.2 (there_by_run run start leads.0 leads.1 some)
+
+pub goes_on : (runs : List Run) (first last : Image) → GoesOn runs first last
+goes_on runs first last some leads = (there_by_runs runs first last leads some, λ given later legal comes.
+    let from = by_runs runs first last leads some (λ h. h ≡ given) later comes in
+    let front = subst (λ h. IsFrontOf h later) from.1 from.2 in
+    (front, served_bound later legal given front))
+
+pub stand_on : (runs others : List Run) (first mid last : Image) → StandOn runs others first mid last
+stand_on runs others first mid last none leads some leads' T holds =
+    ∥∥₁_map (stand_by_runs (λ h. ComesByRuns runs first mid leads (λ h. ⊥) h) others mid last
+    (stand_by_runs (λ h. ⊥) runs first mid (λ T held. absurd (none (T, held))) leads) leads' T holds) (λ it.
+    let from = by_runs others mid last leads' some (λ h. ComesByRuns runs first mid leads (λ h. ⊥) h) it.0.0 it.1 in
+    record {
+      earlier = from.0;
+      comes = from.1;
+      later = it.0.0;
+      legal = it.0.1;
+      stands = it.0.2;
+      goes_on = from.2;
+      served = served_bound it.0.0 it.0.1 from.0 from.2;
+    })

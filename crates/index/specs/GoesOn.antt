@@ -1,0 +1,51 @@
+-- The history goes on through runs: none of them begins it anew.
+use Rattle.std.specs.Prelude.{◌≡◌, ◌⊎◌, List, Some, length}
+use Rattle.sqlite.specs.Recovery.{Image}
+use Rattle.index_digest.specs.Digest.{sha256}
+use Rattle.index_rules.specs.History.{History, Entry, begins, more}
+use Rattle.index_rules.specs.Legal.{IsLegal}
+use Rattle.index_rules.specs.Maps.{Bytes}
+use Rattle.index_rules.specs.StandsFor.{StandsFor, body_after}
+use Rattle.index_rules.specs.Tables.{Tables}
+use Rattle.index.specs.Chains.{ComesByRuns, LeadTo, Run}
+use Rattle.index.specs.Runs.{FindsOnly, Holds, HoldsNone}
+
+-- the one is the other, or what it was before its newest entries
+abbrev pub IsFrontOf : History → History → Type 0
+IsFrontOf earlier (begins user token) = earlier ≡ begins user token
+IsFrontOf earlier (more h e) = (earlier ≡ more h e) ⊎ IsFrontOf earlier h
+
+-- bytes that are served of one file name after the one and after the other have one digest and size
+abbrev pub BindServed : History → History → Type 0
+BindServed one other =
+    (f first second : Bytes) → body_after one f ≡ Some first → body_after other f ≡ Some second
+    → (sha256 first ≡ sha256 second) × (length first ≡ length second)
+
+-- From files on that hold something of an index, they do so after any runs, and a history that
+-- comes by these runs of a given one goes on from it; what is served of a file name after the one
+-- is what was served after the other.
+abbrev pub GoesOn : List Run → Image → Image → Type 0
+GoesOn runs first last =
+    (¬ HoldsNone first) → (leads : LeadTo runs first last)
+    → (¬ HoldsNone last)
+    × ((given later : History) → IsLegal later
+    → ComesByRuns runs first last leads (λ h. h ≡ given) later
+    → IsFrontOf given later × BindServed given later)
+
+-- the tables stand for a legal history that goes on from one that came by these runs
+pub record StandOnwards (runs : List Run) (first mid : Image) (leads : LeadTo runs first mid)
+    (T : Tables) : Type 0 where
+  pub earlier : History
+  pub comes : ComesByRuns runs first mid leads (λ h. ⊥) earlier
+  pub later : History
+  pub legal : IsLegal later
+  pub stands : StandsFor T later
+  pub goes_on : IsFrontOf earlier later
+  pub served : BindServed earlier later
+
+-- From files on in which there is no index: what is found after any runs goes on from what was
+-- there, where something of an index was, after the first so many of them.
+abbrev pub StandOn : List Run → List Run → Image → Image → Image → Type 0
+StandOn runs others first mid last =
+    (¬ ((T : Tables) × Holds first T)) → (leads : LeadTo runs first mid) → (¬ HoldsNone mid)
+    → LeadTo others mid last → FindsOnly last (StandOnwards runs first mid leads)
