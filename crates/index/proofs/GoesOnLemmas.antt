@@ -11,7 +11,8 @@ use Rattle.index_cli.specs.Lines.{longest_line}
 use Rattle.index_cli.specs.Serving.{AnswersEach, AnswersOne}
 use Rattle.index_cli.specs.Telling.{TellsAsked, TellsLines}
 use Rattle.index_cli.specs.TellsCalls.{TellsCalls}
-use Rattle.index_cli.proofs.Choices.{Ends-choice, ServesCalls-choice, TellsCalls-choice}
+use Rattle.index_cli.proofs.Choices.{Ends-choice, TellsCalls-choice}
+use Rattle.index.proofs.ServesLemmas.{ServesCallsOn-choice}
 use Rattle.index_desk.specs.Rules.{by_history}
 use Rattle.index_http.specs.Ends.{Ends}
 use Rattle.index_http.specs.Exchanges.{Acts, Replies, RepliesTo, RepliesToInput}
@@ -46,7 +47,7 @@ use Rattle.index.specs.GoesOn.{BindServed, GoesOn, IsFrontOf, StandOn}
 use Rattle.index.proofs.ChainLemmas.{stand_by_runs}
 use Rattle.std.proofs.Math.Logic.{∥∥₁_map}
 use Rattle.index.specs.Runs.{HoldsNone}
-use Rattle.index.specs.Tasks.{Task, AnswerLines, AnswerConnections, WriteReport, CountWrong}
+use Rattle.index.specs.Tasks.{AreAmong, Task, AnswerLines, AnswerConnections, WriteReport, CountWrong}
 use Rattle.index.proofs.ThereLemmas.{current_is_there}
 
 -- ---- what is served is an upload
@@ -195,7 +196,7 @@ carried_on : (task : Task) (result : Result ℕ End) (h h' : History) (T' : Tabl
 carried_on (AnswerLines given left had has) result h h' T' it =
     (Ends-choice (IsFrontOf h h') (λ lines text T. TellsLines by_history h lines text h') (λ a lines text T. Unit {0}) T'
     (λ lines text told. (told_lines h lines text h' told, tt)) given left had has it.0 it.2).0
-carried_on (AnswerConnections at requests) result h h' T' it = answered_each it.2.exchanges h h' it.2.answered
+carried_on (AnswerConnections at requests coming coming' replies replies') result h h' T' it = answered_each it.2.exchanges h h' it.2.answered
 carried_on (WriteReport had has) result h h' T' it = as_is h h' it
 carried_on CountWrong result h h' T' it = as_is h h' it
 
@@ -204,8 +205,8 @@ may_carry_on (AnswerLines given left had has) result h h' T' it =
     (Ends-choice (IsFrontOf h h') (TellsCalls (MayBecome h h')) (λ a lines text T. Unit {0}) T'
     (λ lines text told. ((TellsCalls-choice (IsFrontOf h h') T' (MayBecome h h') (λ a calls answers T. Unit {0}) (λ calls answers left. (become h h' calls answers T' left, tt)) lines text told).0, tt))
     given left had has it.0 it.2).0
-may_carry_on (AnswerConnections at requests) result h h' T' it =
-    (ServesCalls-choice (IsFrontOf h h') T' (MayBecome h h') (λ a calls answers T. Unit {0}) (λ calls answers left. (become h h' calls answers T' left, tt)) at it.0 it.2).0
+may_carry_on (AnswerConnections at requests coming coming' replies replies') result h h' T' it =
+    (ServesCallsOn-choice (AreAmong coming coming' replies replies') (IsFrontOf h h') T' (MayBecome h h') (λ a calls answers T. Unit {0}) (λ calls answers left. (become h h' calls answers T' left, tt)) at it.0 it.2).0
 may_carry_on (WriteReport had has) result h h' T' it = as_is h h' it
 may_carry_on CountWrong result h h' T' it = as_is h h' it
 

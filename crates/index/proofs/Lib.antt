@@ -8,3 +8,4 @@ pub mod OfficeLemmas
 pub mod OpeningLemmas
 pub mod RunLemmas
 pub mod ThereLemmas
+pub mod ServesLemmas

@@ -22,7 +22,8 @@ use Rattle.sqlite_value.specs.declared.value.Value.TheVariants.{Text}
 use Rattle.index_cli.specs.Ends.{EndsRun}
 use Rattle.index_cli.specs.declared.end.LineEnd.{LineEnd}
 use Rattle.index_cli.specs.TellsCalls.{TellsCalls}
-use Rattle.index_cli.proofs.Choices.{Ends-choice, ServesCalls-choice, TellsCalls-choice}
+use Rattle.index_cli.proofs.Choices.{Ends-choice, TellsCalls-choice}
+use Rattle.index.proofs.ServesLemmas.{ServesCallsOn-choice}
 use Rattle.index_desk.specs.Crashes.{LeavesAll}
 use Rattle.index_names.specs.FileName as names
 use Rattle.index_rules.specs.declared.answer.Answer.{Answer}
@@ -48,7 +49,7 @@ use Rattle.index_tables.specs.BooksState.{AreCurrent}
 use Rattle.index.specs.declared.end.End.{End}
 use Rattle.index.specs.Openings.{OpensAgain}
 use Rattle.index.specs.Runs.{Holds, HoldsCurrent, HoldsNone, LeavesOnly}
-use Rattle.index.specs.Tasks.{Task, AnswerLines, AnswerConnections, WriteReport, CountWrong, MayLeaveBy}
+use Rattle.index.specs.Tasks.{AreAmong, Task, AnswerLines, AnswerConnections, WriteReport, CountWrong, MayLeaveBy}
 
 -- ---- a list of objects has one first table
 
@@ -148,8 +149,8 @@ left_keeps (AnswerLines given left had has) result T T' it =
     (Ends-choice (KeepsEmpty T T') (TellsCalls (LeavesAll T)) (λ a lines text T. Unit {0}) T'
     (λ lines text told. ((TellsCalls-choice (KeepsEmpty T T') T' (LeavesAll T) (λ a calls answers T. Unit {0}) (λ calls answers leaves. (leaves_empty T calls answers T' leaves, tt)) lines text told).0, tt))
     given left had has it.ended it.tables).0
-left_keeps (AnswerConnections at requests) result T T' it =
-    (ServesCalls-choice (KeepsEmpty T T') T' (LeavesAll T) (λ a calls answers T. Unit {0}) (λ calls answers leaves. (leaves_empty T calls answers T' leaves, tt)) at it.tables.0 it.tables.2).0
+left_keeps (AnswerConnections at requests coming coming' replies replies') result T T' it =
+    (ServesCallsOn-choice (AreAmong coming coming' replies replies') (KeepsEmpty T T') T' (LeavesAll T) (λ a calls answers T. Unit {0}) (λ calls answers leaves. (leaves_empty T calls answers T' leaves, tt)) at it.tables.0 it.tables.2).0
 left_keeps (WriteReport had has) result T T' it = ap (λ (T : Tables). get T.bans []) it
 left_keeps CountWrong result T T' it = ap (λ (T : Tables). get T.bans []) it
 

@@ -17,8 +17,8 @@ use Rattle.sqlite_disk.specs.declared.Files.{Files}
 use Rattle.index_tables.specs.Reopened.{MayLeave}
 use Rattle.index_cli.specs.declared.end.LineEnd.{LineEnd}
 use Rattle.index_cli.specs.Ends.{EndsRun}
-use Rattle.index_cli.specs.ServesFront.{ServesFront}
-use Rattle.index_cli.specs.Serving.{Serves, ServesCalls}
+use Rattle.index_cli.specs.ServesFront.{ServesFrontOn}
+use Rattle.index_cli.specs.Serving.{ServesCallsOn, ServesOn}
 use Rattle.index_cli.specs.Telling.{TellsLines}
 use Rattle.index_cli.specs.TellsCalls.{TellsCalls}
 use Rattle.index_cli.specs.TellsFront.{TellsFront}
@@ -41,7 +41,7 @@ use Rattle.index.specs.declared.end.End.{End}
 use Rattle.index.specs.Ends.{end_of}
 use Rattle.index.specs.Openings.{OpensAgain}
 use Rattle.index.specs.Runs.{FindsOnly, Holds, HoldsCurrent, HoldsNone}
-use Rattle.index.specs.Tasks.{AnswerConnections, AnswerLines, CountWrong, Does, IsUpTo, MayLeaveBy}
+use Rattle.index.specs.Tasks.{AnswerConnections, AnswerLines, AreAmong, CountWrong, Does, IsUpTo, MayLeaveBy}
 use Rattle.index.specs.Tasks.{Task, TellsBy, WriteReport}
 
 -- ---- one run, from the files that it finds to those that the next one finds
@@ -156,8 +156,9 @@ abbrev pub Carries : Task → Result ℕ End → History → History → Tables 
 Carries (AnswerLines given left had has) result h h' T' =
     (ended : Result ℕ LineEnd) × (result ≡ end_of ended)
     × EndsRun (λ lines text T. TellsLines by_history h lines text h') T' given left had has ended
-Carries (AnswerConnections at requests) result h h' T' =
-    (count : ℕ) × IsUpTo requests result count × Serves by_history at count h h'
+Carries (AnswerConnections at requests coming coming' replies replies') result h h' T' =
+    (count : ℕ) × IsUpTo requests result count
+    × ServesOn (AreAmong coming coming' replies replies') by_history at count h h'
 Carries (WriteReport had has) result h h' T' = h' ≡ h
 Carries CountWrong result h h' T' = h' ≡ h
 
@@ -166,8 +167,9 @@ abbrev pub MayCarry : Task → Result ℕ End → History → History → Tables
 MayCarry (AnswerLines given left had has) result h h' T' =
     (ended : Result ℕ LineEnd) × (result ≡ end_of ended)
     × EndsRun (TellsCalls (MayBecome h h')) T' given left had has ended
-MayCarry (AnswerConnections at requests) result h h' T' =
-    (count : ℕ) × IsUpTo requests result count × ServesCalls (MayBecome h h') at count T'
+MayCarry (AnswerConnections at requests coming coming' replies replies') result h h' T' =
+    (count : ℕ) × IsUpTo requests result count
+    × ServesCallsOn (AreAmong coming coming' replies replies') (MayBecome h h') at count T'
 MayCarry (WriteReport had has) result h h' T' = h' ≡ h
 MayCarry CountWrong result h h' T' = h' ≡ h
 
@@ -176,8 +178,9 @@ abbrev pub TellsByHistory : Task → Result ℕ End → History → Tables → T
 TellsByHistory (AnswerLines given left had has) result h T =
     (ended : Result ℕ LineEnd) × (result ≡ end_of ended)
     × EndsRun (TellsFront by_history h) T given left had has ended
-TellsByHistory (AnswerConnections at requests) result h T =
-    (count : ℕ) × IsUpTo requests result count × ServesFront by_history at count h
+TellsByHistory (AnswerConnections at requests coming coming' replies replies') result h T =
+    (count : ℕ) × IsUpTo requests result count
+    × ServesFrontOn (AreAmong coming coming' replies replies') by_history at count h
 TellsByHistory (WriteReport had has) result h T = Unit {0}
 TellsByHistory CountWrong result h T = Unit {0}
 

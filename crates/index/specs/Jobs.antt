@@ -27,7 +27,7 @@ use Rattle.index.specs.Chains.{InitLeadsOn, WorkLeadsOn}
 use Rattle.index.specs.Ends.{closing_of, end_by}
 use Rattle.index.specs.Openings.{IsToldOf}
 use Rattle.index.specs.Runs.{EndsInitOn, EndsRunOn}
-use Rattle.index.specs.Tasks.{AnswerConnections, AnswerLines, CountWrong, Does, Task, WriteReport}
+use Rattle.index.specs.Tasks.{AnswerLines, CountWrong, Does, Task, WriteReport, answer_sockets}
 
 -- ---- what came of a run
 
@@ -129,7 +129,7 @@ EndsJob g (job.Init db user digits page_sums) start result =
     EndsAsInit g user.now digits.now page_sums start result
 EndsJob g (job.Apply db) start result = EndsApply g db start result
 EndsJob g (job.Serve db words) start result =
-    EndsAsOrEarly g (AnswerConnections words.at words.requests) start IsStatusOf result
+    EndsAsOrEarly g (answer_sockets words.at words.requests) start IsStatusOf result
 EndsJob g (job.Report db) start result = EndsReport g start result
 EndsJob g (job.Check db) start result = EndsAs g CountWrong start IsStatusOfCheck result
 

@@ -4,8 +4,9 @@ use Rattle.std.specs.Prelude.{◌≡◌, ◌⊎◌, ◌≤◌, ℕ, IsTrue, List
 use Rattle.index_cli.specs.declared.end.LineEnd.{LineEnd}
 use Rattle.index_cli.specs.declared.end.ServeEnd.{ServeEnd}
 use Rattle.index_cli.specs.Ends.{EndsRun}
-use Rattle.index_cli.specs.ServesFront.{ServesFront}
-use Rattle.index_cli.specs.Serving.{Serves, ServesCalls, ServesHistory}
+use Rattle.index_cli.specs.Connections.{AreOn, Exchange, KnownList, unknown}
+use Rattle.index_cli.specs.ServesFront.{ServesFrontOn}
+use Rattle.index_cli.specs.Serving.{ServesCallsOn, ServesHistoryOn, ServesOn}
 use Rattle.index_cli.specs.Telling.{TellsLines}
 use Rattle.index_cli.specs.TellsCalls.{TellsCalls}
 use Rattle.index_cli.specs.TellsFront.{TellsFront}
@@ -88,28 +89,38 @@ IsUpTo requests (Err early) count = count ≤ requests
 -- connections were answered, one after the other: by the tables, and by each legal history for
 -- which they stood, so that the tables after it stand for the history with the accepted calls
 pub record AnswersConnections
-    (at : Option ℕ) (requests : ℕ) (T T' : Tables) (result : Result ℕ End) : Type 0 where
+    (Are : List Exchange → Type 0) (at : Option ℕ) (requests : ℕ) (T T' : Tables)
+    (result : Result ℕ End) : Type 0 where
   pub ends : IsServingEnd result
-  pub tables : (count : ℕ) × IsUpTo requests result count × Serves by_tables at count T T'
+  pub tables : (count : ℕ) × IsUpTo requests result count × ServesOn Are by_tables at count T T'
   pub history : (h : History) → IsLegal h → StandsFor T h
-      → (count : ℕ) × IsUpTo requests result count × ServesHistory h at count T'
+      → (count : ℕ) × IsUpTo requests result count × ServesHistoryOn Are h at count T'
 
 -- also where a fault has shut the store: the same of these connections, or of those up to one that
 -- shows a failure, since which no call was accepted
 pub record AnswersFirstConnections
-    (at : Option ℕ) (requests : ℕ) (T : Tables) (result : Result ℕ End) : Type 0 where
+    (Are : List Exchange → Type 0) (at : Option ℕ) (requests : ℕ) (T : Tables)
+    (result : Result ℕ End) : Type 0 where
   pub ends : IsServingEnd result
-  pub tables : (count : ℕ) × IsUpTo requests result count × ServesFront by_tables at count T
+  pub tables : (count : ℕ) × IsUpTo requests result count × ServesFrontOn Are by_tables at count T
   pub history : (h : History) → IsLegal h → StandsFor T h
-      → (count : ℕ) × IsUpTo requests result count × ServesFront by_history at count h
+      → (count : ℕ) × IsUpTo requests result count × ServesFrontOn Are by_history at count h
 
 -- these tables may be left by the connections that were answered: the same of their calls
 pub record LeavesConnections
-    (at : Option ℕ) (requests : ℕ) (T T' : Tables) (result : Result ℕ End) : Type 0 where
+    (Are : List Exchange → Type 0) (at : Option ℕ) (requests : ℕ) (T T' : Tables)
+    (result : Result ℕ End) : Type 0 where
   pub tables : (count : ℕ) × IsUpTo requests result count
-      × ServesCalls (LeavesAll T) at count T'
+      × ServesCallsOn Are (LeavesAll T) at count T'
   pub history : (h : History) → IsLegal h → StandsFor T h
-      → (count : ℕ) × IsUpTo requests result count × ServesCalls (LeavesAllOf h) at count T'
+      → (count : ℕ) × IsUpTo requests result count × ServesCallsOn Are (LeavesAllOf h) at count T'
+
+-- these exchanges were made on the first of the connections that were to come, and their replies
+-- are what went out meanwhile, by what is known before and after
+abbrev pub AreAmong : (coming coming' replies replies' : KnownList) → List Exchange → Type 0
+AreAmong coming coming' replies replies' =
+    AreOn (λ (known : KnownList × KnownList). known.0) (λ known. known.1)
+    (coming, replies) (coming', replies')
 
 -- ---- a task
 
@@ -118,23 +129,29 @@ pub record LeavesConnections
 -- how many. A report: what a writer had and has.
 pub data Task : Type 0 where
   AnswerLines : (given left had has : Option (List ℕ)) → Task
-  AnswerConnections : (at : Option ℕ) → (requests : ℕ) → Task
+  AnswerConnections : (at : Option ℕ) → (requests : ℕ)
+      → (coming coming' replies replies' : KnownList) → Task
   WriteReport : (had has : Option (List ℕ)) → Task
   CountWrong : Task
+
+-- connections over sockets, of which nothing is known
+abbrev pub answer_sockets : Option ℕ → ℕ → Task
+answer_sockets at requests = AnswerConnections at requests unknown unknown unknown unknown
 
 -- what it makes of the tables, where it ends so
 abbrev pub Does : Task → Result ℕ End → Tables → Tables → Type 0
 Does (AnswerLines given left had has) result T T' =
     AnswersLines given left had has T T' result
-Does (AnswerConnections at requests) result T T' =
-    AnswersConnections at requests T T' result
+Does (AnswerConnections at requests coming coming' replies replies') result T T' =
+    AnswersConnections (AreAmong coming coming' replies replies') at requests T T' result
 Does (WriteReport had has) result T T' = WritesReport had has T T' result
 Does CountWrong result T T' = CountsWrong T T' result
 
 -- what it tells of them, where it ends so, also where a fault has shut the store
 abbrev pub TellsBy : Task → Result ℕ End → Tables → Type 0
 TellsBy (AnswerLines given left had has) result T = AnswersFirstLines given left had has T result
-TellsBy (AnswerConnections at requests) result T = AnswersFirstConnections at requests T result
+TellsBy (AnswerConnections at requests coming coming' replies replies') result T =
+    AnswersFirstConnections (AreAmong coming coming' replies replies') at requests T result
 TellsBy (WriteReport had has) result T = WritesReport had has T T result
 TellsBy CountWrong result T = CountsWrong T T result
 
@@ -142,7 +159,7 @@ TellsBy CountWrong result T = CountsWrong T T result
 abbrev pub MayLeaveBy : Task → Result ℕ End → Tables → Tables → Type 0
 MayLeaveBy (AnswerLines given left had has) result T T' =
     LeavesLines given left had has T T' result
-MayLeaveBy (AnswerConnections at requests) result T T' =
-    LeavesConnections at requests T T' result
+MayLeaveBy (AnswerConnections at requests coming coming' replies replies') result T T' =
+    LeavesConnections (AreAmong coming coming' replies replies') at requests T T' result
 MayLeaveBy (WriteReport had has) result T T' = T' ≡ T
 MayLeaveBy CountWrong result T T' = T' ≡ T

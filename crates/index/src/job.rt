@@ -1,6 +1,6 @@
 //! The program's subcommands.
-ghost use Rattle.std.specs.Prelude.{◌≡◌, ◌↔◌, ◌∷◌, ◌++◌, [], codes, decimal, false, unwrap_or};
-ghost use Rattle.std.specs.Prelude.{Err, IfErr, IfOk, IsOk, IsTrue, OnOk};
+ghost use Rattle.std.specs.Prelude.{◌≡◌, ◌⊎◌, ◌↔◌, ◌∷◌, ◌++◌, [], codes, decimal, false, unwrap_or};
+ghost use Rattle.std.specs.Prelude.{Err, IfErr, IfOk, IsOk, IsTrue, OnErr, OnOk};
 ghost use Rattle.std.specs.Io.KnownBytes.{Appends};
 ghost use Rattle.std.specs.Process.{exit_status};
 ghost use Rattle.sqlite.specs.WalFiles.{image_at};
@@ -11,11 +11,12 @@ ghost use Rattle.index.specs.Ends.{end_by, is_store};
 ghost use Rattle.index.specs.Jobs.{ComesByPath, ComesOfInit, ComesOfRun, EndsApply, EndsAs};
 ghost use Rattle.index.specs.Jobs.{EndsAsInit, EndsAsOrEarly, EndsReport, IsStatusOf};
 ghost use Rattle.index.specs.Jobs.{IsStatusOfCheck};
-ghost use Rattle.index.specs.Tasks.{AnswerConnections, CountWrong, Does};
+ghost use Rattle.index_cli.specs.Connections.{KnownList};
+ghost use Rattle.index.specs.Tasks.{CountWrong, Does, answer_sockets};
 
 use crate::database::{self, Finished, Work};
 use crate::end::End;
-use index_cli::{apply_lines, serve_connections};
+use index_cli::{Connections, Listening, answer_connections, apply_lines};
 use index_desk::{Desk, Keeper};
 use index_digest::Digest256;
 use index_io::{Input, Output, Sink, Source};
@@ -188,7 +189,7 @@ pub fn serve<S: Start>(
     start: S,
     words: ServeWords<'_>,
 ) -> Result<ExitCode, End>
-    ensures { EndsAsOrEarly ⟦<FileFrom<S> as Disk>⟧ (AnswerConnections words.entry.at
+    ensures { EndsAsOrEarly ⟦<FileFrom<S> as Disk>⟧ (answer_sockets words.entry.at
         words.entry.requests) (image_at S.Start) IsStatusOf result }
 {
     let site = Site::new(rt.alloc())?;
@@ -198,14 +199,16 @@ pub fn serve<S: Start>(
 }
 
 /// The work that the words of `serve` ask for.
-fn serving_by<'a>(site: &'a Site, words: ServeWords<'a>) -> Serving<'a>
+fn serving_by<'a>(site: &'a Site, words: ServeWords<'a>) -> Serving<'a, Address<'a>>
     ensures at { result.at ≡ words.entry.at }
     ensures requests { result.requests ≡ words.entry.requests }
     ensures kept { result.keep_recent ≡ unwrap_or words.entry.keep_recent KEPT_BYTES }
 {
     Serving {
         site,
-        listen: words.listen,
+        from: Address {
+            address: words.listen,
+        },
         requests: words.requests,
         at: words.at,
         keep_recent: bytes_kept(words.keep_recent),
@@ -219,36 +222,94 @@ fn bytes_kept(asked: Option<u64>) -> usize
     asked.unwrap_or(KEPT_BYTES) as usize
 }
 
-/// So many connections are answered at an address, which is told.
-#[derive(Clone, Copy)]
-struct Serving<'a> {
+/// What connections come on.
+pub trait Listens {
+    /// The connections that come.
+    type Coming: Connections + Drop;
+
+    /// What the clients send whose connections are to come, in order, where that is known.
+    ghost coming: { Self → KnownList };
+
+    /// What went out on the connections that were closed, in order, where that is known.
+    ghost replies: { Self → KnownList };
+
+    /// Listens, and tells where.
+    ///
+    /// `Listen` where it can't, and `WriteFault` where that was not told.
+    fn listen(&mut self, rt: &HostRuntime) -> Result<Self::Coming, End>
+        ensures coming { IfOk result (λ it. Self.Coming.coming it ≡ coming self.old) }
+        ensures replies { IfOk result (λ it. Self.Coming.replies it ≡ replies self.old) }
+        ensures kept { OnErr result ((coming self.new ≡ coming self.old)
+            × (replies self.new ≡ replies self.old)) }
+        ensures fault { IfErr result (λ e. (e ≡ End.Listen) ⊎ (e ≡ End.WriteFault)) };
+
+    /// Listens no longer. These connections are left.
+    fn end(&mut self, left: Self::Coming)
+        ensures coming { coming self.new ≡ Self.Coming.coming left }
+        ensures replies { replies self.new ≡ Self.Coming.replies left };
+}
+
+/// So many connections are answered that come on this.
+#[derive(Drop)]
+struct Serving<'a, L> {
     site: &'a Site,
-    listen: &'a str,
+    from: L,
     requests: u32,
     at: Option<u64>,
     keep_recent: usize,
 }
 
-impl Work for Serving<'_> {
+impl<L: Listens> Work for Serving<'_, L> {
     ghost use Rattle.index.specs.Tasks.{AnswerConnections};
 
-    ghost task = { λ old _. AnswerConnections old.at old.requests };
+    ghost task = { λ old new. AnswerConnections old.at old.requests
+        (L.coming old.from) (L.coming new.from) (L.replies old.from) (L.replies new.from) };
 
     fn keep_recent(&self) -> usize {
         self.keep_recent
     }
 
     fn run<B: Keeper>(&mut self, rt: &HostRuntime, desk: &mut Desk<B>) -> Result<u64, End> {
-        let Ok(listener) = listen_at(rt, self.listen) else {
+        let mut coming = match self.from.listen(rt) {
+            Ok(coming) => coming,
+            Err(fault) => return Err(fault),
+        };
+        let ended = answer_connections(rt, &mut coming, self.requests, self.at, self.site, desk);
+        self.from.end(coming);
+        match ended {
+            Ok(()) => Ok(0),
+            Err(early) => Err(End::Connections(early)),
+        }
+    }
+}
+
+/// Connections over sockets, at an address, which is told.
+#[derive(Clone, Copy)]
+struct Address<'a> {
+    address: &'a str,
+}
+
+impl Listens for Address<'_> {
+    ghost use Rattle.index_cli.specs.Connections.{unknown};
+
+    type Coming = Listening;
+
+    ghost coming = { λ _. unknown };
+
+    ghost replies = { λ _. unknown };
+
+    fn listen(&mut self, rt: &HostRuntime) -> Result<Listening, End> {
+        let Ok(listener) = listen_at(rt, self.address) else {
             return Err(End::Listen);
         };
         if tell_address(rt, &listener).is_err() {
             return Err(End::WriteFault);
         }
-        match serve_connections(rt, &listener, self.requests, self.at, self.site, desk) {
-            Ok(()) => Ok(0),
-            Err(early) => Err(End::Connections(early)),
-        }
+        Ok(Listening::new(rt.alloc(), listener))
+    }
+
+    fn end(&mut self, left: Listening) {
+        drop(left);
     }
 }
 

@@ -44,7 +44,7 @@ const MOST_WAITING: usize = 512;
 /// Those of `answer_connections`. No connection can be accepted where that failed for a second.
 pub fn serve_connections<B: Keeper>(
     rt: &HostRuntime,
-    listener: &TcpListener,
+    listener: TcpListener,
     requests: u32,
     at: Option<u64>,
     site: &Site,
@@ -86,24 +86,31 @@ pub fn serve_connections<B: Keeper>(
     ensures clock { result ≡ Err ServeEnd.Clock → at ≡ None }
     ensures store { result ≡ Err ServeEnd.Store → 0 < B.failures desk.new }
 {
-    let mut listening = Listening {
-        listener,
-        waiting: VecDeque::new(rt.alloc()),
-        has_failed: false,
-    };
+    let mut listening = Listening::new(rt.alloc(), listener);
     answer_connections(rt, &mut listening, requests, at, site, desk)
 }
 
 /// The connections of a listener. Those that wait are accepted. Nothing is known of what clients
 /// send and are sent.
-struct Listening<'a> {
-    listener: &'a TcpListener,
+pub struct Listening {
+    listener: TcpListener,
     waiting: VecDeque<TcpStream>,
     /// Whether the next one could not be accepted. Clauses alone read it.
     has_failed: bool,
 }
 
-impl Drop for Listening<'_> {
+impl Listening {
+    /// Those of this listener.
+    pub fn new(alloc: Global, listener: TcpListener) -> Listening {
+        Listening {
+            listener,
+            waiting: VecDeque::new(alloc),
+            has_failed: false,
+        }
+    }
+}
+
+impl Drop for Listening {
     fn drop(self) {
         let Listening {
             listener: _listener,
@@ -113,7 +120,7 @@ impl Drop for Listening<'_> {
     }
 }
 
-impl Connections for Listening<'_> {
+impl Connections for Listening {
     type ReadHalf = Input<Half>;
 
     type WriteHalf = Output<BufWriter<Half>>;
@@ -131,7 +138,7 @@ impl Connections for Listening<'_> {
         rt: &HostRuntime,
         left: u32,
     ) -> Result<Option<Connection<Input<Half>, Output<BufWriter<Half>>>>, Failed> {
-        match next_waiting(rt, self.listener, &mut self.waiting, left) {
+        match next_waiting(rt, &self.listener, &mut self.waiting, left) {
             Ok(stream) => Ok(connection_over(rt.alloc(), stream)),
             Err(_) => {
                 self.has_failed = true;
@@ -156,7 +163,7 @@ impl Connections for Listening<'_> {
 
 /// One of two owners of a stream.
 #[derive(Drop)]
-struct Half {
+pub struct Half {
     stream: Rc<TcpStream>,
 }
 

@@ -59,7 +59,7 @@ fn assert_replied(rt: &(impl Abort + AllocGlobal), mut client: TcpStream, reply:
 fn assert_served<B: Keeper + Drop>(
     rt: &(impl Abort + AllocGlobal + Net<Stream = TcpStream>),
     host: &HostRuntime,
-    listener: &TcpListener,
+    listener: TcpListener,
     books: B,
 ) {
     let site = Site::new(rt.alloc()).expect(rt, "routes");
@@ -78,14 +78,14 @@ fn connections_are_answered_in_turn(rt: HostRuntime) {
     let loopback = SocketAddr::from((Ipv4Addr::LOCALHOST, 0));
     let listener = TcpListener::bind(&rt, loopback).expect(&rt, "a port");
     let books = Recent::new(rt.alloc(), new_books(&rt), 0);
-    assert_served(&rt, &rt, &listener, books);
+    assert_served(&rt, &rt, listener, books);
 }
 
 /// A store that answers by `Store` alone ends the run with the connection in hand. One whose writes alone fail so does not.
 fn assert_ends<B: Keeper + Drop>(
     rt: &(impl Abort + AllocGlobal + Net<Stream = TcpStream>),
     host: &HostRuntime,
-    listener: &TcpListener,
+    listener: TcpListener,
     books: B,
     wanted: Result<(), ServeEnd>,
 ) {
@@ -116,7 +116,7 @@ fn a_store_that_is_shut_ends_the_run(rt: HostRuntime) {
     let loopback = SocketAddr::from((Ipv4Addr::LOCALHOST, 0));
     let listener = TcpListener::bind(&rt, loopback).expect(&rt, "a port");
     let shut = failing(&rt, new_books(&rt), BooksCall::Every);
-    assert_ends(&rt, &rt, &listener, shut, Err(ServeEnd::Store));
+    assert_ends(&rt, &rt, listener, shut, Err(ServeEnd::Store));
 }
 
 #[test]
@@ -124,5 +124,5 @@ fn writes_that_fail_do_not_end_the_run(rt: HostRuntime) {
     let loopback = SocketAddr::from((Ipv4Addr::LOCALHOST, 0));
     let listener = TcpListener::bind(&rt, loopback).expect(&rt, "a port");
     let full = failing(&rt, new_books(&rt), BooksCall::Write);
-    assert_ends(&rt, &rt, &listener, full, Ok(()));
+    assert_ends(&rt, &rt, listener, full, Ok(()));
 }

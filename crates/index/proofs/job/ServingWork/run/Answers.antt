@@ -1,20 +1,36 @@
-use Rattle.std.proofs.Common.{ℕ, [], inl, inr, refl, Option, Err}
-use Rattle.index_rules.specs.Tables.{Tables}
-use Rattle.index.specs.Tasks.{AnswersFirstConnections, IsServingEnd, IsUpTo}
-use Rattle.index.specs.declared.end.End.{End}
+use Rattle.std.proofs.Common.{Ok, Err}
+use Rattle.index.proofs.ServesLemmas.{among, none_answered, serves_done, serves_left, serves_told}
 use Rattle.index.proofs.job.ServingWork.run.Goals as goal
 
--- no connection was answered
-none_answered : (at : Option ℕ) (requests : ℕ) (T : Tables) (early : End) → IsServingEnd (Err early) → IsUpTo requests (Err early) 0 → AnswersFirstConnections at requests T (Err early)
-none_answered at requests T early ends none =
-    record {
-      ends = ends;
-      tables = (0, none, record { exchanges = []; are = tt; answered = inl (T, refl); counted = refl; are_given = tt });
-      history = λ h legal stands. (0, none, record { exchanges = []; are = tt; answered = inl (h, refl); counted = refl; are_given = tt });
-    }
+pub returns-in-Err-clause-told : goal.returns-in-Err-clause-told
+returns-in-Err-clause-told g c = λ honest clean one. none_answered _ _ _ _ c.in-Err.ensures.kept _ _ _ _ c.in-Err.ensures.fault
 
-pub returns-in_default-clause-told : goal.returns-in_default-clause-told
-returns-in_default-clause-told g c = λ honest clean one. none_answered _ _ _ _ (inl (inl refl)) refl
+pub returns-in-Ok-ended-clause-done : goal.returns-in-Ok-ended-clause-done
+returns-in-Ok-ended-clause-done g c = λ honest one.
+    serves_done _ _ (among g.L.Coming.Connections.coming g.L.Coming.Connections.replies c.in-Ok.coming c.answer_connections-ended.new.connections _ _ _ _ c.in-Ok.ensures.coming c.end.ensures.coming c.in-Ok.ensures.replies c.end.ensures.replies)
+    _ _ (Ok c.in-Ok-ended.field-0) _ _ (c.in-Ok-ended.ensures.tables honest one) (c.in-Ok-ended.ensures.history honest)
 
-pub returns-then-is_err-clause-told : goal.returns-then-is_err-clause-told
-returns-then-is_err-clause-told g c = λ honest clean one. none_answered _ _ _ _ (inl (inr refl)) refl
+pub returns-in-Ok-ended-clause-told : goal.returns-in-Ok-ended-clause-told
+returns-in-Ok-ended-clause-told g c = λ honest clean one.
+    serves_told _ _ (among g.L.Coming.Connections.coming g.L.Coming.Connections.replies c.in-Ok.coming c.answer_connections-ended.new.connections _ _ _ _ c.in-Ok.ensures.coming c.end.ensures.coming c.in-Ok.ensures.replies c.end.ensures.replies)
+    _ _ (Ok c.in-Ok-ended.field-0) _ (c.in-Ok-ended.ensures.told honest clean one) (c.in-Ok-ended.ensures.told_history honest clean)
+
+pub returns-in-Ok-ended-clause-crash : goal.returns-in-Ok-ended-clause-crash
+returns-in-Ok-ended-clause-crash g c = λ honest clean one T may.
+    serves_left _ _ (among g.L.Coming.Connections.coming g.L.Coming.Connections.replies c.in-Ok.coming c.answer_connections-ended.new.connections _ _ _ _ c.in-Ok.ensures.coming c.end.ensures.coming c.in-Ok.ensures.replies c.end.ensures.replies)
+    _ _ (Ok c.in-Ok-ended.field-0) _ T (c.in-Ok-ended.ensures.crash honest clean one T may) (λ h legal stands. c.in-Ok-ended.ensures.crash_history honest clean h legal stands T may)
+
+pub returns-in-Err-ended-clause-done : goal.returns-in-Err-ended-clause-done
+returns-in-Err-ended-clause-done g c = λ honest one.
+    serves_done _ _ (among g.L.Coming.Connections.coming g.L.Coming.Connections.replies c.in-Ok.coming c.answer_connections-ended.new.connections _ _ _ _ c.in-Ok.ensures.coming c.end.ensures.coming c.in-Ok.ensures.replies c.end.ensures.replies)
+    _ _ (Err c.in-Err-ended.early) _ _ (c.in-Err-ended.ensures.tables honest one) (c.in-Err-ended.ensures.history honest)
+
+pub returns-in-Err-ended-clause-told : goal.returns-in-Err-ended-clause-told
+returns-in-Err-ended-clause-told g c = λ honest clean one.
+    serves_told _ _ (among g.L.Coming.Connections.coming g.L.Coming.Connections.replies c.in-Ok.coming c.answer_connections-ended.new.connections _ _ _ _ c.in-Ok.ensures.coming c.end.ensures.coming c.in-Ok.ensures.replies c.end.ensures.replies)
+    _ _ (Err c.in-Err-ended.early) _ (c.in-Err-ended.ensures.told honest clean one) (c.in-Err-ended.ensures.told_history honest clean)
+
+pub returns-in-Err-ended-clause-crash : goal.returns-in-Err-ended-clause-crash
+returns-in-Err-ended-clause-crash g c = λ honest clean one T may.
+    serves_left _ _ (among g.L.Coming.Connections.coming g.L.Coming.Connections.replies c.in-Ok.coming c.answer_connections-ended.new.connections _ _ _ _ c.in-Ok.ensures.coming c.end.ensures.coming c.in-Ok.ensures.replies c.end.ensures.replies)
+    _ _ (Err c.in-Err-ended.early) _ T (c.in-Err-ended.ensures.crash honest clean one T may) (λ h legal stands. c.in-Err-ended.ensures.crash_history honest clean h legal stands T may)
