@@ -1,5 +1,6 @@
 //! Connections, one after the other.
-ghost use Rattle.std.specs.Prelude.{◌≡◌, ◌≢◌, ◌<◌, true, ℕ, Err, None};
+ghost use Rattle.std.specs.Duration.{as_nanos};
+ghost use Rattle.std.specs.Prelude.{◌≡◌, ◌≢◌, ◌<◌, ◌/◌, true, ℕ, Err, None};
 ghost use Rattle.std.specs.Prelude.{IfErr, IfOk, IfSome, IsErrOf, OnErr, OnOk};
 ghost use Rattle.index_desk.specs.Crashes.{LeavesAll, LeavesAllOf};
 ghost use Rattle.index_desk.specs.Invariants.{KeepsInvariants};
@@ -24,7 +25,7 @@ use index_names::normal;
 use index_rules::Fault;
 use std::alloc::Global;
 use std::fmt::Display;
-use std::time::SystemTime;
+use std::time::{Duration, SystemTime};
 
 /// Answers one message of each of so many connections, one connection after the other, at a moment
 /// in Unix seconds or at that of the clock. Why one of them ended early is named on standard error,
@@ -210,21 +211,28 @@ fn moment_of(rt: &HostRuntime, at: Option<u64>) -> Result<u64, ServeEnd>
 {
     match at {
         Some(at) => Ok(at),
-        None => now(rt),
+        None => Ok(moment_in(since_1970(rt)?)),
     }
 }
 
-/// The moment of the clock, in whole Unix seconds.
-fn now(rt: &HostRuntime) -> Result<u64, ServeEnd>
+/// How long it is since 1970 began, by the clock.
+fn since_1970(rt: &HostRuntime) -> Result<Duration, ServeEnd>
     ensures clock { IfErr result (λ end. end ≡ ServeEnd.Clock) }
 {
     let Ok(now) = SystemTime::now(rt) else {
         return Err(ServeEnd::Clock);
     };
     match now.duration_since(SystemTime::UNIX_EPOCH) {
-        Ok(since) => Ok(since.as_secs()),
+        Ok(since) => Ok(since),
         Err(_) => Err(ServeEnd::Clock),
     }
+}
+
+/// The moment so long after 1970 began, in whole Unix seconds.
+fn moment_in(since: Duration) -> u64
+    ensures { result ≡ as_nanos since / 1_000_000_000 }
+{
+    since.as_secs()
 }
 
 /// Answers the message of a source to a sink.
