@@ -1,18 +1,14 @@
 -- The history after any runs goes on from the one before them.
-use Rattle.std.proofs.Common.{◌≡◌, ◌⊎◌, ◌∙◌, ℕ, Bool, true, false, cond, List, [], ◌∷◌, Option, Some, None, Result, Ok, Err, length, refl, sym, ap, subst, inl, inr}
-use Rattle.std.proofs.lemmas.Bool.{true≢false, cases_lt}
+use Rattle.std.proofs.Common.{◌≡◌, ℕ, Bool, true, false, List, [], ◌∷◌, Option, Some, None, Result, Ok, Err, length, refl, sym, subst, inl, inr}
+use Rattle.std.proofs.lemmas.Bool.{cases_lt}
 use Rattle.sqlite.specs.Recovery.{Image}
-use Rattle.index_digest.specs.Digest.{sha256}
-use Rattle.index_names.specs.FileName.{project_of}
-use Rattle.index_names.specs.Project.{read_name}
 use Rattle.index_cli.specs.Connections.{Exchange}
 use Rattle.index_cli.specs.declared.end.LineEnd.{LineEnd}
 use Rattle.index_cli.specs.Lines.{longest_line}
 use Rattle.index_cli.specs.Serving.{AnswersEach, AnswersOne}
 use Rattle.index_cli.specs.Telling.{TellsAsked, TellsLines}
 use Rattle.index_cli.specs.TellsCalls.{TellsCalls}
-use Rattle.index_cli.proofs.Choices.{Ends-choice, TellsCalls-choice}
-use Rattle.index.proofs.ServesLemmas.{ServesCallsOn-choice}
+use Rattle.index_cli.proofs.Choices.{Ends-choice, LeavingOn-choice, TellsCalls-choice}
 use Rattle.index_desk.specs.Rules.{by_history}
 use Rattle.index_http.specs.Ends.{Ends}
 use Rattle.index_http.specs.Exchanges.{Acts, Replies, RepliesTo, RepliesToInput}
@@ -28,88 +24,22 @@ use Rattle.index_message.specs.declared.message.Message.TheVariants.{Faulty, Who
 use Rattle.index_rules.specs.declared.answer.Answer.{Answer}
 use Rattle.index_rules.specs.declared.answer.Answer.TheVariants.{Accepted, Already, Refused, Fault}
 use Rattle.index_rules.specs.declared.call.Call.{Call}
-use Rattle.index_rules.specs.declared.call.Request.{Request}
-use Rattle.index_rules.specs.declared.call.Request.TheVariants.{Upload, Delete, BanFile, Prohibit}
-use Rattle.index_rules.specs.History.{History, begins, more, is_read_as}
-use Rattle.index_rules.specs.Laws.{HasUpload, IsUploadOf}
+use Rattle.index_rules.specs.History.{History, begins, more}
+use Rattle.index_rules.specs.FirstTables.{first_tables}
+use Rattle.index_rules.specs.Laws.{IsFrontOf}
 use Rattle.index_rules.specs.Legal.{IsLegal, history_after}
-use Rattle.index_rules.specs.Maps.{Bytes, same}
-use Rattle.index_rules.specs.PastFiles.{is_undeleted_after, is_undeleted_by, last_body_after, last_body_by}
-use Rattle.index_rules.specs.Requests.{read_file}
-use Rattle.index_rules.specs.StandsFor.{body_after}
+use Rattle.index_rules.specs.Maps.{Bytes}
 use Rattle.index_rules.specs.Tables.{Tables}
-use Rattle.index_rules.proofs.BindLemmas.{binds_files}
-use Rattle.index_rules.proofs.OwnerLists.{same-is}
+use Rattle.index_rules.proofs.ServeLemmas.{serves_bound}
 use Rattle.index.specs.declared.end.End.{End}
 use Rattle.index.specs.Chains.{Carries, ComesByRun, ComesByRuns, KeepsSome, LeadTo, LeadsOn, MayBecome, MayCarry}
-use Rattle.index.specs.Chains.{Run, InitRun, EndedRun, CutRun, UnusedRun}
-use Rattle.index.specs.GoesOn.{BindServed, GoesOn, IsFrontOf, StandOn}
+use Rattle.index.specs.Chains.{Run, CreatedRun, InitRun, EndedRun, CutRun, UnusedRun}
+use Rattle.index.specs.GoesOn.{BindServed, GoesOn, StandOn}
 use Rattle.index.proofs.ChainLemmas.{stand_by_runs}
 use Rattle.std.proofs.Math.Logic.{∥∥₁_map}
 use Rattle.index.specs.Runs.{HoldsNone}
 use Rattle.index.specs.Tasks.{AreAmong, Task, AnswerLines, AnswerConnections, WriteReport, CountWrong}
 use Rattle.index.proofs.ThereLemmas.{current_is_there}
-
--- ---- what is served is an upload
-
--- what was read is the text
-is_read : (read : Option Bytes) (f : Bytes) → is_read_as read f ≡ true → read ≡ Some f
-is_read None f is = absurd (true≢false (sym is))
-is_read (Some x) f is = ap Some (sym (same-is f x is))
-
--- what was taken away isn't there
-still : (b before : Bool) → cond b false before ≡ true → before ≡ true
-still true before is = absurd (true≢false (sym is))
-still false before is = is
-
--- these are the digest and the size of bytes
-abbrev IsOf : Bytes → Bytes × ℕ → Type 0
-IsOf body first = (sha256 body, length body) ≡ first
-
--- a file that is undeleted after a request was so before, with these bytes, or the request uploads it
-uploads_or_was : (r : Request) (f : Bytes) (before : Bool) (body : Bytes) → is_undeleted_by r f before ≡ true
-    → IsUploadOf r f (sha256 (last_body_by r f body), length (last_body_by r f body)) ⊎ ((before ≡ true) × (last_body_by r f body ≡ body))
-uploads_or_was (Upload file declared bytes requires) f before body is = by (is_read_as (read_file file) f) refl is
-  where
-    by : (b : Bool) → is_read_as (read_file file) f ≡ b → cond b true before ≡ true
-        → ((read_file file ≡ Some f) × IsOf (cond b bytes body) (sha256 bytes, length bytes)) ⊎ ((before ≡ true) × (cond b bytes body ≡ body))
-    by true read is = inl (is_read (read_file file) f read, refl)
-    by false read is = inr (is, refl)
-uploads_or_was (Delete file) f before body is = inr (still (is_read_as (read_file file) f) before is, refl)
-uploads_or_was (BanFile file) f before body is = inr (still (is_read_as (read_file file) f) before is, refl)
-uploads_or_was (Prohibit name) f before body is = inr (still (is_read_as (read_name name) (project_of f)) before is, refl)
-uploads_or_was r f before body is = inr (is, refl)
-
--- the bytes of an undeleted file are those of an upload
-undeleted_upload : (h : History) (f : Bytes) → is_undeleted_after h f ≡ true → HasUpload h f (sha256 (last_body_after h f), length (last_body_after h f))
-undeleted_upload (begins user token) f is = true≢false (sym is)
-undeleted_upload (more h e) f is = elim (uploads_or_was e.call.request f (is_undeleted_after h f) (last_body_after h f) is) [
-  | inl now ↦ inl now
-  | inr was ↦ inr (subst (λ body. HasUpload h f (sha256 body, length body)) (sym was.1) (undeleted_upload h f was.0))
-]
-
--- so are the bytes that are served
-served_upload : (h : History) (f body : Bytes) → body_after h f ≡ Some body → HasUpload h f (sha256 body, length body)
-served_upload h f body is = by (is_undeleted_after h f) refl is
-  where
-    by : (b : Bool) → is_undeleted_after h f ≡ b → cond b (Some (last_body_after h f)) None ≡ Some body → HasUpload h f (sha256 body, length body)
-    by true there is =
-        let same : last_body_after h f ≡ body = cc in
-        subst (λ body. HasUpload h f (sha256 body, length body)) same (undeleted_upload h f there)
-    by false gone is = absurd cc
-
--- an upload of a front is one of the whole
-of_front : (h one : History) (f : Bytes) (first : Bytes × ℕ) → IsFrontOf one h → HasUpload one f first → HasUpload h f first
-of_front (begins user token) one f first front has = subst (λ h. HasUpload h f first) front has
-of_front (more h e) one f first (inl is) has = subst (λ h. HasUpload h f first) is has
-of_front (more h e) one f first (inr front) has = inr (of_front h one f first front has)
-
-served_bound : (h : History) → IsLegal h → (one : History) → IsFrontOf one h → BindServed one h
-served_bound h legal one front f first second is is' =
-    let same = binds_files h legal f (sha256 first, length first) (sha256 second, length second)
-      (of_front h one f (sha256 first, length first) front (served_upload one f first is))
-      (served_upload h f second is') in
-    (ap (λ it. it.0) same, ap (λ it. it.1) same)
 
 -- ---- fronts
 
@@ -121,6 +51,10 @@ longer : (a b c : History) → IsFrontOf a b → IsFrontOf b c → IsFrontOf a c
 longer a b (begins user token) front is = subst (IsFrontOf a) is front
 longer a b (more h e) front (inl is) = subst (IsFrontOf a) is front
 longer a b (more h e) front (inr earlier) = inr (longer a b h front earlier)
+
+-- what was served is bound
+served_bound : (h : History) → IsLegal h → (one : History) → IsFrontOf one h → BindServed one h
+served_bound h legal one front = serves_bound h legal one h front (itself h)
 
 as_is : (h h' : History) → h' ≡ h → IsFrontOf h h'
 as_is h h' is = subst (IsFrontOf h) (sym is) (itself h)
@@ -206,7 +140,7 @@ may_carry_on (AnswerLines given left had has) result h h' T' it =
     (λ lines text told. ((TellsCalls-choice (IsFrontOf h h') T' (MayBecome h h') (λ a calls answers T. Unit {0}) (λ calls answers left. (become h h' calls answers T' left, tt)) lines text told).0, tt))
     given left had has it.0 it.2).0
 may_carry_on (AnswerConnections at requests coming coming' replies replies') result h h' T' it =
-    (ServesCallsOn-choice (AreAmong coming coming' replies replies') (IsFrontOf h h') T' (MayBecome h h') (λ a calls answers T. Unit {0}) (λ calls answers left. (become h h' calls answers T' left, tt)) at it.0 it.2).0
+    (LeavingOn-choice (AreAmong coming coming' replies replies') (IsFrontOf h h') T' (MayBecome h h') (λ a calls answers T. Unit {0}) (λ calls answers left. (become h h' calls answers T' left, tt)) by_history at it.0 h it.2).0
 may_carry_on (WriteReport had has) result h h' T' it = as_is h h' it
 may_carry_on CountWrong result h h' T' it = as_is h h' it
 
@@ -216,13 +150,15 @@ From Was h' = (h : History) × Was h × IsFrontOf h h'
 
 by_run : (run : Run) (start next : Image) (it : LeadsOn run start next) → (¬ HoldsNone start) → (Was : History → Type 0) (h' : History)
     → ComesByRun run start next it Was h' → From Was h'
+by_run (CreatedRun user token) start next it some Was h' new = absurd (some it.0)
 by_run (InitRun user token) start next it some Was h' (inl was) = (h', was, itself h')
 by_run (InitRun user token) start next it some Was h' (inr new) = absurd (some new.0)
 by_run (EndedRun task result) start next it some Was h' comes = (comes.0, comes.1, carried_on task result comes.0 h' it.after comes.4)
 by_run (CutRun task result) start next it some Was h' comes = (comes.0, comes.1, may_carry_on task result comes.0 h' comes.4.0 comes.4.2)
 by_run UnusedRun start next it some Was h' comes = (h', comes, itself h')
 
-there_by_run : (run : Run) (start next : Image) → LeadsOn run start next → KeepsSome start next
+pub there_by_run : (run : Run) (start next : Image) → LeadsOn run start next → KeepsSome start next
+there_by_run (CreatedRun user token) start next it = λ some. current_is_there next (first_tables user token) it.1
 there_by_run (InitRun user token) start next it = it.0
 there_by_run (EndedRun task result) start next it = λ some. current_is_there next it.after it.left
 there_by_run (CutRun task result) start next it = λ some. it.there
@@ -241,10 +177,13 @@ there_by_runs [] start last leads = λ some none. some (subst HoldsNone leads no
 there_by_runs (run ∷ runs) start last leads = λ some. there_by_runs runs leads.0 last leads.2 (there_by_run run start leads.0 leads.1 some)
 
 pub goes_on : (runs : List Run) (first last : Image) → GoesOn runs first last
-goes_on runs first last some leads = (there_by_runs runs first last leads some, λ given later legal comes.
-    let from = by_runs runs first last leads some (λ h. h ≡ given) later comes in
-    let front = subst (λ h. IsFrontOf h later) from.1 from.2 in
-    (front, served_bound later legal given front))
+goes_on runs first last some leads = (
+  there_by_runs runs first last leads some,
+  λ given later legal comes.
+      let from = by_runs runs first last leads some (λ h. h ≡ given) later comes in
+      let front = subst (λ h. IsFrontOf h later) from.1 from.2 in
+      (front, served_bound later legal given front),
+)
 
 pub stand_on : (runs others : List Run) (first mid last : Image) → StandOn runs others first mid last
 stand_on runs others first mid last none leads some leads' T holds =

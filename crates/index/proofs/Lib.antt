@@ -9,3 +9,4 @@ pub mod OpeningLemmas
 pub mod RunLemmas
 pub mod ThereLemmas
 pub mod ServesLemmas
+pub mod RefutedLemmas

@@ -22,8 +22,8 @@ use Rattle.sqlite_value.specs.declared.value.Value.TheVariants.{Text}
 use Rattle.index_cli.specs.Ends.{EndsRun}
 use Rattle.index_cli.specs.declared.end.LineEnd.{LineEnd}
 use Rattle.index_cli.specs.TellsCalls.{TellsCalls}
-use Rattle.index_cli.proofs.Choices.{Ends-choice, TellsCalls-choice}
-use Rattle.index.proofs.ServesLemmas.{ServesCallsOn-choice}
+use Rattle.index_cli.proofs.Choices.{Ends-choice, LeavingOn-choice, TellsCalls-choice}
+use Rattle.index_desk.specs.Rules.{by_tables}
 use Rattle.index_desk.specs.Crashes.{LeavesAll}
 use Rattle.index_names.specs.FileName as names
 use Rattle.index_rules.specs.declared.answer.Answer.{Answer}
@@ -150,18 +150,24 @@ left_keeps (AnswerLines given left had has) result T T' it =
     (λ lines text told. ((TellsCalls-choice (KeepsEmpty T T') T' (LeavesAll T) (λ a calls answers T. Unit {0}) (λ calls answers leaves. (leaves_empty T calls answers T' leaves, tt)) lines text told).0, tt))
     given left had has it.ended it.tables).0
 left_keeps (AnswerConnections at requests coming coming' replies replies') result T T' it =
-    (ServesCallsOn-choice (AreAmong coming coming' replies replies') (KeepsEmpty T T') T' (LeavesAll T) (λ a calls answers T. Unit {0}) (λ calls answers leaves. (leaves_empty T calls answers T' leaves, tt)) at it.tables.0 it.tables.2).0
+    (LeavingOn-choice (AreAmong coming coming' replies replies') (KeepsEmpty T T') T' (LeavesAll T) (λ a calls answers T. Unit {0}) (λ calls answers leaves. (leaves_empty T calls answers T' leaves, tt)) by_tables at it.tables.0 T it.tables.2).0
 left_keeps (WriteReport had has) result T T' it = ap (λ (T : Tables). get T.bans []) it
 left_keeps CountWrong result T T' it = ap (λ (T : Tables). get T.bans []) it
 
 -- tables with a ban of the empty name, or without it
 toggled : (T : Tables) (o : Option (Unit {0})) → get T.bans [] ≡ o → (T' : Tables) × (KeepsEmpty T T' → ⊥)
-toggled T None is = (record T { bans = insert T.bans [] tt }, λ keeps.
-    let put : get (insert T.bans [] tt) [] ≡ Some tt = get-put T.bans [] tt [] ∙ ap (λ b. cond b (Some tt) (get T.bans [])) (same-refl []) in
-    let both : Some tt ≡ None = sym put ∙ keeps ∙ is in cc)
-toggled T (Some there) is = (record T { bans = remove T.bans [] }, λ keeps.
-    let gone : get (remove T.bans []) [] ≡ None = get-without T.bans [] [] ∙ ap (λ b. cond b None (get T.bans [])) (same-refl []) in
-    let both : None ≡ Some there = sym gone ∙ keeps ∙ is in cc)
+toggled T None is = (
+  record T { bans = insert T.bans [] tt },
+  λ keeps.
+      let put : get (insert T.bans [] tt) [] ≡ Some tt = get-put T.bans [] tt [] ∙ ap (λ b. cond b (Some tt) (get T.bans [])) (same-refl []) in
+      let both : Some tt ≡ None = sym put ∙ keeps ∙ is in cc,
+)
+toggled T (Some there) is = (
+  record T { bans = remove T.bans [] },
+  λ keeps.
+      let gone : get (remove T.bans []) [] ≡ None = get-without T.bans [] [] ∙ ap (λ b. cond b None (get T.bans [])) (same-refl []) in
+      let both : None ≡ Some there = sym gone ∙ keeps ∙ is in cc,
+)
 
 pub not_left : (task : Task) (result : Result ℕ End) (T : Tables) → (T' : Tables) × (¬ MayLeaveBy task result T T')
 not_left task result T = let it = toggled T (get T.bans []) refl in (it.0, λ left. it.1 (left_keeps task result T it.0 left))

@@ -102,3 +102,10 @@ IsKnown schema =
 abbrev pub IsObject : List ℕ → Option Cause → Type 0
 IsObject name told =
     (text : _) × (told ≡ Some (cause.Object text)) × (string_bytes text ≡ utf8_lossy name)
+
+-- the cause that a schema tells: by the first object that no index has, or by tables that are not
+-- as those of an index
+abbrev pub TellsSchema : Schema → Option Cause → Type 0
+TellsSchema schema told =
+    ((name : List ℕ) × (other_object schema ≡ Some name) × IsObject name told)
+    ⊎ ((other_object schema ≡ None) × (told ≡ Some cause.OtherTables))

@@ -17,8 +17,8 @@ use Rattle.sqlite_disk.specs.declared.Files.{Files}
 use Rattle.index_tables.specs.Reopened.{MayLeave}
 use Rattle.index_cli.specs.declared.end.LineEnd.{LineEnd}
 use Rattle.index_cli.specs.Ends.{EndsRun}
-use Rattle.index_cli.specs.ServesFront.{ServesFrontOn}
-use Rattle.index_cli.specs.Serving.{ServesCallsOn, ServesOn}
+use Rattle.index_cli.specs.ServesFront.{LeavingOn, ServesFrontOn}
+use Rattle.index_cli.specs.Serving.{ServesOn}
 use Rattle.index_cli.specs.Telling.{TellsLines}
 use Rattle.index_cli.specs.TellsCalls.{TellsCalls}
 use Rattle.index_cli.specs.TellsFront.{TellsFront}
@@ -41,15 +41,17 @@ use Rattle.index.specs.declared.end.End.{End}
 use Rattle.index.specs.Ends.{end_of}
 use Rattle.index.specs.Openings.{OpensAgain}
 use Rattle.index.specs.Runs.{FindsOnly, Holds, HoldsCurrent, HoldsNone}
-use Rattle.index.specs.Tasks.{AnswerConnections, AnswerLines, AreAmong, CountWrong, Does, IsUpTo, MayLeaveBy}
-use Rattle.index.specs.Tasks.{Task, TellsBy, WriteReport}
+use Rattle.index.specs.Tasks.{AnswerConnections, AnswerLines, AreAmong, CountWrong, Does, IsUpTo}
+use Rattle.index.specs.Tasks.{MayLeaveBy, Task, TellsBy, WriteReport}
 
 -- ---- one run, from the files that it finds to those that the next one finds
 
--- An init, which names a user and the digest of a token. A run that did its task, ended so and
--- closed its files. One that was killed, or whose files a fault of the disk had shut, with its
--- task and what had come of that. And one that did nothing on the index that it found.
+-- An init that made an index, with a user and the digest of a token, and closed its files; and one
+-- that was killed, or failed. A run that did its task, ended so and closed its files. One that was
+-- killed, or whose files a fault of the disk had shut, with its task and what had come of that.
+-- And one that did nothing on the index that it found.
 pub data Run : Type 0 where
+  CreatedRun : (user token : Bytes) → Run
   InitRun : (user token : Bytes) → Run
   EndedRun : Task → Result ℕ End → Run
   CutRun : Task → Result ℕ End → Run
@@ -74,13 +76,16 @@ pub record BreaksOff
   pub left : FindsOnly next (MayLeaveBy task result before)
   pub there : ¬ HoldsNone next
 
--- where there was something of an index, there is still
+-- if there was something of an index, there is still
 abbrev pub KeepsSome : Image → Image → Type 0
 KeepsSome start next = (¬ HoldsNone start) → ¬ HoldsNone next
 
--- A run leads from the files that it found to the next ones. After an init whatever index is found
--- was there, or is the new one, made where there was nothing of an index.
+-- A run leads from the files that it found to the next ones. An init that ended well made its
+-- index where there was nothing of one, and left it. After another whatever index is found was
+-- there, or is the new one, made where there was nothing of one.
 abbrev pub LeadsOn : Run → Image → Image → Type 0
+LeadsOn (CreatedRun user token) start next =
+    HoldsNone start × HoldsCurrent next (first_tables user token)
 LeadsOn (InitRun user token) start next =
     KeepsSome start next
     × FindsOnly next (λ found.
@@ -139,7 +144,7 @@ pub record WorkLeadsOn {D : Type 0} (g : Ghosts D) (task : Task) (start : Image)
 -- an init, by its user and the digest of the token
 pub record InitLeadsOn {D : Type 0} (g : Ghosts D) (user token : Bytes) (start : Image)
     (result : Result (Result (Files D) (Unclosed D g)) (Unused D g)) : Type 0 where
-  pub made : IfOk result (λ closed. IfOk closed (ClosedLeadsOn g (InitRun user token) start))
+  pub made : IfOk result (λ closed. IfOk closed (ClosedLeadsOn g (CreatedRun user token) start))
   pub unclosed : IfOk result (λ closed. IfErr closed (λ it.
       UnclosedLeadsOn (InitRun user token) start it.store))
   pub unused : IfErr result (λ it. IfSome it.left (UnusedLeadsOn (InitRun user token) start))
@@ -169,7 +174,8 @@ MayCarry (AnswerLines given left had has) result h h' T' =
     × EndsRun (TellsCalls (MayBecome h h')) T' given left had has ended
 MayCarry (AnswerConnections at requests coming coming' replies replies') result h h' T' =
     (count : ℕ) × IsUpTo requests result count
-    × ServesCallsOn (AreAmong coming coming' replies replies') (MayBecome h h') at count T'
+    × ServesFrontOn (LeavingOn (AreAmong coming coming' replies replies') (MayBecome h h') T')
+    by_history at count h
 MayCarry (WriteReport had has) result h h' T' = h' ≡ h
 MayCarry CountWrong result h h' T' = h' ≡ h
 
@@ -188,6 +194,7 @@ TellsByHistory CountWrong result h T = Unit {0}
 -- the one, and those that it left stand for the other.
 abbrev pub ComesByRun : (run : Run) (start next : Image) → LeadsOn run start next
     → (History → Type 0) → History → Type 0
+ComesByRun (CreatedRun user token) start next it Was h' = h' ≡ begins user token
 ComesByRun (InitRun user token) start next it Was h' =
     Was h' ⊎ (HoldsNone start × (h' ≡ begins user token))
 ComesByRun (EndedRun task result) start next it Was h' =

@@ -1,19 +1,15 @@
 -- The history goes on through runs: none of them begins it anew.
-use Rattle.std.specs.Prelude.{◌≡◌, ◌⊎◌, List, Some, length}
+use Rattle.std.specs.Prelude.{◌≡◌, List, Some, length}
 use Rattle.sqlite.specs.Recovery.{Image}
 use Rattle.index_digest.specs.Digest.{sha256}
-use Rattle.index_rules.specs.History.{History, Entry, begins, more}
+use Rattle.index_rules.specs.History.{History}
+use Rattle.index_rules.specs.Laws.{IsFrontOf}
 use Rattle.index_rules.specs.Legal.{IsLegal}
 use Rattle.index_rules.specs.Maps.{Bytes}
 use Rattle.index_rules.specs.StandsFor.{StandsFor, body_after}
 use Rattle.index_rules.specs.Tables.{Tables}
 use Rattle.index.specs.Chains.{ComesByRuns, LeadTo, Run}
 use Rattle.index.specs.Runs.{FindsOnly, Holds, HoldsNone}
-
--- the one is the other, or what it was before its newest entries
-abbrev pub IsFrontOf : History → History → Type 0
-IsFrontOf earlier (begins user token) = earlier ≡ begins user token
-IsFrontOf earlier (more h e) = (earlier ≡ more h e) ⊎ IsFrontOf earlier h
 
 -- bytes that are served of one file name after the one and after the other have one digest and size
 abbrev pub BindServed : History → History → Type 0

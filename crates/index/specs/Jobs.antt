@@ -1,6 +1,8 @@
 -- How a subcommand ends, by the run that it made.
-use Rattle.std.specs.Prelude.{◌≡◌, ◌⊎◌, ◌↔◌, ℕ, Bool, List, codes, Option, Some, None, option_map}
+use Rattle.std.specs.Prelude.{◌≡◌, ◌⊎◌, ◌↔◌, ℕ, Bool, List, [], ◌∷◌, ◌++◌, codes, decimal}
+use Rattle.std.specs.Prelude.{Option, Some, None, option_map}
 use Rattle.std.specs.Prelude.{Result, Ok, Err, IfErr, IfOk, IsErr, IsErrAnd}
+use Rattle.std.specs.Io.KnownBytes.{Appends}
 use Rattle.std.specs.Process.{exit_status}
 use Rattle.std.specs.declared.process.ExitCode.{ExitCode}
 use Rattle.clap.specs.Words.{kind_of}
@@ -76,11 +78,14 @@ IsStatusOf (Ok found) (Ok status) = exit_status status ≡ 0
 IsStatusOf (Ok found) (Err told) = ⊥
 IsStatusOf (Err told) result = result ≡ Err told
 
--- a check ends with 0 just where it found no wrong charge; its number may not have been printed
-abbrev pub IsStatusOfCheck : Result ℕ End → Result ExitCode End → Type 0
-IsStatusOfCheck (Ok found) (Ok status) = (exit_status status ≡ 0) ↔ (found ≡ 0)
-IsStatusOfCheck (Ok found) (Err told) = told ≡ end.WriteFault
-IsStatusOfCheck (Err told) result = result ≡ Err told
+-- a check writes the number of wrong charges in decimal digits, with a line feed, to what was so
+-- and is so now, and ends with 0 just if it is 0; the number may not have been written
+abbrev pub IsStatusOfCheck : (had has : Option (List ℕ)) → Result ℕ End → Result ExitCode End
+    → Type 0
+IsStatusOfCheck had has (Ok found) (Ok status) =
+    Appends had has (decimal found ++ 10 ∷ []) × ((exit_status status ≡ 0) ↔ (found ≡ 0))
+IsStatusOfCheck had has (Ok found) (Err told) = told ≡ end.WriteFault
+IsStatusOfCheck had has (Err told) result = result ≡ Err told
 
 -- an init ends with 0 where a new index was made; that may not have been printed
 abbrev pub IsStatusOfInit : Result (Unit {0}) End → Result ExitCode End → Type 0
@@ -96,12 +101,6 @@ abbrev pub EndsAs : {D : Type 0} → Ghosts D → Task → Image
 EndsAs g task start IsStatus result =
     (found : Result ℕ End) × ComesOfRun g task start found × IsStatus found result
 
--- or it ended before any run, for want of memory
-abbrev pub EndsAsOrEarly : {D : Type 0} → Ghosts D → Task → Image
-    → (Result ℕ End → Result ExitCode End → Type 0) → Result ExitCode End → Type 0
-EndsAsOrEarly g task start IsStatus result =
-    (result ≡ Err end.OutOfMemory) ⊎ EndsAs g task start IsStatus result
-
 -- an init ended so, with this user, these hex digits of the token's digest, and page sums or none
 abbrev pub EndsAsInit : {D : Type 0} → Ghosts D → Bytes → Bytes → Bool → Image
     → Result ExitCode End → Type 0
@@ -109,29 +108,37 @@ EndsAsInit g user digits page_sums start result =
     (made : Result (Unit {0}) End)
     × ComesOfInit g user digits page_sums start made × IsStatusOfInit made result
 
--- an apply: want of memory ended it before any run, or the lines of some input were answered to
--- some output
-abbrev pub EndsApply : {D Path : Type 0} → Ghosts D → Option Path → Image
-    → Result ExitCode End → Type 0
-EndsApply g path start result =
-    (result ≡ Err end.OutOfMemory)
-    ⊎ ((given left had has : Option (List ℕ)) × (found : Result ℕ End)
-    × ComesByPath g path (AnswerLines given left had has) start found × IsStatusOf found result)
+-- the lines of this input were answered to some output
+abbrev pub EndsApply : {D Path : Type 0} → Ghosts D → Option Path → (given : Option (List ℕ))
+    → Image → Result ExitCode End → Type 0
+EndsApply g path given start result =
+    (left had has : Option (List ℕ)) × (found : Result ℕ End)
+    × ComesByPath g path (AnswerLines given left had has) start found × IsStatusOf found result
 
 -- the report was written to some output
 abbrev pub EndsReport : {D : Type 0} → Ghosts D → Image → Result ExitCode End → Type 0
 EndsReport g start result =
     (had has : Option (List ℕ)) × EndsAs g (WriteReport had has) start IsStatusOf result
 
--- each job, on two files that held this
+-- the number of wrong charges was written to some output
+abbrev pub EndsCheck : {D : Type 0} → Ghosts D → Image → Result ExitCode End → Type 0
+EndsCheck g start result =
+    (had has : Option (List ℕ)) × EndsAs g CountWrong start (IsStatusOfCheck had has) result
+
+-- a job ended so, or memory was wanting for what it needs
+abbrev pub OrWantsMemory : Type 0 → Result ExitCode End → Type 0
+OrWantsMemory Ended result = (result ≡ Err end.OutOfMemory) ⊎ Ended
+
+-- each job, on two files that held this: an apply answered the lines of some input
 abbrev pub EndsJob : {D : Type 0} → Ghosts D → Job → Image → Result ExitCode End → Type 0
 EndsJob g (job.Init db user digits page_sums) start result =
     EndsAsInit g user.now digits.now page_sums start result
-EndsJob g (job.Apply db) start result = EndsApply g db start result
+EndsJob g (job.Apply db) start result =
+    OrWantsMemory ((given : Option (List ℕ)) × EndsApply g db given start result) result
 EndsJob g (job.Serve db words) start result =
-    EndsAsOrEarly g (answer_sockets words.at words.requests) start IsStatusOf result
+    OrWantsMemory (EndsAs g (answer_sockets words.at words.requests) start IsStatusOf result) result
 EndsJob g (job.Report db) start result = EndsReport g start result
-EndsJob g (job.Check db) start result = EndsAs g CountWrong start IsStatusOfCheck result
+EndsJob g (job.Check db) start result = EndsCheck g start result
 
 -- the path of the database that it works on
 abbrev pub path_of : Job → Option Bytes

@@ -5,8 +5,8 @@ use Rattle.index_cli.specs.declared.end.LineEnd.{LineEnd}
 use Rattle.index_cli.specs.declared.end.ServeEnd.{ServeEnd}
 use Rattle.index_cli.specs.Ends.{EndsRun}
 use Rattle.index_cli.specs.Connections.{AreOn, Exchange, KnownList, unknown}
-use Rattle.index_cli.specs.ServesFront.{ServesFrontOn}
-use Rattle.index_cli.specs.Serving.{ServesCallsOn, ServesHistoryOn, ServesOn}
+use Rattle.index_cli.specs.ServesFront.{LeavingOn, ServesFrontOn}
+use Rattle.index_cli.specs.Serving.{ServesHistoryOn, ServesOn}
 use Rattle.index_cli.specs.Telling.{TellsLines}
 use Rattle.index_cli.specs.TellsCalls.{TellsCalls}
 use Rattle.index_cli.specs.TellsFront.{TellsFront}
@@ -106,14 +106,15 @@ pub record AnswersFirstConnections
   pub history : (h : History) → IsLegal h → StandsFor T h
       → (count : ℕ) × IsUpTo requests result count × ServesFrontOn Are by_history at count h
 
--- these tables may be left by the connections that were answered: the same of their calls
+-- these tables may be left by the calls of connections that were answered so
 pub record LeavesConnections
     (Are : List Exchange → Type 0) (at : Option ℕ) (requests : ℕ) (T T' : Tables)
     (result : Result ℕ End) : Type 0 where
   pub tables : (count : ℕ) × IsUpTo requests result count
-      × ServesCallsOn Are (LeavesAll T) at count T'
+      × ServesFrontOn (LeavingOn Are (LeavesAll T) T') by_tables at count T
   pub history : (h : History) → IsLegal h → StandsFor T h
-      → (count : ℕ) × IsUpTo requests result count × ServesCallsOn Are (LeavesAllOf h) at count T'
+      → (count : ℕ) × IsUpTo requests result count
+      × ServesFrontOn (LeavingOn Are (LeavesAllOf h) T') by_history at count h
 
 -- these exchanges were made on the first of the connections that were to come, and their replies
 -- are what went out meanwhile, by what is known before and after

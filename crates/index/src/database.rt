@@ -1,5 +1,5 @@
 //! The index in a database of SQLite: made or adopted, worked on, and closed.
-ghost use Rattle.std.specs.Prelude.{◌≡◌, false, ℕ, Result, Err, None, Some, IfOk, IfErr, IfSome, IsTrue, OnErr};
+ghost use Rattle.std.specs.Prelude.{◌≡◌, false, ℕ, Result, Err, None, Some, IfOk, IfErr, IfSome, IsSome, IsTrue, OnErr};
 ghost use Rattle.sqlite.specs.Closing.{IsCopied};
 ghost use Rattle.sqlite.specs.Files.{IsClosed, file_state, over_files};
 ghost use Rattle.sqlite.specs.Held.{AreDatabases, state};
@@ -16,7 +16,7 @@ ghost use Rattle.index_sql_schema.specs.Schema.{no_schema};
 ghost use Rattle.index_tables.specs.Adopted.{IsRaised};
 ghost use Rattle.index_tables.specs.Opened.{IsCreated};
 ghost use Rattle.index.specs.declared.end.End.{End as EndData};
-ghost use Rattle.index.specs.Causes.{IsKnown, IsObject, other_object};
+ghost use Rattle.index.specs.Causes.{IsKnown, IsObject, TellsSchema, other_object};
 ghost use Rattle.index.specs.Chains.{InitLeadsOn, WorkLeadsOn};
 ghost use Rattle.index.specs.Ends.{closing_of, is_fault};
 ghost use Rattle.index.specs.Openings.{IsCleanClosed, IsOpenedOn, IsToldOf, IsUnmade, IsWhyUnfound};
@@ -158,7 +158,7 @@ pub fn work_on<S: Start, W: Work>(
     ensures leads { WorkLeadsOn ⟦<FileFrom<S> as Disk>⟧ (W.task work.old work.new)
         (image_at S.Start) result }
 
-    // Where nothing was done on the files, no work was.
+    // If nothing was done on the files, no work was.
     ensures idle { OnErr result (work.new ≡ work.old) }
 {
     match open_there(rt, path, start) {
@@ -377,6 +377,8 @@ fn cause_of_schema<S: Alter>(
         → IfOk result (IsObject name) }
     ensures blank { (state S.Store conn.now).now.schema ≡ no_schema
         → IfOk result (λ cause. cause ≡ None) }
+    ensures told { IfOk result (λ cause. IsSome cause
+        → TellsSchema (state S.Store conn.now).now.schema cause) }
     ensures tables { IfOk result (λ cause. cause ≡ None
         → IsKnown (state S.Store conn.now).now.schema) }
 {

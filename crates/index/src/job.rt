@@ -1,7 +1,6 @@
 //! The program's subcommands.
-ghost use Rattle.std.specs.Prelude.{◌≡◌, ◌⊎◌, ◌↔◌, ◌∷◌, ◌++◌, [], codes, decimal, false, unwrap_or};
-ghost use Rattle.std.specs.Prelude.{Err, IfErr, IfOk, IsOk, IsTrue, OnErr, OnOk};
-ghost use Rattle.std.specs.Io.KnownBytes.{Appends};
+ghost use Rattle.std.specs.Prelude.{◌≡◌, ◌↔◌, codes, false};
+ghost use Rattle.std.specs.Prelude.{Err, IfErr, IfOk, IsOk, IsTrue, Ok};
 ghost use Rattle.std.specs.Process.{exit_status};
 ghost use Rattle.sqlite.specs.WalFiles.{image_at};
 ghost use Rattle.index_digest.specs.Digest.{sha256};
@@ -9,14 +8,14 @@ ghost use Rattle.index_rules.specs.FirstTables.{first_tables};
 ghost use Rattle.index_rules.specs.Tables.{Tables};
 ghost use Rattle.index.specs.Ends.{end_by, is_store};
 ghost use Rattle.index.specs.Jobs.{ComesByPath, ComesOfInit, ComesOfRun, EndsApply, EndsAs};
-ghost use Rattle.index.specs.Jobs.{EndsAsInit, EndsAsOrEarly, EndsReport, IsStatusOf};
+ghost use Rattle.index.specs.Jobs.{EndsAsInit, EndsCheck, EndsReport, IsStatusOf};
 ghost use Rattle.index.specs.Jobs.{IsStatusOfCheck};
-ghost use Rattle.index_cli.specs.Connections.{KnownList};
 ghost use Rattle.index.specs.Tasks.{CountWrong, Does, answer_sockets};
 
 use crate::database::{self, Finished, Work};
 use crate::end::End;
-use index_cli::{Connections, Listening, answer_connections, apply_lines};
+use crate::serving::serving_by;
+use index_cli::apply_lines;
 use index_desk::{Desk, Keeper};
 use index_digest::Digest256;
 use index_io::{Input, Output, Sink, Source};
@@ -27,12 +26,8 @@ use index_rules::OpenFault;
 use index_words::ServeWords;
 use sqlite::{FileFrom, Start};
 use sqlite_disk::Disk;
-use std::io::{self, BufReader, ErrorKind, Write};
-use std::net::{SocketAddr, TcpListener};
+use std::io::{self, BufReader, Stdin, Write};
 use std::process::ExitCode;
-
-/// How many bytes of files and pages are kept at hand, where the command line does not tell.
-const KEPT_BYTES: u64 = 268_435_456;
 
 /// Makes a new index, with page sums or without, and says so.
 pub fn init<S: Start>(
@@ -71,15 +66,29 @@ fn make<S: Start>(
     }
 }
 
-/// Answers the lines of standard input, on the tables of a database or on tables in memory.
-pub fn apply<S: Start>(rt: &HostRuntime, db: Option<&str>, start: S) -> Result<ExitCode, End>
-    ensures { EndsApply ⟦<FileFrom<S> as Disk>⟧ db.entry (image_at S.Start) result }
+/// Standard input, with room for some of it.
+pub fn standard_input(rt: &HostRuntime) -> Result<Input<BufReader<Stdin>>, End>
+    ensures { IfErr result (λ e. e ≡ End.OutOfMemory) }
 {
-    let Ok(reader) = BufReader::new(rt.alloc(), rt.stdin()) else {
-        return Err(End::OutOfMemory);
-    };
+    match BufReader::new(rt.alloc(), rt.stdin()) {
+        Ok(reader) => Ok(Input::new(reader)),
+        Err(_) => Err(End::OutOfMemory),
+    }
+}
+
+/// Answers the lines of a source on standard output, on the tables of a database or on tables in
+/// memory.
+pub fn apply<S: Start, R: Source + Drop>(
+    rt: &HostRuntime,
+    db: Option<&str>,
+    start: S,
+    source: R,
+) -> Result<ExitCode, End>
+    ensures { EndsApply ⟦<FileFrom<S> as Disk>⟧ db.entry (R.remaining source) (image_at S.Start)
+        result }
+{
     let mut lines = Lines {
-        source: Input::new(reader),
+        source,
         sink: Output::new(io::writer(rt)),
     };
     work_by_path(rt, db, start, &mut lines)?;
@@ -187,144 +196,15 @@ pub fn serve<S: Start>(
     rt: &HostRuntime,
     db: &str,
     start: S,
+    site: &Site,
     words: ServeWords<'_>,
 ) -> Result<ExitCode, End>
-    ensures { EndsAsOrEarly ⟦<FileFrom<S> as Disk>⟧ (answer_sockets words.entry.at
-        words.entry.requests) (image_at S.Start) IsStatusOf result }
+    ensures { EndsAs ⟦<FileFrom<S> as Disk>⟧ (answer_sockets words.entry.at words.entry.requests)
+        (image_at S.Start) IsStatusOf result }
 {
-    let site = Site::new(rt.alloc())?;
-    let mut serving = serving_by(&site, words);
+    let mut serving = serving_by(site, words);
     work_on(rt, db, start, &mut serving)?;
     Ok(ExitCode::SUCCESS)
-}
-
-/// The work that the words of `serve` ask for.
-fn serving_by<'a>(site: &'a Site, words: ServeWords<'a>) -> Serving<'a, Address<'a>>
-    ensures at { result.at ≡ words.entry.at }
-    ensures requests { result.requests ≡ words.entry.requests }
-    ensures kept { result.keep_recent ≡ unwrap_or words.entry.keep_recent KEPT_BYTES }
-{
-    Serving {
-        site,
-        from: Address {
-            address: words.listen,
-        },
-        requests: words.requests,
-        at: words.at,
-        keep_recent: bytes_kept(words.keep_recent),
-    }
-}
-
-/// How many bytes of files and pages are kept at hand, where so many were asked for, or none were.
-fn bytes_kept(asked: Option<u64>) -> usize
-    ensures { result ≡ unwrap_or asked KEPT_BYTES }
-{
-    asked.unwrap_or(KEPT_BYTES) as usize
-}
-
-/// What connections come on.
-pub trait Listens {
-    /// The connections that come.
-    type Coming: Connections + Drop;
-
-    /// What the clients send whose connections are to come, in order, where that is known.
-    ghost coming: { Self → KnownList };
-
-    /// What went out on the connections that were closed, in order, where that is known.
-    ghost replies: { Self → KnownList };
-
-    /// Listens, and tells where.
-    ///
-    /// `Listen` where it can't, and `WriteFault` where that was not told.
-    fn listen(&mut self, rt: &HostRuntime) -> Result<Self::Coming, End>
-        ensures coming { IfOk result (λ it. Self.Coming.coming it ≡ coming self.old) }
-        ensures replies { IfOk result (λ it. Self.Coming.replies it ≡ replies self.old) }
-        ensures kept { OnErr result ((coming self.new ≡ coming self.old)
-            × (replies self.new ≡ replies self.old)) }
-        ensures fault { IfErr result (λ e. (e ≡ End.Listen) ⊎ (e ≡ End.WriteFault)) };
-
-    /// Listens no longer. These connections are left.
-    fn end(&mut self, left: Self::Coming)
-        ensures coming { coming self.new ≡ Self.Coming.coming left }
-        ensures replies { replies self.new ≡ Self.Coming.replies left };
-}
-
-/// So many connections are answered that come on this.
-#[derive(Drop)]
-struct Serving<'a, L> {
-    site: &'a Site,
-    from: L,
-    requests: u32,
-    at: Option<u64>,
-    keep_recent: usize,
-}
-
-impl<L: Listens> Work for Serving<'_, L> {
-    ghost use Rattle.index.specs.Tasks.{AnswerConnections};
-
-    ghost task = { λ old new. AnswerConnections old.at old.requests
-        (L.coming old.from) (L.coming new.from) (L.replies old.from) (L.replies new.from) };
-
-    fn keep_recent(&self) -> usize {
-        self.keep_recent
-    }
-
-    fn run<B: Keeper>(&mut self, rt: &HostRuntime, desk: &mut Desk<B>) -> Result<u64, End> {
-        let mut coming = match self.from.listen(rt) {
-            Ok(coming) => coming,
-            Err(fault) => return Err(fault),
-        };
-        let ended = answer_connections(rt, &mut coming, self.requests, self.at, self.site, desk);
-        self.from.end(coming);
-        match ended {
-            Ok(()) => Ok(0),
-            Err(early) => Err(End::Connections(early)),
-        }
-    }
-}
-
-/// Connections over sockets, at an address, which is told.
-#[derive(Clone, Copy)]
-struct Address<'a> {
-    address: &'a str,
-}
-
-impl Listens for Address<'_> {
-    ghost use Rattle.index_cli.specs.Connections.{unknown};
-
-    type Coming = Listening;
-
-    ghost coming = { λ _. unknown };
-
-    ghost replies = { λ _. unknown };
-
-    fn listen(&mut self, rt: &HostRuntime) -> Result<Listening, End> {
-        let Ok(listener) = listen_at(rt, self.address) else {
-            return Err(End::Listen);
-        };
-        if tell_address(rt, &listener).is_err() {
-            return Err(End::WriteFault);
-        }
-        Ok(Listening::new(rt.alloc(), listener))
-    }
-
-    fn end(&mut self, left: Listening) {
-        drop(left);
-    }
-}
-
-/// Listens at an address and a port. Port 0 is any that is free.
-fn listen_at(rt: &HostRuntime, address: &str) -> io::Result<TcpListener> {
-    match address.parse::<SocketAddr>() {
-        Ok(address) => TcpListener::bind(rt, address),
-        Err(_) => Err(ErrorKind::InvalidInput.into()),
-    }
-}
-
-/// Tells where connections are awaited.
-fn tell_address(rt: &HostRuntime, listener: &TcpListener) -> io::Result<()> {
-    let address = listener.local_addr()?;
-    println!(rt; "listening on {address}")
 }
 
 /// Writes the report on the tables of a database.
@@ -362,22 +242,34 @@ impl<K: Sink> Work for Reporting<K> {
 /// Prints how many names have a wrong charge in the tables of a database, and fails where there is
 /// one.
 pub fn check<S: Start>(rt: &HostRuntime, db: &str, start: S) -> Result<ExitCode, End>
+    ensures { EndsCheck ⟦<FileFrom<S> as Disk>⟧ (image_at S.Start) result }
+{
+    check_to(rt, db, start, &mut io::writer(rt))
+}
+
+/// The same, where the number is written to any writer.
+fn check_to<S: Start, W: Write>(
+    rt: &HostRuntime,
+    db: &str,
+    start: S,
+    writer: &mut W,
+) -> Result<ExitCode, End>
     ensures { EndsAs ⟦<FileFrom<S> as Disk>⟧ CountWrong (image_at S.Start)
-        IsStatusOfCheck result }
+        (IsStatusOfCheck (W.contents writer.old) (W.contents writer.new)) result }
 {
     let count = work_on(rt, db, start, &mut Checking)?;
-    match write_count(&mut io::writer(rt), count) {
+    tell_count(writer, count)
+}
+
+/// Writes how many names have a wrong charge, in decimal digits with a line feed, and gives the
+/// status.
+fn tell_count<W: Write>(writer: &mut W, count: u64) -> Result<ExitCode, End>
+    ensures { IsStatusOfCheck (W.contents writer.old) (W.contents writer.new) (Ok count) result }
+{
+    match writeln!(writer, "{count}") {
         Ok(()) => Ok(status_of(count)),
         Err(_) => Err(End::WriteFault),
     }
-}
-
-/// Writes a number in decimal digits, and a line feed.
-fn write_count<W: Write>(writer: &mut W, count: u64) -> io::Result<()>
-    ensures { OnOk result (Appends (W.contents writer.old) (W.contents writer.new)
-        (decimal count ++ 10 ∷ [])) }
-{
-    writeln!(writer, "{count}")
 }
 
 /// The wrong charges are counted.

@@ -18,7 +18,7 @@ use Rattle.index_json.specs.declared.line.Line.{Line}
 use Rattle.index_json.specs.declared.line.Line.TheVariants as line
 use Rattle.index_cli.specs.Lines.{line_feed, longest_line}
 use Rattle.index_cli.specs.Connections.{Exchange}
-use Rattle.index_cli.specs.Serving.{AsksEach, AsksOne, ServesCallsOn}
+use Rattle.index_cli.specs.Serving.{AsksEach, AsksOne}
 use Rattle.index_cli.specs.TellsCalls.{AsksKept, AsksLine, AsksOf, TellsCalls}
 
 -- what calls and answers, or these and tables, may have to do with one another
@@ -127,16 +127,11 @@ asks_one_map exchange L L' K K' f k it = record {
   asks = asks_map L L' K K' exchange.had exchange.has it.ended f k exchange.at exchange.given it.asks;
 }
 
-asks_each_map : (exchanges : List Exchange) (Holds Holds' : List Call → List Answer → Type 0) → ((calls : List Call) (answers : List Answer) → Holds calls answers → Holds' calls answers)
+pub asks_each_map : (exchanges : List Exchange) (Holds Holds' : List Call → List Answer → Type 0) → ((calls : List Call) (answers : List Answer) → Holds calls answers → Holds' calls answers)
     → AsksEach exchanges Holds → AsksEach exchanges Holds'
 asks_each_map [] Holds Holds' f asked = f [] [] asked
 asks_each_map (exchange ∷ earlier) Holds Holds' f asked =
     asks_each_map earlier _ _ (λ calls answers it. asks_one_map exchange _ _ _ _ (f calls answers) (λ call answer. f (calls ++ call ∷ []) (answers ++ answer ∷ [])) it) asked
-
-pub ServesCalls-map : (Are : List Exchange → Type 0) (Left Left' : Leaving) (given : Option ℕ) (count : ℕ) (T T' : Tables) → ((calls : List Call) (answers : List Answer) → Left calls answers T → Left' calls answers T')
-    → ServesCallsOn Are Left given count T → ServesCallsOn Are Left' given count T'
-ServesCalls-map Are Left Left' given count T T' f it =
-    record { exchanges = it.exchanges; are = it.are; asked = asks_each_map it.exchanges _ _ f it.asked; counted = it.counted; are_given = it.are_given }
 
 -- one more connection
 pub asks_push : (exchange : Exchange) (earlier : List Exchange) (Holds Holds' : List Call → List Answer → Type 0) (L : Type 0) (K : Call → Answer → Type 0)

@@ -5,6 +5,7 @@ use Rattle.index_rules.specs.declared.answer.Answer.{Answer}
 use Rattle.index_rules.specs.declared.call.Call.{Call}
 use Rattle.index_rules.specs.Maps.{Bytes}
 use Rattle.index_rules.specs.Tables.{Tables}
+use Rattle.index_desk.specs.Rules.{Rules}
 use Rattle.index_http.specs.Asks.{Asks, AsksFor}
 use Rattle.index_http.specs.declared.end.IoEnd.{IoEnd}
 use Rattle.index_http.specs.declared.end.IoEnd.TheVariants as io_end
@@ -16,7 +17,8 @@ use Rattle.index_cli.specs.declared.end.LineEnd.TheVariants.{ReadFault, WriteFau
 use Rattle.index_cli.specs.Ends.{EndsRun, Telling}
 use Rattle.index_cli.specs.Lines.{longest_line}
 use Rattle.index_cli.specs.Connections.{Exchange}
-use Rattle.index_cli.specs.Serving.{AsksEach, AsksOne, ServesCalls}
+use Rattle.index_cli.specs.ServesFront.{LeavingOn, ServesFrontOn}
+use Rattle.index_cli.specs.Serving.{AsksEach, AsksOne}
 use Rattle.index_cli.specs.TellsCalls.{AsksLine, AsksOf, TellsCalls}
 
 pub Ends-choice : (A : Type 0) (tells : Telling) (by_choice : A → Telling) (T : Tables) → ((lines : List (List ℕ)) (text : List ℕ) → tells lines text T → (a : A) × by_choice a lines text T)
@@ -89,9 +91,10 @@ AsksEach-choice A Left LeftBy choose (exchange ∷ earlier) it =
     (choose calls answers) (λ call answer. choose (calls ++ call ∷ []) (answers ++ answer ∷ [])) exchange)
     earlier it
 
-pub ServesCalls-choice : (A : Type 0) (T : Tables) (Left : List Call → List Answer → Tables → Type 0) (LeftBy : A → List Call → List Answer → Tables → Type 0)
+pub LeavingOn-choice : {S : Type 0} (Are : List Exchange → Type 0) (A : Type 0) (T : Tables) (Left : List Call → List Answer → Tables → Type 0) (LeftBy : A → List Call → List Answer → Tables → Type 0)
     → ((calls : List Call) (answers : List Answer) → Left calls answers T → (a : A) × LeftBy a calls answers T)
-    → (given : Option ℕ) (count : ℕ) → ServesCalls Left given count T → (a : A) × ServesCalls (LeftBy a) given count T
-ServesCalls-choice A T Left LeftBy choose given count it =
-    let chosen = AsksEach-choice A (λ calls answers. Left calls answers T) (λ a calls answers. LeftBy a calls answers T) choose it.exchanges it.asked in
-    (chosen.0, record { exchanges = it.exchanges; are = tt; asked = chosen.1; counted = it.counted; are_given = it.are_given })
+    → (rules : Rules S) (given : Option ℕ) (count : ℕ) (s : S) → ServesFrontOn (LeavingOn Are Left T) rules given count s
+    → (a : A) × ServesFrontOn (LeavingOn Are (LeftBy a) T) rules given count s
+LeavingOn-choice Are A T Left LeftBy choose rules given count s it =
+    let chosen = AsksEach-choice A (λ calls answers. Left calls answers T) (λ a calls answers. LeftBy a calls answers T) choose it.exchanges it.are.1 in
+    (chosen.0, record { exchanges = it.exchanges; are = (it.are.0, chosen.1); answered = it.answered; counted = it.counted; are_given = it.are_given })

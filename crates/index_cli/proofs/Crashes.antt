@@ -1,4 +1,4 @@
--- What a crash may leave of a run over lines or over connections.
+-- What a crash may leave of a run over lines.
 use Rattle.std.proofs.Common.{◌≡◌, ℕ, ◌+◌, List, [], ◌∷◌, Option, Result, refl, arith}
 use Rattle.std.specs.Prelude.{IfSome}
 use Rattle.index_rules.specs.declared.books.Books.{Ghosts}
@@ -14,12 +14,10 @@ use Rattle.index_desk.proofs.CrashLemmas.{LeavesAllOf-LeavesAll}
 use Rattle.index_desk.specs.Takes.{Takes}
 use Rattle.index_cli.specs.declared.end.LineEnd.{LineEnd}
 use Rattle.index_cli.specs.Ends.{EndsRun}
-use Rattle.index_cli.specs.Connections.{Exchange}
-use Rattle.index_cli.specs.Serving.{AsksOne, ServesCallsOn}
 use Rattle.index_cli.specs.Telling.{TellsLines}
 use Rattle.index_cli.specs.TellsCalls.{AsksKept, TellsCalls}
 use Rattle.index_cli.specs.TellsHistory.{TellsHistory}
-use Rattle.index_cli.proofs.Calls.{ServesCalls-map, TellsCalls-map, TellsCalls-push, asks_line_map, asks_push, by_taken, taken_call, taken_look, taken_none}
+use Rattle.index_cli.proofs.Calls.{TellsCalls-map, TellsCalls-push, asks_line_map, by_taken, taken_call, taken_look}
 use Rattle.index_cli.proofs.Histories.{TellsHistory-TellsLines}
 use Rattle.index_cli.proofs.Progress.{Pushes}
 use Rattle.index_cli.proofs.RunEnds.{Ends-map}
@@ -46,42 +44,6 @@ module _ {S : Type 0} (g : Ghosts S) where
         (TellsCalls-map (by_taken g first now) (LeavesAll (g.tables first)) U T (λ calls answers taken. taken.left honest clean one T left))
         a b w0 w1 result ends
 
-    pub serves_crash : (Are : List Exchange → Type 0) (U : Tables) (given : Option ℕ) (count : ℕ)
-        → ServesCallsOn Are (by_taken g first now) given count U
-        → ServesCallsOn Are (LeavesAll (g.tables first)) given count T
-    serves_crash Are U given count serves =
-        ServesCalls-map Are (by_taken g first now) (LeavesAll (g.tables first)) given count U T (λ calls answers taken. taken.left honest clean one T left) serves
-
-  pub serves_none : (Are : List Exchange → Type 0) → Are [] → (first : S) (given : Option ℕ) (U : Tables) → (g.IsHonest first → (T : Tables) → g.may_leave first T → T ≡ g.tables first)
-      → ServesCallsOn Are (by_taken g first first) given 0 U
-  serves_none Are none first given U settled =
-      record { exchanges = []; are = none; asked = taken_none g first settled; counted = refl; are_given = tt }
-
-  -- one more connection
-  pub serves_push : (Are Are' : List Exchange → Type 0) (exchange : Exchange) → ((earlier : List Exchange) → Are earlier → Are' (exchange ∷ earlier))
-      → (first now new : S) (T U : Tables) (given : Option ℕ) (count : ℕ) → IfSome given (λ it. exchange.at ≡ it)
-      → AsksOne exchange (LeavesTables g now new) (Takes g now new)
-      → ServesCallsOn Are (by_taken g first now) given count T
-      → ServesCallsOn Are' (by_taken g first new) given (count + 1) U
-  serves_push Are Are' exchange more first now new T U given count is_given asks serves = record {
-    exchanges = exchange ∷ serves.exchanges;
-    are = more serves.exchanges serves.are;
-    asked = asks_push exchange serves.exchanges _ _ _ _
-        (λ calls answers taken looked. taken_look g first now new calls answers looked taken)
-        (λ calls answers taken call answer took. taken_call g first now new calls answers call answer took taken)
-        serves.asked asks;
-    counted = omega (arith, serves.counted);
-    are_given = (is_given, serves.are_given);
-  }
-
-  -- a look after them
-  pub serves_look : (Are : List Exchange → Type 0) (first now new : S) (T U : Tables) (given : Option ℕ) (count : ℕ) → LeavesTables g now new
-      → ServesCallsOn Are (by_taken g first now) given count T
-      → ServesCallsOn Are (by_taken g first new) given count U
-  serves_look Are first now new T U given count looked =
-      ServesCalls-map Are (by_taken g first now) (by_taken g first new) given count T U
-      (λ calls answers taken. taken_look g first now new calls answers looked taken)
-
 -- ---- by a history for which the tables stood
 
 module _ (h : History) (legal : IsLegal h) (S : Tables) (stands : StandsFor S h) (T : Tables) where
@@ -94,7 +56,3 @@ module _ (h : History) (legal : IsLegal h) (S : Tables) (stands : StandsFor S h)
       Ends-map (TellsCalls (LeavesAll S)) (TellsCalls (LeavesAllOf h)) T T
       (TellsCalls-map (LeavesAll S) (LeavesAllOf h) T T (λ calls answers. LeavesAllOf-LeavesAll h legal S stands calls answers T))
       a b w0 w1 result ends
-
-  pub serves_crash_history : (Are : List Exchange → Type 0) (given : Option ℕ) (count : ℕ) → ServesCallsOn Are (LeavesAll S) given count T → ServesCallsOn Are (LeavesAllOf h) given count T
-  serves_crash_history Are given count serves =
-      ServesCalls-map Are (LeavesAll S) (LeavesAllOf h) given count T T (λ calls answers. LeavesAllOf-LeavesAll h legal S stands calls answers T) serves

@@ -1,9 +1,7 @@
 -- Connections that were answered, and what came and went on them.
 use Rattle.std.proofs.Common.{◌≡◌, ℕ, List, [], ◌∷◌, Option, Some, None, Err, inl, refl, subst, sym}
 use Rattle.std.specs.Prelude.{IfSome, unwrap_or}
-use Rattle.index_rules.specs.declared.answer.Answer.{Answer}
 use Rattle.index_rules.specs.declared.books.Books.{Ghosts}
-use Rattle.index_rules.specs.declared.call.Call.{Call}
 use Rattle.index_rules.specs.History.{History}
 use Rattle.index_rules.specs.Tables.{Tables}
 use Rattle.index_desk.specs.Rules.{Rules}
@@ -11,7 +9,7 @@ use Rattle.index_http.specs.declared.end.IoEnd.TheVariants.{OutOfMemory}
 use Rattle.index_cli.specs.Connections.{AreOn, Came, Closed, Exchange, IsRest, KnownList, Loses}
 use Rattle.index_http.specs.Steps.{at_desk}
 use Rattle.index_cli.specs.Steps.{on_connections}
-use Rattle.index_cli.specs.Serving.{AnswersMessage, AnswersNext, ServesCallsOn, ServesHistoryOn, ServesOn}
+use Rattle.index_cli.specs.Serving.{AnswersMessage, AnswersNext, ServesHistoryOn, ServesOn}
 
 -- ---- connections of one kind are of another
 
@@ -21,9 +19,6 @@ module _ (Are Are' : List Exchange → Type 0) (f : (exchanges : List Exchange) 
 
   pub history_are : (h : History) (given : Option ℕ) (count : ℕ) (T : Tables) → ServesHistoryOn Are h given count T → ServesHistoryOn Are' h given count T
   history_are h given count T it = record { later = it.later; serves = serves_are _ given count h it.later it.serves; legal = it.legal; stands = it.stands }
-
-  pub calls_are : (Left : List Call → List Answer → Tables → Type 0) (given : Option ℕ) (count : ℕ) (T : Tables) → ServesCallsOn Are Left given count T → ServesCallsOn Are' Left given count T
-  calls_are Left given count T it = record { exchanges = it.exchanges; are = f it.exchanges it.are; asked = it.asked; counted = it.counted; are_given = it.are_given }
 
 -- ---- connections so far
 

@@ -11,17 +11,20 @@ use Rattle.index_rules.specs.History.{History}
 use Rattle.index_rules.specs.Legal.{IsLegal}
 use Rattle.index_rules.specs.StandsFor.{StandsFor}
 use Rattle.index_rules.specs.Tables.{Tables}
+use Rattle.index_desk.specs.Crashes.{LeavesAll, LeavesAllOf}
 use Rattle.index_desk.specs.Invariants.{KeepsInvariants}
 use Rattle.index_desk.specs.Looks.{LeavesTables}
 use Rattle.index_desk.specs.Rules.{by_history, by_tables}
 use Rattle.index_desk.specs.Takes.{Takes}
+use Rattle.index_desk.proofs.CrashLemmas.{LeavesAllOf-LeavesAll}
 use Rattle.index_http.specs.Exchanges.{IsFaultless}
 use Rattle.index_http.specs.Steps.{StaysHonest, at_desk}
 use Rattle.index_http.proofs.Failures.{failure_map}
 use Rattle.index_http.proofs.Histories.{EndsAfter-Ends, faultless_after}
 use Rattle.index_cli.specs.Connections.{Exchange}
-use Rattle.index_cli.specs.ServesFront.{AcceptsNothing, AnswersFront, AnswersUpToFault, ServesFrontOn}
-use Rattle.index_cli.specs.Serving.{AnswersEach, AnswersMessage, AnswersOne, AsksOne, FailsOne, OneHistory}
+use Rattle.index_cli.specs.ServesFront.{AcceptsNothing, AnswersFront, AnswersUpToFault, LeavingOn, ServesFrontOn}
+use Rattle.index_cli.specs.Serving.{AnswersEach, AnswersMessage, AnswersOne, AsksEach, AsksOne, FailsOne, OneHistory}
+use Rattle.index_cli.proofs.Calls.{Taken, asks_each_map, asks_push, taken_call, taken_look, taken_none}
 use Rattle.index_cli.proofs.Choices.{AsksOne-choice}
 use Rattle.index_cli.proofs.Fronts.{NotAccepted}
 
@@ -53,12 +56,21 @@ module _ {S : Type 0} (g : Ghosts S) where
     pub are : Are exchanges
     pub told : g.IsHonest now → AnswersEach by_tables exchanges (g.tables first) (g.tables now)
     pub front : g.IsHonest now ⊎ AnswersUpToFault by_tables exchanges (g.tables first)
+    pub asked : AsksEach exchanges (Taken g first now)
     pub counted : length exchanges ≡ count
     pub are_given : AllByRecursion (λ exchange. IfSome given (λ it. exchange.at ≡ it)) exchanges
 
-  pub served_none : (Are : List Exchange → Type 0) → Are [] → (given : Option ℕ) (first : S) → g.IsHonest first → ServedSoFar Are given first first 0
-  served_none Are none given first honest =
-      record { exchanges = []; are = none; told = λ _. refl; front = inl honest; counted = refl; are_given = tt }
+  pub served_none : (Are : List Exchange → Type 0) → Are [] → (given : Option ℕ) (first : S) → g.IsHonest first → ((T : Tables) → g.may_leave first T → T ≡ g.tables first)
+      → ServedSoFar Are given first first 0
+  served_none Are none given first honest settled = record {
+    exchanges = [];
+    are = none;
+    told = λ _. refl;
+    front = inl honest;
+    asked = taken_none g first (λ _. settled);
+    counted = refl;
+    are_given = tt;
+  }
 
   -- one more connection, and a look after it, which is made only where a call failed meanwhile
   pub served_push : (Are Are' : List Exchange → Type 0) (exchange : Exchange) → ((earlier : List Exchange) → Are earlier → Are' (exchange ∷ earlier))
@@ -86,6 +98,10 @@ module _ {S : Type 0} (g : Ghosts S) where
             | inr none ↦ inr (inr (none, shut))
           ]
         ];
+        asked = asks_push exchange it.exchanges _ _ _ _
+            (λ calls answers taken look. taken_look g first mid new calls answers looked (taken_look g first now mid calls answers look taken))
+            (λ calls answers taken call answer took. taken_look g first mid new _ _ looked (taken_call g first now mid calls answers call answer took taken))
+            it.asked answers.asks;
         counted = omega (arith, it.counted);
         are_given = (is_given, it.are_given);
       }
@@ -103,6 +119,22 @@ module _ {S : Type 0} (g : Ghosts S) where
     counted = it.counted;
     are_given = it.are_given;
   }
+
+  -- these connections, of whose calls a crash leaves these tables
+  pub served_leaving : (Are Are' : List Exchange → Type 0) → ((exchanges : List Exchange) → Are exchanges → Are' exchanges)
+      → (given : Option ℕ) (first now : S) (count : ℕ) → g.IsHonest first → g.IsClean now → HasOneBearer (g.tables first) → (T : Tables) → g.may_leave now T
+      → ServedSoFar Are given first now count → ServesFrontOn (LeavingOn Are' (LeavesAll (g.tables first)) T) by_tables given count (g.tables first)
+  served_leaving Are Are' f given first now count honest clean one T left it =
+      record {
+        exchanges = it.exchanges;
+        are = (f it.exchanges it.are, asks_each_map it.exchanges _ _ (λ calls answers taken. taken.left honest clean one T left) it.asked);
+        answered = elim it.front [
+          | inl stays ↦ inl (g.tables now, it.told stays)
+          | inr shut ↦ inr shut
+        ];
+        counted = it.counted;
+        are_given = it.are_given;
+      }
 
 -- ---- by a history for which the tables stood
 
@@ -160,3 +192,13 @@ pub served_front_history : (h : History) → IsLegal h → (T : Tables) → Stan
     → ServesFrontOn Are by_tables given count T → ServesFrontOn Are by_history given count h
 served_front_history h legal T stands Are given count it =
     record { exchanges = it.exchanges; are = it.are; answered = front_history h legal T stands it.exchanges it.answered; counted = it.counted; are_given = it.are_given }
+
+pub served_leaving_history : (h : History) → IsLegal h → (S : Tables) → StandsFor S h → (Are : List Exchange → Type 0) (T : Tables) (given : Option ℕ) (count : ℕ)
+    → ServesFrontOn (LeavingOn Are (LeavesAll S) T) by_tables given count S → ServesFrontOn (LeavingOn Are (LeavesAllOf h) T) by_history given count h
+served_leaving_history h legal S stands Are T given count it = record {
+  exchanges = it.exchanges;
+  are = (it.are.0, asks_each_map it.exchanges _ _ (λ calls answers. LeavesAllOf-LeavesAll h legal S stands calls answers T) it.are.1);
+  answered = front_history h legal S stands it.exchanges it.answered;
+  counted = it.counted;
+  are_given = it.are_given;
+}

@@ -2,9 +2,12 @@
 use Rattle.std.specs.Prelude.{◌≡◌, ◌≢◌, ◌⊎◌, ℕ, List, [], ◌∷◌, length, Option, IfSome}
 use Rattle.std.specs.List.{AllByRecursion}
 use Rattle.index_rules.specs.declared.answer.Answer.TheVariants.{Accepted}
+use Rattle.index_rules.specs.declared.answer.Answer.{Answer}
+use Rattle.index_rules.specs.declared.call.Call.{Call}
+use Rattle.index_rules.specs.Tables.{Tables}
 use Rattle.index_desk.specs.Rules.{Rules}
 use Rattle.index_cli.specs.Connections.{Exchange}
-use Rattle.index_cli.specs.Serving.{AnswersEach, AsksOne, FailsOne}
+use Rattle.index_cli.specs.Serving.{AnswersEach, AsksEach, AsksOne, FailsOne}
 
 -- a connection of which no call was accepted
 abbrev pub AcceptsNothing : Exchange → Type 0
@@ -34,6 +37,8 @@ pub record ServesFrontOn {S : Type 0} (Are : List Exchange → Type 0) (rules : 
   pub counted : length exchanges ≡ count
   pub are_given : AllByRecursion (λ exchange. IfSome given (λ it. exchange.at ≡ it)) exchanges
 
--- the same of some connections
-abbrev pub ServesFront : {S : Type 0} → Rules S → Option ℕ → ℕ → S → Type 0
-ServesFront rules given count s = ServesFrontOn (λ exchanges. Unit {0}) rules given count s
+-- connections of this kind, whose calls and the answers to these may leave these tables
+abbrev pub LeavingOn : (List Exchange → Type 0) → (List Call → List Answer → Tables → Type 0)
+    → Tables → List Exchange → Type 0
+LeavingOn Are Left T' exchanges =
+    Are exchanges × AsksEach exchanges (λ calls answers. Left calls answers T')

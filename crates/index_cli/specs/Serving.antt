@@ -61,10 +61,6 @@ pub record ServesOn {S : Type 0} (Are : List Exchange → Type 0) (rules : Rules
   pub counted : length exchanges ≡ count
   pub are_given : AllByRecursion (λ exchange. IfSome given (λ it. exchange.at ≡ it)) exchanges
 
--- the same of some connections
-abbrev pub Serves : {S : Type 0} → Rules S → Option ℕ → ℕ → S → S → Type 0
-Serves rules given count s s' = ServesOn (λ exchanges. Unit {0}) rules given count s s'
-
 -- the tables stand for a legal history that comes of another by a connection
 pub record OneHistory (h : History) (exchange : Exchange) (T' : Tables) : Type 0 where
   pub later : History
@@ -79,10 +75,6 @@ pub record ServesHistoryOn (Are : List Exchange → Type 0) (h : History)
   pub serves : ServesOn Are by_history given count h later
   pub legal : IsLegal later
   pub stands : StandsFor T' later
-
--- the same of some connections
-abbrev pub ServesHistory : History → Option ℕ → ℕ → Tables → Type 0
-ServesHistory h given count T' = ServesHistoryOn (λ exchanges. Unit {0}) h given count T'
 
 -- what a connection asked of a desk: nothing but looks, or one call, to whose answer it got the
 -- reply
@@ -122,21 +114,6 @@ AsksEach [] Holds = Holds [] []
 AsksEach (exchange ∷ earlier) Holds =
     AsksEach earlier (λ calls answers. AsksOne exchange (Holds calls answers)
     (λ call answer. Holds (calls ++ call ∷ []) (answers ++ answer ∷ [])))
-
--- these tables may be left by the calls of so many connections of this kind and their answers
-pub record ServesCallsOn (Are : List Exchange → Type 0)
-    (Left : List Call → List Answer → Tables → Type 0)
-    (given : Option ℕ) (count : ℕ) (T' : Tables) : Type 0 where
-  pub exchanges : List Exchange
-  pub are : Are exchanges
-  pub asked : AsksEach exchanges (λ calls answers. Left calls answers T')
-  pub counted : length exchanges ≡ count
-  pub are_given : AllByRecursion (λ exchange. IfSome given (λ it. exchange.at ≡ it)) exchanges
-
--- the same of some connections
-abbrev pub ServesCalls : (List Call → List Answer → Tables → Type 0)
-    → Option ℕ → ℕ → Tables → Type 0
-ServesCalls Left given count T' = ServesCallsOn (λ exchanges. Unit {0}) Left given count T'
 
 -- all of so many, or fewer where the run ended early
 abbrev pub IsCount : ℕ → Result (Unit {0}) ServeEnd → ℕ → Type 0

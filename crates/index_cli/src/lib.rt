@@ -13,5 +13,5 @@ mod serve;
 pub use apply::apply_lines;
 pub use connections::{Connection, Connections};
 pub use end::{LineEnd, ServeEnd};
-pub use listening::{Listening, serve_connections};
+pub use listening::Listening;
 pub use serve::answer_connections;

@@ -1,20 +1,9 @@
 //! Connections from a listener.
-ghost use Rattle.std.specs.Prelude.{◌≡◌, ◌<◌, ⊤, true, ℕ, Err, None};
-ghost use Rattle.index_desk.specs.Crashes.{LeavesAll, LeavesAllOf};
-ghost use Rattle.index_desk.specs.Invariants.{KeepsInvariants};
-ghost use Rattle.index_desk.specs.Rules.{by_history, by_tables};
-ghost use Rattle.index_desk.specs.Takes.{ByHistory, ByTables, CrashByHistory, CrashByTables};
+ghost use Rattle.std.specs.Prelude.{◌≡◌, ⊤, true, None};
 ghost use Rattle.index_cli.specs.Connections.{AddsReply, unknown};
-ghost use Rattle.index_cli.specs.ServesFront.{ServesFront};
-ghost use Rattle.index_cli.specs.Serving.{IsCount, Serves, ServesCalls, ServesHistory};
-ghost use Rattle.index_cli.specs.TellsFront.{FrontByHistory, FrontByTables};
 
 use crate::connections::{Connection, Connections};
-use crate::end::ServeEnd;
-use crate::serve::answer_connections;
-use index_desk::{Desk, Keeper};
 use index_io::{Failed, Input, Output};
-use index_message::Site;
 use std::alloc::Global;
 use std::collections::VecDeque;
 use std::io::{BufWriter, Read, Write};
@@ -35,60 +24,6 @@ const ACCEPT_PAUSE: u64 = 10;
 /// The most connections that are accepted and wait: each takes a descriptor, and a process mostly
 /// has 1,024.
 const MOST_WAITING: usize = 512;
-
-/// Answers one message of each of so many connections of a listener, one connection after the
-/// other, as `answer_connections` does.
-///
-/// # Errors
-///
-/// Those of `answer_connections`. No connection can be accepted where that failed for a second.
-pub fn serve_connections<B: Keeper>(
-    rt: &HostRuntime,
-    listener: TcpListener,
-    requests: u32,
-    at: Option<u64>,
-    site: &Site,
-    desk: &mut Desk<B>,
-) -> Result<(), ServeEnd>
-    // By the tables: what was told of how many connections, and the tables after them.
-    ensures tables { ByTables B.Books desk.old desk.new (λ T T'. (count : ℕ)
-        × IsCount requests result count × Serves by_tables at count T T') }
-
-    // By a legal history for which the tables stood: the same, and they stand for the history with
-    // what was accepted.
-    ensures history { ByHistory B.Books desk.old desk.new (λ h T. (count : ℕ)
-        × IsCount requests result count × ServesHistory h at count T) }
-
-    // Also where a fault has shut the store: the same of the connections, or of those up to one that
-    // shows a failure, since which no call was accepted.
-    ensures told { FrontByTables B.Books desk.old desk.new (λ T. (count : ℕ)
-        × IsCount requests result count × ServesFront by_tables at count T) }
-
-    // By a legal history for which the tables stood: that too.
-    ensures told_history { FrontByHistory B.Books desk.old desk.new (λ h T. (count : ℕ)
-        × IsCount requests result count × ServesFront by_history at count h) }
-
-    // A crash leaves the tables after the accepted calls, or these with one call to which a fault
-    // was answered since the last of them; also where a fault has shut the store.
-    ensures crash { CrashByTables B.Books desk.old desk.new (λ T T'. (count : ℕ)
-        × IsCount requests result count × ServesCalls (LeavesAll T) at count T') }
-
-    // The former stand for the legal history with these calls, for which the tables stood without
-    // them.
-    ensures crash_history { CrashByHistory B.Books desk.old desk.new (λ h T. (count : ℕ)
-        × IsCount requests result count × ServesCalls (LeavesAllOf h) at count T) }
-
-    // However it ends: one user at most bears a digest, and accounts that add up keep adding up.
-    ensures keeps { KeepsInvariants B.Books desk.old desk.new }
-
-    // It ends by the clock only where no moment is given, and as `Store` only where the store
-    // answered a fault.
-    ensures clock { result ≡ Err ServeEnd.Clock → at ≡ None }
-    ensures store { result ≡ Err ServeEnd.Store → 0 < B.failures desk.new }
-{
-    let mut listening = Listening::new(rt.alloc(), listener);
-    answer_connections(rt, &mut listening, requests, at, site, desk)
-}
 
 /// The connections of a listener. Those that wait are accepted. Nothing is known of what clients
 /// send and are sent.

@@ -9,9 +9,9 @@ ghost use Rattle.index_desk.specs.Rules.{by_history, by_tables};
 ghost use Rattle.index_desk.specs.Takes.{ByHistory, ByTables, CrashByHistory, CrashByTables};
 ghost use Rattle.index_cli.specs.Connections.{AddsReply, AreOn, IsRest};
 ghost use Rattle.index_http.specs.Steps.{at_desk};
-ghost use Rattle.index_cli.specs.ServesFront.{ServesFrontOn};
+ghost use Rattle.index_cli.specs.ServesFront.{LeavingOn, ServesFrontOn};
 ghost use Rattle.index_cli.specs.Serving.{AnswersMessage, AnswersNext, IsCount};
-ghost use Rattle.index_cli.specs.Serving.{ServesCallsOn, ServesHistoryOn, ServesOn};
+ghost use Rattle.index_cli.specs.Serving.{ServesHistoryOn, ServesOn};
 ghost use Rattle.index_cli.specs.Steps.{on_connections};
 ghost use Rattle.index_cli.specs.TellsFront.{FrontByHistory, FrontByTables};
 
@@ -72,19 +72,20 @@ pub fn answer_connections<C: Connections, B: Keeper>(
         × ServesFrontOn (AreOn C.coming C.replies connections.old connections.new)
         by_history at count h) }
 
-    // A crash leaves the tables after the accepted calls, or these with one call to which a fault
-    // was answered since the last of them; also where a fault has shut the store.
+    // A crash leaves the tables after the accepted calls of connections that were answered so, or
+    // these with one call to which a fault was answered since the last of them; also if a fault has
+    // shut the store.
     ensures crash { CrashByTables B.Books desk.old desk.new (λ T T'. (count : ℕ)
         × IsCount requests result count
-        × ServesCallsOn (AreOn C.coming C.replies connections.old connections.new)
-        (LeavesAll T) at count T') }
+        × ServesFrontOn (LeavingOn (AreOn C.coming C.replies connections.old connections.new)
+        (LeavesAll T) T') by_tables at count T) }
 
     // The former stand for the legal history with these calls, for which the tables stood without
     // them.
     ensures crash_history { CrashByHistory B.Books desk.old desk.new (λ h T. (count : ℕ)
         × IsCount requests result count
-        × ServesCallsOn (AreOn C.coming C.replies connections.old connections.new)
-        (LeavesAllOf h) at count T) }
+        × ServesFrontOn (LeavingOn (AreOn C.coming C.replies connections.old connections.new)
+        (LeavesAllOf h) T) by_history at count h) }
 
     // However it ends: one user at most bears a digest, and accounts that add up keep adding up.
     ensures keeps { KeepsInvariants B.Books desk.old desk.new }

@@ -1,7 +1,7 @@
 //! Connections on loopback, each of which gets the reply to its message.
 use super::fakes::{BooksCall, FailingBooks};
 use super::{desk_with_users, new_books};
-use index_cli::{ServeEnd, serve_connections};
+use index_cli::{Listening, ServeEnd, answer_connections};
 use index_desk::{Desk, Keeper};
 use index_message::Site;
 use index_recent::Recent;
@@ -67,7 +67,8 @@ fn assert_served<B: Keeper + Drop>(
     let address = listener.local_addr().expect(rt, "its address");
     let ann = client(rt, address, CLAIM);
     let other = client(rt, address, LOOK);
-    let ended = serve_connections(host, listener, 2, Some(2), &site, &mut desk);
+    let mut coming = Listening::new(host.alloc(), listener);
+    let ended = answer_connections(host, &mut coming, 2, Some(2), &site, &mut desk);
     assert!(rt; ended == Ok(()));
     assert_replied(rt, ann, ACCEPTED);
     assert_replied(rt, other, FREE);
@@ -94,7 +95,8 @@ fn assert_ends<B: Keeper + Drop>(
     let address = listener.local_addr().expect(rt, "its address");
     let ann = client(rt, address, CLAIM);
     let other = client(rt, address, LOOK);
-    let ended = serve_connections(host, listener, 2, Some(2), &site, &mut desk);
+    let mut coming = Listening::new(host.alloc(), listener);
+    let ended = answer_connections(host, &mut coming, 2, Some(2), &site, &mut desk);
     assert!(rt; ended == wanted);
     assert_replied(rt, ann, STORE);
     drop(other);

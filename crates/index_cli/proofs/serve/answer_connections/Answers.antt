@@ -3,9 +3,8 @@ use Rattle.index_rules.proofs.StandsOn.{sound_when_legal}
 use Rattle.index_desk.proofs.InvariantLemmas.{keeps_on, looks_keep}
 use Rattle.index_cli.specs.declared.end.ServeEnd.{ServeEnd}
 use Rattle.index_cli.specs.Serving.{IsCount}
-use Rattle.index_cli.proofs.Crashes.{serves_crash, serves_crash_history, serves_look, serves_push}
-use Rattle.index_cli.proofs.Served.{are_on, are_push, calls_are}
-use Rattle.index_cli.proofs.ServedFronts.{served_front, served_front_history, served_push}
+use Rattle.index_cli.proofs.Served.{are_on, are_push}
+use Rattle.index_cli.proofs.ServedFronts.{served_front, served_front_history, served_leaving, served_leaving_history, served_push}
 use Rattle.index_cli.proofs.serve.answer_connections.Goals as goal
 
 -- a connection is answered, and then a look is made, which changes no table
@@ -48,9 +47,6 @@ loop-count-preserved g c =
       fronts = λ honest clean one.
           served_push B _ _ next.exchange more _ next.is_given _ _ _ _ _ invariant.keeps next.answers looked idle clean one
           (invariant.fronts honest (kept.clean (looked.clean clean)) one);
-      called =
-          serves_look B _ _ _ _ (B.tables c.answer_next.new.desk) _ _ _ looked
-          (serves_push B _ _ next.exchange more _ _ _ _ _ _ _ next.is_given next.answers.asks invariant.called);
       keeps = keeps_on _ _ _ _ invariant.keeps (keeps_on _ _ _ _ kept (looks_keep _ _ _ looked));
       shut = c.is_shut-was_shut.ensures.store;
     }
@@ -120,14 +116,14 @@ returns-then-was_shut-clause-crash g c = λ honest clean one T left.
     let less : c.loop-count.count < c.args.requests = search rules in (
       c.loop-count.count,
       less,
-      calls_are _ _ (are_on C.coming C.replies _ _ c.loop-count.connections (inl refl) refl) _ _ _ _
-          (serves_crash B _ _ honest clean one T left _ _ _ _ c.loop-count.invariant.called),
+      served_leaving B _ _ (are_on C.coming C.replies _ _ c.loop-count.connections (inl refl) refl) _ _ _ _ honest clean one T left
+          (c.loop-count.invariant.fronts honest clean one),
     )
 
 pub returns-then-was_shut-clause-crash_history : goal.returns-then-was_shut-clause-crash_history
 returns-then-was_shut-clause-crash_history g c = λ honest clean h legal stands T left.
     let it = returns-then-was_shut-clause-crash g c honest clean (sound_when_legal h legal _ stands).one_bearer T left in
-    (it.0, it.1, serves_crash_history h legal _ stands T _ _ _ it.2)
+    (it.0, it.1, served_leaving_history h legal _ stands _ T _ _ it.2)
 
 pub returns-in_err-answer_next-clause-crash : goal.returns-in_err-answer_next-clause-crash
 returns-in_err-answer_next-clause-crash g c = λ honest clean one T left.
@@ -140,14 +136,14 @@ returns-in_err-answer_next-clause-crash g c = λ honest clean one T left.
     let left_then = subst (λ desk. B.may_leave desk T) failed.unasked left in (
       c.loop-count.count,
       early _ _ _ _ is less,
-      calls_are _ _ (are_on C.coming C.replies _ _ c.answer_next.new.connections failed.rest failed.unsent) _ _ _ _
-          (serves_crash B _ _ honest clean_then one T left_then _ _ _ _ c.loop-count.invariant.called),
+      served_leaving B _ _ (are_on C.coming C.replies _ _ c.answer_next.new.connections failed.rest failed.unsent) _ _ _ _ honest clean_then one T left_then
+          (c.loop-count.invariant.fronts honest clean_then one),
     )
 
 pub returns-in_err-answer_next-clause-crash_history : goal.returns-in_err-answer_next-clause-crash_history
 returns-in_err-answer_next-clause-crash_history g c = λ honest clean h legal stands T left.
     let it = returns-in_err-answer_next-clause-crash g c honest clean (sound_when_legal h legal _ stands).one_bearer T left in
-    (it.0, it.1, serves_crash_history h legal _ stands T _ _ _ it.2)
+    (it.0, it.1, served_leaving_history h legal _ stands _ T _ _ it.2)
 
 pub returns-clause-crash : goal.returns-clause-crash
 returns-clause-crash g c = λ honest clean one T left.
@@ -156,11 +152,11 @@ returns-clause-crash g c = λ honest clean one T left.
     let all : c.loop-count.count ≡ c.args.requests = search rules in (
       c.loop-count.count,
       all,
-      calls_are _ _ (are_on C.coming C.replies _ _ c.loop-count.connections (inl refl) refl) _ _ _ _
-          (serves_crash B _ _ honest clean one T left _ _ _ _ c.loop-count.invariant.called),
+      served_leaving B _ _ (are_on C.coming C.replies _ _ c.loop-count.connections (inl refl) refl) _ _ _ _ honest clean one T left
+          (c.loop-count.invariant.fronts honest clean one),
     )
 
 pub returns-clause-crash_history : goal.returns-clause-crash_history
 returns-clause-crash_history g c = λ honest clean h legal stands T left.
     let it = returns-clause-crash g c honest clean (sound_when_legal h legal _ stands).one_bearer T left in
-    (it.0, it.1, serves_crash_history h legal _ stands T _ _ _ it.2)
+    (it.0, it.1, served_leaving_history h legal _ stands _ T _ _ it.2)

@@ -1,9 +1,13 @@
 use Rattle.std.proofs.Common.{Ok, Err}
-use Rattle.index.proofs.ServesLemmas.{among, none_answered, serves_done, serves_left, serves_told}
-use Rattle.index.proofs.job.ServingWork.run.Goals as goal
+use Rattle.index.proofs.ServesLemmas.{among, none_answered, none_left, serves_done, serves_left, serves_told}
+use Rattle.index.proofs.serving.ServingWork.run.Goals as goal
 
 pub returns-in-Err-clause-told : goal.returns-in-Err-clause-told
-returns-in-Err-clause-told g c = λ honest clean one. none_answered _ _ _ _ c.in-Err.ensures.kept _ _ _ _ c.in-Err.ensures.fault
+returns-in-Err-clause-told g c = λ honest clean one. none_answered _ _ _ _ (c.in-Err.ensures.awaited, c.in-Err.ensures.unsent) _ c.in-Err.ensures.fault _ _ _
+
+pub returns-in-Err-clause-crash : goal.returns-in-Err-clause-crash
+returns-in-Err-clause-crash g c = λ honest clean one T may.
+    none_left _ _ _ _ (c.in-Err.ensures.awaited, c.in-Err.ensures.unsent) _ c.in-Err.ensures.fault _ _ _ _ (g.met.B.Books.settled _ honest T may)
 
 pub returns-in-Ok-ended-clause-done : goal.returns-in-Ok-ended-clause-done
 returns-in-Ok-ended-clause-done g c = λ honest one.

@@ -1,0 +1,62 @@
+-- What no run may do: wrong outcomes do not meet the words of the contracts.
+use Rattle.std.proofs.Common.{◌≡◌, ◌⊎◌, ◌∙◌, ◌+◌, ℕ, suc, Result, Option, Some, None, Ok, refl, sym, ap, subst, inl, inr, List, [], ◌∷◌, length, arith}
+use Rattle.index_cli.specs.Connections.{Came, Exchange, KnownList, TakesFirst}
+use Rattle.sqlite.specs.Recovery.{Image}
+use Rattle.index_rules.specs.FirstTables.{first_tables}
+use Rattle.index_rules.specs.Maps.{Bytes}
+use Rattle.index_rules.specs.Tables.{Tables}
+use Rattle.index.specs.declared.end.End.{End}
+use Rattle.index.specs.Chains.{CreatedRun, CutRun, LeadsOn}
+use Rattle.index.specs.Runs.{Holds, HoldsNone}
+use Rattle.index.specs.Tasks.{AreAmong, Task}
+use Rattle.index.proofs.ThereLemmas.{current_is_there, not_found}
+
+-- trees of an index are no trees in which there is nothing of one
+pub index_is_not_none : (image : Image) (T : Tables) (holds : Holds image T) (none : HoldsNone image) → ¬ (none.db.trees ≡ holds.db.trees)
+index_is_not_none image T holds none same = not_found none holds.db T same holds.found
+
+-- a run that was cut short leaves no files with nothing of an index
+pub cut_run_leaves_an_index : (task : Task) (result : Result ℕ End) (start next : Image) → HoldsNone next → ¬ LeadsOn (CutRun task result) start next
+cut_run_leaves_an_index task result start next none leads = leads.there none
+
+-- nor does an init that ended well, which made its index where there was none
+pub created_run_leaves_an_index : (user token : Bytes) (start next : Image) → HoldsNone next → ¬ LeadsOn (CreatedRun user token) start next
+created_run_leaves_an_index user token start next none leads = current_is_there next (first_tables user token) leads.1 none
+
+pub created_run_found_none : (user token : Bytes) (start next : Image) → (¬ HoldsNone start) → ¬ LeadsOn (CreatedRun user token) start next
+created_run_found_none user token start next some leads = some leads.0
+
+-- a list with one input fewer for each connection that came
+came_fewer : (inputs : List (List ℕ)) (later : KnownList) (exchanges : List Exchange) → Came (Some inputs) later exchanges → (rest : List (List ℕ)) × (later ≡ Some rest) × (length inputs ≡ length rest + length exchanges)
+came_fewer inputs later [] it = (inputs, it, omega arith)
+came_fewer inputs later (exchange ∷ earlier) it =
+    let before = came_fewer inputs it.0 earlier it.1 in
+    let took = subst (λ known. TakesFirst known later exchange.given) before.1 it.2 in
+    (took.1, took.4, let same : length before.0 ≡ suc (length took.1) = ap length took.2 in omega (arith, same, before.2))
+
+-- a list of no length is empty
+no_length : (exchanges : List Exchange) → length exchanges ≡ 0 → exchanges ≡ []
+no_length [] is = refl
+no_length (exchange ∷ earlier) is = absurd (omega (arith, is))
+
+none_came : (inputs : List (List ℕ)) (r r' : KnownList) (exchanges : List Exchange) → AreAmong (Some inputs) (Some inputs) r r' exchanges → length exchanges ≡ 0
+none_came inputs r r' exchanges it =
+    let came = came_fewer inputs it.later exchanges it.came in
+    elim it.rest [
+      | inl now ↦
+          let both : Some inputs ≡ Some came.0 = now ∙ came.1 in
+          let same : inputs ≡ came.0 = cc in
+          let lengths : length inputs ≡ length came.0 = ap length same in
+          omega (arith, lengths, came.2)
+      | inr more ↦
+          let took = subst (λ known. TakesFirst known (Some inputs) more.0) came.1 more.1 in
+          let both : Some inputs ≡ Some took.1 = took.4 in
+          let same : inputs ≡ took.1 = cc in
+          let lengths : length inputs ≡ length took.1 = ap length same in
+          let one : length came.0 ≡ suc (length took.1) = ap length took.2 in
+          omega (arith, lengths, one, came.2)
+    ]
+
+-- of known connections that are as many after a run as before none was answered
+pub nobody_is_not_served : (inputs : List Bytes) (r r' : KnownList) (exchanges : List Exchange) → AreAmong (Some inputs) (Some inputs) r r' exchanges → exchanges ≡ []
+nobody_is_not_served inputs r r' exchanges it = no_length exchanges (none_came inputs r r' exchanges it)

@@ -1,0 +1,146 @@
+//! The work of `serve`: connections are answered, over sockets or whatever they come on.
+ghost use Rattle.std.specs.Prelude.{◌≡◌, ◌⊎◌, unwrap_or, IfErr, IfOk, OnErr};
+ghost use Rattle.index_cli.specs.Connections.{KnownList};
+
+use crate::database::Work;
+use crate::end::End;
+use index_cli::{Connections, Listening, answer_connections};
+use index_desk::{Desk, Keeper};
+use index_message::Site;
+use index_words::ServeWords;
+use std::io::{self, ErrorKind};
+use std::net::{SocketAddr, TcpListener};
+
+/// How many bytes of files and pages are kept at hand, if the command line does not say.
+const KEPT_BYTES: u64 = 268_435_456;
+
+/// The work that the words of `serve` ask for.
+pub fn serving_by<'a>(site: &'a Site, words: ServeWords<'a>) -> Serving<'a, Address<'a>>
+    ensures at { result.at ≡ words.entry.at }
+    ensures requests { result.requests ≡ words.entry.requests }
+    ensures kept { result.keep_recent ≡ unwrap_or words.entry.keep_recent KEPT_BYTES }
+{
+    Serving {
+        site,
+        from: Address {
+            address: words.listen,
+        },
+        requests: words.requests,
+        at: words.at,
+        keep_recent: bytes_kept(words.keep_recent),
+    }
+}
+
+/// How many bytes of files and pages are kept at hand, if so many were asked for, or none were.
+fn bytes_kept(asked: Option<u64>) -> usize
+    ensures { result ≡ unwrap_or asked KEPT_BYTES }
+{
+    asked.unwrap_or(KEPT_BYTES) as usize
+}
+
+/// What connections come on.
+pub trait Listens {
+    /// The connections that come.
+    type Coming: Connections + Drop;
+
+    /// What the clients send whose connections are to come, in order, if that is known.
+    ghost coming: { Self → KnownList };
+
+    /// What went out on the connections that were closed, in order, if that is known.
+    ghost replies: { Self → KnownList };
+
+    /// Listens, and prints where.
+    ///
+    /// `Listen` if it can't, and `WriteFault` if that was not printed.
+    fn listen(&mut self, rt: &HostRuntime) -> Result<Self::Coming, End>
+        ensures coming { IfOk result (λ it. Self.Coming.coming it ≡ coming self.old) }
+        ensures replies { IfOk result (λ it. Self.Coming.replies it ≡ replies self.old) }
+        ensures awaited { OnErr result (coming self.new ≡ coming self.old) }
+        ensures unsent { OnErr result (replies self.new ≡ replies self.old) }
+        ensures fault { IfErr result (λ e. (e ≡ End.Listen) ⊎ (e ≡ End.WriteFault)) };
+
+    /// Listens no longer. These connections are left.
+    fn end(&mut self, left: Self::Coming)
+        ensures coming { coming self.new ≡ Self.Coming.coming left }
+        ensures replies { replies self.new ≡ Self.Coming.replies left };
+}
+
+/// So many connections are answered that come on this.
+#[derive(Drop)]
+pub struct Serving<'a, L> {
+    site: &'a Site,
+    from: L,
+    requests: u32,
+    at: Option<u64>,
+    keep_recent: usize,
+}
+
+impl<L: Listens> Work for Serving<'_, L> {
+    ghost use Rattle.index.specs.Tasks.{AnswerConnections};
+
+    ghost task = { λ old new. AnswerConnections old.at old.requests
+        (L.coming old.from) (L.coming new.from) (L.replies old.from) (L.replies new.from) };
+
+    fn keep_recent(&self) -> usize
+        ensures { result ≡ self.now.keep_recent }
+    {
+        self.keep_recent
+    }
+
+    fn run<B: Keeper>(&mut self, rt: &HostRuntime, desk: &mut Desk<B>) -> Result<u64, End> {
+        let mut coming = match self.from.listen(rt) {
+            Ok(coming) => coming,
+            Err(fault) => return Err(fault),
+        };
+        let ended = answer_connections(rt, &mut coming, self.requests, self.at, self.site, desk);
+        self.from.end(coming);
+        match ended {
+            Ok(()) => Ok(0),
+            Err(early) => Err(End::Connections(early)),
+        }
+    }
+}
+
+/// Connections over sockets, at an address, which is printed.
+#[derive(Clone, Copy)]
+pub struct Address<'a> {
+    address: &'a str,
+}
+
+impl Listens for Address<'_> {
+    ghost use Rattle.index_cli.specs.Connections.{unknown};
+
+    type Coming = Listening;
+
+    ghost coming = { λ _. unknown };
+
+    ghost replies = { λ _. unknown };
+
+    fn listen(&mut self, rt: &HostRuntime) -> Result<Listening, End> {
+        let Ok(listener) = listen_at(rt, self.address) else {
+            return Err(End::Listen);
+        };
+        if tell_address(rt, &listener).is_err() {
+            return Err(End::WriteFault);
+        }
+        Ok(Listening::new(rt.alloc(), listener))
+    }
+
+    fn end(&mut self, left: Listening) {
+        drop(left);
+    }
+}
+
+/// Listens at an address and a port. Port 0 is any that is free.
+fn listen_at(rt: &HostRuntime, address: &str) -> io::Result<TcpListener> {
+    match address.parse::<SocketAddr>() {
+        Ok(address) => TcpListener::bind(rt, address),
+        Err(_) => Err(ErrorKind::InvalidInput.into()),
+    }
+}
+
+/// Prints where connections are awaited.
+fn tell_address(rt: &HostRuntime, listener: &TcpListener) -> io::Result<()> {
+    let address = listener.local_addr()?;
+    println!(rt; "listening on {address}")
+}
