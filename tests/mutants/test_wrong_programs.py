@@ -71,8 +71,9 @@ CAUGHT_BY = {
     "sizes_ten_times_as_much_is_kept_by_default":
         f"{CACHE}::test_what_is_kept_takes_as_much_memory_as_it_may_and_no_more[by-default]",
 }
-# what clauses of index_recent refuse: here they only try the tests
-REFUSED = ("sizes_first_file_alone_is_found_again", "sizes_json_page_is_never_found_again",
+# what clauses refuse by now: here they only try the tests
+REFUSED = ("program_check_prints_at_most_nine", "sizes_first_file_alone_is_found_again",
+           "sizes_json_page_is_never_found_again", "sizes_no_more_is_kept_than_by_default",
            "sizes_newest_file_goes_first", "sizes_root_page_is_never_found_again")
 # of a whole run, and of the tests of one program
 LONGEST, LONGEST_OF_TESTS = 3_600, 1_200
