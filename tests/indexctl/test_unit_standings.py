@@ -126,3 +126,12 @@ def test_several_indexes_behind_one_address_have_no_list():
     with pytest.raises(Stop, match="leads to several indexes") as end:
         standings.held_names(FakeIndex(as_reply(404, {"name": "NoIndexName"})))
     assert end.value.status == WRONG
+
+
+def test_no_more_than_eight_are_asked_at_once(monkeypatch):
+    made, thread = [], threading.Thread
+    monkeypatch.setattr(standings.threading, "Thread", lambda **given: made.append(given) or thread(**given))
+    assert standings.side_by_side(lambda it: it, list(range(20)), "x") == list(range(20))
+    assert len(made) == 8
+    standings.side_by_side(lambda it: it, [1, 2], "x")
+    assert len(made) == 10
