@@ -3,15 +3,14 @@ use Rattle.std.proofs.Common.{◌≡◌, ℕ, Bool, true, false, List, [], ◌�
 use Rattle.std.proofs.lemmas.Bool.{cases_lt}
 use Rattle.sqlite.specs.Recovery.{Image}
 use Rattle.index_cli.specs.Connections.{Exchange}
-use Rattle.index_cli.specs.declared.end.LineEnd.{LineEnd}
 use Rattle.index_cli.specs.Lines.{longest_line}
-use Rattle.index_cli.specs.Serving.{AnswersEach, AnswersOne}
+use Rattle.index_cli.specs.Serving.{AnswersEach}
 use Rattle.index_cli.specs.Telling.{TellsAsked, TellsLines}
 use Rattle.index_cli.specs.TellsCalls.{TellsCalls}
 use Rattle.index_cli.proofs.Choices.{Ends-choice, LeavingOn-choice, TellsCalls-choice}
 use Rattle.index_desk.specs.Rules.{by_history}
 use Rattle.index_http.specs.Ends.{Ends}
-use Rattle.index_http.specs.Exchanges.{Acts, Replies, RepliesTo, RepliesToInput}
+use Rattle.index_http.specs.Exchanges.{Acts, Replies, RepliesTo}
 use Rattle.index_http.specs.Replies.{Reply}
 use Rattle.index_http.specs.declared.end.IoEnd.{IoEnd}
 use Rattle.index_http.specs.declared.end.IoEnd.TheVariants as io

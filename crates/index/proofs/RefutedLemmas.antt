@@ -1,5 +1,5 @@
 -- What no run may do: wrong outcomes do not meet the words of the contracts.
-use Rattle.std.proofs.Common.{◌≡◌, ◌⊎◌, ◌∙◌, ◌+◌, ℕ, suc, Result, Option, Some, None, Ok, refl, sym, ap, subst, inl, inr, List, [], ◌∷◌, length, arith}
+use Rattle.std.proofs.Common.{◌≡◌, ◌∙◌, ◌+◌, ℕ, suc, Result, Some, refl, ap, subst, inl, inr, List, [], ◌∷◌, length, arith}
 use Rattle.index_cli.specs.Connections.{Came, Exchange, KnownList, TakesFirst}
 use Rattle.sqlite.specs.Recovery.{Image}
 use Rattle.index_rules.specs.FirstTables.{first_tables}

@@ -1,12 +1,12 @@
 -- An index that is there is seen: no database holds one and nothing of one, and what may be left of work is not all that there could be.
-use Rattle.std.proofs.Common.{◌≡◌, ◌⊎◌, ◌∙◌, ℕ, Bool, true, false, cond, ◌||◌, List, [], ◌∷◌, Option, Some, None, Result, refl, sym, ap, subst, inl, inr, is_some}
-use Rattle.std.specs.List.{AllZip, list_any}
+use Rattle.std.proofs.Common.{◌≡◌, ◌∙◌, ℕ, Bool, true, false, cond, ◌||◌, List, [], ◌∷◌, Option, Some, None, Result, refl, sym, ap, subst, inl, inr}
+use Rattle.std.specs.List.{AllZip}
 use Rattle.std.specs.FinMap.{get, insert, remove}
 use Rattle.std.proofs.Math.Logic.{∥∥₁_elim}
 use Rattle.std.proofs.lemmas.Bool.{false≢true, true≢false}
 use Rattle.sqlite.specs.declared.FileStore.{FileStore}
 use Rattle.sqlite.specs.Effect.{Database}
-use Rattle.sqlite.specs.Files.{HoldsDatabase, over_files}
+use Rattle.sqlite.specs.Files.{over_files}
 use Rattle.sqlite.specs.Recovery.{Image}
 use Rattle.sqlite.specs.Tree.{Trees}
 use Rattle.sqlite.proofs.Theorems.{opens_again}
@@ -19,8 +19,6 @@ use Rattle.sqlite_schema.specs.declared.schema.Table.{Table}
 use Rattle.sqlite_store.specs.FileStore as store
 use Rattle.sqlite_value.specs.Order.{Row}
 use Rattle.sqlite_value.specs.declared.value.Value.TheVariants.{Text}
-use Rattle.index_cli.specs.Ends.{EndsRun}
-use Rattle.index_cli.specs.declared.end.LineEnd.{LineEnd}
 use Rattle.index_cli.specs.TellsCalls.{TellsCalls}
 use Rattle.index_cli.proofs.Choices.{Ends-choice, LeavingOn-choice, TellsCalls-choice}
 use Rattle.index_desk.specs.Rules.{by_tables}
@@ -48,7 +46,7 @@ use Rattle.index_tables.specs.Adopted.{IsFound}
 use Rattle.index_tables.specs.BooksState.{AreCurrent}
 use Rattle.index.specs.declared.end.End.{End}
 use Rattle.index.specs.Openings.{OpensAgain}
-use Rattle.index.specs.Runs.{Holds, HoldsCurrent, HoldsNone, LeavesOnly}
+use Rattle.index.specs.Runs.{HoldsCurrent, HoldsNone, LeavesOnly}
 use Rattle.index.specs.Tasks.{AreAmong, Task, AnswerLines, AnswerConnections, WriteReport, CountWrong, MayLeaveBy}
 
 -- ---- a list of objects has one first table
