@@ -1,7 +1,10 @@
 -- What is read of a row.
-use Rattle.std.specs.Prelude.{◌≡◌, MatchOption, Option, Result, IfOk, IsOk, IsOkUnless}
+use Rattle.std.specs.Prelude.{◌≡◌, MatchOption, Option, Result, Err, IfOk, IsOk, IsOkUnless, IsSome}
 use Rattle.sqlite_value.specs.declared.value.Value.{Value}
 use Rattle.sqlite_value.specs.declared.value.Value.TheVariants.{Null, Text}
+use Rattle.index_names.specs.FileName.{read_file_name}
+use Rattle.index_names.specs.Project.{read_name}
+use Rattle.index_names.specs.Release.{read_release}
 use Rattle.index_rules.specs.declared.answer.Fault.{Fault}
 use Rattle.index_rules.specs.declared.answer.Fault.TheVariants.{OutOfMemory, Store}
 use Rattle.index_rules.specs.Maps.{Bytes}
@@ -30,6 +33,20 @@ pub record ReadsOwned {A : Type 0} (result : Result A Fault) (IsThere : Type 0)
   pub value : IfOk result MayBe
   pub complete : IsThere → IsOkUnless result OutOfMemory
 
--- the same of a text of this kind
-abbrev pub ReadsText : (Bytes → Type 0) → Value → Result Bytes Fault → Type 0
-ReadsText Is cell result = ReadsOwned result (IsTextOf Is cell) (λ it. cell ≡ Text it)
+-- the same of a text of this kind; memory is wanting only where the cell has a text of that kind,
+-- in any spelling
+pub record ReadsText (Is IsSpelled : Bytes → Type 0) (cell : Value)
+    (result : Result Bytes Fault) : Type 0 where
+  pub value : IfOk result (λ it. cell ≡ Text it)
+  pub complete : IsTextOf Is cell → IsOkUnless result OutOfMemory
+  pub memory : result ≡ Err OutOfMemory → IsTextOf IsSpelled cell
+
+-- these bytes spell a project name, a release or a file name
+abbrev pub SpellsName : Bytes → Type 0
+SpellsName bytes = IsSome (read_name bytes)
+
+abbrev pub SpellsRelease : Bytes → Type 0
+SpellsRelease bytes = IsSome (read_release bytes)
+
+abbrev pub SpellsFile : Bytes → Type 0
+SpellsFile bytes = IsSome (read_file_name bytes)

@@ -1,13 +1,13 @@
 //! Columns of a row, each read as a value of one type. Where a column holds no such value, that is `Fault::Store`.
-ghost use Rattle.std.specs.Prelude.{◌≡◌, ◌↔◌, pos, [], IsSome, IsTrue, IsUtf8, ⊤, if◌then◌else◌};
+ghost use Rattle.std.specs.Prelude.{◌≡◌, ◌↔◌, pos, [], IsTrue, IsUtf8, ⊤, if◌then◌else◌};
 ghost use Rattle.sqlite_value.specs.declared.value.Value.TheVariants.{Int as IntValue, Text as TextValue, Blob as BlobValue};
 ghost use Rattle.sqlite_value.specs.Order.{column};
-ghost use Rattle.index_names.specs.FileName.{read_file_name};
 ghost use Rattle.index_names.specs.Project.{IsNormalName};
 ghost use Rattle.index_names.specs.Release.{IsRelease};
 ghost use Rattle.index_rules.specs.Users.{IsUserId};
 ghost use Rattle.index_sql_schema.specs.RecordRows.{IsBlobOf, IsDigestBlob, IsFlag, IsNull, IsNumber, IsNumberIfAny, IsTextIfAny, IsTextOf};
 ghost use Rattle.index_sql_reads.specs.Reads.{IsNullOr, ReadsCell, ReadsRow, ReadsOwned, ReadsText};
+ghost use Rattle.index_sql_reads.specs.Reads.{SpellsFile, SpellsName, SpellsRelease};
 
 use index_digest::Digest256;
 use index_names::{FileName, NameFault, NormalName, Release, normal, release_key};
@@ -88,7 +88,7 @@ pub(crate) fn digest(row: &Row, at: usize) -> Result<Digest256, Fault>
 
 /// A text.
 pub(crate) fn text(alloc: Global, row: &Row, at: usize) -> Result<Text, Fault>
-    ensures { ReadsText IsUtf8 (column row.now at) result }
+    ensures { ReadsText IsUtf8 IsUtf8 (column row.now at) result }
 {
     match str::from_utf8(text_bytes(row, at)?) {
         Ok(text) => Ok(Text::new(String::from_str(alloc, text)?)),
@@ -109,7 +109,7 @@ pub(crate) fn text_if_any(alloc: Global, row: &Row, at: usize) -> Result<Option<
 /// A user id.
 #[tactic(auto, unfolding(index_rules::specs::Users::read_user))]
 pub(crate) fn user(alloc: Global, row: &Row, at: usize) -> Result<UserId, Fault>
-    ensures { ReadsText IsUserId (column row.now at) result }
+    ensures { ReadsText IsUserId IsUserId (column row.now at) result }
 {
     match UserId::read(alloc, text_bytes(row, at)?) {
         Ok(user) => Ok(user),
@@ -120,7 +120,7 @@ pub(crate) fn user(alloc: Global, row: &Row, at: usize) -> Result<UserId, Fault>
 
 /// A name in its normal form. In another spelling it is none.
 pub(crate) fn name(alloc: Global, row: &Row, at: usize) -> Result<NormalName, Fault>
-    ensures { ReadsText IsNormalName (column row.now at) result }
+    ensures { ReadsText IsNormalName SpellsName (column row.now at) result }
 {
     let bytes = text_bytes(row, at)?;
     match normal(alloc, bytes) {
@@ -132,7 +132,7 @@ pub(crate) fn name(alloc: Global, row: &Row, at: usize) -> Result<NormalName, Fa
 
 /// A release in lower case. In another spelling it is none.
 pub(crate) fn release(alloc: Global, row: &Row, at: usize) -> Result<Release, Fault>
-    ensures { ReadsText IsRelease (column row.now at) result }
+    ensures { ReadsText IsRelease SpellsRelease (column row.now at) result }
 {
     let bytes = text_bytes(row, at)?;
     match release_key(alloc, bytes) {
@@ -144,7 +144,7 @@ pub(crate) fn release(alloc: Global, row: &Row, at: usize) -> Result<Release, Fa
 
 /// The name of a wheel or a source archive.
 pub(crate) fn file_name(alloc: Global, row: &Row, at: usize) -> Result<FileName, Fault>
-    ensures { ReadsText (λ bytes. IsSome (read_file_name bytes)) (column row.now at) result }
+    ensures { ReadsText SpellsFile SpellsFile (column row.now at) result }
 {
     match FileName::read(alloc, text_bytes(row, at)?) {
         Ok(file) => Ok(file),
