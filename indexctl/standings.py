@@ -3,6 +3,7 @@ from __future__ import annotations
 
 import functools
 import queue
+import secrets
 import threading
 import urllib.parse
 from dataclasses import dataclass, field
@@ -98,9 +99,13 @@ def find_standing(index: Index, name: str) -> Standing:
     raise foreign(name, reply)
 
 
-def find_page(index: Index, path: str, rows: str, key: str) -> Optional[Dict[str, Any]]:
-    """A page, of which the list `rows` has a text at `key` in each row, or None if there is none."""
-    reply = index.ask(path, Request("GET", path, (("Accept", JSON_PAGE),)))
+def find_page(index: Index, path: str, rows: str, key: str, is_fresh: bool = False) -> Optional[Dict[str, Any]]:
+    """A page, of which the list `rows` has a text at `key` in each row, or None if there is none.
+
+    nginx keeps a page for a second or two, by its path and by Accept. A fresh page is asked for with a type more, which
+    nobody has and which is another each time, so that it comes from the index."""
+    more = f", application/x-fresh-{secrets.token_hex(8)}" if is_fresh else ""
+    reply = index.ask(path, Request("GET", path, (("Accept", f"{JSON_PAGE}{more}"),)))
     found = object_of(reply.body) or {}
     if reply.status == 404 and found.get("name") in ("NoProject", "NoIndexName"):
         return None
@@ -150,9 +155,9 @@ def side_by_side(function: Callable[[Item], Result], items: Sequence[Item], what
     return [found[at] for at in range(len(items))]
 
 
-def held_names(index: Index) -> List[Standing]:
+def held_names(index: Index, is_fresh: bool = False) -> List[Standing]:
     """The standing of each held name, in the order of the index's list. One that is given up meanwhile is left out."""
-    listed = find_page(index, "/simple/", "projects", "name")
+    listed = find_page(index, "/simple/", "projects", "name", is_fresh)
     if listed is None:
         raise Stop(WRONG, f"{index.setting.url} leads to several indexes, which have no list of names together. Name "
                           "each by an address of its own.")

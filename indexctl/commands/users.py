@@ -3,12 +3,13 @@ from __future__ import annotations
 
 import argparse
 import secrets
-from typing import Optional, Tuple
+from typing import List, Optional, Tuple
 
 from indexctl.changes import Desk, Row
 from indexctl.command_line import argument, command
 from indexctl.commands.arguments import TOKEN_DIGEST, USER, USERS, YES
 from indexctl.ends import REFUSED, UNREACHED, WRONG, Stop
+from indexctl.interrupts import told_if_interrupted
 from indexctl.names import DIGEST, check_users, sha256
 from indexctl.standings import Standing, held_names
 from indexctl.terminal import confirm
@@ -85,7 +86,7 @@ def user_leave(args: argparse.Namespace) -> int:
     for user in (args.user, args.to):
         if user and not desk.is_user(user):
             raise Stop(REFUSED, f"There is no user {user}. Is the id spelled right? Nothing was done.")
-    names = [it for it in held_names(desk.index) if args.user in it.owners]
+    names = names_of(desk, args.user)
     alone = [it.name for it in names if len(it.owners) == 1]
     if alone and not args.to:
         raise Stop(WRONG, f"{args.user} is the only owner of {', '.join(alone)}. Name another user by --to. Nothing "
@@ -93,11 +94,23 @@ def user_leave(args: argparse.Namespace) -> int:
     cases = [it.name for it in names if it.case]
     confirm(args, f"{args.user} will be locked, and taken off: {', '.join(it.name for it in names) or 'no name'}."
             + (f" The open cases of {', '.join(cases)} will end." if cases else ""))
-    token = secrets.token_hex(32)
-    if desk.change(f"user {args.user}: lock", do="set_token", user=args.user, token_sha256=sha256(token)):
-        for it in names:
-            pass_on(desk, it, args.user, args.to, token)
+    with told_if_interrupted(lambda: f"{args.user} may own names still. Run it again, to the end."):
+        lock_and_pass_on(desk, args.user, args.to)
     return desk.status()
+
+
+def names_of(desk: Desk, user: str) -> List[Standing]:
+    """The names that this user owns now, by a list that nobody has cached."""
+    return [it for it in held_names(desk.index, is_fresh=True) if user in it.owners]
+
+
+def lock_and_pass_on(desk: Desk, user: str, heir: Optional[str]) -> None:
+    """Locks the user, and takes the user off each name. The names are listed after the lock: before it the user, and
+    who has the user's token, may claim one more."""
+    token = secrets.token_hex(32)
+    if desk.change(f"user {user}: lock", do="set_token", user=user, token_sha256=sha256(token)):
+        for found in names_of(desk, user):
+            pass_on(desk, found, user, heir, token)
 
 
 def pass_on(desk: Desk, found: Standing, user: str, heir: Optional[str], token: str) -> None:

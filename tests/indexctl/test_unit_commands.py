@@ -3,6 +3,7 @@ from __future__ import annotations
 
 import importlib
 import json
+import signal
 
 import pytest
 from indexctl.command_line import parsers
@@ -56,8 +57,9 @@ class Run:
 
     def __init__(self, monkeypatch):
         self.desk, self.names, self.confirmed, self.monkeypatch = FakeDesk(), [], [], monkeypatch
+        self.lists = []
         self.put("Desk", lambda _: self.desk)
-        self.put("held_names", lambda _: self.names)
+        self.put("held_names", self.listed)
         self.put("find_standing", self.standing)
         self.put("find_files", lambda _, name: ([f"{name}-1.0.tar.gz"], ["1.0"]))
         self.put("confirm", lambda args, said: self.confirmed.append(said))
@@ -66,6 +68,11 @@ class Run:
         for it in MODULES:
             if hasattr(it, name):
                 self.monkeypatch.setattr(it, name, made)
+
+    def listed(self, _, is_fresh=False):
+        """The held names. `lists` has how each list was asked for: a fresh one, and behind how many changes."""
+        self.lists.append((is_fresh, len(self.desk.asked)))
+        return self.names
 
     def standing(self, _, name):
         return next((it for it in self.names if it.name == name), FREE)
@@ -193,6 +200,53 @@ def test_a_user_who_leaves_is_locked_and_taken_off_each_name(run):
                     {"do": "remove_owner", "name": "alone", "user": "ann", **by},
                     {"do": "remove_owner", "name": "shared", "user": "ann", **by}]
     assert run.confirmed == ["ann will be locked, and taken off: alone, shared. The open cases of shared will end."]
+
+
+def test_names_are_listed_again_after_the_lock_and_never_from_a_cache(run):
+    leaves(run)
+    run.asked("user", "leave", "ann", "--to", "bob")
+    assert run.lists == [(True, 0), (True, 1)]
+
+
+def test_a_name_that_was_claimed_until_the_lock_is_passed_on(run):
+    run.names = [held("early")]
+    change = run.desk.change
+
+    def claimed(what, *given, **row):
+        if row["do"] == "set_token":
+            run.names = [held("early"), held("late")]
+        return change(what, *given, **row)
+    run.desk.change = claimed
+    rows = run.asked("user", "leave", "ann", "--to", "bob")
+    assert [(row["do"], row["name"]) for row in rows[1:]] == [
+        ("add_owner", "early"), ("remove_owner", "early"), ("add_owner", "late"), ("remove_owner", "late")]
+
+
+@pytest.fixture(params=["SIGINT", "SIGHUP", "SIGTERM"])
+def end(request):
+    """A signal, of which the handler before a command fails a test instead of ending it."""
+    def unseen(*_):
+        raise AssertionError(f"nothing took {request.param}")
+    number = getattr(signal, request.param)
+    before = signal.signal(number, signal.default_int_handler if request.param == "SIGINT" else unseen)
+    yield number
+    signal.signal(number, before)
+
+
+def test_a_leave_that_is_interrupted_says_to_run_it_again(run, capsys, end):
+    leaves(run)
+    before, change = signal.getsignal(end), run.desk.change
+
+    def interrupted(what, *given, **row):
+        if row["do"] == "remove_owner":
+            signal.raise_signal(end)
+        return change(what, *given, **row)
+    run.desk.change = interrupted
+    with pytest.raises(KeyboardInterrupt):
+        run("user", "leave", "ann", "--to", "bob")
+    assert [row["do"] for row in run.desk.asked] == ["set_token", "add_owner"]
+    assert capsys.readouterr().err == "ann may own names still. Run it again, to the end.\n"
+    assert signal.getsignal(end) == before
 
 
 def test_a_name_whose_heir_is_refused_keeps_its_owner(run):

@@ -135,3 +135,13 @@ def test_no_more_than_eight_are_asked_at_once(monkeypatch):
     assert len(made) == 8
     standings.side_by_side(lambda it: it, [1, 2], "x")
     assert len(made) == 10
+
+
+def test_a_fresh_page_is_asked_for_as_nobody_asked_before():
+    listed = as_reply(200, {"projects": []})
+    index = FakeIndex(*3 * [listed])
+    for is_fresh in (True, True, False):
+        standings.find_page(index, "/simple/", "projects", "name", is_fresh)
+    first, second, kept = (dict(it.headers)["Accept"] for it in index.asked)
+    assert kept == standings.JSON_PAGE and len({first, second, kept}) == 3
+    assert first.startswith(f"{kept}, application/x-fresh-") and second.startswith(f"{kept}, application/x-fresh-")
