@@ -84,6 +84,23 @@ def filled(index):
     return index
 
 
+def test_copies_of_a_clock_that_was_ahead_take_none_away(filled, backup, backups):
+    """As after hourly backups in one night with a wrong clock: they are more than are kept."""
+    assert_ends(backup(filled.path), 0)
+    good, = os.listdir(backups)
+    ahead = [f"index-20360101T{hour:02}1500Z.db" for hour in range(3)]
+    for name in ahead:
+        shutil.copy(f"{backups}/{good}", f"{backups}/{name}")
+    # a name has seconds
+    os.rename(f"{backups}/{good}", f"{backups}/index-20260101T000000Z.db")
+    ended = backup(filled.path, "2")
+    assert_ends(ended, 1, "index-backup: ", f"{ahead[-1]} is of a later time", "the clock (timedatectl)")
+    left = set(os.listdir(backups))
+    assert left >= {*ahead, "index-20260101T000000Z.db"} and len(left) == 5, left
+    new, = left - {*ahead, "index-20260101T000000Z.db"}
+    assert len(files_of(f"{backups}/{new}")) == 10
+
+
 class TestNothingIsLeft:
     """Of a backup that failed."""
 

@@ -16,7 +16,8 @@ Refused = library_ends.Refused
 
 def test_copies_are_listed_oldest_first_and_nothing_else_is_a_copy(tmp_path):
     names = ["index-20260102T000000Z.db", "index-20251231T235959Z.db", "index-20260101T000000Z.db"]
-    for name in [*names, "other.db", "index-20260103T000000Z.db.part", "index.db-wal", "aindex-1.db"]:
+    others = ["other.db", "index-20260103T000000Z.db.part", "index.db-wal", "aindex-1.db", "index-mine.db"]
+    for name in [*names, *others]:
         (tmp_path / name).touch()
     assert [os.path.basename(it) for it in BACKUP.kept(str(tmp_path), ".db")] == sorted(names)
 
@@ -128,6 +129,28 @@ def test_the_oldest_copies_go_and_parts_of_a_run_that_was_killed(tmp_path, monke
         (tmp_path / "copies" / name).touch()
     backed(tmp_path, monkeypatch, keep)
     assert sorted(os.listdir(tmp_path / "copies")) == [*left, "index-20260102T030405Z.db"]
+
+
+@pytest.mark.parametrize("keep", [1, 2])
+def test_no_copy_is_removed_while_one_of_a_later_time_is_there(tmp_path, monkeypatch, keep):
+    os.mkdir(tmp_path / "copies")
+    before = ["index-20250101T000000Z.db", "index-20360101T031500Z.db", "index-20360102T031500Z.db"]
+    for name in before:
+        (tmp_path / "copies" / name).touch()
+    with pytest.raises(Refused) as refused:
+        backed(tmp_path, monkeypatch, keep)
+    made, last = "index-20260102T030405Z.db", before[-1]
+    assert f"{made} is kept, but {tmp_path}/copies/{last} is of a later time" in str(refused.value)
+    assert "the clock (timedatectl)" in str(refused.value)
+    assert sorted(os.listdir(tmp_path / "copies")) == sorted([*before, made])
+
+
+def test_a_file_that_a_person_named_is_no_copy_of_a_later_time_and_stays(tmp_path, monkeypatch):
+    os.mkdir(tmp_path / "copies")
+    (tmp_path / "copies" / "index-mine.db").touch()
+    (tmp_path / "copies" / "index-20250101T000000Z.db").touch()
+    backed(tmp_path, monkeypatch, 1)
+    assert sorted(os.listdir(tmp_path / "copies")) == ["index-20260102T030405Z.db", "index-mine.db"]
 
 
 def test_a_backup_that_fails_leaves_nothing_and_takes_no_old_copy_away(tmp_path, monkeypatch):
