@@ -94,6 +94,14 @@ def chance(request, pytestconfig):
     return random.Random(f"{pytestconfig.seed} {request.node.name}")
 
 
+@pytest.fixture(autouse=True)
+def usual_umask():
+    """A program whose `main` is called in a test may set another umask: the next test does not have it."""
+    before = os.umask(0o022)
+    yield
+    os.umask(before)
+
+
 @pytest.fixture
 def folder():
     """A folder for one test, in memory if there is a file system for that: a sync takes no time there."""

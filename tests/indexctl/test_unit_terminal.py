@@ -10,6 +10,7 @@ from indexctl import terminal
 from indexctl.ends import WRONG, Stop
 from indexctl.quotas import QuotaRow
 from support.indexctl.rows import args
+from support.unit import with_time
 
 
 class Tty(io.StringIO):
@@ -43,7 +44,7 @@ def test_what_is_printed_moves_no_cursor(text, shown):
 class Clock:
     def __init__(self, monkeypatch):
         self.now = 100.0
-        monkeypatch.setattr(terminal.time, "monotonic", lambda: self.now)
+        with_time(monkeypatch, terminal, monotonic=lambda: self.now)
 
 
 def test_progress_is_drawn_ten_times_a_second_and_cleared(monkeypatch):

@@ -9,6 +9,7 @@ from indexctl import transport
 from indexctl.ends import REFUSED, UNREACHED, WRONG, Stop
 from indexctl.transport import Index, NotSent, Request
 from support.indexctl.rows import SETTING, reply
+from support.unit import with_time
 
 OK, BUSY = reply(200, b"{}"), reply(503, b'{"name":"Unavailable"}')
 GET, POST = Request("GET", "/x"), Request("POST", "/x", (), lambda: [b""], 0)
@@ -21,7 +22,7 @@ class Trial:
         self.index, self.left, self.pauses = Index(SETTING, again), list(ends), []
         monkeypatch.setattr(self.index, "look", self.end)
         monkeypatch.setattr(self.index, "once", self.end)
-        monkeypatch.setattr(transport.time, "sleep", self.pauses.append)
+        with_time(monkeypatch, transport, sleep=self.pauses.append)
 
     def end(self, _):
         found = self.left.pop(0)

@@ -8,7 +8,7 @@ import pytest
 from support.library import ends as library_ends
 from support.places import TOP
 from support.programs import program_of
-from support.unit import calls, ends, raises
+from support.unit import calls, ends, raises, with_time
 
 BACKUP = program_of("index-backup")
 Refused = library_ends.Refused
@@ -47,7 +47,7 @@ class World:
                 made.write(data)
         states, self.pauses = iter(states), []
         monkeypatch.setattr(BACKUP, "state", lambda db: next(states) if db == self.db else None)
-        monkeypatch.setattr(BACKUP.time, "sleep", self.pauses.append)
+        with_time(monkeypatch, BACKUP, sleep=self.pauses.append)
 
 
 def test_a_copy_is_of_one_moment(tmp_path, monkeypatch):

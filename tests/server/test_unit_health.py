@@ -8,7 +8,7 @@ from contextlib import contextmanager
 
 import pytest
 from support.programs import program_of
-from support.unit import calls, ends, raises
+from support.unit import calls, ends, raises, with_time
 
 HEALTH, UNCACHE = program_of("index-health"), program_of("index-uncache")
 WELL, ABSENT = HEALTH.Look(HEALTH.WELL), HEALTH.Look(HEALTH.ABSENT, "nobody listens")
@@ -58,8 +58,8 @@ class Clock:
 
     def __init__(self, monkeypatch, *looks):
         self.now, self.left, self.slept = 100.0, list(looks), []
-        monkeypatch.setattr(HEALTH.time, "monotonic", lambda: self.now)
-        monkeypatch.setattr(HEALTH.time, "sleep", self.sleep)
+        with_time(monkeypatch, HEALTH, monotonic=lambda: self.now)
+        with_time(monkeypatch, HEALTH, sleep=self.sleep)
         self.asked = calls(monkeypatch, HEALTH, "look", lambda *_: self.left.pop(0))
 
     def sleep(self, seconds):

@@ -13,7 +13,7 @@ import types
 import pytest
 from support.clients.forms import BOUNDARY, END, field, form, message
 from support.programs import program_of
-from support.unit import calls, ends, raises
+from support.unit import calls, ends, raises, with_time
 
 LEGACY = program_of("index-legacy-upload")
 WHEEL, DATA = "frob-1.0-py3-none-any.whl", b"data"
@@ -217,8 +217,8 @@ class Clock:
 
     def __init__(self, monkeypatch, *answers):
         self.now, self.left, self.slept, self.patience = 0.0, list(answers), [], []
-        monkeypatch.setattr(LEGACY.time, "monotonic", lambda: self.now)
-        monkeypatch.setattr(LEGACY.time, "sleep", self.sleep)
+        with_time(monkeypatch, LEGACY, monotonic=lambda: self.now)
+        with_time(monkeypatch, LEGACY, sleep=self.sleep)
         monkeypatch.setattr(LEGACY, "asked", self.asked)
 
     def sleep(self, seconds):

@@ -7,7 +7,7 @@ import types
 
 import pytest
 from support.programs import program_of
-from support.unit import calls, ends
+from support.unit import calls, ends, with_time
 
 METRICS = program_of("index-metrics")
 
@@ -80,7 +80,7 @@ def test_whether_an_index_answers_and_how_long_that_took(monkeypatch):
         serving.shutdown()
     assert ups == [1, 0, 0, 0] and told(METRICS.looks(url))["index_up"] == 0
     moments = iter([100.0, 100.123456])
-    monkeypatch.setattr(METRICS.time, "monotonic", lambda: next(moments))
+    with_time(monkeypatch, METRICS, monotonic=lambda: next(moments))
     assert told(METRICS.looks("http://127.0.0.1:9"))["index_look_seconds"] == 0.1235
 
 
@@ -90,7 +90,7 @@ def test_whether_an_index_answers_and_how_long_that_took(monkeypatch):
     (0, 29.5, None, None), (0, 30, None, None), (0, 30.5, None, (0, 30.5)), (0, None, None, None)])
 def test_the_last_look_of_a_check_of_health(monkeypatch, status, begun, ended, found):
     now = 5_000.0
-    monkeypatch.setattr(METRICS.time, "clock_gettime", lambda clock: {METRICS.time.CLOCK_MONOTONIC: now}[clock])
+    with_time(monkeypatch, METRICS, clock_gettime=lambda clock: {METRICS.time.CLOCK_MONOTONIC: now}[clock])
     lines = {"Status": status, **{f"{name}TimestampMonotonic": 0 if at is None else int(1e6 * (now - at))
                                   for name, at in (("Start", begun), ("Exit", ended))}}
     text = "".join(f"ExecMain{name}={value}\n" for name, value in lines.items())
@@ -153,7 +153,7 @@ def test_what_is_asked_by_the_words(tmp_path, monkeypatch, capsys):
     seen = {}
     for name in ("files", "rooms", "last_look", "looks", "restarts", "certificate"):
         monkeypatch.setattr(METRICS, name, lambda *words, name=name: seen.__setitem__(name, words) or [])
-    monkeypatch.setattr(METRICS.time, "time", lambda: 1234.9)
+    with_time(monkeypatch, METRICS, time=lambda: 1234.9)
     monkeypatch.chdir(tmp_path)
     assert ends(METRICS, monkeypatch, capsys, "x.db", "copies") == (0, 'index_written_seconds{port="8080"} 1234\n', "")
     assert seen == {"files": (f"{tmp_path}/x.db", "copies"), "looks": ("http://127.0.0.1:8080",),

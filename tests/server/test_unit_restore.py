@@ -13,7 +13,7 @@ import types
 import pytest
 from support.library import ends as library_ends
 from support.programs import program_of
-from support.unit import calls, ends, raises
+from support.unit import calls, ends, raises, with_time
 
 RESTORE = program_of("index-restore")
 Refused = library_ends.Refused
@@ -223,6 +223,7 @@ def server(*statuses):
 
 
 def test_the_first_answer_is_waited_for(monkeypatch):
+    with_time(monkeypatch, RESTORE)
     slept = calls(monkeypatch, RESTORE.time, "sleep")
     with server(500, 503, 200) as (url, asked):
         assert RESTORE.first_answer(url, 0) == '{"state":"free"}'
@@ -232,8 +233,8 @@ def test_the_first_answer_is_waited_for(monkeypatch):
 @pytest.mark.parametrize("length, patience", [(0, 60), ((1 << 30) - 1, 60), (1 << 30, 90), (5 << 30, 210)])
 def test_a_large_database_has_longer_for_its_first_answer(monkeypatch, length, patience):
     now = [1000.0]
-    monkeypatch.setattr(RESTORE.time, "monotonic", lambda: now[0])
-    monkeypatch.setattr(RESTORE.time, "sleep", lambda seconds: now.__setitem__(0, now[0] + 10))
+    with_time(monkeypatch, RESTORE, monotonic=lambda: now[0])
+    with_time(monkeypatch, RESTORE, sleep=lambda seconds: now.__setitem__(0, now[0] + 10))
     given = []
 
     class Refuses:

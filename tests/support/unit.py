@@ -1,5 +1,6 @@
 """What tests of functions share: a program's `main` with these words, and what it said."""
 import sys
+import types
 
 
 def ends(module, monkeypatch, capsys, *words):
@@ -26,6 +27,11 @@ def calls(monkeypatch, module, name, gives=None):
 
     monkeypatch.setattr(module, name, call)
     return seen
+
+
+def with_time(monkeypatch, module, **functions):
+    """Gives a module a `time` of its own with these functions. Threads of other tests go on by the real one."""
+    monkeypatch.setattr(module, "time", types.SimpleNamespace(**{**vars(module.time), **functions}))
 
 
 def raises(end):
