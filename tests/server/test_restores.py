@@ -119,6 +119,36 @@ def test_a_complete_copy_forgets_nothing_so_pypi_stays_on(by, looked):
     assert_reply(by.front.ask("GET", "/simple/other/"), 200, None, b"a stranger's")
 
 
+class TestAComplete:
+    """A copy with which nothing is forgotten has to be younger than the database."""
+
+    @pytest.fixture
+    def complete(self, by):
+        """A copy that has all, made while the index was away."""
+        with by.index.away():
+            for end in ("", "-wal"):
+                shutil.copy(by.index.path + end, f"{by.work}/complete.db{end}")
+        return f"{by.work}/complete.db"
+
+    def test_is_refused_once_the_index_took_an_upload_after_it(self, by, complete):
+        by.upload("frob-3.0.tar.gz", b"later", by.after)
+        assert_ends(by.run(complete, "--complete"), 1, f"{by.index.path}-wal was written after {complete}",
+                    "make the copy again")
+        assert_as_before(by)
+
+    def test_is_refused_if_the_index_took_an_upload_before_it_was_stopped(self, by, complete):
+        stop = by.manager.do
+
+        def uploads_first(asked):
+            if asked == "stop+index.service":
+                by.upload("frob-3.0.tar.gz", b"later", by.after)
+            stop(asked)
+
+        by.manager.do = uploads_first
+        assert_ends(by.run(complete, "--complete"), 1, "make the copy again")
+        assert_as_before(by, ["stop index.service", "start index.service"])
+
+
 def logged(at, body):
     """A line of nginx's log of changes, with the moment of a datetime, or without one."""
     moment = {} if at is None else {"at": at.isoformat(timespec="seconds")}

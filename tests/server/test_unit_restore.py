@@ -64,6 +64,24 @@ def test_what_is_no_copy_is_refused(copies):
     RESTORE.look_at_copy(str(copy), str(copies / "index.db"), False)
 
 
+@pytest.mark.parametrize("end", ["", "-wal"])
+def test_a_complete_copy_is_not_older_than_the_database_or_its_log(tmp_path, end):
+    copy, db = tmp_path / "copy.db", str(tmp_path / "index.db")
+    for path in (copy, db, f"{db}-wal"):
+        with open(path, "w"):
+            os.utime(path, ns=(1000, 1000))
+    RESTORE.want_complete(str(copy), db)
+    os.utime(db + end, ns=(1001, 1001))
+    with pytest.raises(Refused) as refused:
+        RESTORE.want_complete(str(copy), db)
+    assert str(refused.value).startswith(f"{db}{end} was written after {copy}, and --complete would lose")
+    # an index without a log, and none at all
+    for gone in (f"{db}-wal", db):
+        os.utime(db, ns=(1000, 1000))
+        os.remove(gone)
+        RESTORE.want_complete(str(copy), db)
+
+
 @pytest.mark.parametrize("ends_there", [("",), ("", "-wal"), ("", "-wal", "-shm", "-journal")])
 def test_a_copy_is_put_beside_with_its_log_and_tested_before_it_is_given_away(tmp_path, monkeypatch, ends_there):
     for end in ends_there:
