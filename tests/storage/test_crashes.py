@@ -24,7 +24,7 @@ MOST_SPOILT, TRIALS = 250, 3
 
 
 # a program that is not proved takes ten times as long for the large file of `serve`
-pytestmark = pytest.mark.timeout(1_200)
+pytestmark = [pytest.mark.slow, pytest.mark.timeout(1_200)]
 
 
 @pytest.fixture(scope="module")

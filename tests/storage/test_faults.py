@@ -26,7 +26,7 @@ OF_INIT, OF_MIGRATION, OF_APPLY, OF_LATE_READS, OF_STREAMS, OF_SERVE = 0.1, 0.1,
 
 
 # a program that is not proved takes ten times as long for the many files that are read late
-pytestmark = pytest.mark.timeout(1_200)
+pytestmark = [pytest.mark.slow, pytest.mark.timeout(1_200)]
 
 
 @pytest.fixture(scope="module")
