@@ -1,6 +1,7 @@
 """index-backup: copies under uploads, copies for which there is no room, and copies that are not well."""
 import os
 import shutil
+import signal
 import sqlite3
 import threading
 import time
@@ -13,6 +14,7 @@ from support.server.expected import assert_ends
 from support.server.front import replaced
 from support.server.kept import Uploader
 from support.server.manager import Manager
+from support.server.stand_ins import called, stand_ins
 from support.serving import Index, accepted, make_index
 
 BACKUPS = 3
@@ -138,8 +140,35 @@ class TestNothingIsLeft:
         assert [it for it in os.listdir(backups) if it.endswith(".db")] == []
 
 
+# A database changes at each copy until its unit is stopped. At one moment all of the group get a signal, as by Ctrl-C.
+# (a shell forgets which signals are blocked once it runs another command)
+SYSTEMCTL = """[ "$1" = "$MOMENT" ] && kill -s "$SIGNAL" 0
+: > "$STOPPED"
+echo "ended $*" >> "${0%/*}/called"
+"""
+COPY = """/bin/cp "$@" || exit
+[ -e "$STOPPED" ] || exec touch "$2"
+[ "$MOMENT" = cp ] && kill -s "$SIGNAL" 0
+"""
+
+
 class TestAnIndexThatNeverPauses:
     """It is stopped for a copy if a unit is named, and only then."""
+
+    @pytest.fixture
+    def hurried(self, folder):
+        """An index-backup with fewer trials."""
+        shutil.copytree(SERVER, f"{folder}/server")
+        with open(f"{BIN}/index-backup") as text, open(f"{folder}/server/bin/index-backup", "w") as script:
+            script.write(replaced(text.read(), **{"TRIALS = 20\n": "TRIALS = 2\n"}))
+        return script.name
+
+    @pytest.fixture
+    def changing(self, program, folder):
+        """A database without a log."""
+        db = make_index(program, f"{folder}/changing.db")
+        os.remove(f"{db}-wal")
+        return db
 
     @pytest.fixture
     def manager(self, folder):
@@ -147,27 +176,21 @@ class TestAnIndexThatNeverPauses:
             yield made
 
     @pytest.fixture
-    def run(self, program, folder, backups, manager):
-        """Runs index-backup, with fewer trials, of a database that changes until its unit is stopped."""
-        db = make_index(program, f"{folder}/changing.db")
-        os.remove(f"{db}-wal")
-        shutil.copytree(SERVER, f"{folder}/server")
-        hurried = f"{folder}/server/bin/index-backup"
-        with open(f"{BIN}/index-backup") as text, open(hurried, "w") as script:
-            script.write(replaced(text.read(), **{"TRIALS = 20\n": "TRIALS = 2\n"}))
+    def run(self, program, changing, hurried, backups, manager):
+        """Runs index-backup of a database that changes until its unit is stopped."""
         is_over = threading.Event()
 
         def change():
             while not manager.asked and not is_over.is_set():
-                os.utime(db)
+                os.utime(changing)
                 time.sleep(0.001)
 
-        changing = threading.Thread(target=change, daemon=True)
-        changing.start()
+        changes = threading.Thread(target=change, daemon=True)
+        changes.start()
         setting = {"PATH": f"{manager.folder}:{os.environ['PATH']}", "INDEX": program}
-        yield lambda *words: run_command([hurried, db, backups, *words], **setting)
+        yield lambda *words: run_command([hurried, changing, backups, *words], **setting)
         is_over.set()
-        changing.join()
+        changes.join()
 
     def test_without_a_unit_there_is_no_copy(self, run, manager):
         assert_ends(run(), 1, "2 trials", "--unit")
@@ -176,3 +199,14 @@ class TestAnIndexThatNeverPauses:
     def test_with_a_unit_it_is_stopped_and_started(self, run, manager):
         assert_ends(run("--unit", "one.service"), 0, "at trial 1")
         assert manager.asked == ["stop one.service", "start one.service"]
+
+    @pytest.mark.parametrize("number", ["HUP", "INT", "TERM"])
+    @pytest.mark.parametrize("moment", ["stop", "cp", "start"])
+    def test_interrupted_at_any_moment_it_starts_the_unit_again(
+            self, program, changing, hurried, backups, folder, moment, number):
+        setting = {"PATH": stand_ins(f"{folder}/bin", systemctl=SYSTEMCTL, cp=COPY), "STOPPED": f"{folder}/stopped",
+                   "MOMENT": moment, "SIGNAL": number, "INDEX": program}
+        ended = run_command(["setsid", hurried, changing, backups, "--unit", "one.service"], **setting)
+        assert (ended.returncode, ended.stdout) == (-signal.Signals[f"SIG{number}"], "index-backup: stopped\n")
+        assert called(f"{folder}/bin").splitlines()[-1] == "ended start one.service", called(f"{folder}/bin")
+        assert os.listdir(backups) == []

@@ -185,6 +185,38 @@ def test_a_program_that_is_interrupted_tidies_up_and_dies_of_the_signal(number):
     assert (running.returncode, out, err) == (-number, "tidied\n", "it: stopped\n")
 
 
+@pytest.mark.parametrize("number", [signal.SIGHUP, signal.SIGINT, signal.SIGTERM])
+def test_a_second_signal_does_not_interrupt_what_tidies_up(number):
+    main = ("import os, time\ndef main():\n    try:\n        os.kill(os.getpid(), 15)\n    finally:\n"
+            f"        os.kill(os.getpid(), {int(number)})\n        print('tidied', flush=True)\n")
+    running = program(main, "import signal\nfor it in (1, 2, 15): signal.signal(it, signal.SIG_DFL)")
+    out, err = running.communicate(timeout=60)
+    assert (running.returncode, out, err) == (-signal.SIGTERM, "tidied\n", "it: stopped\n")
+
+
+HELD = """import os, subprocess
+def main():
+    try:
+        with held():
+            os.kill(os.getpid(), 15)
+            subprocess.run(["sh", "-c", "kill -s TERM $$; echo goes on"])
+            print("held", flush=True)
+            with let_in():
+                print("comes too late", flush=True)
+    finally:
+        print("tidied", flush=True)
+"""
+
+
+@pytest.mark.parametrize("text, out", [
+    (HELD, "goes on\nheld\ntidied\n"),
+    (HELD.replace("with let_in()", "if True"), "goes on\nheld\ncomes too late\ntidied\n")])
+def test_a_signal_is_held_until_it_may_come_and_commands_do_not_see_it(text, out):
+    running = program(text, "import signal\nfor it in (1, 2, 15): signal.signal(it, signal.SIG_DFL)")
+    said = running.communicate(timeout=60)
+    assert (running.returncode, *said) == (-signal.SIGTERM, out, "it: stopped\n")
+
+
 def test_a_signal_that_is_ignored_stays_so():
     main = ("import os, time\ndef main():\n    os.kill(os.getpid(), 1)\n    return 7\n")
     running = program(main, "import signal\nsignal.signal(signal.SIGHUP, signal.SIG_IGN)")

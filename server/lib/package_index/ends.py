@@ -4,8 +4,9 @@ from __future__ import annotations
 import os
 import signal
 import sys
+from contextlib import contextmanager
 from types import FrameType
-from typing import Callable, Optional
+from typing import Callable, Iterator, Optional
 
 SIGNALS = signal.SIGHUP, signal.SIGINT, signal.SIGTERM
 
@@ -15,7 +16,7 @@ class Refused(Exception):
 
 
 class Interrupted(BaseException):
-    """A signal came that ends the program. What stands in `finally` is still done."""
+    """A signal came that ends the program. What stands in `finally` is still done, and no other signal ends that."""
 
     def __init__(self, number: int) -> None:
         super().__init__(number)
@@ -23,7 +24,29 @@ class Interrupted(BaseException):
 
 
 def interrupt(number: int, _: Optional[FrameType]) -> None:
+    for each in SIGNALS:
+        signal.signal(each, signal.SIG_IGN)
     raise Interrupted(number)
+
+
+@contextmanager
+def held() -> Iterator[None]:
+    """A signal that comes meanwhile interrupts the program only afterwards. Commands that are run don't see it."""
+    before = signal.pthread_sigmask(signal.SIG_BLOCK, SIGNALS)
+    try:
+        yield
+    finally:
+        signal.pthread_sigmask(signal.SIG_SETMASK, before)
+
+
+@contextmanager
+def let_in() -> Iterator[None]:
+    """A part of what is done while signals are held, in which they interrupt at once."""
+    try:
+        signal.pthread_sigmask(signal.SIG_UNBLOCK, SIGNALS)
+        yield
+    finally:
+        signal.pthread_sigmask(signal.SIG_BLOCK, SIGNALS)
 
 
 def say(name: str, text: object) -> None:
