@@ -9,7 +9,8 @@ import signal
 import sys
 
 import pytest
-from support.running import kill_after
+from support.places import BIN
+from support.running import kill_after, run_command
 from support.server.expected import assert_ends, assert_reply
 from support.server.restores import KILLED, KILLS, names_of, restores
 from support.serving import make_index
@@ -55,6 +56,8 @@ WRONG_COPIES = {
     "a_text": (text, "not a database"),
     "a_copy_for_which_there_is_no_room": (large, "has room for"),
     "an_older_copy": (lambda by: shutil.copy(by.copy, f"{by.backups}/index-20200101T000000Z.db"), "is newer"),
+    "a_copy_of_a_later_time_than_now": (lambda by: shutil.copy(by.copy, f"{by.backups}/index-21000101T000000Z.db"),
+                                        "look at the clock"),
     "the_database_itself": (lambda by: by.index.path, "the database itself"),
     "no_path": (lambda by: "", "give the path"),
 }
@@ -106,6 +109,15 @@ def test_killed_before_each_move_the_old_database_is_whole_or_the_copy_is_in_its
         names = {it: names_of(it, by.work) for it in (f"{at}/index.db", *glob.glob(f"{at}/*/index.db"))}
         looked(["killed"] in names.values(), number, names)
         looked(names[f"{at}/index.db"] in (None, ["killed"], ["frob"]), number, names)
+
+
+def test_of_an_index_that_a_killed_restore_left_off_the_check_of_health_tells(by):
+    """It goes on, and what is stopped it leaves so."""
+    ended = by.run(by.copy, front=[sys.executable, "-c", KILLED, "2"], unit=None)
+    assert (ended.returncode, by.manager.asked[0]) == (-signal.SIGKILL, "stop index.service"), ended.stdout
+    assert not any("index-health" in it for it in by.manager.asked)
+    ended = run_command([f"{BIN}/index-health", "--patience", "0.5", f"http://127.0.0.1:{by.index.port}"])
+    assert_ends(ended, 3)
 
 
 def test_a_complete_copy_forgets_nothing_so_pypi_stays_on(by, looked):
@@ -173,6 +185,10 @@ class TestDone:
         assert_reply(by.front.ask("GET", "/simple/other/"), 200, None, b"a stranger's")
         assert_ends(by.run(by.copy), 0, "PyPI was taken off")
         assert_reply(by.front.ask("GET", "/simple/later/"), 404)
+
+    def test_a_copy_of_a_later_time_than_now_is_not_the_last(self, by):
+        shutil.copy(by.copy, f"{by.backups}/index-21000101T000000Z.db")
+        assert_ends(by.run(by.copy), 0, "the index answers")
 
     def test_what_was_there_before_can_be_had_back(self, by):
         assert_ends(by.run(by.copy), 0)

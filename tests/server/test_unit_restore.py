@@ -42,6 +42,27 @@ def test_a_newer_copy_is_told_and_the_newest_is_taken(copies):
     RESTORE.look_at_copy(str(new), none, False)
 
 
+def test_a_copy_of_a_later_time_than_now_is_refused_and_is_not_the_last(copies):
+    later, new = copies / "index-21000101T000000Z.db", copies / "index-20260102T000000Z.db"
+    later.write_bytes(DATABASE)
+    assert "21000101T000000Z.db is of a later time than now, 20" in refusal(later, "/none")
+    assert "look at the clock (timedatectl)" in refusal(later, "/none", True)
+    RESTORE.look_at_copy(str(new), "/none", False)
+    # of another name it is when it was written
+    (copies / "sealed.db").write_bytes(DATABASE)
+    RESTORE.look_at_copy(str(copies / "sealed.db"), "/none", False)
+    os.utime(copies / "sealed.db", (4e9, 4e9))
+    assert "look at the clock (timedatectl)" in refusal(copies / "sealed.db", "/none")
+
+
+def test_a_copy_of_this_second_is_taken(copies):
+    now = datetime.datetime.now(UTC)
+    copy = copies / f"index-{now:%Y%m%dT%H%M%S}Z.db"
+    copy.write_bytes(DATABASE)
+    RESTORE.look_at_copy(str(copy), "/none", False)
+    assert f": {copy} is newer; name" in refusal(copies / "index-20260102T000000Z.db", "/none")
+
+
 def test_only_copies_of_index_backup_are_newer(copies):
     for name in ("index-20270101T000000Z.db.part", "xindex-20270101T000000Z.db", "index-later.db"):
         (copies / name).write_bytes(DATABASE)
@@ -443,7 +464,8 @@ def test_units_start_however_it_ends(monkeypatch, capsys):
     asked = calls(monkeypatch, RESTORE, "run")
     monkeypatch.setattr(RESTORE, "restore", stops)
     assert ends(RESTORE, monkeypatch, capsys, "copy")[::2] == (1, "index-restore: no\n")
-    assert asked == [("systemctl", it, "index-health.timer", "index.service") for it in ("stop", "start")]
+    # and not the check of health, which tells of a restore that is killed
+    assert asked == [("systemctl", it, "index.service") for it in ("stop", "start")]
     asked.clear()
     ends(RESTORE, monkeypatch, capsys, "copy", "--unit", "a", "--unit", "b")
     assert asked == [("systemctl", it, "a", "b") for it in ("stop", "start")]

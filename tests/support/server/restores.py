@@ -68,12 +68,14 @@ class Restores:
         accepted(self.index.claim("later"))
         self.front.ask("GET", "/files/frob/frob-2.0.tar.gz")
 
-    def run(self, copy: str, *more: str, shell: str = ":", front: tuple = (), unit: str = "index.service",
+    def run(self, copy: str, *more: str, shell: str = ":", front: tuple = (), unit: str | None = "index.service",
             db: str | None = None, pypi: str | None = None, port: int | None = None) -> subprocess.CompletedProcess:
-        """The end of a restore, behind this line of a shell or this command, and of other places if they are given."""
+        """The end of a restore, behind this line of a shell or this command, and of other places if they are given;
+        without a unit the usual one is stopped."""
         nginx = self.front.folder
-        words = [*front, f"{BIN}/index-restore", copy, *more, "--db", db or self.index.path, "--unit", unit,
-                 "--url", f"http://127.0.0.1:{port or self.index.port}", "--changes", self.log,
+        words = [*front, f"{BIN}/index-restore", copy, *more, "--db", db or self.index.path,
+                 *(["--unit", unit] if unit else []), "--changes", self.log,
+                 "--url", f"http://127.0.0.1:{port or self.index.port}",
                  "--cache", f"{nginx}/cache/index-pages", "--cache", f"{nginx}/cache/index-files",
                  "--with-pypi", pypi or f"{nginx}/index/server.d/with-pypi.conf"]
         if shell != ":":
