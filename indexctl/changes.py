@@ -105,10 +105,10 @@ class Desk:
         """The same, for a request that is a row already."""
         return self.tell(what, row, *self.post(what, row, token, more=more))
 
-    def delete(self, file: str) -> bool:
+    def delete(self, file: str, more: Row = NOTHING) -> bool:
         path = f"/files/{project_of(file)}/{urllib.parse.quote(file, safe='')}"
-        row = {"do": "delete", "file": file}
-        return self.tell(f"delete {file}", row, *self.send(f"delete {file}", row, Request("DELETE", path)))
+        row, what = {"do": "delete", "file": file}, f"delete {file}"
+        return self.tell(what, row, *self.send(what, row, Request("DELETE", path), more=more))
 
     def status(self) -> int:
         return REFUSED if self.refused else 0

@@ -46,6 +46,11 @@ def due(seconds: int) -> str:
     return moment(-(-seconds // 60) * 60)
 
 
+def iso(seconds: int) -> str:
+    """A moment as a record has it."""
+    return datetime.datetime.fromtimestamp(seconds, datetime.timezone.utc).strftime("%Y-%m-%dT%H:%M:%SZ")
+
+
 def moment_now() -> str:
     return datetime.datetime.now(datetime.timezone.utc).strftime("%Y-%m-%dT%H:%M:%SZ")
 

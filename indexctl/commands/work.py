@@ -5,14 +5,17 @@ import argparse
 import json
 import os
 import time
+from collections import deque
+from typing import Sequence
 
 from indexctl.changes import Desk
 from indexctl.command_line import argument, command
 from indexctl.ends import REFUSED, WRONG, Stop
+from indexctl.interrupts import told_if_interrupted
 from indexctl.names import sha256
 from indexctl.page import page_of, put_whole
 from indexctl.probe import open_cases
-from indexctl.replays import read_lines, replay_line, why_left
+from indexctl.replays import Attempts, Line, lines_since, read_lines, replay_line, why_left
 from indexctl.standings import held_names
 from indexctl.terminal import note, say
 from indexctl.units import counted, read_moment
@@ -76,23 +79,29 @@ def page(args: argparse.Namespace) -> None:
 def replay(args: argparse.Namespace) -> int:
     """What you asked for yourself is asked for again, in its order, from the backup on. All else is listed, with who
     has to repeat it."""
-    since = read_moment(args.since)
-    lines = [it for it in read_lines(args.file) if it.at >= since and it.number >= args.first]
-    desk = Desk(args)
+    since, record = read_moment(args.since), read_lines(args.file)
+    lines, desk = lines_since(record, since, args.first), Desk(args)
     mine, is_office = args.caller or sha256(desk.token())[:8], desk.caller() == "office"
-    left = 0
-    for line in lines:
-        why = why_left(line, desk.setting.url, mine, is_office)
-        if why:
-            left += 1
-            note(f"line {line.number} is left, {why}: {json.dumps(line.row)}", "yellow")
-        elif not args.dry_run:
+    left, attempts, waiting = 0, Attempts(desk, record, since), deque(lines)
+    with told_if_interrupted(lambda: go_on(waiting)):
+        while waiting:
+            line = waiting[0]
             try:
-                replay_line(desk, line)
+                why = why_left(line, desk.setting.url, mine, is_office) or attempts.why_left(line)
+                if why:
+                    left += 1
+                    note(f"line {line.number} is left, {why}: {json.dumps(line.row)}", "yellow")
+                elif not args.dry_run:
+                    replay_line(desk, line)
+                else:
+                    say(f"line {line.number}: {json.dumps(line.row)}")
             except Stop as end:
-                raise Stop(end.status, f"line {line.number}: {end} Go on by --from {line.number}, or the line after "
-                                       "it.") from end
-        else:
-            say(f"line {line.number}: {json.dumps(line.row)}")
-    say(f"{counted(len(lines) - left, 'line')} of yours, {left} left, {counted(desk.refused, 'refusal')}")
+                raise Stop(end.status, f"line {line.number}: {end} {go_on(waiting)}") from end
+            waiting.popleft()
+        say(f"{counted(len(lines) - left, 'line')} of yours, {left} left, {counted(desk.refused, 'refusal')}")
     return desk.status()
+
+
+def go_on(waiting: Sequence[Line]) -> str:
+    """How to go on after a replay that ended at the first of these lines."""
+    return f"Go on by --from {waiting[0].number}, or the line after it." if waiting else "All lines were done."

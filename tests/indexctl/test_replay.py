@@ -4,12 +4,14 @@ from __future__ import annotations
 import json
 import os
 import shutil
+import signal
 import time
 from dataclasses import dataclass
 from typing import Any, Dict, List
 
 import pytest
 from support.indexctl.control import Control, Ended, assert_ends, digest, filled, line, rows_of, user_lines
+from support.indexctl.scripted import scripted, standing_of
 from support.indexctl.tables import TABLES
 from support.serving import Index
 
@@ -153,6 +155,12 @@ def test_of_nginx_s_log_the_office_repeats_what_the_office_alone_may(program, fo
 CALLER = digest("office")[:8]
 
 
+def take_interrupts():
+    """In the background of a shell a run ignores Ctrl-C, and what it starts would too."""
+    signal.signal(signal.SIGINT, signal.default_int_handler)
+    signal.signal(signal.SIGHUP, signal.SIG_DFL)
+
+
 def prohibition(at, name):
     return {"at": at, "caller": CALLER, "do": "prohibit", "name": name}
 
@@ -189,3 +197,45 @@ def test_the_deletions_of_a_user_who_left_are_left_to_a_person(replays, folder):
                               "user": "ann", "for": "ann"})
     assert_ends(replays.run("replay", record, "--since", "2026-01-01"), 0, "it was asked for as ann",
                 "`indexctl user leave ann`", "0 lines of yours, 1 left")
+
+
+def test_a_replay_goes_past_uploads_by_twine(replays, folder):
+    at = "2026-01-01T00:00:10+00:00"
+    log = written(folder, {"at": at, "status": 200, "method": "POST", "path": "/legacy/", "body": ""},
+                  {"at": at, "status": 200, "method": "POST", "path": "/requests",
+                   "body": json.dumps({"do": "prohibit", "name": "egg"})})
+    assert_ends(replays.run("replay", log, "--since", "2026-01-01"), 0, "line 1 is left, it is an upload by twine",
+                "prohibit egg: accepted", "1 line of yours, 1 left")
+
+
+def attempts_of_the_office(folder):
+    return written(folder, *({"at": f"2026-01-01T00:00:1{at}Z", "caller": CALLER, "do": "record_attempt", "name": "old",
+                              "means": means, "sent": True} for at, means in enumerate(("profile", "author"))))
+
+
+def test_attempts_are_counted_once_however_often_a_record_is_replayed(replays, folder):
+    record = attempts_of_the_office(folder)
+    for said in (["2 lines of yours, 0 left"], ["seems to count this one", "0 lines of yours, 2 left"]):
+        assert_ends(replays.run("replay", record, "--since", "2026-01-01", INDEX_RECORD=record), 0, *said)
+    row, = replays.rows("case", "list")
+    assert (row["attempts"], row["sent"]) == (3, 3)
+    with open(record, encoding="utf-8") as kept:
+        lines = [json.loads(it) for it in kept]
+    assert [it["again"] for it in lines[2:]] == [it["at"] for it in lines[:2]]
+
+
+@pytest.mark.parametrize("end", [signal.SIGINT, signal.SIGHUP], ids=["ctrl_c", "closed_terminal"])
+def test_a_replay_that_is_stopped_names_the_line_to_go_on_at(folder, end):
+    def slow(method, path, body, _):
+        if json.loads(body or b"{}").get("means") == "author":
+            time.sleep(3)
+        return standing_of(path) if method == "GET" else (200, "application/json", b'{"answer":"accepted"}')
+    with scripted(slow) as server:
+        by = Control(folder, server.url)
+        with by.start("replay", attempts_of_the_office(folder), "--since", "2026-01-01", "--caller", CALLER,
+                      limit=take_interrupts) as replay:
+            while server.count("POST") < 3 and replay.poll() is None:
+                time.sleep(0.02)
+            replay.send_signal(end)
+            _, errors = replay.communicate(timeout=30)
+    assert replay.returncode == 130 and "Go on by --from 2" in errors and "Traceback" not in errors, errors

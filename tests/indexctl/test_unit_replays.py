@@ -1,13 +1,15 @@
 """Lines of a record and of nginx's log, and which of them are asked for again."""
 from __future__ import annotations
 
+import dataclasses
 import json
+import signal
 
 import pytest
 from indexctl import replays
 from indexctl.commands import work
 from indexctl.ends import WRONG, Stop
-from support.indexctl.rows import args
+from support.indexctl.rows import args, case_of, held
 
 URL, ME = "https://packages.example", "01234567"
 
@@ -41,6 +43,19 @@ def logged(**row):
 def test_a_deletion_in_nginx_s_log_names_its_file():
     found = replays.read_line(1, logged(method="DELETE", path="/files/a/a-1.tar.gz"))
     assert found.row == {"do": "delete", "file": "a-1.tar.gz"}
+
+
+@pytest.mark.parametrize("path", ["/legacy/", "/legacy"])
+def test_an_upload_by_twine_in_nginx_s_log_has_no_file(path):
+    found = replays.read_line(1, logged(method="POST", path=path, body=""))
+    assert found.row == {"do": "upload", "file": ""}
+    assert replays.why_left(found, URL, ME, True).startswith("it is an upload by twine or its like")
+
+
+def test_a_line_of_a_replay_says_when_it_was_asked_for_first():
+    text = json.dumps({"at": "1970-01-01T00:00:20Z", "again": "1970-01-01T00:00:10Z", "do": "x"})
+    found = replays.read_line(1, text)
+    assert (found.at, found.began, found.row) == (20, 10, {"do": "x"}) and line().began == 10
 
 
 def test_a_request_in_nginx_s_log_is_its_body():
@@ -105,6 +120,7 @@ class FakeDesk:
 
     def __init__(self, is_done=True, fails_at=None):
         self.asked, self.is_done, self.fails_at, self.refused = [], is_done, fails_at, 0
+        self.again, self.case, self.index = [], None, self
 
         class setting:
             url = URL
@@ -122,10 +138,20 @@ class FakeDesk:
     def change_by(self, what, row, token=None, more=None):
         if len(self.asked) == self.fails_at:
             raise Stop(3, "The index does not answer now.")
+        self.again.append(more)
         self.asked.append((what, row))
+        if row["do"] == "record_attempt":
+            self.count(row)
         return self.is_done
 
-    def delete(self, file):
+    def count(self, row):
+        case = self.case
+        if case:
+            more = {"attempts": case.attempts + 1, "sent": case.sent + row["sent"], row["means"]: True}
+            self.case = dataclasses.replace(case, **more)
+
+    def delete(self, file, more=None):
+        self.again.append(more)
         self.asked.append(("delete", file))
         return self.is_done
 
@@ -136,12 +162,13 @@ def test_a_line_is_asked_for_as_it_was(capsys):
     assert desk.asked == [("line 1: add_owner frob bob", {"do": "add_owner", "name": "frob", "user": "bob"})]
     replays.replay_line(desk, line(do="delete", file="a-1.tar.gz"))
     assert desk.asked[1] == ("delete", "a-1.tar.gz") and capsys.readouterr().err == ""
+    assert desk.again == 2 * [{"again": "1970-01-01T00:00:10Z"}]
 
 
 @pytest.mark.parametrize("is_done, said", [(True, "the attempt counts from now on, not from 1970-01-01 00:00 UTC"),
                                            (False, "")])
 def test_an_attempt_counts_from_now_on_if_it_was_accepted(capsys, is_done, said):
-    replays.replay_line(FakeDesk(is_done), line(do="record_attempt"))
+    replays.replay_line(FakeDesk(is_done), line(do="record_attempt", means="pages", sent=True))
     told = capsys.readouterr().err
     assert said in told and bool(told) == bool(said)
 
@@ -195,3 +222,109 @@ def test_a_replay_that_breaks_off_says_at_which_line(replayed):
 def test_a_replay_counts_what_was_asked_for_and_what_was_left(replayed, capsys):
     replayed([10, 11])
     assert "2 lines of yours, 0 left, 0 refusals" in capsys.readouterr().out
+
+
+def attempt(number, means="pages", sent=True, at=None, **more):
+    return replays.Line(number, number if at is None else at, ME, URL,
+                        {"do": "record_attempt", "name": "Frob", "means": means, "sent": sent}, **more)
+
+
+def left(case, lines, first=1, since=1):
+    """The numbers of these lines that are not asked for, if the name has this case before the replay."""
+    desk = FakeDesk()
+    desk.case = case
+    attempts, numbers = replays.Attempts(desk, lines, since), []
+    for it in replays.lines_since(lines, since, first):
+        if attempts.why_left(it):
+            numbers.append(it.number)
+        else:
+            replays.replay_line(desk, it)
+    return numbers
+
+
+@pytest.fixture(autouse=True)
+def standings(monkeypatch):
+    """A name's standing is that at the desk."""
+    monkeypatch.setattr(replays, "find_standing", lambda desk, name: held(name, case=desk.case))
+
+
+def of(attempts, sent, *means, opened=0):
+    return case_of(opened=opened, attempts=attempts, sent=sent, **{it: it in means for it in
+                                                                   ("profile", "author", "pages")})
+
+
+THREE = [attempt(1, "profile"), attempt(2, "author"), attempt(3, "pages", sent=False)]
+
+
+@pytest.mark.parametrize("case, numbers", [
+    (of(0, 0), []), (of(1, 1, "profile"), [1]), (of(2, 2, "profile", "author"), [1, 2]),
+    (of(3, 2, "profile", "author", "pages"), [1, 2, 3]), (of(9, 9, "profile", "author", "pages"), [1, 2, 3]),
+    (None, [])])
+def test_an_attempt_that_the_case_counts_already_is_left(case, numbers):
+    assert left(case, THREE) == numbers
+
+
+def test_an_attempt_is_asked_for_if_none_of_the_case_was_made_so():
+    """Others of the office have records of their own: the case may have more attempts than this record."""
+    assert left(of(1, 1, "pages"), THREE) == [] and left(of(1, 0, "profile"), THREE) == []
+
+
+def test_behind_an_attempt_that_is_not_counted_none_is():
+    lines = [attempt(1, "profile"), attempt(2, "author"), attempt(3, "profile")]
+    assert left(of(3, 3, "author"), lines) == []
+
+
+def test_attempts_of_an_earlier_case_of_the_name_do_not_count():
+    lines = [attempt(at, "pages") for at in range(1, 5)]
+    assert left(of(1, 1, "pages", opened=3), lines, since=3) == [3]
+
+
+def test_attempts_of_a_case_that_was_opened_again_are_those_since_the_backup():
+    lines = [attempt(at, "pages") for at in range(1, 5)]
+    assert left(of(0, 0, opened=50), lines, since=3) == []
+    assert left(of(1, 1, "pages", opened=50), lines, since=3) == [3]
+
+
+def test_other_changes_and_other_names_are_not_attempts_of_the_case():
+    other = dataclasses.replace(attempt(1), row={**attempt(1).row, "name": "other"})
+    claim = replays.Line(2, 2, ME, URL, {"do": "claim", "name": "frob"})
+    assert left(of(1, 1, "pages"), [other, claim, attempt(3), attempt(4)]) == [1, 3]
+
+
+def test_what_a_replay_added_to_the_record_is_not_asked_for_again():
+    copies = [attempt(4, "profile", again=1), attempt(5, "author", again=2)]
+    assert left(of(2, 2, "profile", "author"), [*THREE, *copies]) == [1, 2]
+    assert [it.number for it in replays.lines_since([*THREE, *copies], 1, 1)] == [1, 2, 3]
+    # the backup was made behind the first lines, and before they were asked for again
+    assert [it.number for it in replays.lines_since([*THREE, *copies], 3, 1)] == [3, 4, 5]
+
+
+def test_an_attempt_that_is_left_says_why_and_what_to_do(replayed, capsys, monkeypatch):
+    desk = FakeDesk()
+    desk.case = of(1, 1, "pages")
+    monkeypatch.setattr(work, "read_lines", lambda _: [
+        replays.Line(7, 10, work.sha256("office")[:8], None, attempt(7).row)])
+    assert replayed([], desk) == []
+    out = capsys.readouterr()
+    assert "line 7 is left, the case of frob has 1 attempt, and seems to count this one" in out.err
+    assert "`indexctl case attempt frob pages`" in out.err and "0 lines of yours, 1 left" in out.out
+
+
+@pytest.mark.parametrize("end", ["SIGINT", "SIGHUP", "SIGTERM"])
+def test_a_replay_that_is_interrupted_says_at_which_line(replayed, capsys, end):
+    class Interrupted(FakeDesk):
+        def change_by(self, what, row, token=None, more=None):
+            if len(self.asked) == 1:
+                signal.raise_signal(number)
+            return super().change_by(what, row, token, more)
+
+    def unseen(*_):
+        raise AssertionError(f"nothing took {end}")
+    number = getattr(signal, end)
+    before = signal.signal(number, signal.default_int_handler if end == "SIGINT" else unseen)
+    try:
+        with pytest.raises(KeyboardInterrupt):
+            replayed([10, 11, 12], Interrupted())
+    finally:
+        signal.signal(number, before)
+    assert capsys.readouterr().err.endswith("Go on by --from 2, or the line after it.\n")
