@@ -1,6 +1,8 @@
 """index-reseal: an index gets page sums, by which the program then finds damage."""
+import fcntl
 import os
 import shutil
+import signal
 import sqlite3
 from contextlib import closing
 
@@ -11,6 +13,7 @@ from support.running import run_command
 from support.server.expected import assert_ends
 from support.server.logs import bytes_of, flip
 from support.server.rows import made
+from support.server.stand_ins import stand_ins
 from support.serving import Index
 
 FLIPS = 8
@@ -96,3 +99,47 @@ class TestRefused:
         with Index(program, path=old):
             assert_ends(reseal(old), 1, "has it open")
         assert [it for it in os.listdir(folder) if it.startswith("new")] == []
+
+
+# It writes a part of the new file, and all of the group get a signal, as by Ctrl-C or as the terminal closes.
+SQLITE3 = """target=${3#VACUUM INTO }
+echo part > "$(echo "$target" | tr -d \\')"
+kill -s "$SIGNAL" 0
+"""
+
+
+class TestInterrupted:
+    """A run that ends in its middle."""
+
+    @pytest.fixture
+    def interrupted(self, old, program, folder):
+        """Runs index-reseal, which gets this signal while `sqlite3` writes."""
+        def run(number):
+            path = stand_ins(f"{folder}/bin", sqlite3=SQLITE3)
+            words = ["setsid", f"{BIN}/index-reseal", old, f"{folder}/new.db"]
+            return run_command(words, INDEX=program, PATH=path, SIGNAL=number)
+        return run
+
+    @pytest.mark.parametrize("number", ["HUP", "INT", "TERM"])
+    def test_a_signal_leaves_nothing(self, interrupted, folder, number):
+        ended = interrupted(number)
+        assert (ended.returncode, ended.stdout) == (-signal.Signals[f"SIG{number}"], "index-reseal: stopped\n")
+        assert [it for it in os.listdir(folder) if it.startswith("new")] == []
+
+    def test_after_a_kill_the_next_run_removes_what_was_left_and_makes_the_file(
+            self, interrupted, old, reseal, folder, check):
+        assert interrupted("KILL").returncode == -signal.SIGKILL
+        assert set(os.listdir(f"{folder}/new.db.part")) == {"copy.db", "new.db"}
+        assert_ends(reseal(old), 0, "with page sums")
+        assert [it for it in os.listdir(folder) if it.startswith("new")] == ["new.db"]
+        assert_ends(check(f"{folder}/new.db"), 0)
+
+    def test_a_run_beside_another_leaves_its_folder_alone(self, old, reseal, folder):
+        os.mkdir(f"{folder}/new.db.part")
+        opened = os.open(f"{folder}/new.db.part", os.O_RDONLY)
+        fcntl.flock(opened, fcntl.LOCK_EX)
+        with open(f"{folder}/new.db.part/copy.db", "wb") as theirs:
+            theirs.write(b"theirs")
+        assert_ends(reseal(old), 1, "another index-reseal is at work there")
+        assert bytes_of(theirs.name) == [b"theirs"]
+        os.close(opened)

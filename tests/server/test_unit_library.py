@@ -210,7 +210,7 @@ def main():
 
 @pytest.mark.parametrize("text, out", [
     (HELD, "goes on\nheld\ntidied\n"),
-    (HELD.replace("with let_in()", "if True"), "goes on\nheld\ncomes too late\ntidied\n")])
+    (HELD.replace("with let_in()", "if True"), "goes on\nheld\ncomes too late\ntidied\n")], ids=["let_in", "held"])
 def test_a_signal_is_held_until_it_may_come_and_commands_do_not_see_it(text, out):
     running = program(text, "import signal\nfor it in (1, 2, 15): signal.signal(it, signal.SIG_DFL)")
     said = running.communicate(timeout=60)
