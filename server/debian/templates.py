@@ -33,7 +33,9 @@ def template(name: str, unit: str) -> str:
     for line in unit.splitlines(keepends=True):
         # a line goes on after a backslash
         is_run = line.startswith(("Exec", "Environment=")) or is_run and lines[-1].endswith("\\\n")
-        for old, new in () if line.startswith("#") else EVERYWHERE + (RUN if is_run else ()):
+        # the check of health may ask for the room on a disk, and look into no folder of one index
+        is_changed = is_run and "--room" not in line
+        for old, new in () if line.startswith("#") else EVERYWHERE + (RUN if is_changed else ()):
             line = line.replace(old, new)
         if name == "index-backup.service" and line.startswith("ExecStart="):
             line = FOLDER + line

@@ -1,11 +1,14 @@
 """index-health: an index that fails or is silent is restarted, and one that is not there is told of."""
 import os
 import re
+import shutil
 import socket
 import subprocess
+import sys
 import time
 
 import pytest
+from support.places import SERVER
 from support.ports import free_port
 from support.running import run_command
 from support.server.expected import assert_ends
@@ -50,6 +53,41 @@ def test_a_silent_index_is_restarted(path, bin_folder):
         ended = look_at_health(path, "--patience", "1", f"http://127.0.0.1:{silent.getsockname()[1]}")
     assert_ends(ended, 8, "no answer")
     assert called(bin_folder) == RESTARTED
+
+
+# A disk of this size at $1, for what stands behind it, and for nothing else.
+DISK = """mount -t tmpfs -o size=1m none "$1" && shift && exec "$@" """
+
+
+def test_a_disk_with_little_room_is_told_and_the_index_is_not_restarted(index, path, bin_folder, folder):
+    small, url = f"{folder}/small", f"http://127.0.0.1:{index.port}"
+    os.mkdir(small)
+    alone = ("unshare", "--mount", "--propagation", "private", "sh", "-c", DISK, "sh", small)
+    if run_command([*alone, "true"]).returncode:
+        pytest.skip("this machine lets nobody mount a disk")
+    words = ("--room", f"{folder}/none", "--room", small)
+    assert_ends(look_at_health(path, *words, url, under=alone), 9, f"make room: {small} has 1 MiB left")
+    assert_ends(look_at_health(path, *words, "--least", "1", url, under=alone), 0)
+    assert called(bin_folder) == ""
+
+
+def rooms_of(text):
+    command = re.search(r"^ExecStart=((?:.*\\\n)*.*)$", text, re.M)[1]
+    return re.findall(r"--room (\S+)", command)
+
+
+def test_the_unit_looks_at_each_disk_that_matters():
+    assert rooms_of(unit("index-health.service")) == [
+        "/var/lib/index", "/var/cache/nginx", "/var/log", "/var/backups/index"]
+
+
+def test_the_template_looks_into_no_folder_of_one_index(folder):
+    """Its user may not, and the disks are the same."""
+    made = shutil.copytree(f"{SERVER}/systemd", f"{folder}/units")
+    assert_ends(run_command([sys.executable, f"{SERVER}/debian/templates.py", made]), 0)
+    with open(f"{made}/index-health@.service") as kept:
+        text = kept.read()
+    assert rooms_of(text) == rooms_of(unit("index-health.service")) and "127.0.0.1:%i\n" in text, text
 
 
 class TestStart:

@@ -102,6 +102,34 @@ def test_the_words_of_a_look_and_its_status(monkeypatch, capsys):
     assert ends(HEALTH, monkeypatch, capsys, "a", "b")[0] == 2
 
 
+@pytest.mark.parametrize("least, status", [(6, 0), (7, 9)])
+def test_little_room_is_a_status_of_its_own(tmp_path, monkeypatch, least, status):
+    asked = calls(monkeypatch, HEALTH, "room_of", 7 * (1 << 20) - 1 if least == 7 else 6 << 20)
+    found = HEALTH.look_at_room(["/a", "/b"], least)
+    said = "make room: /a has 6 MiB left, /b has 6 MiB left" if status else ""
+    assert (found.status, found.seen) == (status, said) and set(asked) == {("/a",), ("/b",)}
+
+
+def test_a_folder_that_is_not_there_is_passed_over_and_one_that_can_not_be_looked_at_is_not(tmp_path, monkeypatch):
+    assert HEALTH.look_at_room([f"{tmp_path}/none", tmp_path], 0) == WELL
+    monkeypatch.setattr(HEALTH, "room_of", raises(PermissionError(13, "denied")))
+    with pytest.raises(PermissionError):
+        HEALTH.look_at_room(["/a"], 0)
+
+
+def test_room_is_looked_at_only_if_the_index_is_well(monkeypatch, capsys):
+    little = HEALTH.Look(HEALTH.LITTLE_ROOM, "make room")
+    rooms = calls(monkeypatch, HEALTH, "look_at_room", little)
+    words = ["--room", "/a", "--room", "/b"]
+    for found, status, said in ((WELL, 9, "make room"), (SILENT, 8, "no answer"), (ABSENT, 3, "nobody listens")):
+        calls(monkeypatch, HEALTH, "looked", found)
+        assert ends(HEALTH, monkeypatch, capsys, *words) == (status, "", f"index-health: {said}\n")
+    assert rooms == [(["/a", "/b"], 256)]
+    calls(monkeypatch, HEALTH, "looked", WELL)
+    ends(HEALTH, monkeypatch, capsys, "--least", "5")
+    assert rooms[1:] == [([], 5)]
+
+
 class Cache:
     """nginx's folder with files of these keys, each where nginx has it."""
 

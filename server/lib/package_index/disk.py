@@ -15,10 +15,15 @@ def bytes_needed(written: int) -> int:
     return written + max(written // 10, SPARE)
 
 
+def room_of(folder: str) -> int:
+    """The bytes that are free on the disk of a folder."""
+    disk = os.statvfs(folder)
+    return disk.f_bavail * disk.f_frsize
+
+
 def want_room(folder: str, written: int, advice: str = "make room first") -> None:
     """Refuses if writing so many bytes into this folder might fill its disk. Uploads fail if the database is there."""
-    disk = os.statvfs(folder)
-    free = disk.f_bavail * disk.f_frsize
+    free = room_of(folder)
     if free < bytes_needed(written):
         raise Refused(f"{folder} has room for {free} bytes, and this needs {bytes_needed(written)}: {advice}")
 
