@@ -93,6 +93,12 @@ def confirm(args: argparse.Namespace, sentence: str) -> None:
         raise Stop(WRONG, "Nothing was done.")
 
 
+def confirm_on_terminal(args: argparse.Namespace, sentence: str) -> None:
+    """Asks a person alone: a script, which has no terminal, goes on as if it had said --yes."""
+    if sys.stdin.isatty():
+        confirm(args, sentence)
+
+
 def texts(*heads: str) -> Columns:
     """Columns whose cells are the texts of the fields, or of the keys, of these names; a list is joined by commas."""
     def text_of(head: str) -> Callable[[Any], str]:

@@ -8,14 +8,16 @@ import signal
 import pytest
 from indexctl.command_line import parsers
 from indexctl.commands import COMMANDS
+from indexctl.contents import FileRow
 from indexctl.ends import REFUSED, UNREACHED, WRONG, Stop
 from indexctl.names import sha256
 from indexctl.standings import Standing
 from indexctl.uploads import MOST_TEXT
+from package_index.names import read_file_name
 from support.indexctl.rows import CASE, OPENED, SETTING, case_of, held
 
 MODULES = [importlib.import_module(f"indexctl.commands.{it}") for it in (
-    "tokens", "users", "names", "files", "listings", "cases", "work")]
+    "tokens", "users", "names", "files", "listings", "contents", "cases", "work")]
 FREE = Standing("free", "free", given={"name": "free", "state": "free"})
 
 
@@ -57,12 +59,15 @@ class Run:
 
     def __init__(self, monkeypatch):
         self.desk, self.names, self.confirmed, self.monkeypatch = FakeDesk(), [], [], monkeypatch
-        self.lists = []
+        self.lists, self.shown, self.contents = [], [], {}
         self.put("Desk", lambda _: self.desk)
         self.put("held_names", self.listed)
         self.put("find_standing", self.standing)
         self.put("find_files", lambda _, name: ([f"{name}-1.0.tar.gz"], ["1.0"]))
         self.put("confirm", lambda args, said: self.confirmed.append(said))
+        self.put("confirm_on_terminal", lambda args, said: self.shown.append(said))
+        self.put("find_contents", lambda _, name, is_fresh=False: self.contents.get(name))
+        self.put("not_held", lambda _, name: f"Nobody holds {name}.")
 
     def put(self, name, made):
         for it in MODULES:
@@ -123,6 +128,7 @@ def test_a_command_asks_for_what_it_says(run, words):
     assert run.asked(*words) == ASKED[words]
     asks_first = words[:2] in (("name", "relinquish"), ("file", "ban")) or "--office" in words
     assert bool(run.confirmed) == asks_first
+    assert bool(run.shown) == (words[:2] in (("file", "delete"), ("release", "yank")))
 
 
 @pytest.mark.parametrize("words", ASKED, ids=lambda it: "_".join(it[:2]))
@@ -138,6 +144,7 @@ def test_a_refusal_is_the_status(run, words):
     ("user", "add", "Eve"), ("user", "rotate", "Eve"), ("user", "lock", "Eve"), ("user", "leave", "Eve"),
     ("user", "leave", "eve", "--to", "Bob"), ("case", "answer", "-"), ("case", "close", "-"),
     ("case", "attempt", "-", "pages"), ("name", "prohibit", "-"), ("who", "-"), ("owned-by", "Bob"),
+    ("files", "-"), ("releases", "-"), ("status", "-"),
     ("quota", "set", "-", "1"), ("user", "add", "eve", "--digest", "x"), ("user", "add", "eve", "--digest", sha256("")),
     ("user", "add", "eve", "bob", "--digest", "0" * 64)])
 def test_a_slip_is_found_before_anything_is_asked_for(run, words):
@@ -392,3 +399,94 @@ def test_a_new_token_is_64_digits_with_its_digest(run, capsys):
     run("token", "new", "--json")
     row = rows_of(capsys)
     assert len(row["token"]) == 64 and row["digest"] == sha256(row["token"])
+
+
+def has(run, name, *files):
+    """The name has these files: of each the name, the size, and the yank."""
+    run.contents[name] = [FileRow(file, read_file_name(file).release, size, ">=3.8", yanked, "00")
+                          for file, size, yanked in files]
+    run.names.append(held(name, charge=sum(size for _, size, _ in files)))
+
+
+FROB = [("frob-1.1.tar.gz", 2_048, ""), ("frob-1.0.tar.gz", 12, "loses <data>; \u202e\x1b[2J")]
+
+
+def test_files_are_listed_with_sizes_yanks_and_digests(run, capsys):
+    has(run, "frob", *FROB)
+    has(run, "bare")
+    run("files", "frob", "bare")
+    head, first, second = capsys.readouterr().out.splitlines()
+    assert head.split() == ["file", "release", "size", "python", "yanked", "sha256"]
+    assert first.split() == ["frob-1.1.tar.gz", "1.1", "2.0", "KiB", ">=3.8", "yes", "00"]
+    assert "loses <data>; \\u202e\\u001b[2J" in second and "\x1b" not in second
+    run("files", "frob", "--json")
+    assert rows_of(capsys)[1] == {"file": "frob-1.0.tar.gz", "release": "1.0", "size": 12, "python": ">=3.8",
+                                  "yanked": FROB[1][2], "sha256": "00"}
+
+
+def test_releases_are_listed_with_their_files(run, capsys):
+    has(run, "frob", *FROB, ("frob-1.0-py3-none-any.whl", 8, FROB[1][2]), ("frob-0.9.tar.gz", 5, None))
+    run("releases", "frob", "--json")
+    assert [(row["release"], row["files"], row["size"], row["yanked"]) for row in rows_of(capsys)] == [
+        ("1.1", ["frob-1.1.tar.gz"], 2_048, ""),
+        ("1.0", ["frob-1.0.tar.gz", "frob-1.0-py3-none-any.whl"], 20, FROB[1][2]),
+        ("0.9", ["frob-0.9.tar.gz"], 5, None)]
+    run("releases", "frob")
+    assert ["yes" in it for it in capsys.readouterr().out.splitlines()[1:]] == [True, False, False]
+
+
+def test_a_status_has_all_of_a_name(run, capsys):
+    has(run, "frob", *FROB)
+    run.names = [held("frob", shown="Frob", owners=["ann", "eve"], charge=2_060, quota=4_096, case=case_of())]
+    cases_are(run, ("frob", {"author": False}))
+    run("status", "frob")
+    out = capsys.readouterr().out
+    for said in ("name    Frob", "owners  ann, eve", "quota   2.0 KiB of 4.0 KiB", "files   2 files", "frob-1.1.tar",
+                 "yanked  2 releases", "case    of bob, to reuse the name", "lacks   an attempt by author",
+                 "loses <data>; \\u202e"):
+        assert said in out, out
+    run("status", "frob", "--json")
+    row = rows_of(capsys)
+    assert (row["name"], row["state"], row["owners"], row["charge"], row["quota"]) == (
+        "Frob", "held", ["ann", "eve"], 2_060, 4_096)
+    assert row["case"]["lacks"][0] == "an attempt by author" and [it["size"] for it in row["files"]] == [2_048, 12]
+
+
+def test_a_status_of_a_name_without_files_or_a_case_ends_there(run, capsys):
+    has(run, "bare")
+    run("status", "bare")
+    out = capsys.readouterr()
+    assert "0 files" in out.out and "case" not in out.out and "release  size" not in out.out and out.err == ""
+    run.names = [Standing("evil", "prohibited", given={})]
+    run("status", "evil")
+    assert capsys.readouterr().out.split() == ["name", "evil", "state", "prohibited"]
+
+
+@pytest.mark.parametrize("words", [("files", "frob"), ("releases", "frob"), ("status", "frob")])
+def test_a_name_that_nobody_holds_has_no_contents(run, words):
+    with pytest.raises(Stop, match="^Nobody holds frob.$") as end:
+        run(*words)
+    assert end.value.status == REFUSED
+
+
+@pytest.mark.parametrize("file, said", [
+    ("frob-1.1.tar.gz", "frob-1.1.tar.gz has 2.0 KiB, and is yanked."),
+    ("frob-0.9.tar.gz", "frob-0.9.tar.gz has 5 B."),
+    ("frob-1.2.tar.gz", "frob-1.2.tar.gz is not on the index. Did you mean `frob-1.1.tar.gz` or `frob-1.0.tar.gz`?"),
+    ("frob-7.7.tar.gz", "frob-7.7.tar.gz is not on the index."),
+    ("forb-1.0.tar.gz", "forb-1.0.tar.gz: Nobody holds forb.")])
+@pytest.mark.parametrize("verb, what", [("delete", "deleted"), ("ban", "banned for good")])
+def test_files_are_shown_before_they_go(run, verb, what, file, said):
+    has(run, "frob", *FROB, ("frob-0.9.tar.gz", 5, None))
+    run("file", verb, file)
+    assert [*run.confirmed, *run.shown] == [f"{file} will be {what}. {said}"]
+
+
+@pytest.mark.parametrize("name, release, said", [
+    ("frob", "1.0", "Release 1.0 of frob will be yanked: frob-1.0.tar.gz."),
+    ("frob", "1.O", "frob has no release 1.O. Did you mean `1.1` or `1.0`?"), ("frob", "3", "frob has no release 3."),
+    ("forb", "1.0", "Nobody holds forb.")])
+def test_a_release_is_shown_before_it_is_yanked(run, name, release, said):
+    has(run, "frob", *FROB)
+    run("release", "yank", name, release)
+    assert run.shown == [said]

@@ -1,0 +1,119 @@
+"""What a page has of a project, the order of its releases, and what was meant by a slip."""
+from __future__ import annotations
+
+import itertools
+import json
+import random
+
+import pytest
+from indexctl import contents, near, terminal, versions
+from indexctl.ends import WRONG, Stop
+from support.indexctl.rows import FakeIndex, args, reply
+
+DIGEST = "ab" * 32
+ORDERED = ("strange_", "0.9", "1.0.dev1", "1.0a1.dev1", "1.0a1", "1.0b2", "1.0rc1", "1.0", "1.0+abc", "1.0+5",
+           "1.0.post1.dev1", "1.0.post1", "1.1.dev1", "1.2", "1.10", "2021.1", "1!0.1")
+
+
+def page(*files, **more):
+    return reply(200, json.dumps({"files": files, **more}).encode(), Content_Type="application/json")
+
+
+def file(name, **more):
+    return {"filename": name, "url": "x", "size": 3, "hashes": {"sha256": DIGEST}, **more}
+
+
+def test_a_file_has_what_the_page_says_of_it():
+    index = FakeIndex(page(file("frob-1.0RC1.tar.gz", yanked="old", **{"requires-python": ">=3.8"})))
+    assert contents.find_contents(index, "Frob") == [
+        contents.FileRow("frob-1.0RC1.tar.gz", "1.0rc1", 3, ">=3.8", "old", DIGEST)]
+    assert index.asked[0].path == "/simple/frob/"
+
+
+@pytest.mark.parametrize("given, yanked, text", [({}, None, ""), ({"yanked": True}, "", "yes"),
+                                                 ({"yanked": False}, None, ""), ({"yanked": "x"}, "x", "x")])
+def test_a_yank_has_a_reason_or_none(given, yanked, text):
+    row = contents.file_row(file("frob-1.0.tar.gz", **given))
+    assert row.yanked == yanked and contents.yanked_text(row) == text
+
+
+@pytest.mark.parametrize("given", [{"size": "3"}, {"size": -1}, {"hashes": []}, {"hashes": {}}, {"requires-python": 3},
+                                   {"hashes": {"sha256": 1}}])
+def test_what_is_not_of_its_kind_is_left_out(given):
+    row = contents.file_row({**file("x.exe"), **given})
+    digest = "" if "hashes" in given else DIGEST
+    assert row == contents.FileRow("x.exe", "", 0 if "size" in given else 3, "", None, digest)
+
+
+def test_a_name_that_nobody_holds_has_no_files():
+    assert contents.find_contents(FakeIndex(reply(404, b'{"name": "NoProject"}')), "x") is None
+
+
+def test_a_page_may_be_asked_for_fresh():
+    index = FakeIndex(page(), page())
+    for is_fresh in (False, True):
+        contents.find_contents(index, "x", is_fresh)
+    assert ["fresh" in dict(it.headers)["Accept"] for it in index.asked] == [False, True]
+
+
+def test_the_newest_release_comes_first_and_its_files_by_their_names():
+    names = "frob-1.9.tar.gz", "frob-1.10.tar.gz", "frob-1.10-py3-none-any.whl", "frob-1.10rc1.tar.gz"
+    rows = contents.find_contents(FakeIndex(page(*map(file, names))), "frob")
+    assert [it.file for it in rows] == ["frob-1.10-py3-none-any.whl", "frob-1.10.tar.gz", "frob-1.10rc1.tar.gz",
+                                        "frob-1.9.tar.gz"]
+    assert [(it.release, it.size, len(it.files)) for it in contents.releases_of("frob", rows)] == [
+        ("1.10", 6, 2), ("1.10rc1", 3, 1), ("1.9", 3, 1)]
+
+
+def test_releases_are_ordered_by_pep_440():
+    mixed = list(ORDERED)
+    random.Random(7).shuffle(mixed)
+    assert sorted(mixed, key=versions.order) == list(ORDERED)
+
+
+def test_releases_are_ordered_as_installers_do(looked):
+    packaging = pytest.importorskip("packaging.version", reason="python3-packaging")
+    real = [it for it in ORDERED if it != "strange_"]
+    for one, other in itertools.combinations(real, 2):
+        looked(packaging.Version(one) < packaging.Version(other), one, other)
+
+
+@pytest.mark.parametrize("one, other", [("abc", "ab"), ("ab", "abc"), ("abc", "axc"), ("abc", "acb"), ("abc", "xabc"),
+                                        ("amber-cahce", "amber-cache"), ("abc", "bac"), ("abc", "abcd")])
+def test_a_slip_is_one_letter(one, other):
+    assert near.is_near(one, other)
+
+
+@pytest.mark.parametrize("one, other", [("abc", "abc"), ("abc", "cba"), ("abc", "a"), ("abcd", "badc"), ("abc", "xyz"),
+                                        ("ab", "bxa")])
+def test_more_than_one_letter_is_another_name(one, other):
+    assert not near.is_near(one, other)
+
+
+def test_a_name_without_its_separators_is_meant_too():
+    assert near.near("amberclient", ["amber-client", "amber-clients", "amberclient"]) == ["amber-client"]
+
+
+@pytest.mark.parametrize("projects, said", [
+    (["frob", "spam"], "Nobody holds forb. Did you mean `frob`?"),
+    (["fora", "forc", "ford", "fore"], "Nobody holds forb. Did you mean `fora` or `forc` or `ford`?"),
+    (["spam"], "Nobody holds forb. `indexctl names` lists all names.")])
+def test_a_name_that_nobody_holds_names_those_near_it(projects, said):
+    listed = reply(200, json.dumps({"projects": [{"name": it} for it in projects]}).encode())
+    assert near.not_held(FakeIndex(listed), "forb") == said
+
+
+def test_several_indexes_without_a_list_name_none():
+    assert near.not_held(FakeIndex(reply(404, b'{"name": "NoIndexName"}')), "x").startswith("Nobody holds x. `indexctl")
+
+
+@pytest.mark.parametrize("is_terminal", [True, False])
+def test_a_person_alone_is_asked(monkeypatch, is_terminal):
+    monkeypatch.setattr(terminal.sys.stdin, "isatty", lambda: is_terminal, raising=False)
+    monkeypatch.setattr("builtins.input", lambda _: "no")
+    if not is_terminal:
+        terminal.confirm_on_terminal(args(), "It goes.")
+        return
+    with pytest.raises(Stop, match="Nothing was done") as end:
+        terminal.confirm_on_terminal(args(), "It goes.")
+    assert end.value.status == WRONG
