@@ -46,6 +46,11 @@ def test_other_spellings_are_the_same_file(uncache):
     assert_ends(ended, 0, f"removed /files/frob/{OTHERS[0]}\n")
 
 
+def test_an_address_alone_is_enough(cached, uncache):
+    assert_ends(uncache(BANNED), 0, f"removed {BANNED}\n")
+    assert_reply(cached.ask("GET", BANNED), 404, None, b"NoFile")
+
+
 def test_all_files_of_a_project_go_at_once(cached, uncache):
     for file in OTHERS[1:]:
         accepted(cached.request(do="ban_file", file=file))

@@ -164,12 +164,23 @@ def test_a_key_stands_at_the_head_of_a_file_and_is_where_nginx_has_it(tmp_path):
 
 @pytest.mark.parametrize("words, gone", [
     (["frob", "frob-1.0+x.tar.gz"], KEYS[:1]), (["FROB", "FROB_1.0+x.tar.gz"], KEYS[:1]),
-    (["frob", "https://x/files/frob/frob-1.0%2Bx.tar.gz"], KEYS[:1]), (["Frob"], KEYS[:2])])
+    (["frob", "https://x/files/frob/frob-1.0%2Bx.tar.gz"], KEYS[:1]), (["Frob"], KEYS[:2]),
+    (["/files/frob/frob-1.0+x.tar.gz"], KEYS[:1]), (["files/Frob/FROB-1.0%2Bx.tar.gz"], KEYS[:1]),
+    (["https://x/files/frob/frob-1.0%2Bx.tar.gz#sha256=12"], KEYS[:1])])
 def test_a_file_or_all_of_a_project_are_taken_out(tmp_path, monkeypatch, capsys, words, gone):
     cache = Cache(tmp_path, *KEYS)
     status, out, err = ends(UNCACHE, monkeypatch, capsys, *words, "--cache", f"{tmp_path}/")
     assert (status, err, cache.left()) == (0, "", set(KEYS) - set(gone))
     assert sorted(out.splitlines()) == sorted(f"removed {it}" for it in gone)
+
+
+@pytest.mark.parametrize("words", [["/files/frob/"], ["/files/frob"], ["https://x/simple/frob/"], ["frob/"],
+                                   ["/files/frob/frob-1.0+x.tar.gz", "frob-1.0+x.tar.gz"]])
+def test_an_address_of_no_file_is_a_wrong_command(tmp_path, monkeypatch, capsys, words):
+    cache = Cache(tmp_path, *KEYS)
+    status, out, err = ends(UNCACHE, monkeypatch, capsys, *words, "--cache", tmp_path)
+    assert (status, out, cache.left()) == (2, "", set(KEYS))
+    assert err == f"index-uncache: {words[0]}: no name of a project, and no address of a file such as /files/NAME/FILE\n"
 
 
 def test_a_file_that_is_found_by_its_place_is_not_looked_for(tmp_path, monkeypatch, capsys):
