@@ -180,7 +180,8 @@ def test_an_address_of_no_file_is_a_wrong_command(tmp_path, monkeypatch, capsys,
     cache = Cache(tmp_path, *KEYS)
     status, out, err = ends(UNCACHE, monkeypatch, capsys, *words, "--cache", tmp_path)
     assert (status, out, cache.left()) == (2, "", set(KEYS))
-    assert err == f"index-uncache: {words[0]}: no name of a project, and no address of a file such as /files/NAME/FILE\n"
+    reason = "no name of a project, and no address of a file such as /files/NAME/FILE"
+    assert err == f"index-uncache: {words[0]}: {reason}\n"
 
 
 def test_a_file_that_is_found_by_its_place_is_not_looked_for(tmp_path, monkeypatch, capsys):
