@@ -1,9 +1,10 @@
 """PyPI beside the index: a project of ours never comes from elsewhere, and one that nobody holds does."""
 import pytest
+from support.server.compressed import differences, unpacked
 from support.server.expected import assert_reply
 from support.server.front import Front
 from support.server.stranger import Stranger
-from support.serving import accepted
+from support.serving import JSON_PAGE, accepted
 
 
 @pytest.fixture
@@ -23,6 +24,20 @@ def test_a_name_that_we_hold_is_ours_alone(beside):
     page = beside.ask("GET", "/simple/frob/")
     assert_reply(page, 200, None, b"frob-1.0")
     assert b"99.0" not in page[2]
+
+
+@pytest.mark.parametrize("said", ["gzip", "identity"])
+def test_a_page_of_ours_comes_in_the_form_that_was_asked_for(said, beside, kept_index):
+    asked = {"Accept": JSON_PAGE, "Accept_Encoding": said}
+    of_index = kept_index.ask("GET", "/simple/frob/", **asked)
+    assert [*differences(beside.ask("GET", "/simple/frob/", **asked), of_index, said)] == []
+
+
+@pytest.mark.parametrize("said", ["gzip", "identity"])
+def test_a_page_of_pypi_comes_whole(said, beside):
+    for _ in range(2):
+        page = beside.ask("GET", "/simple/other/", Accept=JSON_PAGE, Accept_Encoding=said)
+        assert (page[0], b"a stranger's" in unpacked(page)) == (200, True), page
 
 
 def test_no_other_path_leads_to_pypi(beside):

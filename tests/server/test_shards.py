@@ -3,9 +3,10 @@ import json
 from contextlib import ExitStack
 
 import pytest
+from support.server.compressed import differences
 from support.server.expected import assert_reply
 from support.server.front import Front
-from support.serving import Index, accepted
+from support.serving import JSON_PAGE, Index, accepted
 
 # a name of each index as its owner writes it, the letters at the bounds, and figures
 NAMES = {"Frob": 0, "Ham": 1, "X-ray": 2, "frob": 0, "ham": 1, "x-ray": 2, "0ad": 0, "9base": 0, "Arc": 0, "F": 0,
@@ -37,6 +38,17 @@ def test_a_name_is_on_its_index_with_its_page_and_files(name, indexes, shards):
     accepted(shards.upload(normal, f"{normal}-1.0.tar.gz", name.encode()))
     assert_reply(shards.ask("GET", f"/simple/{normal}/"), 200, "text/html", b"-1.0.tar.gz")
     assert_reply(shards.ask("GET", f"/files/{normal}/{normal}-1.0.tar.gz"), 200, None, name.encode())
+
+
+def test_a_page_comes_compressed_from_its_index(indexes, shards, looked):
+    for name in ("frob", "ham", "x-ray"):
+        accepted(claim(shards, name))
+        accepted(shards.upload(name, f"{name}-1.0.tar.gz", name.encode()))
+        for said in ("gzip", "identity"):
+            asked = {"Accept": JSON_PAGE, "Accept_Encoding": said}
+            of_index = indexes[NAMES[name]].ask("GET", f"/simple/{name}/", **asked)
+            found = [*differences(shards.ask("GET", f"/simple/{name}/", **asked), of_index, said)]
+            looked(of_index[0] == 200 and not found, name, said, found)
 
 
 def test_each_first_letter_in_both_cases_leads_to_its_index(indexes, shards, looked):

@@ -118,14 +118,16 @@ class Front(Nginx, Asking):
         self.trust = ssl.create_default_context(cafile=certificate)
         for inner in ("index/server.d", "cache"):
             os.makedirs(f"{folder}/{inner}")
-        self.put("conf.d/packages.conf", kept("packages.conf"), **{
+        self.compressing = free_port()
+        compressing = {"127.0.0.1:8079": f"127.0.0.1:{self.compressing}"}
+        self.put("conf.d/packages.conf", kept("packages.conf"), **compressing, **{
             "listen 443 ssl;": f"listen 127.0.0.1:{self.port}{'' if is_plain else ' ssl'};",
             "listen [::]:443 ssl;": f"listen [::1]:{self.port} ssl;" if has_ipv6() and not is_plain else "",
             "/etc/ssl/packages.example.pem": certificate, "/var/cache/nginx/": f"{folder}/cache/",
             # a machine that tries this may have less room
             "/var/log/nginx/": f"{folder}/", "min_free=2g": "min_free=16m",
             "/etc/ssl/packages.example.key": f"{os.path.dirname(certificate)}/key"})
-        self.put("index/pages.conf", kept("pages.conf"))
+        self.put("index/kept-pages.conf", kept("kept-pages.conf"), **compressing)
         ports = {f"127.0.0.1:{8080 + at}": it if isinstance(it, str) else f"127.0.0.1:{it}"
                  for at, it in enumerate(behind)}
         self.put("index/indexes.conf", kept("one-index.conf" if len(behind) == 1 else "shards.conf"), **ports)

@@ -81,7 +81,7 @@ def make_newer(package: str, folder: str) -> str:
     run_command(["dpkg-deb", "--raw-extract", package, top])
     for path, old, new in (("DEBIAN/control", "Version: 1\n", "Version: 2\n"),
                            ("etc/nginx/index/indexes.conf", "", "# of the next version\n"),
-                           ("etc/nginx/index/pages.conf", "", "# of the next version\n")):
+                           ("etc/nginx/index/kept-pages.conf", "", "# of the next version\n")):
         with open(f"{top}/{path}") as kept:
             text = kept.read()
         with open(f"{top}/{path}", "w") as made:
@@ -160,7 +160,7 @@ class Life:
         words = block('apt-get install "$new"').replace("install", "install --yes")
         seen["apt"], seen["version"] = root.sh(f"new={self.newer}\n{words}"), self.version()
         seen["held"] = self.held()
-        seen["conf"] = root.sh("tail -n 1 /etc/nginx/index/indexes.conf /etc/nginx/index/pages.conf").stdout
+        seen["conf"] = root.sh("tail -n 1 /etc/nginx/index/indexes.conf /etc/nginx/index/kept-pages.conf").stdout
         seen["after"] = self.apply(do="claim", name="after")
         words = block("apt-get install --allow-downgrades").replace("./package-index_OLD_amd64.deb", self.first)
         seen["back"], seen["old version"] = root.sh(words.replace("install", "install --yes")), self.version()
