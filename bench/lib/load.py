@@ -28,10 +28,11 @@ def version() -> str:
     return f"wrk {found[1] if found else 'unknown'} with {CONNECTIONS} connections"
 
 
-def rate(url: str, seconds: int) -> float:
-    """The requests a second at this address. The run ends if one of them failed."""
+def rate(url: str, seconds: int, encoding: str = "identity") -> float:
+    """The requests a second at this address, in this encoding. The run ends if one of them failed."""
     words = ["wrk", "-t", "1", "-c", str(CONNECTIONS), "-d", f"{seconds}s", "-H", "Connection: close"]
-    output = output_of([*words, "-H", f"Accept: {JSON_PAGE}", url], seconds)
+    words += ["-H", f"Accept: {JSON_PAGE}", "-H", f"Accept-Encoding: {encoding}"]
+    output = output_of([*words, url], seconds)
     found = re.search(r"Requests/sec:\s+([\d.]+)", output)
     if FAILED.search(output) or not found:
         raise SystemExit(f"bench: requests failed:\n{output}")

@@ -1,4 +1,5 @@
 """What bench and bench-behind-nginx share: what is installed here, and bytes that all servers have to give."""
+import gzip
 import os
 import subprocess
 import urllib.request
@@ -18,15 +19,17 @@ def first_line_of(*words):
     return ended.stdout.splitlines()[0].strip() if ended.stdout else "unknown"
 
 
-def fetched(url):
-    """The bytes at an address, past any proxy."""
-    request = urllib.request.Request(url, headers={"Accept": JSON_PAGE})
+def fetched(url, encoding="identity"):
+    """The bytes at an address, past any proxy. The run ends if they do not come in this encoding."""
+    request = urllib.request.Request(url, headers={"Accept": JSON_PAGE, "Accept-Encoding": encoding})
     with urllib.request.build_opener(urllib.request.ProxyHandler({})).open(request, timeout=30) as reply:
-        return reply.read()
+        if reply.headers.get("Content-Encoding", "identity") != encoding:
+            raise SystemExit(f"{url} does not come as {encoding}: {reply.headers}")
+        return gzip.decompress(reply.read()) if encoding == "gzip" else reply.read()
 
 
-def check_same(addresses, wanted):
+def check_same(addresses, wanted, encoding="identity"):
     """Ends the run if one of these addresses, by name, gives other bytes."""
     for name, url in addresses.items():
-        if fetched(url) != wanted:
+        if fetched(url, encoding) != wanted:
             raise SystemExit(f"the bytes of {name} at {url} are not those of the index")
