@@ -3,6 +3,7 @@ from __future__ import annotations
 
 import argparse
 import secrets
+from dataclasses import dataclass
 from typing import List, Optional, Tuple
 
 from indexctl.changes import Desk, Row
@@ -78,7 +79,8 @@ def user_lock(args: argparse.Namespace) -> int:
          YES)
 def user_leave(args: argparse.Namespace) -> int:
     """Only an owner may change owners. So the office gives the user a token that this program alone knows, and acts as
-    the user; nobody knows the token afterwards. An owner's act ends an open case of a name, so those end too."""
+    the user; nobody knows the token afterwards. An owner's act ends an open case of a name, so those end too. The cases
+    that the user has opened are closed: a name must not pass to who has left."""
     check_users(args.user, *([args.to] if args.to else []))
     if args.to == args.user:
         raise Stop(WRONG, f"{args.user} leaves, and can't own the names from then on. Name another user by --to.")
@@ -86,31 +88,45 @@ def user_leave(args: argparse.Namespace) -> int:
     for user in (args.user, args.to):
         if user and not desk.is_user(user):
             raise Stop(REFUSED, f"There is no user {user}. Is the id spelled right? Nothing was done.")
-    names = names_of(desk, args.user)
-    alone = [it.name for it in names if len(it.owners) == 1]
+    leaving = find_leaving(desk, args.user)
+    alone = [it.name for it in leaving.owned if len(it.owners) == 1]
     if alone and not args.to:
         raise Stop(WRONG, f"{args.user} is the only owner of {', '.join(alone)}. Name another user by --to. Nothing "
                           "was done.")
-    cases = [it.name for it in names if it.case]
-    confirm(args, f"{args.user} will be locked, and taken off: {', '.join(it.name for it in names) or 'no name'}."
-            + (f" The open cases of {', '.join(cases)} will end." if cases else ""))
+    names, cases = [it.name for it in leaving.owned], [it.name for it in leaving.owned if it.case]
+    confirm(args, f"{args.user} will be locked, and taken off: {', '.join(names) or 'no name'}."
+            + (f" The open cases of {', '.join(cases)} will end." if cases else "")
+            + (f" The cases that {args.user} opened, of {', '.join(leaving.asked)}, will be closed."
+               if leaving.asked else ""))
     with told_if_interrupted(lambda: f"{args.user} may own names still. Run it again, to the end."):
         lock_and_pass_on(desk, args.user, args.to)
     return desk.status()
 
 
-def names_of(desk: Desk, user: str) -> List[Standing]:
-    """The names that this user owns now, by a list that nobody has cached."""
-    return [it for it in held_names(desk.index, is_fresh=True) if user in it.owners]
+@dataclass(frozen=True)
+class Leaving:
+    """The names that a user owns, and those on which the user has opened a case."""
+    owned: List[Standing]
+    asked: List[str]
+
+
+def find_leaving(desk: Desk, user: str) -> Leaving:
+    """What is the user's now, by a list that nobody has cached."""
+    names = held_names(desk.index, is_fresh=True)
+    return Leaving([it for it in names if user in it.owners],
+                   [it.name for it in names if it.case and it.case.candidate == user])
 
 
 def lock_and_pass_on(desk: Desk, user: str, heir: Optional[str]) -> None:
     """Locks the user, and takes the user off each name. The names are listed after the lock: before it the user, and
-    who has the user's token, may claim one more."""
+    who has the user's token, may claim one more, or open a case."""
     token = secrets.token_hex(32)
     if desk.change(f"user {user}: lock", do="set_token", user=user, token_sha256=sha256(token)):
-        for found in names_of(desk, user):
+        leaving = find_leaving(desk, user)
+        for found in leaving.owned:
             pass_on(desk, found, user, heir, token)
+        for name in leaving.asked:
+            desk.change(f"case of {name}: close", do="close_case", name=name)
 
 
 def pass_on(desk: Desk, found: Standing, user: str, heir: Optional[str], token: str) -> None:

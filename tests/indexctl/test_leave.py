@@ -2,7 +2,7 @@
 from __future__ import annotations
 
 import pytest
-from support.indexctl.control import Control, assert_ends, filled, rows_of, user_lines
+from support.indexctl.control import Control, assert_ends, filled, line, rows_of, user_lines
 from support.serving import Index
 
 pytestmark = pytest.mark.xdist_group("leave")
@@ -21,3 +21,15 @@ def test_a_name_claimed_a_moment_ago_is_passed_on(program, open_folder, certific
                 assert_ends(by.run("name", "claim", f"of-{user}", caller=user), 0)
                 assert_ends(by.run("user", "leave", user, "--to", "bob", "--yes"), 0, f"of-{user}: remove owner {user}")
     assert rows_of(path, "SELECT name, user FROM owners ORDER BY name") == [(f"of-{it}", "bob") for it in USERS]
+
+
+def test_a_name_does_not_pass_to_who_has_left(program, folder):
+    texts = {"kind": "reuse", "contact": "a", "work": "b", "why": "c"}
+    path = filled(program, f"{folder}/cases.db", [
+        *user_lines("ann", "bob", "eve"), *(line(1, "ann", "claim", name=it) for it in ("frob", "spam")),
+        line(2, "eve", "open_case", name="frob", **texts), line(2, "bob", "open_case", name="spam", **texts)])
+    with Index(program, path=path) as index:
+        by = Control(folder, f"http://127.0.0.1:{index.port}")
+        assert_ends(by.run("user", "leave", "eve"), 2, "The cases that eve opened, of frob, will be closed")
+        assert_ends(by.run("user", "leave", "eve", "--yes"), 0, "case of frob: close: accepted")
+    assert rows_of(path, "SELECT name, candidate FROM cases") == [("spam", "bob")]

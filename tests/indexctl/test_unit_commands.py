@@ -229,6 +229,17 @@ def test_a_name_that_was_claimed_until_the_lock_is_passed_on(run):
         ("add_owner", "early"), ("remove_owner", "early"), ("add_owner", "late"), ("remove_owner", "late")]
 
 
+def test_the_cases_of_a_user_who_leaves_are_closed(run):
+    run.names = [held("mine", owners=["bob", "eve"]), held("asked", case=case_of(candidate="bob")),
+                 held("other", case=case_of(candidate="eve"))]
+    rows = run.asked("user", "leave", "bob")
+    assert [(row["do"], row.get("name")) for row in rows] == [("set_token", None), ("remove_owner", "mine"),
+                                                              ("close_case", "asked")]
+    assert "token" not in rows[2], "the office closes it"
+    assert run.confirmed == ["bob will be locked, and taken off: mine. The cases that bob opened, of asked, will be "
+                             "closed."]
+
+
 @pytest.fixture(params=["SIGINT", "SIGHUP", "SIGTERM"])
 def end(request):
     """A signal, of which the handler before a command fails a test instead of ending it."""
