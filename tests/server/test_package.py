@@ -120,8 +120,16 @@ def test_apt_installs_it(life):
     assert_ends(life.installed["apt"], 0, "Setting up package-index (1)")
 
 
-def test_the_database_is_kept_from_others(life):
+def test_the_database_is_kept_from_others_and_is_the_indexs_also_on_a_disk_of_its_own(life):
     assert life.installed["modes"].stdout.split() == ["index", "700", "root", "700", "755"]
+
+
+def test_the_log_of_changes_is_kept_from_others_from_its_first_line(life):
+    assert life.installed["log"] == "www-data adm 640\n"
+
+
+def test_an_upgrade_takes_a_log_of_changes_from_others(life):
+    assert life.upgraded["log"] == "root root 640\n"
 
 
 def test_an_index_is_made_as_the_page_says(life):
@@ -176,6 +184,11 @@ def test_without_a_package_nothing_is_checked(life):
 def test_an_upgrade_has_what_was_there(life):
     assert_ends(life.upgraded["apt"], 0)
     assert life.upgraded["version"] == "2" and "before" in life.upgraded["held"]
+
+
+def test_an_upgrade_restarts_each_service_that_runs(life):
+    restarted = re.findall(r"^systemctl try-restart (.*)", life.upgraded["asked"], re.M)
+    assert restarted == ["index.service index@*.service index-legacy-upload.service"], life.upgraded["asked"]
 
 
 def test_a_file_that_a_person_changed_stays_and_another_is_new(life):
@@ -235,6 +248,10 @@ def test_the_database_the_copies_and_the_user_stay_after_a_purge(life):
     assert_ends(life.removed["purge"], 0, "/var/lib/index with the database")
     left = life.removed["left"]
     assert (left[0], left[-1]) == ("/var/lib/index/index.db", "index") and left[1] != "0"
+
+
+def test_a_purge_names_the_file_with_which_nginx_does_not_start_again(life):
+    assert_ends(life.removed["purge"], 0, "remove /etc/nginx/conf.d/packages.conf too: nginx does not start again")
 
 
 def test_the_commands_that_make_a_package_are_named_if_they_are_missing(tmp_path, monkeypatch):

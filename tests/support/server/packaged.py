@@ -25,6 +25,8 @@ if [ "$1" = start ] && grep -qs Type=oneshot "/lib/systemd/system/$2"; then
     eval "$(sed -n 's/^ExecStart=//p' "/lib/systemd/system/$2")"
 fi
 """
+# where nginx writes down what was changed
+CHANGES = "/var/log/nginx/index-changes.log"
 # of the program, and of its command line before any
 WORDS = ("", "init", "serve", "apply", "report", "check")
 MOUNTS = """set -e
@@ -107,9 +109,13 @@ class Life:
         root.put("/etc/dpkg/dpkg.cfg.d/zz-test", "force-confold\nforce-unsafe-io\n")
         # else the index of all man pages of this machine is made each time
         root.sh("rm -f /var/lib/man-db/auto-update")
+        # the database has a disk of its own, and nginx has no log of changes yet
+        root.sh("mkdir -p /var/lib/index && mount -t tmpfs -o mode=755,size=200m none /var/lib/index; "
+                f"rm -f {CHANGES}")
         words = block("apt-get install ./package-index_").replace("./package-index_*_amd64.deb", self.first)
         seen = {"apt": root.sh(words.replace("install", "install --yes --no-install-recommends"))}
         seen["modes"] = root.sh("stat -c '%U %a' /var/lib/index /var/backups/index && stat -c %a /var/cache/nginx")
+        seen["log"] = root.sh(f"stat -c '%U %G %a' {CHANGES}").stdout
         made = block("office=$(openssl rand -hex 32); echo \"$office\"\nrunuser")
         seen["init"] = root.sh(made + "printf %s $office > /office")
         with open(self.certificate) as kept, open(f"{os.path.dirname(self.certificate)}/key") as key:
@@ -158,7 +164,12 @@ class Life:
         seen["left"] = root.sh("ls /var/backups/index").stdout.split()
         seen["torn"] = root.sh(tries.replace("./package-index_NEW_amd64.deb", "/none.deb"))
         words = block('apt-get install "$new"').replace("install", "install --yes")
+        # as nginx made it before there was a package; and systemd runs (apt looks for commands in fewer places)
+        root.sh(f"chown root:root {CHANGES}; chmod 644 {CHANGES}; rm -f /systemctl.log; mkdir -p /run/systemd/system; "
+                "cp /usr/local/bin/systemctl /usr/bin/systemctl")
         seen["apt"], seen["version"] = root.sh(f"new={self.newer}\n{words}"), self.version()
+        seen["asked"] = root.sh("cat /systemctl.log; rmdir /run/systemd/system").stdout
+        seen["log"] = root.sh(f"stat -c '%U %G %a' {CHANGES}").stdout
         seen["held"] = self.held()
         seen["conf"] = root.sh("tail -n 1 /etc/nginx/index/indexes.conf /etc/nginx/index/kept-pages.conf").stdout
         seen["after"] = self.apply(do="claim", name="after")
@@ -211,8 +222,7 @@ class Life:
         there = "ls /usr/bin/index /lib/systemd/system/index.service /etc/nginx/index/indexes.conf 2> /dev/null"
         listed = "cd /lib/systemd/system; grep -l '^\\[Install' index*.service index*.timer | grep -v @"
         seen = {"units": root.sh(listed).stdout.split()}
-        # (apt looks for commands in fewer places)
-        root.sh("mkdir -p /run/systemd/system; rm /systemctl.log; cp $(command -v systemctl) /usr/bin/systemctl")
+        root.sh("mkdir -p /run/systemd/system; rm /systemctl.log")
         seen["remove"] = root.sh("apt-get remove --yes package-index")
         log = root.sh("cat /systemctl.log").stdout
         for what in ("stop", "disable"):
