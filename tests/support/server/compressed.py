@@ -53,7 +53,7 @@ def differences(reply: tuple, of_index: tuple, accept_encoding: str) -> Iterator
 
 class FailingIndex(InThread):
     """Stands for an index that gives a page to each path, or fails as `fault` says: `status` answers 500, and `cut`
-    ends each connection within the page."""
+    ends each connection within the page. A POST is told the length of its body."""
     PAGE = b'{"files":[' + b'{"filename":"frob-1.0.tar.gz"},' * 3000 + b"]}"
     FAULT = b'{"answer":"fault","name":"Store"}'
 
@@ -69,6 +69,12 @@ class FailingIndex(InThread):
                 self.send_header("Content-Length", str(len(body)))
                 self.end_headers()
                 self.wfile.write(body[:len(body) // 2] if failing.fault == "cut" else body)
+
+            def do_POST(self) -> None:
+                read = self.rfile.read(int(self.headers["Content-Length"]))
+                self.send_response_only(405)
+                self.end_headers()
+                self.wfile.write(b"%d" % len(read))
 
             def log_message(self, *_: object) -> None:
                 pass
