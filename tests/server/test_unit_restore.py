@@ -11,6 +11,7 @@ import threading
 import types
 
 import pytest
+from support.library import changes, database, exchange
 from support.library import ends as library_ends
 from support.programs import program_of
 from support.unit import calls, ends, raises, with_time
@@ -194,32 +195,66 @@ def test_pypi_is_taken_off_and_put_back_by_who_took_it_off(tmp_path, monkeypatch
 
 def test_an_exchange_keeps_all_old_files_and_takes_the_database_first(tmp_path, monkeypatch):
     db, order = str(tmp_path / "index.db"), []
-    for end in RESTORE.ENDS:
+    for end in database.ENDS:
         with open(db + end, "w") as made:
             made.write(f"old{end}")
     (tmp_path / "made").write_text("new")
     for name in ("mkdir", "link", "remove", "rename"):
         real = getattr(os, name)
-        monkeypatch.setattr(RESTORE.os, name,
+        monkeypatch.setattr(exchange.os, name,
                             lambda *it, name=name, real=real: (order.append((name, it[0])), real(*it)))
-    monkeypatch.setattr(RESTORE, "sync", lambda path: order.append(("sync", path)))
-    RESTORE.exchange(db, str(tmp_path / "made"), str(tmp_path / "aside"))
+    monkeypatch.setattr(exchange, "sync", lambda path: order.append(("sync", path)))
+    exchange.exchange(db, str(tmp_path / "made"), str(tmp_path / "aside"), "of a copy")
     aside = str(tmp_path / "aside")
-    assert order == [("mkdir", aside), *(("link", db + it) for it in RESTORE.ENDS), ("sync", aside),
-                     *(("remove", db + it) for it in RESTORE.ENDS), ("rename", str(tmp_path / "made")),
-                     ("sync", str(tmp_path))]
+    assert order == [("mkdir", aside), ("sync", f"{aside}/unfinished"), *(("link", db + it) for it in database.ENDS),
+                     ("sync", aside), *(("remove", db + it) for it in database.ENDS),
+                     ("rename", str(tmp_path / "made"))]
+    assert (tmp_path / "aside" / "unfinished").read_text() == "of a copy"
     assert (tmp_path / "index.db").read_text() == "new" and not os.path.exists(f"{db}-wal")
-    assert [(tmp_path / "aside" / f"index.db{it}").read_text() for it in RESTORE.ENDS] == [
-        f"old{it}" for it in RESTORE.ENDS]
+    assert [(tmp_path / "aside" / f"index.db{it}").read_text() for it in database.ENDS] == [
+        f"old{it}" for it in database.ENDS]
     assert (tmp_path / "aside").stat().st_mode & 0o777 == 0o700
 
 
 def test_an_exchange_that_fails_at_first_changes_nothing(tmp_path, monkeypatch):
     (tmp_path / "index.db").write_text("old")
-    monkeypatch.setattr(RESTORE, "sync", raises(OSError("full")))
+    monkeypatch.setattr(exchange, "sync", raises(OSError("full")))
     with pytest.raises(OSError, match="full"):
-        RESTORE.exchange(str(tmp_path / "index.db"), str(tmp_path / "made"), str(tmp_path / "aside"))
+        exchange.exchange(str(tmp_path / "index.db"), str(tmp_path / "made"), str(tmp_path / "aside"), "")
     assert os.listdir(tmp_path) == ["index.db"] and os.stat(tmp_path / "index.db").st_nlink == 1
+
+
+@pytest.mark.parametrize("gone", range(5))
+def test_names_that_were_taken_away_come_back_and_the_database_last(tmp_path, monkeypatch, gone):
+    db, aside, order, link = str(tmp_path / "index.db"), tmp_path / "aside", [], os.link
+    aside.mkdir()
+    for at, end in enumerate(database.ENDS):
+        (aside / f"index.db{end}").write_text(f"old{end}")
+        if at >= gone:
+            os.link(aside / f"index.db{end}", db + end)
+    monkeypatch.setattr(exchange.os, "link", lambda *it: (order.append(it[1]), link(*it)))
+    assert exchange.put_names_back(db, str(aside))
+    assert order == [db + it for it in reversed(database.ENDS[:gone])] and not aside.exists()
+    for end in database.ENDS:
+        with open(db + end) as kept:
+            assert kept.read() == f"old{end}" and os.stat(db + end).st_nlink == 1
+
+
+def test_no_name_comes_back_beside_another_database(tmp_path):
+    aside = tmp_path / "aside"
+    aside.mkdir()
+    for path in (tmp_path / "index.db", aside / "index.db", aside / "index.db-wal"):
+        path.write_text("")
+    assert not exchange.put_names_back(str(tmp_path / "index.db"), str(aside))
+    assert sorted(os.listdir(tmp_path)) == ["aside", "index.db"] and len(os.listdir(aside)) == 2
+
+
+def test_only_one_is_at_work_in_a_folder_and_the_next_when_it_ended(tmp_path):
+    for _ in range(2):
+        with exchange.alone(str(tmp_path), "it"):
+            with pytest.raises(Refused, match=f"{tmp_path}: another it is at work there"):
+                with exchange.alone(str(tmp_path), "it"):
+                    pass
 
 
 def test_a_cache_is_emptied_of_what_nginx_keeps_and_of_nothing_else(tmp_path):
@@ -303,7 +338,7 @@ def test_the_moment_of_a_copy_is_that_of_its_name_or_of_its_last_write(tmp_path)
     ('{"time":"2026-01-02T03:04:04+00:00"}', False), ('{"body":"no time"}', True), ("no JSON", True), ("[1]", True),
     ('{"at":"2026-01-01T00:00:00"}', True)])
 def test_a_change_counts_from_the_second_of_the_copy_on_and_without_a_time_too(line, is_since):
-    assert RESTORE.is_since(line, datetime.datetime(2026, 1, 2, 3, 4, 5, tzinfo=UTC)) is is_since
+    assert changes.is_since(line, datetime.datetime(2026, 1, 2, 3, 4, 5, tzinfo=UTC)) is is_since
 
 
 def test_changes_come_oldest_first_from_rotated_logs(tmp_path):
@@ -317,16 +352,16 @@ def test_changes_come_oldest_first_from_rotated_logs(tmp_path):
     (tmp_path / "changes.log.folder").mkdir()
     (tmp_path / "other.log").write_text("{}\n")
     since = datetime.datetime.fromtimestamp(0, UTC)
-    said = RESTORE.changes_since(str(log), since, str(tmp_path / "made"))
+    said = changes.changes_since(str(log), since, str(tmp_path / "made"))
     made = [json.loads(it)["body"] for it in (tmp_path / "made").read_text().splitlines()]
     assert made == ["first", "\ufffd", "second", "third"]
     assert said == f"nginx passed on 4 of them. They are in {tmp_path}/made, oldest first."
     later = datetime.datetime(2026, 1, 1, 0, 0, 1, tzinfo=UTC)
-    assert "passed on 3 of" in RESTORE.changes_since(str(log), later, str(tmp_path / "made"))
+    assert "passed on 3 of" in changes.changes_since(str(log), later, str(tmp_path / "made"))
 
 
 def test_no_log_of_changes_is_told(tmp_path):
-    said = RESTORE.changes_since(str(tmp_path / "none[1].log"), datetime.datetime.now(UTC), str(tmp_path / "made"))
+    said = changes.changes_since(str(tmp_path / "none[1].log"), datetime.datetime.now(UTC), str(tmp_path / "made"))
     assert said.startswith(f"There is no {tmp_path}/none[1].log. Look for POST") and not (tmp_path / "made").exists()
 
 
@@ -347,12 +382,18 @@ class World:
             "changes": str(tmp_path / "changes.log"), "with_pypi": str(tmp_path / "pypi.conf"), **changed})
         self.units = RESTORE.Units(["a.service"])
         monkeypatch.setattr(RESTORE, "run", lambda *it: self.order.append(" ".join(it)))
+        # (the signals of a test belong to pytest)
+        monkeypatch.setattr(RESTORE, "ignore_signals", lambda: self.order.append("ignore"))
         monkeypatch.setattr(RESTORE, "empty_cache", lambda it: self.order.append(f"empty {it}"))
         monkeypatch.setattr(RESTORE, "look_at_index", lambda *_: None)
         monkeypatch.setattr(RESTORE, "first_answer", lambda url, length: f"{url} {length}")
 
     def into_place(self):
-        return RESTORE.put_into_place(self.words, self.db, self.units, "now")
+        RESTORE.put_into_place(self.words, self.db, self.units, f"{self.folder}/restoring-now",
+                               f"{self.folder}/before-now")
+
+    def restored(self):
+        RESTORE.restore(self.words, self.db, self.units)
 
     def is_as_before(self):
         with open(self.db, "rb") as kept:
@@ -361,17 +402,21 @@ class World:
 
 def test_a_copy_is_tested_before_the_units_stop_and_caches_are_emptied_last(tmp_path, monkeypatch):
     world = World(tmp_path, monkeypatch)
-    assert world.into_place() == f"{world.folder}/before-now"
-    assert world.order == [f"{RESTORE.HERE}/index-verify {world.folder}/restoring-now/index.db",
-                           "systemctl stop a.service", "systemctl try-reload-or-restart nginx.service", "empty /c"]
-    assert sorted(os.listdir(world.folder)) == ["before-now", "index.db"]
-    assert not signal.pthread_sigmask(signal.SIG_BLOCK, []) & set(RESTORE.SIGNALS)
+    world.restored()
+    tested = world.order.pop(0)
+    assert tested.startswith(f"{RESTORE.HERE}/index-verify {world.folder}/restoring-")
+    assert world.order == ["systemctl stop a.service", "systemctl try-reload-or-restart nginx.service", "ignore",
+                           "empty /c", "systemctl start a.service"]
+    aside, = world.folder.glob("before-*")
+    assert sorted(os.listdir(world.folder)) == [aside.name, "index.db"]
+    assert sorted(os.listdir(aside)) == ["forgotten", "index.db", "index.db-wal"]
+    assert not signal.pthread_sigmask(signal.SIG_BLOCK, []) & set(library_ends.SIGNALS)
 
 
 def test_nobody_stops_a_restore_while_files_are_moved(tmp_path, monkeypatch):
-    world, seen = World(tmp_path, monkeypatch), []
+    world, seen, masked = World(tmp_path, monkeypatch), [], set(library_ends.SIGNALS)
     monkeypatch.setattr(RESTORE, "exchange",
-                        lambda *_: seen.append(signal.pthread_sigmask(signal.SIG_BLOCK, []) >= set(RESTORE.SIGNALS)))
+                        lambda *_: seen.append(signal.pthread_sigmask(signal.SIG_BLOCK, []) >= masked))
     world.into_place()
     assert seen == [True]
 
@@ -381,43 +426,54 @@ def test_an_exchange_that_fails_puts_pypi_back_and_leaves_no_copy(tmp_path, monk
     world = World(tmp_path, monkeypatch)
     monkeypatch.setattr(RESTORE, "exchange", raises(end))
     with pytest.raises(type(end)):
-        world.into_place()
+        world.restored()
     assert world.is_as_before() and (tmp_path / "pypi.conf").exists()
-    assert not signal.pthread_sigmask(signal.SIG_BLOCK, []) & set(RESTORE.SIGNALS)
+    assert not signal.pthread_sigmask(signal.SIG_BLOCK, []) & set(library_ends.SIGNALS)
 
 
 def test_a_copy_that_can_not_be_put_beside_is_told_and_stops_nothing(tmp_path, monkeypatch):
     world = World(tmp_path, monkeypatch)
     monkeypatch.setattr(RESTORE, "put_beside", raises(Refused("no such copy")))
     with pytest.raises(Refused, match="no such copy"):
-        world.into_place()
+        world.restored()
     assert world.is_as_before() and not world.order and not world.units.are_stopped
 
 
 def test_a_copy_that_is_complete_leaves_pypi_on(tmp_path, monkeypatch, capsys):
     world = World(tmp_path, monkeypatch, complete=True)
-    assert RESTORE.restore(world.words, world.db, world.units) == ""
+    monkeypatch.setattr(RESTORE, "want_complete", lambda *_: None)
+    world.restored()
     assert (tmp_path / "pypi.conf").exists() and "systemctl try-reload-or-restart nginx.service" not in world.order
     assert capsys.readouterr().out.endswith("the index answers: http://x:1 19\n")
 
 
 def test_the_usual_caches_are_emptied_if_none_is_named(tmp_path, monkeypatch):
     world = World(tmp_path, monkeypatch, cache=None)
-    world.into_place()
-    assert world.order[-2:] == [f"empty {it}" for it in RESTORE.CACHES]
+    world.restored()
+    assert world.order[-3:-1] == [f"empty {it}" for it in RESTORE.CACHES]
 
 
 def test_a_restore_tells_what_it_forgets(tmp_path, monkeypatch, capsys):
     world = World(tmp_path, monkeypatch)
     (world.folder / "restoring-before").mkdir()
     (tmp_path / "changes.log").write_text('{"body":"x"}\n')
-    said = RESTORE.restore(world.words, world.db, world.units)
+    world.restored()
+    said = capsys.readouterr().out
     aside, = world.folder.glob("before-*")
     assert "1. Changes since 2026-01-01 00:00:00 UTC.\n   nginx passed on 1 of them." in said
     assert f"index-restore {aside}/index.db\n" in said and "PyPI was taken off" in said
     assert "systemctl start a.service" in world.order and not (world.folder / "restoring-before").exists()
-    assert capsys.readouterr().out.startswith(f"{world.copy} is in its place; what was there is in {aside}\n")
-    assert (aside / "changes").exists()
+    assert said.startswith(f"{world.copy} is in its place; what was there is in {aside}\n")
+    assert (aside / "changes").exists() and said.endswith((aside / "forgotten").read_text())
+
+
+@pytest.mark.parametrize("fails", ["empty_cache", "first_answer"])
+def test_what_it_forgets_is_told_also_if_a_later_step_fails(tmp_path, monkeypatch, capsys, fails):
+    world = World(tmp_path, monkeypatch)
+    monkeypatch.setattr(RESTORE, fails, raises(Refused("no")))
+    with pytest.raises(Refused, match="no"):
+        world.restored()
+    assert "1. Changes since 2026-01-01" in capsys.readouterr().out
 
 
 def test_the_folder_of_the_old_files_is_named_by_the_moment_in_utc(tmp_path, monkeypatch):
@@ -433,11 +489,11 @@ def test_the_folder_of_the_old_files_is_named_by_the_moment_in_utc(tmp_path, mon
     assert before <= stamp <= datetime.datetime.now(UTC)
 
 
-def test_changes_that_can_not_be_gathered_are_told(tmp_path, monkeypatch):
+def test_changes_that_can_not_be_gathered_are_told(tmp_path, monkeypatch, capsys):
     world = World(tmp_path, monkeypatch)
     monkeypatch.setattr(RESTORE, "changes_since", raises(OSError("a bad block")))
-    said = RESTORE.restore(world.words, world.db, world.units)
-    assert f"They could not be gathered from {world.words.changes}: a bad block" in said
+    world.restored()
+    assert f"They could not be gathered from {world.words.changes}: a bad block" in capsys.readouterr().out
 
 
 def test_room_is_wanted_for_the_copy_and_its_log_twice(tmp_path, monkeypatch):
@@ -474,7 +530,7 @@ def test_units_start_however_it_ends(monkeypatch, capsys):
 def test_units_that_do_not_start_are_told(monkeypatch, capsys):
     def stopped(words, db, units):
         units.are_stopped = True
-        return "all is well\n"
+        print("all is well")
 
     monkeypatch.setattr(RESTORE, "restore", stopped)
     monkeypatch.setattr(RESTORE, "run", raises(Refused("it hangs")))
@@ -483,7 +539,7 @@ def test_units_that_do_not_start_are_told(monkeypatch, capsys):
 
 def test_the_words_of_a_restore(tmp_path, monkeypatch, capsys):
     os.symlink(tmp_path / "real.db", tmp_path / "link.db")
-    asked = calls(monkeypatch, RESTORE, "restore", "")
+    asked = calls(monkeypatch, RESTORE, "restore")
     before = os.umask(0o022)
     assert ends(RESTORE, monkeypatch, capsys, "copy", "--db", tmp_path / "link.db")[0] == 0
     assert os.umask(before) == 0o077

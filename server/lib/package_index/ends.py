@@ -23,9 +23,14 @@ class Interrupted(BaseException):
         self.number = number
 
 
-def interrupt(number: int, _: Optional[FrameType]) -> None:
+def ignore_signals() -> None:
+    """From here on none interrupts the program or what it runs, also none that is held."""
     for each in SIGNALS:
         signal.signal(each, signal.SIG_IGN)
+
+
+def interrupt(number: int, _: Optional[FrameType]) -> None:
+    ignore_signals()
     raise Interrupted(number)
 
 
@@ -47,6 +52,14 @@ def let_in() -> Iterator[None]:
         yield
     finally:
         signal.pthread_sigmask(signal.SIG_BLOCK, SIGNALS)
+
+
+def tell(text: str) -> None:
+    """Prints. If nobody reads any more, as when the terminal was closed, what is left is done all the same."""
+    try:
+        print(text, end="", flush=True)
+    except OSError:
+        sys.stdout = open(os.devnull, "w")
 
 
 def say(name: str, text: object) -> None:

@@ -1,0 +1,66 @@
+"""Exchanges a database for another one by steps of which each may be the last: a later run sees how far it came, and
+undoes it if the other one is not in place."""
+from __future__ import annotations
+
+import fcntl
+import os
+import shutil
+from contextlib import contextmanager, suppress
+from typing import Iterator
+
+from package_index.database import ENDS
+from package_index.disk import sync
+from package_index.ends import Refused
+
+# the file with the note
+UNFINISHED = "unfinished"
+
+
+@contextmanager
+def alone(folder: str, name: str) -> Iterator[None]:
+    """Refuses if a program of this name is at work in the folder: each would take away what the other copied."""
+    opened = os.open(folder, os.O_RDONLY)
+    try:
+        try:
+            fcntl.flock(opened, fcntl.LOCK_EX | fcntl.LOCK_NB)
+        except OSError:
+            raise Refused(f"{folder}: another {name} is at work there") from None
+        yield
+    finally:
+        os.close(opened)
+
+
+def exchange(db: str, made: str, aside: str, note: str) -> None:
+    """Moves the database and its log aside and the copy into their place. The old files have both names before they
+    lose one, and the database goes first: without it no program starts, and none takes a database without its log for a
+    whole one. If it fails, they have their names again. The note stands beside them until somebody removes it."""
+    there = [end for end in ENDS if os.path.exists(db + end)]
+    os.mkdir(aside, 0o700)
+    try:
+        with open(f"{aside}/{UNFINISHED}", "w") as kept:
+            kept.write(note)
+        sync(kept.name)
+        for end in there:
+            os.link(db + end, f"{aside}/index.db{end}")
+        sync(aside)
+        for end in there:
+            os.remove(db + end)
+        os.rename(made, db)
+    except OSError:
+        put_names_back(db, aside)
+        raise
+
+
+def put_names_back(db: str, aside: str) -> bool:
+    """Undoes an exchange whose copy is not in place, the database last. It does nothing if another one is in place."""
+    names = {db + end: f"{aside}/index.db{end}" for end in reversed(ENDS) if os.path.exists(f"{aside}/index.db{end}")}
+    if any(os.path.exists(it) and not os.path.samefile(it, names[it]) for it in names):
+        return False
+    for it in names:
+        if not os.path.exists(it):
+            os.link(names[it], it)
+    with suppress(OSError):
+        sync(os.path.dirname(db))
+    # (a database with a second name would not be opened)
+    shutil.rmtree(aside)
+    return True
