@@ -33,12 +33,14 @@ def tell_file(index: Index, file: str, project: str, files: Optional[Sequence[Fi
 
 @command("file delete", "deletes files; the same bytes may be uploaded again", FILES, YES)
 def file_delete(args: argparse.Namespace) -> int:
-    """On a terminal it shows the files first, and asks. The name of a file stays bound to its bytes."""
+    """On a terminal it shows the files first, and asks. The name of a file stays bound to its bytes. Who knows a file's
+    address still gets it from nginx, until the index-uncache line that is printed is run on the server."""
     projects = {file: project_of(file) for file in args.files}
     desk = Desk(args)
     confirm_on_terminal(args, f"{', '.join(args.files)} will be deleted. {tell_files(desk.index, projects)}")
-    for file in args.files:
-        desk.delete(file)
+    for file, project in projects.items():
+        if desk.delete(file):
+            tell_uncache(project, [file])
     return desk.status()
 
 

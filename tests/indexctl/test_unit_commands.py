@@ -38,8 +38,7 @@ class FakeDesk:
         return self.change_by(what, row, token, more)
 
     def delete(self, file):
-        self.asked.append({"do": "delete", "file": file})
-        return True
+        return self.change_by("delete", {"do": "delete", "file": file})
 
     def is_user(self, user):
         return user in self.users
@@ -134,8 +133,7 @@ def test_a_command_asks_for_what_it_says(run, words):
 @pytest.mark.parametrize("words", ASKED, ids=lambda it: "_".join(it[:2]))
 def test_a_refusal_is_the_status(run, words):
     run.desk.refuses = {row["do"] for row in ASKED[words]}
-    if words[:2] != ("file", "delete"):
-        assert run(*words) == REFUSED
+    assert run(*words) == REFUSED
 
 
 @pytest.mark.parametrize("words", [
@@ -304,9 +302,18 @@ def test_files_and_owners_of_a_prohibited_name_are_told_first(run, capsys):
     assert out.out.splitlines() == ["index-uncache a a-1.0.tar.gz", "index-uncache free free-1.0.tar.gz"]
 
 
-@pytest.mark.parametrize("words", [("name", "prohibit", "a"), ("file", "ban", "a-1.tar.gz")])
+@pytest.mark.parametrize("verb", ["delete", "ban"])
+def test_a_file_that_is_gone_is_to_leave_the_cache(run, capsys, verb):
+    run.asked("file", verb, "Frob_x-1.tar.gz", "spam-1.tar.gz")
+    out = capsys.readouterr()
+    assert out.out.splitlines() == ["index-uncache frob-x Frob_x-1.tar.gz", "index-uncache spam spam-1.tar.gz"]
+    assert "On the server" in out.err
+
+
+@pytest.mark.parametrize("words", [("name", "prohibit", "a"), ("file", "ban", "a-1.tar.gz"),
+                                   ("file", "delete", "a-1.tar.gz")])
 def test_what_was_refused_leaves_the_cache(run, capsys, words):
-    run.desk.refuses = {"prohibit", "ban_file"}
+    run.desk.refuses = {"prohibit", "ban_file", "delete"}
     assert run(*words) == REFUSED and "index-uncache" not in capsys.readouterr().out
 
 

@@ -43,6 +43,11 @@ def test_a_quota_and_a_charge_are_told_in_words():
     assert "full: 1.0 KiB of 2.0 KiB." in said("OverQuota", HELD, name="frob")
 
 
+@pytest.mark.parametrize("answer", ["OverQuota", "FilesRemain"])
+def test_who_has_to_delete_files_is_told_what_lists_them(answer):
+    assert "`indexctl files` lists them" in said(answer)
+
+
 def test_files_and_releases_are_counted():
     assert said("FilesRemain", FILES, name="frob").startswith("It still has 1 file.")
     assert "The name has 1, 2." in said("NoRelease", FILES, name="frob")

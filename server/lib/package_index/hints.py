@@ -29,14 +29,15 @@ HINTS: dict[str, str] = {
                 "(add_owner).",
     "NameHeld": "It belongs to {owners}. Ask for `indexctl owner add YOU {name}`, choose another name, or open a case.",
     "LastOwner": "{user} is its only owner. Add another first, or give it up by `indexctl name relinquish {name}`.",
-    "FilesRemain": "It still has {files}. Delete them first by `indexctl file delete`.",
+    "FilesRemain": "It still has {files}. Delete them first by `indexctl file delete`; `indexctl files` lists "
+                   "them.",
     "NoFile": "No such file was ever uploaded. Is it spelled right?",
     "NoRelease": "No file of this release is there.[ The name has {releases}.]",
     "FileNameTaken": "This file name stands for other bytes for good. Raise the version, or build so that the same "
                      "source gives the same bytes.",
     "FileBanned": "The office has banned this file for good. Raise the version.",
-    "OverQuota": "The project's quota is full[: {charge} of {quota}]. Delete files that nobody needs, or ask the "
-                 "office for more.",
+    "OverQuota": "The project's quota is full[: {charge} of {quota}]. Delete files that nobody needs (`indexctl files` "
+                 "lists them), or ask the office for more.",
     "QuotaBelowCharge": "Its files have {charge}, and the quota can't be less. Delete files first.",
     "CaseOpen": "{candidate} has opened a case on it already, and a name has one at a time.",
     "OwnerCandidate": "You own this name already.",
