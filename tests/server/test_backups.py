@@ -3,7 +3,6 @@ import os
 import shutil
 import signal
 import sqlite3
-import threading
 import time
 from contextlib import closing
 
@@ -13,7 +12,6 @@ from support.running import run_command
 from support.server.expected import assert_ends
 from support.server.front import replaced
 from support.server.kept import Uploader
-from support.server.manager import Manager
 from support.server.stand_ins import called, stand_ins
 from support.serving import Index, accepted, make_index
 
@@ -148,7 +146,7 @@ echo "ended $*" >> "${0%/*}/called"
 """
 COPY = """/bin/cp "$@" || exit
 [ -e "$STOPPED" ] || exec touch "$2"
-[ "$MOMENT" = cp ] && kill -s "$SIGNAL" 0
+if [ "$MOMENT" = cp ]; then kill -s "$SIGNAL" 0; fi
 """
 
 
@@ -171,34 +169,24 @@ class TestAnIndexThatNeverPauses:
         return db
 
     @pytest.fixture
-    def manager(self, folder):
-        with Manager(f"{folder}/manager") as made:
-            yield made
+    def run(self, program, changing, hurried, backups, folder):
+        """Runs index-backup of a database that changes at each copy until its unit is stopped."""
+        setting = {"PATH": stand_ins(f"{folder}/bin", systemctl=': > "$STOPPED"', cp=COPY), "MOMENT": "",
+                   "STOPPED": f"{folder}/stopped", "INDEX": program}
+        return lambda *words: run_command([hurried, changing, backups, *words], **setting)
 
     @pytest.fixture
-    def run(self, program, changing, hurried, backups, manager):
-        """Runs index-backup of a database that changes until its unit is stopped."""
-        is_over = threading.Event()
+    def asked(self, folder):
+        """What systemctl was asked."""
+        return lambda: [line for line in called(f"{folder}/bin").splitlines() if line.startswith("systemctl ")]
 
-        def change():
-            while not manager.asked and not is_over.is_set():
-                os.utime(changing)
-                time.sleep(0.001)
-
-        changes = threading.Thread(target=change, daemon=True)
-        changes.start()
-        setting = {"PATH": f"{manager.folder}:{os.environ['PATH']}", "INDEX": program}
-        yield lambda *words: run_command([hurried, changing, backups, *words], **setting)
-        is_over.set()
-        changes.join()
-
-    def test_without_a_unit_there_is_no_copy(self, run, manager):
+    def test_without_a_unit_there_is_no_copy(self, run, asked):
         assert_ends(run(), 1, "2 trials", "--unit")
-        assert manager.asked == []
+        assert asked() == []
 
-    def test_with_a_unit_it_is_stopped_and_started(self, run, manager):
+    def test_with_a_unit_it_is_stopped_and_started(self, run, asked):
         assert_ends(run("--unit", "one.service"), 0, "at trial 1")
-        assert manager.asked == ["stop one.service", "start one.service"]
+        assert asked() == ["systemctl stop one.service", "systemctl start one.service"]
 
     @pytest.mark.parametrize("number", ["HUP", "INT", "TERM"])
     @pytest.mark.parametrize("moment", ["stop", "cp", "start"])
