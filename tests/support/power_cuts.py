@@ -20,6 +20,8 @@ from support.serving import OFFICE, Index, make_index, reply_to
 from support.workload import REQUESTS, lines_of, message_of, of_name, upload
 
 SECTOR = 512
+# of xfs, ext4 and btrfs
+SUPERBLOCKS = 0, 1_024, 65_536
 Rows = dict
 Mark = Callable[[], None]
 
@@ -160,9 +162,18 @@ def states_of(record: Record, chance: random.Random, flushes: bool) -> Iterator[
 
 
 def torn(writes: list[Write], chance: random.Random) -> list[Write]:
-    """Of each write some sectors."""
-    return [Write(write.at + start, write.data[start:start + SECTOR]) for write in writes
-            for start in range(0, len(write.data), SECTOR) if chance.random() < 0.5]
+    """Of each write some sectors, and of a superblock all or nothing."""
+    made = []
+    for write in writes:
+        step = len(write.data) if is_superblock(write) else SECTOR
+        made += [Write(write.at + start, write.data[start:start + step]) for start in range(0, len(write.data), step)
+                 if chance.random() < 0.5]
+    return made
+
+
+def is_superblock(write: Write) -> bool:
+    """Whether this is a file system's first superblock: the kernel mounts none that is torn, whoever wrote files."""
+    return any(write.at <= place < write.at + len(write.data) for place in SUPERBLOCKS)
 
 
 @dataclass
