@@ -6,6 +6,7 @@ from typing import Iterator
 
 import pytest
 from support.indexctl.control import Control
+from support.indexctl.desk import Run
 from support.needed import want_command
 
 
@@ -37,3 +38,9 @@ def still_url(program: str) -> Iterator[str]:
 def by(folder: str, still_url: str) -> Control:
     """indexctl for that index, with an empty home."""
     return Control(folder, still_url)
+
+
+@pytest.fixture
+def run(monkeypatch: pytest.MonkeyPatch) -> Run:
+    """Commands at a desk that keeps what it is asked for."""
+    return Run(monkeypatch)

@@ -1,0 +1,201 @@
+"""A whole restore by index-restore, step by step, without the program: what it does in which order, and what it tells."""
+import datetime
+import os
+import signal
+import types
+
+import pytest
+from support.library import ends as library_ends
+from support.programs import program_of
+from support.unit import calls, ends, raises
+
+RESTORE = program_of("index-restore")
+Refused = library_ends.Refused
+DATABASE = b"SQLite format 3\0"
+UTC = datetime.timezone.utc
+
+
+class World:
+    """A database, a copy beside it in another folder, and the words of a restore; nothing is stopped or tested."""
+
+    def __init__(self, tmp_path, monkeypatch, **changed):
+        self.folder, self.order = tmp_path / "var", []
+        os.mkdir(self.folder)
+        os.mkdir(tmp_path / "copies")
+        self.db, self.copy = str(self.folder / "index.db"), str(tmp_path / "copies" / "index-20260101T000000Z.db")
+        for path, text in ((self.db, "old"), (f"{self.db}-wal", "log"), (self.copy, "new")):
+            with open(path, "wb") as made:
+                made.write(DATABASE + text.encode())
+        (tmp_path / "pypi.conf").touch()
+        self.words = types.SimpleNamespace(**{
+            "copy": self.copy, "older": False, "complete": False, "url": "http://x:1", "cache": ["/c/"],
+            "changes": str(tmp_path / "changes.log"), "with_pypi": str(tmp_path / "pypi.conf"), **changed})
+        self.units = RESTORE.Units(["a.service"])
+        monkeypatch.setattr(RESTORE, "run", lambda *it: self.order.append(" ".join(it)))
+        # (the signals of a test belong to pytest)
+        monkeypatch.setattr(RESTORE, "ignore_signals", lambda: self.order.append("ignore"))
+        monkeypatch.setattr(RESTORE, "empty_cache", lambda it: self.order.append(f"empty {it}"))
+        monkeypatch.setattr(RESTORE, "look_at_index", lambda *_: None)
+        monkeypatch.setattr(RESTORE, "first_answer", lambda url, length: f"{url} {length}")
+
+    def into_place(self):
+        RESTORE.put_into_place(self.words, self.db, self.units, f"{self.folder}/restoring-now",
+                               f"{self.folder}/before-now")
+
+    def restored(self):
+        RESTORE.restore(self.words, self.db, self.units)
+
+    def is_as_before(self):
+        with open(self.db, "rb") as kept:
+            return kept.read() == DATABASE + b"old" and sorted(os.listdir(self.folder)) == ["index.db", "index.db-wal"]
+
+
+def test_a_copy_is_tested_before_the_units_stop_and_caches_are_emptied_last(tmp_path, monkeypatch):
+    world = World(tmp_path, monkeypatch)
+    world.restored()
+    tested = world.order.pop(0)
+    assert tested.startswith(f"{RESTORE.HERE}/index-verify {world.folder}/restoring-")
+    assert world.order == ["systemctl stop a.service", "systemctl try-reload-or-restart nginx.service", "ignore",
+                           "empty /c", "systemctl start a.service"]
+    aside, = world.folder.glob("before-*")
+    assert sorted(os.listdir(world.folder)) == [aside.name, "index.db"]
+    assert sorted(os.listdir(aside)) == ["forgotten", "index.db", "index.db-wal"]
+    assert not signal.pthread_sigmask(signal.SIG_BLOCK, []) & set(library_ends.SIGNALS)
+
+
+def test_nobody_stops_a_restore_while_files_are_moved(tmp_path, monkeypatch):
+    world, seen, masked = World(tmp_path, monkeypatch), [], set(library_ends.SIGNALS)
+    monkeypatch.setattr(RESTORE, "exchange",
+                        lambda *_: seen.append(signal.pthread_sigmask(signal.SIG_BLOCK, []) >= masked))
+    world.into_place()
+    assert seen == [True]
+
+
+@pytest.mark.parametrize("end", [Refused("no"), OSError("full")])
+def test_an_exchange_that_fails_puts_pypi_back_and_leaves_no_copy(tmp_path, monkeypatch, end):
+    world = World(tmp_path, monkeypatch)
+    monkeypatch.setattr(RESTORE, "exchange", raises(end))
+    with pytest.raises(type(end)):
+        world.restored()
+    assert world.is_as_before() and (tmp_path / "pypi.conf").exists()
+    assert not signal.pthread_sigmask(signal.SIG_BLOCK, []) & set(library_ends.SIGNALS)
+
+
+def test_a_copy_that_can_not_be_put_beside_is_told_and_stops_nothing(tmp_path, monkeypatch):
+    world = World(tmp_path, monkeypatch)
+    monkeypatch.setattr(RESTORE, "put_beside", raises(Refused("no such copy")))
+    with pytest.raises(Refused, match="no such copy"):
+        world.restored()
+    assert world.is_as_before() and not world.order and not world.units.are_stopped
+
+
+def test_a_copy_that_is_complete_leaves_pypi_on(tmp_path, monkeypatch, capsys):
+    world = World(tmp_path, monkeypatch, complete=True)
+    monkeypatch.setattr(RESTORE, "want_complete", lambda *_: None)
+    world.restored()
+    assert (tmp_path / "pypi.conf").exists() and "systemctl try-reload-or-restart nginx.service" not in world.order
+    assert capsys.readouterr().out.endswith("the index answers: http://x:1 19\n")
+
+
+def test_the_usual_caches_are_emptied_if_none_is_named(tmp_path, monkeypatch):
+    world = World(tmp_path, monkeypatch, cache=None)
+    world.restored()
+    assert world.order[-3:-1] == [f"empty {it}" for it in RESTORE.CACHES]
+
+
+def test_a_restore_tells_what_it_forgets(tmp_path, monkeypatch, capsys):
+    world = World(tmp_path, monkeypatch)
+    (world.folder / "restoring-before").mkdir()
+    (tmp_path / "changes.log").write_text('{"body":"x"}\n')
+    world.restored()
+    said = capsys.readouterr().out
+    aside, = world.folder.glob("before-*")
+    assert "1. Changes since 2026-01-01 00:00:00 UTC.\n   nginx passed on 1 of them." in said
+    assert f"index-restore {aside}/index.db\n" in said and "PyPI was taken off" in said
+    assert "systemctl start a.service" in world.order and not (world.folder / "restoring-before").exists()
+    assert said.startswith(f"{world.copy} is in its place; what was there is in {aside}\n")
+    assert (aside / "changes").exists() and said.endswith((aside / "forgotten").read_text())
+
+
+@pytest.mark.parametrize("fails", ["empty_cache", "first_answer"])
+def test_what_it_forgets_is_told_also_if_a_later_step_fails(tmp_path, monkeypatch, capsys, fails):
+    world = World(tmp_path, monkeypatch)
+    monkeypatch.setattr(RESTORE, fails, raises(Refused("no")))
+    with pytest.raises(Refused, match="no"):
+        world.restored()
+    assert "1. Changes since 2026-01-01" in capsys.readouterr().out
+
+
+def test_the_folder_of_the_old_files_is_named_by_the_moment_in_utc(tmp_path, monkeypatch):
+    world = World(tmp_path, monkeypatch)
+    monkeypatch.setenv("TZ", "Asia/Tokyo")
+    RESTORE.time.tzset()
+    before = datetime.datetime.now(UTC).replace(microsecond=0)
+    RESTORE.restore(world.words, world.db, world.units)
+    monkeypatch.delenv("TZ")
+    RESTORE.time.tzset()
+    aside, = world.folder.glob("before-*")
+    stamp = datetime.datetime.strptime(f"{aside.name}+0000", "before-%Y%m%dT%H%M%SZ%z")
+    assert before <= stamp <= datetime.datetime.now(UTC)
+
+
+def test_changes_that_can_not_be_gathered_are_told(tmp_path, monkeypatch, capsys):
+    world = World(tmp_path, monkeypatch)
+    monkeypatch.setattr(RESTORE, "changes_since", raises(OSError("a bad block")))
+    world.restored()
+    assert f"They could not be gathered from {world.words.changes}: a bad block" in capsys.readouterr().out
+
+
+def test_room_is_wanted_for_the_copy_and_its_log_twice(tmp_path, monkeypatch):
+    world = World(tmp_path, monkeypatch)
+    with open(f"{world.copy}-wal", "wb") as log:
+        log.write(bytes(5))
+    asked = calls(monkeypatch, RESTORE, "want_room", raises(Refused("no room")))
+    with pytest.raises(Refused, match="no room"):
+        RESTORE.restore(world.words, world.db, world.units)
+    assert asked == [(str(world.folder), len(DATABASE) + 3 + 10)] and world.is_as_before() and not world.order
+
+
+def test_a_database_in_no_folder_is_told(tmp_path, monkeypatch):
+    world = World(tmp_path, monkeypatch)
+    with pytest.raises(Refused, match="/none: no such folder"):
+        RESTORE.restore(world.words, "/none/index.db", world.units)
+
+
+def test_units_start_however_it_ends(monkeypatch, capsys):
+    def stops(words, db, units):
+        units.stop()
+        raise Refused("no")
+
+    asked = calls(monkeypatch, RESTORE, "run")
+    monkeypatch.setattr(RESTORE, "restore", stops)
+    assert ends(RESTORE, monkeypatch, capsys, "copy")[::2] == (1, "index-restore: no\n")
+    # and not the check of health, which tells of a restore that is killed
+    assert asked == [("systemctl", it, "index.service") for it in ("stop", "start")]
+    asked.clear()
+    ends(RESTORE, monkeypatch, capsys, "copy", "--unit", "a", "--unit", "b")
+    assert asked == [("systemctl", it, "a", "b") for it in ("stop", "start")]
+
+
+def test_units_that_do_not_start_are_told(monkeypatch, capsys):
+    def stopped(words, db, units):
+        units.are_stopped = True
+        print("all is well")
+
+    monkeypatch.setattr(RESTORE, "restore", stopped)
+    monkeypatch.setattr(RESTORE, "run", raises(Refused("it hangs")))
+    assert ends(RESTORE, monkeypatch, capsys, "copy") == (1, "all is well\n", "index-restore: it hangs\n")
+
+
+def test_the_words_of_a_restore(tmp_path, monkeypatch, capsys):
+    os.symlink(tmp_path / "real.db", tmp_path / "link.db")
+    asked = calls(monkeypatch, RESTORE, "restore")
+    before = os.umask(0o022)
+    assert ends(RESTORE, monkeypatch, capsys, "copy", "--db", tmp_path / "link.db")[0] == 0
+    assert os.umask(before) == 0o077
+    words, db, _ = asked[0]
+    assert (db, words.older, words.complete, words.cache) == (str(tmp_path / "real.db"), False, False, None)
+    ends(RESTORE, monkeypatch, capsys, "copy", "--older", "--complete", "--cache", "a", "--cache", "b")
+    words, db, _ = asked[1]
+    assert (db, words.older, words.complete, words.cache) == ("/var/lib/index/index.db", True, True, ["a", "b"])
+    os.umask(before)
