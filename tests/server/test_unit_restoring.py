@@ -1,4 +1,4 @@
-"""A whole restore by index-restore, step by step, without the program: what it does in which order, and what it tells."""
+"""A whole restore by index-restore, without the program: what it does in which order, and what it tells."""
 import datetime
 import os
 import signal
