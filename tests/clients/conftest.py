@@ -1,4 +1,4 @@
-"""What the tests of clients may ask for: an index behind nginx, as docs/USING.md describes it, and somebody who follows
+"""What the tests of clients may ask for: an index behind nginx, as USING describes it, and somebody who follows
 the recipes of that page; an index with packages that is asked past nginx; and index-legacy-upload."""
 from __future__ import annotations
 
@@ -18,7 +18,7 @@ PACKAGES = {"curl": "curl", "flit": "flit", "nox": "nox", "pdm": "python3-pdm", 
 
 
 def pytest_configure(config: pytest.Config) -> None:
-    config.addinivalue_line("markers", "follows(block, .., client): the blocks of docs/USING.md that a test runs, and "
+    config.addinivalue_line("markers", "follows(block, .., client): the blocks of USING that a test runs, and "
                             "the command of the client that they are for")
 
 

@@ -1,4 +1,4 @@
-"""The blocks of docs/USING.md that publish: indexctl, and the clients whose uploads are forms."""
+"""The blocks of docs/users/USING.md that publish: indexctl, and the clients whose uploads are forms."""
 import os
 import shutil
 import time

@@ -1,4 +1,4 @@
-"""Each block of docs/USING.md says whether it is tested, and each that is called tested has a test that runs it."""
+"""Each block of USING says whether it is tested, and each that is called tested has a test that runs it."""
 import ast
 import glob
 import os

@@ -1,4 +1,4 @@
-"""The blocks of docs/USING.md for other clients that install, each run as it stands there but for the address; and
+"""The blocks of USING for other clients that install, each run as it stands there but for the address; and
 programs that read pages in other ways."""
 import os
 

@@ -1,4 +1,4 @@
-"""The blocks of docs/USING.md that are for pip, each run as it stands there but for the address."""
+"""The blocks of docs/users/USING.md that are for pip, each run as it stands there but for the address."""
 import os
 
 import pytest

@@ -12,7 +12,7 @@ from support.indexctl.tables import TABLES
 from support.serving import Index
 
 pytestmark = pytest.mark.xdist_group("probe")
-# what docs/RETENTION.md answers by the first of these that fails: attempts, six weeks, a year, quiet
+# what docs/office/RETENTION.md answers by the first of these that fails: attempts, six weeks, a year, quiet
 REFUSALS = "TooFewAttempts", "TooEarly", "RecentRelease", "HomePageActive"
 # each name, and whether it has the attempts, the six weeks and the year
 HAS = {f"name{at}": has for at, has in enumerate(itertools.product((True, False), repeat=3))}

@@ -62,8 +62,8 @@ def test_a_wait_that_the_reply_asks_for_is_waited(folder):
 
 
 def refusals():
-    """The refusals that docs/REQUESTS.md has, by number."""
-    with open(f"{TOP}/docs/REQUESTS.md", encoding="utf-8") as page:
+    """The refusals that docs/reference/REQUESTS.md has, by number."""
+    with open(f"{TOP}/docs/reference/REQUESTS.md", encoding="utf-8") as page:
         return dict(re.findall(r"\b(\d{1,2}) ([A-Z][a-z]+(?:[A-Z][a-z]+)+)\b", page.read()))
 
 

@@ -111,7 +111,7 @@ def test_a_command_that_is_none_is_refused(plain):
 def typed():
     """What the pages say to type, without its first word."""
     found = set()
-    for path in glob.glob(f"{TOP}/docs/*.md"):
+    for path in glob.glob(f"{TOP}/docs/**/*.md", recursive=True):
         with open(path, encoding="utf-8") as page:
             found.update(it for pair in re.findall(r"`indexctl ([^`\n]+)`|^ *indexctl (.*)$", page.read(), re.M)
                          for it in pair if it)

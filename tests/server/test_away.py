@@ -49,7 +49,7 @@ class TestAway:
         assert health.seconds < AT_ONCE
 
     def test_a_check_of_health_that_asks_again_waits(self, filled_index, front):
-        """As docs/OPERATING.md looks whether a new index answers."""
+        """As docs/operators/INSTALL.md looks whether a new index answers."""
         words = ["curl", "-fsS", "--retry", "5", "--cacert", front.certificate, f"{front.url}/health"]
         with filled_index.away():
             patient = subprocess.Popen(words, stdout=subprocess.PIPE, stderr=subprocess.DEVNULL)

@@ -82,9 +82,10 @@ def test_all_of_server_and_indexctl_is_in_it(paths):
 
 
 def test_all_pages_of_docs_are_in_it(paths, looked):
-    for name in os.listdir(f"{TOP}/docs"):
-        if name.endswith(".md"):
-            looked(f"usr/share/doc/package-index/{name}" in paths, name)
+    for folder, _, names in os.walk(f"{TOP}/docs"):
+        for name in names:
+            path = os.path.relpath(f"{folder}/{name}", f"{TOP}/docs")
+            looked(f"usr/share/doc/package-index/{path}" in paths, path)
     looked("usr/share/doc/package-index/changelog.gz" in paths, "changelog.gz")
 
 

@@ -12,7 +12,7 @@ VERIFY = program_of("index-verify")
 BODY = b"a body"
 DIGEST = hashlib.sha256(BODY).digest()
 LAST_SECOND = 253_402_300_799
-# as docs/TABLES.md has them
+# as docs/reference/TABLES.md has them
 TABLES = """
 CREATE TABLE users (user TEXT NOT NULL PRIMARY KEY, office INTEGER NOT NULL, token BLOB NOT NULL UNIQUE);
 CREATE TABLE names (name TEXT NOT NULL PRIMARY KEY, state INTEGER NOT NULL, shown TEXT NOT NULL, quota INTEGER NOT NULL,

@@ -1,4 +1,4 @@
-"""Names of projects, releases and files, read by the grammar of docs/NAMES.md.
+"""Names of projects, releases and files, read by the grammar of docs/users/NAMES.md.
 
 This is the one grammar of the programs and of indexctl. The model of the tests has another, so that each is tried by
 one that does not share its slips."""

@@ -1,4 +1,4 @@
-"""The recipes of docs/USING.md: each block of that page, with its caption, which says whether it is tested."""
+"""The recipes of docs/users/USING.md: each block of that page, with its caption, which says whether it is tested."""
 from __future__ import annotations
 
 import re

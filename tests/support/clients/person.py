@@ -1,4 +1,4 @@
-"""Somebody who follows the recipes of docs/USING.md: a home, a project, and a port of nginx."""
+"""Somebody who follows the recipes of docs/users/USING.md: a home, a project, and a port of nginx."""
 from __future__ import annotations
 
 import os
@@ -69,7 +69,7 @@ class Person:
 
     def recipe(self, name: str) -> Recipe:
         recipe = self.world.recipes.get(name)
-        assert recipe and recipe.is_tested, f"docs/USING.md has no recipe {name!r} that is tested"
+        assert recipe and recipe.is_tested, f"docs/users/USING.md has no recipe {name!r} that is tested"
         assert name in self.declared, f"the test does not say that it follows {name!r}"
         self.followed.add(name)
         return recipe

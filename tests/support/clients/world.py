@@ -20,7 +20,7 @@ from support.server.front import Front
 from support.server.kept import Kept
 from support.serving import Asking, accepted, sha256
 
-PAGE = f"{TOP}/docs/USING.md"
+PAGE = f"{TOP}/docs/users/USING.md"
 REASON = "it was <broken>"
 # one for each person: no test run has more people
 PORTS = 64
@@ -181,7 +181,7 @@ class Gate(Front):
 
 
 class World:
-    """The index behind nginx, the recipes of docs/USING.md, and a folder for whoever follows them. A second nginx wants
+    """The index behind nginx, the recipes of USING, and a folder for whoever follows them. A second nginx wants
     a password of its readers."""
 
     def __init__(self, program: str, folder: str, altered: str | None = None) -> None:

@@ -1,4 +1,4 @@
-"""Lines in, lines out, and what `report` and `check` print (docs/FORMATS.md)."""
+"""Lines in, lines out, and what `report` and `check` print (docs/reference/FORMATS.md)."""
 import json
 import math
 import re

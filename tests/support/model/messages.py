@@ -1,4 +1,4 @@
-"""How the index is asked over HTTP, and what it replies (docs/HTTP.md)."""
+"""How the index is asked over HTTP, and what it replies (docs/reference/HTTP.md)."""
 import re
 from urllib.parse import unquote_to_bytes
 

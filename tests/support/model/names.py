@@ -1,4 +1,4 @@
-"""Names of projects, releases and files (docs/NAMES.md), and the other values (docs/REQUESTS.md, 'Values')."""
+"""Names of projects, releases and files (NAMES), and the other values (REQUESTS, 'Values')."""
 import hashlib
 import re
 

@@ -1,4 +1,4 @@
-"""The pages that pip reads, and the choice between them (docs/PAGES.md)."""
+"""The pages that pip reads, and the choice between them (docs/reference/PAGES.md)."""
 import json
 import re
 

@@ -1,4 +1,4 @@
-"""Who may ask what, and what becomes of it (docs/REQUESTS.md, docs/RETENTION.md).
+"""Who may ask what, and what becomes of it (docs/reference/REQUESTS.md, docs/office/RETENTION.md).
 
 `answer` takes a call and returns `accepted`, `already` or the number of a refusal. The tables change only if it is
 accepted. REFUSALS_OF, ALREADY and EFFECT are the columns of the page's table: which refusals can meet a request, when
@@ -52,7 +52,7 @@ def answer(call):
     return "accepted"
 
 
-# The refusals (docs/REQUESTS.md, 'Refusals'). Each is asked only if none of those before it in its row applies.
+# The refusals (REQUESTS, 'Refusals'). Each is asked only if none of those before it in its row applies.
 
 def bad_moment(call):
     return call.at > LAST_MOMENT

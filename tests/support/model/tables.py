@@ -1,5 +1,5 @@
-"""All that the index keeps (docs/REQUESTS.md, 'Names' to 'Cases'), and as which rows it stands in the database
-(docs/TABLES.md)."""
+"""All that the index keeps (REQUESTS, 'Names' to 'Cases'), and as which rows it stands in the database
+(TABLES)."""
 from dataclasses import dataclass, field
 
 from .names import bytes_of, sha256

@@ -21,7 +21,7 @@ def file_line(file: str) -> str:
     return line(do="upload", file=file, sha256=sha256(BODY), hex=BODY.hex(), requires_python=">=3.8")
 
 
-# one row or more of each table, as docs/REQUESTS.md and docs/FORMATS.md have them
+# one row or more of each table, as docs/reference/REQUESTS.md and docs/reference/FORMATS.md have them
 LINES = (line(do="add_user", user="ann", office=False, token_sha256=sha256(b"abc")),
          line(do="claim", name="Frob.Nest"), line(do="claim", name="spam"), line(do="prohibit", name="evil"),
          file_line("frob_nest-1.0RC1-1-py3-none-any.whl"), file_line("Frob.Nest-2.0+fix.tar.gz"),

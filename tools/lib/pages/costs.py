@@ -1,4 +1,4 @@
-"""Writes what the gate took into docs/PROOF-COSTS.md: `python3 costs.py` reads the lines that `.ci/run` prints at its
+"""Writes what the gate took into PROOF-COSTS: `python3 costs.py` reads the lines that `.ci/run` prints at its
 end, of each part by the clock and of the processors."""
 import datetime
 import os
@@ -11,7 +11,7 @@ sys.path.insert(0, os.path.join(os.path.dirname(os.path.realpath(__file__)), "..
 from pages.files import read, write
 from top import TOP
 
-PAGE = "docs/PROOF-COSTS.md"
+PAGE = "docs/developers/PROOF-COSTS.md"
 TABLE = re.compile(r"(<!-- written by \.ci/run --write -->\n).*?\n\n", re.S)
 PART = re.compile(r"(\S+) +([\d.]+) min, +([\d.]+) of processors")
 

@@ -1,11 +1,11 @@
-"""The picture of the crates in docs/ARCHITECTURE.md, drawn of crates.txt and of the way of one request on that page."""
+"""The picture of the crates in ARCHITECTURE, drawn of crates.txt and of the way of one request there."""
 import os
 import re
 
 from pages.files import read
 from top import TOP
 
-PAGE = "docs/ARCHITECTURE.md"
+PAGE = "docs/developers/ARCHITECTURE.md"
 PICTURE = re.compile(r"(<!-- drawn by tools/draw-crates -->\n).*?(<!-- drawn up to here -->\n)", re.S)
 
 

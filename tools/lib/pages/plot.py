@@ -1,8 +1,8 @@
-"""The plot of the rates in docs/PERFORMANCE.md: docs/rates.svg, a bar for each."""
+"""The plot of the rates in docs/operators/PERFORMANCE.md: docs/operators/rates.svg, a bar for each."""
 import re
 from html import escape
 
-PAGE, PLOT = "docs/PERFORMANCE.md", "docs/rates.svg"
+PAGE, PLOT = "docs/operators/PERFORMANCE.md", "docs/operators/rates.svg"
 TABLE = re.compile(r"^\| Requests a second \|(.*)\|\n\|[-:| ]+\|\n((?:\|.*\n)+)", re.M)
 RUN = re.compile(r"^(\w[\w-]*) {2,}(.*): requests a second, .*\n((?: +\S.*\n)+)", re.M)
 BAR = re.compile(r"^ +(\S+) ([\d,]+) \(", re.M)

@@ -1,4 +1,4 @@
-"""The calls and clauses that docs/PROOFS.md names in its tables, and whether the contracts of the code have them; the
+"""The calls and clauses that CLAUSES names in its tables, and whether the contracts of the code have them; the
 definitions that it names in its tables of steps, and whether they have their lines."""
 import os
 import re
@@ -6,7 +6,7 @@ import re
 from pages.files import read
 from top import TOP
 
-PAGE = "docs/PROOFS.md"
+PAGE = "docs/proofs/CLAUSES.md"
 PROMISES = re.compile(r"^\| Promise \| Call \| Clause \|\n\|.*\n((?:\|.*\n)*)", re.M)
 STEPS = re.compile(r"^\| Step \| Definition \| Lines \|\n\|.*\n((?:\|.*\n)*)", re.M)
 # a definition up to the next line that is empty
