@@ -71,10 +71,24 @@ def contract_lines(top):
     return sum(lines.values()), sum(lines[told] * (count - 1) // count for told, count in times.items())
 
 
+def long_lines(lines, columns):
+    """Yields the numbers of those of these lines, each with its number, that have more than so many columns."""
+    return (number for number, line in lines if len(line) > columns)
+
+
 def long_spec_lines(top, columns):
     """Yields where a line of a crate's specs has more than so many columns."""
     for path in sorted(glob.glob("crates/*/specs/**/*.antt", root_dir=top, recursive=True)):
         with open(f"{top}/{path}", encoding="utf-8") as file:
-            for number, line in enumerate(file, 1):
-                if len(line.rstrip("\n")) > columns:
-                    yield f"{path}:{number}"
+            for number in long_lines(enumerate(file.read().splitlines(), 1), columns):
+                yield f"{path}:{number}"
+
+
+def long_clause_lines(top, columns):
+    """Yields where a line of a clause in a crate's sources has more than so many columns."""
+    for path, text in sources(top):
+        lines = text.splitlines()
+        for _first, line, clause in clauses(text):
+            last = line + clause.count("\n")
+            for number in long_lines(enumerate(lines[line - 1:last], line), columns):
+                yield f"{path}:{number}"
