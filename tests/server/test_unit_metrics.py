@@ -86,7 +86,7 @@ def test_whether_an_index_answers_and_how_long_that_took(monkeypatch):
 
 @pytest.mark.parametrize("status, begun, ended, found", [
     (0, 10, 9.5, (1, 0.5)), (8, 70, 10, (0, 60)), (9, 10, 9.5, (1, 0.5)), (3, 10, 9.5, (0, 0.5)), (-1, 10, 9, (1, 1)),
-    (0, 400, 300.5, None), (0, 400, 299.5, (1, 100.5)),
+    (0, 400, 300.5, None), (0, 400, 299.5, (1, 100.5)), (10, 10, 9.5, (1, 0.5)),
     (0, 29.5, None, None), (0, 30, None, None), (0, 30.5, None, (0, 30.5)), (0, None, None, None)])
 def test_the_last_look_of_a_check_of_health(monkeypatch, status, begun, ended, found):
     now = 5_000.0

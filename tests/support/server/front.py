@@ -60,9 +60,9 @@ def has_ipv6() -> bool:
     return True
 
 
-def make_certificate(folder: str) -> str:
-    """The path of a certificate for loopback, with its key beside it."""
-    host = ["-subj", "/CN=127.0.0.1", "-addext", "subjectAltName=IP:127.0.0.1,IP:::1"]
+def make_certificate(folder: str, names: str = "IP:127.0.0.1,IP:::1") -> str:
+    """The path of a certificate for loopback or these names, with its key beside it."""
+    host = ["-subj", "/CN=127.0.0.1", "-addext", f"subjectAltName={names}"]
     kind = ["-x509", "-newkey", "ec", "-pkeyopt", "ec_paramgen_curve:prime256v1", "-nodes", "-days", "2"]
     ended = run_command(["openssl", "req", *kind, *host, "-keyout", f"{folder}/key", "-out", f"{folder}/pem"])
     if ended.returncode:
