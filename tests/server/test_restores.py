@@ -91,6 +91,13 @@ class TestRefused:
         assert_ends(by.run(by.copy, db=other), 1, "no program has")
         assert_as_before(by)
 
+    def test_a_unit_of_another_index(self, by):
+        """It would be stopped, and started even if it was off."""
+        command = "{ path=/x/index-log ; argv[]=/x/index-log /var/lib/index/8081/index.db -- /x/index serve ; }"
+        by.manager.shown["index.service", "ExecStart"] = command
+        assert_ends(by.run(by.copy), 1, f"index.service does not serve {by.index.path}: name its own unit by --unit")
+        assert_as_before(by)
+
     def test_an_index_that_goes_on_after_it_was_stopped(self, by):
         assert_ends(by.run(by.copy, unit="other.service"), 1, "still has it open")
         assert_as_before(by, ["stop other.service", "start other.service"])
@@ -118,6 +125,37 @@ def test_of_an_index_that_a_killed_restore_left_off_the_check_of_health_tells(by
     assert not any("index-health" in it for it in by.manager.asked)
     ended = run_command([f"{BIN}/index-health", "--patience", "0.5", f"http://127.0.0.1:{by.index.port}"])
     assert_ends(ended, 3)
+
+
+def test_a_unit_of_a_link_to_the_database_is_its_own(by):
+    os.symlink(by.folder, f"{by.work}/link")
+    by.manager.shown["index.service", "ExecStart"] = f"{{ argv[]=/x/index serve --db {by.work}/link/index.db ; }}"
+    assert_ends(by.run(by.copy), 0)
+
+
+class TestANewMachine:
+    """What is not enabled is off when the machine starts again."""
+
+    NAMES = ["index.service", "index-backup.timer", "index-health.timer"]
+
+    def test_units_that_are_not_enabled_are_named(self, by):
+        by.manager.shown["index-backup.timer", "UnitFileState"] = "disabled"
+        by.manager.shown["index-health.timer", "UnitFileState"] = "enabled"
+        ended = by.run(by.copy)
+        assert_ends(ended, 0, "not enabled, so they stay off", "systemctl enable --now index-backup.timer\n")
+        assert not any(it.startswith("enable") for it in by.manager.asked)
+
+    def test_they_are_enabled_if_the_machine_is_new(self, by):
+        by.manager.shown = {(name, "UnitFileState"): "disabled" for name in self.NAMES}
+        ended = by.run(by.copy, "--new")
+        assert_ends(ended, 0, f"enabled: {' '.join(self.NAMES)}\n")
+        assert by.manager.asked[-1] == f"enable --now {' '.join(self.NAMES)}"
+
+    def test_nothing_is_said_if_all_are_enabled(self, by):
+        by.manager.shown = {(name, "UnitFileState"): "enabled" for name in self.NAMES}
+        ended = by.run(by.copy, "--new")
+        assert ended.returncode == 0 and "enable" not in ended.stdout, ended.stdout
+        assert not any(it.startswith("enable") for it in by.manager.asked)
 
 
 def test_a_complete_copy_forgets_nothing_so_pypi_stays_on(by, looked):

@@ -122,26 +122,6 @@ def test_a_copy_is_put_beside_with_its_log_and_tested_before_it_is_given_away(tm
     assert folder.stat().st_mode & 0o777 == 0o700 and os.stat(made).st_mode & 0o777 == 0o600
 
 
-def test_units_are_started_once_if_they_were_stopped(monkeypatch):
-    asked, units = calls(monkeypatch, RESTORE, "run"), RESTORE.Units(["a", "b"])
-    units.start()
-    assert not asked
-    units.stop()
-    units.start()
-    units.start()
-    assert asked == [("systemctl", "stop", "a", "b"), ("systemctl", "start", "a", "b")]
-
-
-def test_units_are_started_also_if_their_stop_failed(monkeypatch):
-    units = RESTORE.Units(["a"])
-    monkeypatch.setattr(RESTORE, "run", raises(Refused("no")))
-    with pytest.raises(Refused):
-        units.stop()
-    asked = calls(monkeypatch, RESTORE, "run")
-    units.start()
-    assert asked == [("systemctl", "start", "a")]
-
-
 def test_a_lock_is_held_until_the_file_is_closed_and_none_is_left_open(tmp_path, monkeypatch):
     assert RESTORE.take_lock(str(tmp_path / "none")) is None
     (tmp_path / "index.db").touch()

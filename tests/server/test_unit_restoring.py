@@ -6,6 +6,7 @@ import types
 
 import pytest
 from support.library import ends as library_ends
+from support.library import units as library_units
 from support.programs import program_of
 from support.unit import calls, ends, raises
 
@@ -31,7 +32,9 @@ class World:
             "copy": self.copy, "older": False, "complete": False, "url": "http://x:1", "cache": ["/c/"],
             "changes": str(tmp_path / "changes.log"), "with_pypi": str(tmp_path / "pypi.conf"), **changed})
         self.units = RESTORE.Units(["a.service"])
-        monkeypatch.setattr(RESTORE, "run", lambda *it: self.order.append(" ".join(it)))
+        for module in (RESTORE, library_units):
+            monkeypatch.setattr(module, "run", lambda *it: self.order.append(" ".join(it)))
+        monkeypatch.setattr(library_units, "shown", lambda *_: "")
         # (the signals of a test belong to pytest)
         monkeypatch.setattr(RESTORE, "ignore_signals", lambda: self.order.append("ignore"))
         monkeypatch.setattr(RESTORE, "empty_cache", lambda it: self.order.append(f"empty {it}"))
@@ -167,7 +170,7 @@ def test_units_start_however_it_ends(monkeypatch, capsys):
         units.stop()
         raise Refused("no")
 
-    asked = calls(monkeypatch, RESTORE, "run")
+    asked = calls(monkeypatch, library_units, "run")
     monkeypatch.setattr(RESTORE, "restore", stops)
     assert ends(RESTORE, monkeypatch, capsys, "copy")[::2] == (1, "index-restore: no\n")
     # and not the check of health, which tells of a restore that is killed
@@ -183,7 +186,7 @@ def test_units_that_do_not_start_are_told(monkeypatch, capsys):
         print("all is well")
 
     monkeypatch.setattr(RESTORE, "restore", stopped)
-    monkeypatch.setattr(RESTORE, "run", raises(Refused("it hangs")))
+    monkeypatch.setattr(library_units, "run", raises(Refused("it hangs")))
     assert ends(RESTORE, monkeypatch, capsys, "copy") == (1, "all is well\n", "index-restore: it hangs\n")
 
 

@@ -7,6 +7,6 @@ sys.dont_write_bytecode = True
 if f"{SERVER}/lib" not in sys.path:
     sys.path.insert(0, f"{SERVER}/lib")
 
-from package_index import changes, commands, database, disk, ends, exchange, front, hints, names
+from package_index import changes, commands, database, disk, ends, exchange, front, hints, names, units
 
-__all__ = ["changes", "commands", "database", "disk", "ends", "exchange", "front", "hints", "names"]
+__all__ = ["changes", "commands", "database", "disk", "ends", "exchange", "front", "hints", "names", "units"]

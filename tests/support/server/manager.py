@@ -19,13 +19,17 @@ class Manager(InThread):
     def __init__(self, folder: str, index: Kept | None = None, front: Front | None = None):
         self.folder, self.index, self.front = folder, index, front
         self.asked: list[str] = []
+        # what `systemctl show` prints, by unit and property; nothing for others
+        self.shown: dict[tuple[str, str], str] = {}
         manager = self
 
         class Asked(http.server.BaseHTTPRequestHandler):
             def do_GET(self) -> None:
-                manager.do(unquote(self.path[1:]))
+                asked = unquote(self.path[1:])
+                said = manager.show(asked) if asked.startswith("show") else manager.do(asked)
                 self.send_response_only(200)
                 self.end_headers()
+                self.wfile.write((said or "").encode())
 
         self.server = http.server.ThreadingHTTPServer(("127.0.0.1", 0), Asked)
         os.makedirs(folder)
@@ -33,6 +37,10 @@ class Manager(InThread):
             script.write("#!/bin/sh\n"
                          f'exec curl -fsS "http://127.0.0.1:{self.server.server_port}/$(echo "$*" | tr " " +)"\n')
         os.chmod(script.name, 0o755)
+
+    def show(self, asked: str) -> str:
+        _, name, _, unit = asked.split("+")
+        return self.shown.get((unit, name.removeprefix("--property=")), "")
 
     def do(self, asked: str) -> None:
         self.asked.append(asked.replace("+", " "))

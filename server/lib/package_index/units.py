@@ -1,0 +1,60 @@
+"""The units of an index: which database they serve, how they are stopped for a while, and whether they start with the
+machine."""
+from __future__ import annotations
+
+import os
+from typing import List, Sequence
+
+from package_index.commands import run
+from package_index.ends import Refused
+
+NOT_ENABLED = """These units are not enabled, so they stay off when the machine starts:
+   systemctl enable --now {units}
+"""
+
+
+class Units:
+    """The units that are stopped for the restore, and are started again however it ends."""
+
+    def __init__(self, names: Sequence[str]) -> None:
+        self.names, self.are_stopped = names, False
+
+    def stop(self) -> None:
+        self.are_stopped = True
+        run("systemctl", "stop", *self.names)
+
+    def start(self) -> None:
+        if self.are_stopped:
+            self.are_stopped = False
+            run("systemctl", "start", *self.names)
+
+
+def shown(unit: str, name: str) -> str:
+    """A property of a unit, or nothing if it has none."""
+    return run("systemctl", "show", f"--property={name}", "--value", unit).strip()
+
+
+def want_units_of(db: str, units: Sequence[str]) -> None:
+    """Refuses a unit that is of another database: the restore would stop and start that."""
+    for unit in units:
+        command = shown(unit, "ExecStart")
+        paths = [os.path.realpath(word) for word in command.split() if word.startswith("/")]
+        if command and db not in paths:
+            raise Refused(f"{unit} does not serve {db}: name its own unit by --unit, and its --db and --url")
+
+
+def beside(unit: str) -> List[str]:
+    """A unit that serves an index, with the timers of that index: index@8081.service has index-health@8081.timer."""
+    kind, at, port = unit.partition(".")[0].partition("@")
+    return [unit, *(f"{kind}-{timer}{at}{port}.timer" for timer in ("backup", "health"))] if kind == "index" else [unit]
+
+
+def not_enabled(units: Sequence[str]) -> List[str]:
+    """Those of these units, and of the timers beside them, that are off once the machine starts again."""
+    return [it for unit in units for it in beside(unit) if shown(it, "UnitFileState") == "disabled"]
+
+
+def enable(units: Sequence[str]) -> str:
+    """Enables and starts units. Returns what to say of it."""
+    run("systemctl", "enable", "--now", *units)
+    return f"enabled: {' '.join(units)}\n"
