@@ -1,0 +1,99 @@
+"""The lines of use with which the README of each crate begins, and whether each call in them is one of the crates, with
+as many arguments, and each variant one of its type. They are not compiled."""
+import os
+import re
+
+from pages.files import read
+from top import TOP
+
+LONGEST = 6
+BLOCK = re.compile(r"\A# \S+\n\n.+\n\n```(rust|sh)\n(.*?)^```$", re.S | re.M)
+OWNER = re.compile(r"^(?:impl\b(?:<[^\n]*?>)? (?:[^\n]* for )?|(?:pub )?(?:trait|enum|struct) )(\w+)", re.M)
+FUNCTION = re.compile(r"^(?: *)(?:pub )?(?:const )?fn (\w+)(?:<[^(\n]*>)?\(", re.M)
+CALL = re.compile(r"(?:\b(\w+)::|(\.))?\b([a-z]\w*)\(")
+VARIANT = re.compile(r"\b([A-Z]\w+)::([A-Z]\w*)\b")
+STRING = re.compile(r'b?r?#"[^\n]*?"#|b?"(?:\\.|[^"\\\n])*"')
+# calls of the library, and of the reader's own program
+OTHERS = {"BufReader::new", "Vec::new", "io::writer", ".stdin", ".as_slice", "check", "refuse", "reply", "run"}
+
+
+def crates():
+    """The crates, by name, each with what its sources say."""
+    found = {}
+    for name in sorted(os.listdir(f"{TOP}/crates")):
+        files = (f"{folder}/{file}" for folder, _, files in os.walk(f"{TOP}/crates/{name}/src") for file in files)
+        found[name] = "\n".join(read(os.path.relpath(file, TOP)) for file in sorted(files))
+    return {name: text for name, text in found.items() if text}
+
+
+def parts(text, at):
+    """The parts between commas of a list in brackets that begins at this place."""
+    found, depth, closing = [""], 0, {"(": ")", "[": "]", "{": "}", "<": ">"}
+    for character in text[at:].replace("->", "  ").replace("=>", "  "):
+        depth += (character in closing) - (character in closing.values())
+        if not depth:
+            break
+        if character == "," and depth == 1:
+            found.append("")
+        else:
+            found[-1] += character
+    return [part for part in (it.lstrip("([{<").strip() for it in found) if part]
+
+
+def functions(text):
+    """The functions of some sources, each with its owner and its parameters."""
+    owners = [(match.start(), match[1]) for match in OWNER.finditer(text)]
+    for match in FUNCTION.finditer(text):
+        above = [name for at, name in owners if at < match.start()] if match[0].startswith(" ") else []
+        yield above[-1] if above else "", match[1], parts(text, match.end() - 1)
+
+
+def takes(count, owner, is_method, function):
+    """Whether a function of an owner takes so many arguments, as it is called."""
+    of, _, parameters = function
+    has_self = bool(parameters) and bool(re.fullmatch(r"(&(mut )?)?(mut )?self", parameters[0]))
+    if is_method:
+        return has_self and len(parameters) - 1 == count
+    return of == owner and len(parameters) == count
+
+
+def lacks_of(code, known, own):
+    """What is wrong with the calls in some code, by the functions of all crates and those of its own."""
+    is_own = False
+    for match in CALL.finditer(code):
+        owner, dot, name = match.groups()
+        if f"{owner}::{name}" in OTHERS or f"{dot or ''}{name}" in OTHERS:
+            continue
+        count = len(parts(code, match.end() - 1))
+        fits = [it for it in known if it[1] == name and takes(count, owner or "", bool(dot), it)]
+        if not fits:
+            yield f"no function {match[0]}..) with {count} arguments"
+        is_own = is_own or any(it in own for it in fits)
+    is_own = is_own or any(re.search(rf"\b{owner} \{{", code) for owner, _, _ in own if owner)
+    yield from () if is_own else ["nothing of this crate"]
+
+
+def lacks_variants(block, text):
+    """The variants in lines of Rust that no type of these sources has."""
+    for owner, name in VARIANT.findall(re.sub(r'"[^"\n]*"', "", block)):
+        found = re.search(rf"\benum {owner}\b[^{{]*\{{(.*?)^\}}", text, re.S | re.M)
+        if not found or not re.search(rf"^    {name}\b", found[1], re.M):
+            yield f"no variant {owner}::{name}"
+
+
+def uses():
+    """The README of each crate, with what is wrong with its lines of use."""
+    texts = crates()
+    all_known, all_text = [it for text in texts.values() for it in functions(text)], "\n".join(texts.values())
+    for name, text in texts.items():
+        page = f"crates/{name}/README.md"
+        block = BLOCK.match(read(page))
+        if not block:
+            yield page, ["it does not begin with a title, a paragraph and lines of use"]
+            continue
+        wrong = [] if block[2].count("\n") <= LONGEST else [f"more than {LONGEST} lines"]
+        if block[1] == "rust":
+            code = STRING.sub("text", re.sub(r" *//.*", "", block[2]))
+            wrong += lacks_of(code, all_known, list(functions(text)))
+            wrong += lacks_variants(block[2], all_text)
+        yield page, wrong
