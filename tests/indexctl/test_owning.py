@@ -1,0 +1,66 @@
+"""Each command of docs/users/OWNING.md, run in the order of the page by an owner who has the settings that it shows."""
+from __future__ import annotations
+
+import os
+import re
+import shlex
+
+import pytest
+from support.clients.page import read_recipes
+from support.indexctl.control import Control, assert_ends, digest, put
+from support.packages import make_source
+from support.places import TOP
+from support.serving import Index
+
+PAGE = f"{TOP}/docs/users/OWNING.md"
+COMMAND = re.compile(r"`indexctl ([a-z][^`\n]*)`")
+CASE = ("case", "open", "frob", "--kind", "reuse", "--contact", "c", "--work", "w", "--why", "y")
+# what others do before a command of the page, and what the command then says
+YANK = 'release yank frob 1.0 --reason "loses data"'
+BEFORE = {YANK: ("cibuild", ("owner", "add", "ann", "frob")), "case answer frob": ("bob", CASE)}
+SAID = {
+    "token check": "", "token new": "digest", "name claim frob": "frob", "upload dist/": "1 of 1 files are there",
+    "status frob": "frob-1.0.tar.gz", "quota show frob": "1.0 GiB", "owner add cibuild frob": "",
+    "owner remove ann frob": "", YANK: "", "files frob": "frob-1.0.tar.gz",
+    "file delete frob-1.0.tar.gz": "index-uncache", "case answer frob": "", "name relinquish frob": "",
+}
+ASKS = "name relinquish", "file delete"
+
+
+def typed() -> list[str]:
+    """The commands of the page: those of its table first, in their order."""
+    with open(PAGE, encoding="utf-8") as page:
+        text = page.read()
+    found = [it for it in COMMAND.findall(text) if it != "--help"]
+    rows = COMMAND.findall("\n".join(it for it in text.splitlines() if it.startswith("|")))
+    return list(dict.fromkeys([it for it in found if it not in rows and it.startswith("token")] + rows + found))
+
+
+@pytest.fixture
+def by(program, folder):
+    """An owner with the settings of the page and nothing in the environment, beside an office."""
+    recipe = read_recipes(PAGE)[0]["Settings of indexctl"]
+    with Index(program) as index:
+        url = f"http://127.0.0.1:{index.port}"
+        office = Control(folder, url)
+        for user in ("ann", "bob", "cibuild"):
+            assert_ends(office.run("user", "add", user, "--digest", digest(user)), 0)
+        put(f"{office.home}/.config/indexctl.ini", recipe.text.replace("https://packages.example", url))
+        put(f"{office.home}/.config/index-token", "ann\n")
+        os.mkdir(f"{folder}/dist")
+        make_source(f"{folder}/dist/frob-1.0.tar.gz", "frob", "1.0", {})
+        yield office
+
+
+def test_an_owner_does_all_that_the_page_says(by, folder, looked):
+    for text in typed():
+        caller, words = BEFORE.get(text, (None, ()))
+        if caller:
+            assert_ends(by.run(*words, caller=caller), 0)
+        words = [f"{folder}/dist" if it == "dist/" else it for it in shlex.split(text)]
+        yes = ["--yes"] if text.startswith(ASKS) else []
+        ended = by.run(*words, *yes, caller=None, INDEX_URL=None)
+        looked(ended.returncode == 0 and SAID[text] in ended.stdout, text, ended.stdout)
+    assert_ends(by.run("who", "frob"), 0, "free")
+    with open(f"{by.home}/index-record.jsonl", encoding="utf-8") as record:
+        looked(sum(1 for _ in record) == 8, "the changes in the record")
