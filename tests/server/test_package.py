@@ -95,6 +95,12 @@ def test_each_command_has_a_man_page(paths):
     assert len(commands) > 5 and commands == pages
 
 
+def test_the_files_for_two_machines_are_in_it(paths):
+    folder = "usr/share/package-index/two-machines/"
+    assert {it for it in paths if it.startswith(folder)} >= {f"{folder}{it}" for it in os.listdir(
+        f"{SERVER}/two-machines")}
+
+
 def test_nothing_in_it_is_below_usr_local(package, package_folder):
     run_command(["dpkg-deb", "--extract", package, f"{package_folder}/inside"])
     inside = [f"{package_folder}/inside/{it}" for it in ("usr/bin", "lib", "etc")]

@@ -1,0 +1,245 @@
+"""index-take and index-leave on one of two machines, by stand-ins for DRBD, mount and systemctl; and their files."""
+import os
+import re
+import signal
+import subprocess
+
+import pytest
+from support.needed import want_command
+from support.running import run_command
+from support.server.stand_ins import called, stand_ins, written
+from support.server.two_machines import DUMPED, FILES, LEFT, SERVES, SHOWN, SIGNALS, Machine
+
+TAKEN = ["drbdadm primary index", "mount -o noatime /dev/drbd0 /var/lib/index",
+         "systemctl start index.service index-health.timer index-backup.timer"]
+GIVEN_UP = ["systemctl stop index-health.timer index-backup.timer index-health.service index-backup.service "
+            "index.service", "umount /var/lib/index", "drbdadm secondary index"]
+# what each command does, and the state that it makes
+COMMANDS = {"index-take": (TAKEN, SERVES), "index-leave": (GIVEN_UP, LEFT)}
+# the states of a machine between these steps
+BETWEEN = {"index-take": [LEFT, ("Primary", "", False), ("Primary", "/dev/drbd0", False), SERVES],
+           "index-leave": [SERVES, ("Primary", "/dev/drbd0", False), ("Primary", "", False), LEFT]}
+# what only reads comes first
+READS = 3
+
+
+@pytest.fixture
+def machine(folder):
+    return Machine(folder)
+
+
+def other(name):
+    return {"index-take": "index-leave", "index-leave": "index-take"}[name]
+
+
+@pytest.fixture(params=COMMANDS)
+def name(request, machine):
+    """A command, on a machine in the state in which it has something to do."""
+    if request.param == "index-leave":
+        assert machine.run("index-take").returncode == 0
+    return request.param
+
+
+def test_a_machine_takes_the_index_and_gives_it_up_again_and_again(machine, looked):
+    for name in [*COMMANDS] * 2:
+        ended = machine.run(name)
+        calls, state = COMMANDS[name]
+        looked((ended.returncode, machine.called(), machine.state()) == (0, calls, state), ended, machine.called())
+
+
+def test_the_second_time_a_command_changes_nothing(machine, name):
+    for _ in range(2):
+        ended = machine.run(name)
+        assert (ended.returncode, machine.state()) == (0, COMMANDS[name][1]), ended
+    assert [line for line in machine.called() if "mount" in line.split()[0]] == []
+
+
+WRONG = [
+    ("fencing         \tresource-and-stonith;", "", "lacks `fencing resource-and-stonith`"),
+    ("resource-and-stonith", "resource-only", "lacks `fencing resource-and-stonith`"),
+    ("resource-and-stonith", "dont-care", "lacks `fencing resource-and-stonith`"),
+    ("    net {\n", "    net {\n        protocol        \tA;\n", "protocol other than C"),
+    ("    net {\n", "    net {\n        protocol        \tB;\n", "protocol other than C"),
+    ("    net {\n", "    net {\n        allow-two-primaries\tyes;\n", "allow-two-primaries"),
+    ("    net {\n", "    net {\n        after-sb-0pri   \tdiscard-younger-primary;\n", "after-sb"),
+    ("    net {\n", "    net {\n        after-sb-1pri   \tdiscard-secondary;\n", "after-sb"),
+    ("    net {\n", "    net {\n        after-sb-2pri   \tcall-pri-lost-after-sb;\n", "after-sb"),
+    ("c-min-rate", "disk-flushes    \tno;\n                c-min-rate", "disk-flushes"),
+    ("c-min-rate", "md-flushes      \tno;\n                c-min-rate", "md-flushes"),
+]
+
+
+@pytest.mark.parametrize("old, new, said", WRONG)
+def test_a_configuration_that_is_not_safe_as_it_runs_is_refused_and_named(machine, name, old, new, said):
+    assert SHOWN.count(old) == 1
+    machine.put(shown=SHOWN.replace(old, new))
+    before, ended = machine.state(), machine.run(name)
+    assert (ended.returncode, machine.called(), machine.state()) == (1, [], before), ended
+    assert said in ended.stdout and "drbdadm adjust index" in ended.stdout, ended
+
+
+def test_each_part_that_is_wrong_is_named(machine, name):
+    machine.put(shown=SHOWN.replace("resource-and-stonith", "dont-care").replace("net {", "net {\n protocol A;"),
+                dumped=DUMPED.replace("fence-peer", "split-brain"))
+    ended = machine.run(name)
+    assert ended.returncode == 1 and machine.called() == []
+    assert all(it in ended.stdout for it in ("resource-and-stonith", "protocol", "fence-peer")), ended
+
+
+@pytest.mark.parametrize("words, status", [
+    (["nosuch"], 1), (["../index"], 1), (["index;reboot"], 1), ([""], 1), (["/dev/drbd0"], 1), (["index", "index"], 2),
+    (["--force"], 2), (["-f"], 2)])
+def test_a_wrong_name_changes_nothing(machine, name, words, status):
+    before, ended = machine.state(), machine.run(name, *words)
+    assert (ended.returncode, machine.called(), machine.state()) == (status, [], before), ended
+    assert ended.stdout
+
+
+@pytest.mark.parametrize("shown", ["", "resource other {\n    fencing resource-and-stonith;\n}\n"])
+def test_a_disk_that_is_not_up_is_named_with_the_command_for_it(machine, name, shown):
+    machine.put(shown=shown)
+    before, ended = machine.state(), machine.run(name)
+    assert (ended.returncode, machine.called(), machine.state()) == (1, [], before)
+    assert "drbdadm up index" in ended.stdout
+
+
+@pytest.mark.parametrize("word", ["-h", "--help"])
+def test_help_is_printed(machine, name, word):
+    ended = machine.run(name, word)
+    assert ended.returncode == 0 and ended.stdout.startswith(f"{name} [RESOURCE]: ") and machine.called() == []
+
+
+def test_another_disk_at_the_folder_is_refused_and_stays(machine, name):
+    machine.put(mounts="/dev/sda1 /var/lib/index ext4 rw 0 0\n")
+    before, ended = machine.state(), machine.run(name)
+    assert (ended.returncode, machine.called(), machine.state()) == (1, [], before)
+    assert "/dev/sda1 is mounted at /var/lib/index" in ended.stdout
+
+
+def test_a_disk_that_is_mounted_elsewhere_is_no_index(machine):
+    """Only the folder itself counts, and of two mounts there the upper one."""
+    machine.put(mounts="/dev/sda1 /var/lib/index ext4 rw 0 0\n/dev/drbd0 /var/lib/index ext4 rw 0 0\n"
+                "/dev/sda2 /var/lib/index/8081 ext4 rw 0 0\n", role="Primary\n")
+    ended = machine.run("index-take")
+    assert ended.returncode == 0 and machine.called() == [TAKEN[0], TAKEN[2]], ended
+
+
+def test_while_the_other_machine_may_be_primary_nothing_is_mounted(machine):
+    machine.put(peer="")
+    ended = machine.run("index-take")
+    assert (ended.returncode, machine.called(), machine.state()) == (1, TAKEN[:1], LEFT)
+    assert "Refusing to be Primary while peer is not outdated" in ended.stdout
+
+
+@pytest.mark.parametrize("number", SIGNALS)
+@pytest.mark.parametrize("at", [1, 2, 3])
+def test_a_signal_at_each_step_ends_it_behind_that_step_and_it_goes_on_or_back(machine, name, at, number):
+    machine.put(stops=f"{READS + at}", signal=number)
+    ended = machine.run(name)
+    assert ended.returncode == -getattr(signal, f"SIG{number}"), ended
+    assert machine.state() == BETWEEN[name][at] and machine.called() == COMMANDS[name][0][:at]
+    assert f"{name}: stopped" in ended.stdout and f"run {name} again, or {other(name)}" in ended.stdout or at == 1
+    machine.remove("stops")
+    for again in (name, other(name), name):
+        ended = machine.run(again)
+        assert (ended.returncode, machine.state()) == (0, COMMANDS[again][1]), ended
+
+
+@pytest.mark.parametrize("at", [1, 2, 3])
+def test_a_step_that_fails_ends_it_there_and_it_goes_on_or_back(machine, name, at):
+    machine.put(fails=f"{READS + at}")
+    ended = machine.run(name)
+    assert ended.returncode == 1 and "no luck" in ended.stdout, ended
+    assert machine.state() == BETWEEN[name][at - 1] and machine.called() == COMMANDS[name][0][:at]
+    machine.remove("fails")
+    for again in (other(name), name):
+        ended = machine.run(again)
+        assert (ended.returncode, machine.state()) == (0, COMMANDS[again][1]), ended
+
+
+@pytest.mark.parametrize("at", [1, 2, 3])
+def test_a_disk_that_can_not_be_asked_is_left_alone(machine, name, at):
+    machine.put(fails=f"{at}")
+    before, ended = machine.state(), machine.run(name)
+    assert (ended.returncode, machine.called(), machine.state()) == (1, [], before)
+
+
+# the role and the disk, the status of the power switch, whether a person said that the other machine is off: the
+# status, whether the power was cut, and the seconds that were waited for the machine that serves
+FENCED = [
+    ("Primary/Unknown", "UpToDate/DUnknown", 0, False, 7, True, []),
+    ("Secondary/Unknown", "UpToDate/DUnknown", 0, False, 7, True, ["sleep 8"]),
+    ("Primary/Unknown", "UpToDate/DUnknown", 1, False, 1, True, []),
+    ("Secondary/Unknown", "UpToDate/DUnknown", 1, False, 1, True, ["sleep 8"]),
+    ("Secondary/Unknown", "Consistent/DUnknown", 0, False, 1, False, []),
+    ("Secondary/Unknown", "Outdated/DUnknown", 0, False, 1, False, []),
+    ("Secondary/Unknown", "Inconsistent/UpToDate", 0, False, 1, False, []),
+    ("Secondary/Unknown", "Consistent/DUnknown", 1, True, 7, False, []),
+    ("Secondary/Unknown", "UpToDate/DUnknown", 1, True, 7, False, []),
+]
+
+
+def fence(folder, role, disk, status, **setting):
+    asked = f"case $1 in role) echo {role} ;; dstate) echo {disk} ;; *) exit 1 ;; esac"
+    at = f"{folder}/commands"
+    stand_ins(at, drbdadm=asked, sleep="", logger="", **{"index-power-off": f"exit {status}"})
+    with open(f"{FILES}/index-fence") as kept:
+        script, count = re.subn(r"(?m)^PATH=", f"PATH={at}:", kept.read())
+    assert count == 1
+    with open(f"{folder}/index-fence", "w") as made:
+        made.write(script)
+    words = {"DRBD_RESOURCE": "index", "DRBD_PEERS": "two", "INDEX_FENCE_FOLDER": at,
+             "INDEX_FENCE_SAID": f"{folder}/said", **setting}
+    kept = {name: value for name, value in os.environ.items() if name.lower().startswith("path")}
+    ended = subprocess.run(["sh", f"{folder}/index-fence"], env={**kept, **words}, stdout=subprocess.PIPE,
+                           stderr=subprocess.STDOUT, timeout=60)
+    return ended.returncode, called(at).splitlines()
+
+
+@pytest.mark.parametrize("role, disk, works, is_said, status, is_cut, waited", FENCED)
+def test_the_other_machine_is_off_before_this_one_goes_on(folder, role, disk, works, is_said, status, is_cut, waited):
+    if is_said:
+        with open(f"{folder}/said", "w"):
+            pass
+    found, calls = fence(folder, role, disk, works)
+    assert found == status, calls
+    assert [line for line in calls if line.startswith("index-power-off")] == ["index-power-off two"] * is_cut
+    assert [line for line in calls if line.startswith("sleep")] == waited
+    if waited:
+        assert calls.index(waited[0]) < calls.index("index-power-off two")
+    # what a person said counts once
+    assert not os.path.exists(f"{folder}/said")
+
+
+@pytest.mark.parametrize("lacks", ["DRBD_RESOURCE", "DRBD_PEERS"])
+def test_without_the_names_that_drbd_gives_nothing_is_cut(folder, lacks):
+    status, calls = fence(folder, "Primary/Unknown", "UpToDate/DUnknown", 0, **{lacks: ""})
+    assert status == 1 and not any(line.startswith("index-power-off") for line in calls)
+
+
+def test_the_command_for_the_power_switch_fails_until_it_is_written():
+    ended = run_command(["sh", f"{FILES}/index-power-off", "two"])
+    assert ended.returncode == 1 and "no power switch is set up for two" in ended.stdout
+
+
+def test_drbd_reads_the_resource_and_finds_in_it_what_keeps_uploads_and_names(folder):
+    """By drbdadm for DRBD 8.4, the version in Debian's kernel."""
+    want_command("drbdadm", "drbd-utils")
+    with open(f"{folder}/conf", "w") as made, open(f"{FILES}/index.res") as kept:
+        made.write(f'global {{ usage-count no; }}\n{kept.read()}')
+    ended = run_command(["unshare", "-u", "sh", "-c", f"hostname one && drbdadm -c {folder}/conf dump index"],
+                        DRBD_DRIVER_VERSION_OVERRIDE="8.4.11")
+    said = " ".join(ended.stdout.split())
+    assert ended.returncode == 0, ended
+    for each in ("fencing resource-and-stonith;", "protocol C;", "fence-peer /etc/drbd.d/index-fence;",
+                 "after-sb-0pri disconnect;", "after-sb-1pri disconnect;", "after-sb-2pri disconnect;"):
+        assert each in said, (each, said)
+
+
+@pytest.mark.parametrize("at, status", [("/proc", 0), ("/etc", 1)])
+def test_systemd_starts_no_index_on_a_folder_where_nothing_is_mounted(at, status):
+    want_command("systemd-analyze", "systemd")
+    line, = [it for it in written(f"{FILES}/on-drbd.conf").splitlines() if "=" in it and not it.startswith("#")]
+    assert line == "AssertPathIsMountPoint=/var/lib/index"
+    ended = run_command(["systemd-analyze", "condition", line.replace("/var/lib/index", at)])
+    assert ended.returncode == status, ended
