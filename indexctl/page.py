@@ -143,14 +143,15 @@ def page_of(url: str, names: Sequence[Standing], cases: Sequence[CaseRow], now: 
         owners=owner_part(names))
 
 
-def put_whole(path: str, text: str) -> None:
+def put_whole(path: str, text: str, is_synced: bool = True) -> None:
     """Writes a file as a whole or not at all: beside it first, and then in its place."""
     part = f"{path}.part"
     try:
         with open(part, "w", encoding="utf-8") as out:
             out.write(text)
             out.flush()
-            os.fsync(out.fileno())
+            if is_synced:
+                os.fsync(out.fileno())
         os.chmod(part, 0o644)
         os.replace(part, path)
     except OSError as end:

@@ -23,6 +23,17 @@ def order(release: str) -> Tuple[Any, ...]:
             (1, int(dev_number or 0)) if dev else MOST, local_order(local), release)
 
 
+def is_release(release: str) -> bool:
+    """Whether this is a version, which installers take into account."""
+    return VERSION.fullmatch(release.lower()) is not None
+
+
+def is_final(release: str) -> bool:
+    """Whether this is a version, and neither a pre-release nor one of development."""
+    found = VERSION.fullmatch(release.lower())
+    return found is not None and not found[3] and not found[7]
+
+
 def local_order(local: str) -> Tuple[Any, ...]:
     """The order of what stands behind `+`: none comes first, and a number comes after a word."""
     pieces = re.split(r"[._]", local) if local else []

@@ -1,0 +1,342 @@
+"""The pages for everybody, as nginx serves them and as a browser, a telephone, paper and a screen reader have them."""
+from __future__ import annotations
+
+import os
+import re
+import signal
+import subprocess
+import time
+from dataclasses import dataclass
+from typing import Any, Dict, Iterator
+
+import pytest
+from support.indexctl.browser import CONTRASTS, Page, opened
+from support.indexctl.control import Control, assert_ends, filled, put
+from support.indexctl.projects import REASON, fill_with_projects
+from support.indexctl.sample import MARKUP, NAMES, lines_of
+from support.needed import want_module
+from support.places import NGINX, SERVER
+from support.serving import Index
+
+pytestmark = pytest.mark.xdist_group("site")
+PEOPLE = "https://packages.example"
+COUNT = len(NAMES) + 2
+FJORD = "/browse/projects/fjord-queue.html"
+
+
+@dataclass
+class Site:
+    """The index, its caller, the folder of the pages, what stood there by then, and nginx."""
+    index: Any
+    by: Control
+    folder: str
+    texts: Dict[str, str]
+    ended: Any
+    front: Any
+
+
+def read(path: str) -> str:
+    with open(path, encoding="utf-8") as page:
+        return page.read()
+
+
+def texts_of(folder: str) -> Dict[str, str]:
+    """Each page of a folder by its path in there."""
+    found = {}
+    for at, _, names in os.walk(folder):
+        for name in names:
+            found[os.path.relpath(f"{at}/{name}", folder)] = read(f"{at}/{name}")
+    return found
+
+
+@pytest.fixture(scope="module")
+def site(program, open_folder, certificate) -> Iterator[Site]:
+    from support.server.front import Front
+    path = filled(program, f"{open_folder}/site.db", lines_of(int(time.time()), markup=True))
+    folder = f"{open_folder}/pages"
+    os.mkdir(folder)
+    with Index(program, path=path) as index:
+        fill_with_projects(index)
+        by = Control(open_folder, f"http://127.0.0.1:{index.port}", INDEX_TOKEN=None)
+        ended = by.run("site", folder, "--url", PEOPLE)
+        front = Front(f"{open_folder}/site-front", certificate, index.port)
+        front.put("index/server.d/site.conf", read(f"{NGINX}/site.conf"), **{"/var/lib/index-site": folder})
+        with front:
+            yield Site(index, by, folder, texts_of(folder), ended, front)
+
+
+@pytest.fixture(scope="module")
+def chromium() -> Iterator[Page]:
+    with opened() as page:
+        yield page
+
+
+def shown(page: Page) -> Any:
+    """The names of the projects that the list shows."""
+    return page.value("Array.from(document.querySelectorAll('.projects > li:not([hidden]) a'),"
+                      "function (it) { return it.textContent; })")
+
+
+def text(page: Page) -> str:
+    return str(page.value("document.body.innerText"))
+
+
+def test_a_page_is_written_for_each_project_without_a_token(site):
+    assert_ends(site.ended, 0, f"{COUNT} projects, {COUNT + 3} pages changed")
+    names = [re.sub(r"[-_.]+", "-", it).lower() for it in (*NAMES, "fjord-queue", "early")]
+    assert sorted(site.texts) == sorted([".wheels.json", "index.html", "site.js", "style.css",
+                                         *(f"projects/{it}.html" for it in names)])
+
+
+def test_a_second_run_writes_nothing(site):
+    before = os.stat(f"{site.folder}/index.html").st_mtime_ns
+    assert_ends(site.by.run("site", site.folder, "--url", PEOPLE), 0, f"{COUNT} projects, 0 pages changed")
+    assert os.stat(f"{site.folder}/index.html").st_mtime_ns == before
+
+
+def test_a_folder_of_something_else_is_left_alone(site, folder):
+    put(f"{folder}/home/projects/mine.html", "mine")
+    assert_ends(site.by.run("site", f"{folder}/home"), 2, "has files of something else")
+    assert texts_of(f"{folder}/home") == {"projects/mine.html": "mine"}
+    assert_ends(site.by.run("site", f"{folder}/none"), 2, "is not a folder")
+
+
+@pytest.mark.parametrize("url", ["packages.example", "http://packages.example", "https://packages.example/simple"])
+def test_an_address_that_people_can_t_use_is_refused(site, url):
+    assert_ends(site.by.run("site", site.folder, "--url", url), 2, "--url")
+
+
+def test_a_page_that_is_gone_goes_and_one_that_changed_is_written(site, folder):
+    made = f"{folder}/own"
+    os.mkdir(made)
+    site.index.claim("passing")
+    assert_ends(site.by.run("site", made), 0, f"{COUNT + 1} projects")
+    assert "projects/passing.html" in texts_of(made)
+    put(f"{made}/projects/moss.html", "spoilt")
+    put(f"{made}/projects/passing.html.part", "left by a run that was killed")
+    site.index.request(do="relinquish", name="passing")
+    ended = site.by.run("site", made)
+    # the list, the page of moss, and the two that went
+    assert_ends(ended, 0, f"{COUNT} projects, 4 pages changed")
+    texts = texts_of(made)
+    assert not [it for it in texts if "passing" in it or it.endswith(".part")] and "spoilt" not in str(texts)
+
+
+def test_a_run_that_is_killed_leaves_whole_pages(site, folder, looked):
+    """Each page is at any moment as it was or as it becomes."""
+    made = f"{folder}/killed"
+    os.mkdir(made)
+    assert_ends(site.by.run("site", made, "--url", "https://old.example"), 0)
+    old = texts_of(made)
+    with site.by.start("site", made, "--url", PEOPLE, streams={"stdout": subprocess.DEVNULL}) as process:
+        while process.poll() is None and "https://old.example" in read(f"{made}/projects/aurora-client.html"):
+            pass
+        process.send_signal(signal.SIGKILL)
+    found = {path: it for path, it in texts_of(made).items() if path.endswith(".html")}
+    new = {path: it.replace("old.example", "packages.example") for path, it in old.items()}
+    for path, it in found.items():
+        looked(it in (old[path], new[path]), path)
+    looked(set(found) == {it for it in old if it.endswith(".html")}, sorted(found))
+    assert_ends(site.by.run("site", made, "--url", PEOPLE), 0)
+    assert {path: it for path, it in texts_of(made).items() if path != ".wheels.json"} == {
+        path: it for path, it in new.items() if path != ".wheels.json"}
+
+
+def test_the_address_of_the_index_leads_to_the_list(site):
+    status, headers, _ = site.front.ask("GET", "/")
+    assert (status, headers["Location"]) == (302, f"{site.front.url}/browse/")
+    assert site.front.ask("GET", "/browse")[0] == 301
+    assert site.front.ask("POST", "/", "x")[0] == 404
+
+
+def test_without_the_pages_it_leads_to_the_index(program, open_folder, certificate):
+    from support.server.front import Front
+    with Index(program) as index, Front(f"{open_folder}/bare-front", certificate, index.port) as front:
+        assert front.ask("GET", "/")[1]["Location"] == f"{front.url}/simple/"
+
+
+@pytest.mark.parametrize("path, kind", [("", "text/html"), ("style.css", "text/css"), ("site.js", "text/javascript"),
+                                        ("projects/early.html", "text/html")])
+def test_pages_have_a_type_a_charset_and_a_policy(site, path, kind):
+    status, headers, _ = site.front.ask("GET", f"/browse/{path}")
+    assert (status, headers["Content-Type"]) == (200, f"{kind}; charset=utf-8")
+    policy = headers["Content-Security-Policy"]
+    assert "default-src 'none'" in policy and "script-src 'self'" in policy and "unsafe" not in policy
+    assert headers["X-Content-Type-Options"] == "nosniff" and headers["Cache-Control"] == "no-cache"
+
+
+def test_what_wheels_said_is_not_served(site):
+    assert site.front.ask("GET", "/browse/.wheels.json")[0] == 404
+
+
+def test_the_html_has_no_error_of_a_parser(site):
+    html5lib = want_module("html5lib", "python3-html5lib")
+    for path, it in site.texts.items():
+        if path.endswith(".html"):
+            html5lib.HTMLParser(strict=True).parse(it)
+
+
+def test_a_browser_asks_for_the_pages_alone_and_has_no_complaint(site, chromium):
+    chromium.look()
+    chromium.go(f"{site.front.url}/browse/")
+    assert chromium.console == []
+    assert chromium.asked == [f"{site.front.url}/browse/{it}" for it in ("", "style.css", "site.js")]
+    chromium.go(f"{site.front.url}{FJORD}")
+    assert chromium.console == []
+    assert chromium.asked == [f"{site.front.url}{FJORD}", f"{site.front.url}/browse/style.css"]
+
+
+def test_texts_of_strangers_are_texts(site, chromium):
+    chromium.look()
+    chromium.go(f"{site.front.url}{FJORD}")
+    said = text(chromium)
+    assert said.count(MARKUP) == 2 and REASON in said
+    assert "\\u202e" in said and "\u202e" not in chromium.value("document.documentElement.outerHTML")
+    assert chromium.value("document.title") == "Fjord.Queue \u00b7 packages.example"
+    assert chromium.value("document.querySelectorAll('script').length") == 0
+    links = chromium.value("Array.from(document.links, function (it) { return it.protocol; })")
+    assert set(links) == {"https:"}
+    chromium.go(f"{site.front.url}/browse/")
+    assert MARKUP in text(chromium) and "\u202e" not in chromium.value("document.documentElement.outerHTML")
+
+
+def test_a_script_that_gets_into_a_page_does_not_run(site, chromium):
+    path = f"{site.folder}/projects/inkwell.html"
+    before = read(path)
+    put(path, before.replace("</main>", "<script>document.title = 'taken'</script></main>"), 0o644)
+    try:
+        chromium.go(f"{site.front.url}/browse/projects/inkwell.html")
+        assert chromium.value("document.title") == "inkwell \u00b7 packages.example"
+        assert any("Content Security Policy" in it for it in chromium.console)
+    finally:
+        put(path, before, 0o644)
+
+
+def test_releases_come_newest_first_with_files_digests_and_yanks(site, chromium):
+    chromium.look()
+    chromium.go(f"{site.front.url}{FJORD}")
+    heads = chromium.value("Array.from(document.querySelectorAll('h3'), function (it) { return it.textContent; })")
+    assert heads == ["2.1", "2.0", "2.0rc1", "1.10", "1.9"]
+    said = text(chromium)
+    assert "newest release\n2.0\n" in said and "Yanked: loses" in said and said.count("Yanked") == 1
+    assert said.count("Python >=3.8, <4") == 5
+    assert len(set(re.findall(r"SHA-256 ([0-9a-f]{64})\n", said))) == 6
+    assert "fjord_queue-2.0.tar.gz 28 B\n" in said
+
+
+def test_a_page_says_what_the_newest_wheel_says(site, chromium):
+    chromium.go(f"{site.front.url}{FJORD}")
+    said = text(chromium)
+    assert 'home page\nhttps://fjord.example/?a="><b>\nlicence\nMIT\n' in said and "javascript" not in said
+    assert said.index("Sends & receives") < said.index("newest release")
+
+
+def test_a_page_says_how_to_install(site, chromium):
+    chromium.go(f"{site.front.url}{FJORD}")
+    said = text(chromium)
+    assert f"python3 -m pip install --index-url {PEOPLE}/simple/ fjord-queue\n" in said
+    assert f"uv add --default-index {PEOPLE}/simple/ fjord-queue\n" in said
+    chromium.go(f"{site.front.url}/browse/projects/driftwood.html")
+    assert "Install" not in text(chromium) and "newest release\nnone" in text(chromium)
+
+
+def test_a_page_has_owners_and_an_open_case(site, chromium):
+    chromium.go(f"{site.front.url}/browse/projects/glasshouse.html")
+    said = text(chromium)
+    assert "owners\nhugo\n" in said and "jonas asks for this name, to continue the project, since 20" in said
+    chromium.go(f"{site.front.url}/browse/projects/inkwell.html")
+    assert "open case" not in text(chromium)
+
+
+def test_each_link_to_a_file_gives_its_bytes(site, chromium):
+    chromium.go(f"{site.front.url}{FJORD}")
+    paths = chromium.value("Array.from(document.querySelectorAll('.files a'), function (it) { return it.pathname; })")
+    assert len(paths) == 6 and {site.front.ask("GET", it)[0] for it in paths} == {200}
+
+
+def test_a_search_leaves_what_has_the_words(site, chromium):
+    chromium.look()
+    chromium.go(f"{site.front.url}/browse/")
+    assert len(shown(chromium)) == COUNT
+    chromium.value("document.getElementById('find').focus()")
+    chromium.type("FJORD receives")
+    assert shown(chromium) == ["Fjord.Queue"]
+    assert ("status", f"1 of {COUNT} projects") in roles(chromium)
+    chromium.value("document.getElementById('find').select()")
+    chromium.type("no such text")
+    assert shown(chromium) == []
+
+
+def roles(page: Page):
+    """The roles and names that a screen reader gets; a live region by its text."""
+    found = page.spoken()
+    said = page.value("document.getElementById('count') && document.getElementById('count').textContent")
+    return [(role, name or said) if role == "status" else (role, name) for role, name in found]
+
+
+def test_a_screen_reader_gets_headings_landmarks_and_a_named_search(site, chromium):
+    chromium.look()
+    chromium.go(f"{site.front.url}/browse/")
+    found = roles(chromium)
+    for it in (("heading", "Packages of packages.example"), ("searchbox", "Search names, owners and summaries"),
+               ("status", f"{COUNT} projects"), ("link", "Fjord.Queue"), ("main", "")):
+        assert it in found
+    assert sum(role == "listitem" for role, _ in found) == COUNT
+    chromium.go(f"{site.front.url}{FJORD}")
+    found = chromium.spoken()
+    for it in (("navigation", "All packages"), ("heading", "Fjord.Queue"), ("heading", "Install"), ("region", "2.0"),
+               ("heading", "Releases"), ("term", "owners"), ("link", "fjord_queue-2.0.tar.gz")):
+        assert it in found
+
+
+def test_a_keyboard_is_enough(site, chromium):
+    chromium.look()
+    chromium.go(f"{site.front.url}/browse/")
+    chromium.press("Tab")
+    assert chromium.value("document.activeElement.id") == "find"
+    assert chromium.value("getComputedStyle(document.activeElement).outlineStyle") == "solid"
+    chromium.press("Tab")
+    assert chromium.value("document.activeElement.textContent") == "Aurora-Client"
+    assert chromium.value("getComputedStyle(document.activeElement).outlineStyle") == "solid"
+
+
+@pytest.mark.parametrize("path", ["/browse/", FJORD], ids=["list", "project"])
+@pytest.mark.parametrize("scheme", ["light", "dark"])
+def test_texts_have_a_contrast_of_four_and_a_half(site, chromium, path, scheme):
+    chromium.look(scheme=scheme)
+    chromium.go(f"{site.front.url}{path}")
+    found = chromium.value(CONTRASTS)
+    assert found["seen"] > 30 and found["found"] == []
+    colours = chromium.value("getComputedStyle(document.body).backgroundColor").strip("rgb()").split(", ")
+    assert (int(colours[0]) < 50) == (scheme == "dark")
+
+
+@pytest.mark.parametrize("path", ["/browse/", FJORD], ids=["list", "project"])
+def test_a_telephone_need_not_scroll_sideways(site, chromium, path):
+    chromium.look(wide=390, is_telephone=True)
+    chromium.go(f"{site.front.url}{path}")
+    assert chromium.value("document.documentElement.scrollWidth") == 390
+
+
+def test_paper_has_all_and_no_search(site, chromium):
+    chromium.look(wide=800, media="print")
+    chromium.go(f"{site.front.url}/browse/")
+    assert chromium.value("getComputedStyle(document.getElementById('find')).display") == "none"
+    assert "Fjord.Queue" in text(chromium)
+    assert chromium.value("getComputedStyle(document.querySelector('.projects > li')).contentVisibility") == "visible"
+
+
+def test_without_a_script_all_is_there_but_the_search(site, chromium):
+    chromium.look()
+    chromium.call("Emulation.setScriptExecutionDisabled", value=True)
+    try:
+        chromium.go(f"{site.front.url}/browse/")
+        spoken = chromium.spoken()
+    finally:
+        chromium.call("Emulation.setScriptExecutionDisabled", value=False)
+    assert sum(role == "listitem" for role, _ in spoken) == COUNT
+    assert "searchbox" not in {role for role, _ in spoken}
+
+
+def test_the_unit_writes_where_nginx_reads():
+    assert "indexctl site --url ${SITE_URL} /var/lib/index-site\n" in read(f"{SERVER}/systemd/index-site.service")

@@ -1,0 +1,38 @@
+"""Projects with real wheels and hostile texts, for the pages for everybody."""
+from __future__ import annotations
+
+import io
+import zipfile
+
+from support.indexctl.sample import MARKUP
+from support.packages import wheel_files, wheel_name
+
+TURNED = "\u202e"
+SUMMARY = f"Sends & receives {MARKUP}{TURNED} messages"
+REASON = f"loses <data>; nimm 2.0 \u2013 {MARKUP}"
+# what a wheel says of itself, with a home page that would run a script first
+HEADERS = (f"Summary: {SUMMARY}\nHome-page: javascript:document.title='taken'\n"
+           "Project-URL: Home Page, https://fjord.example/?a=\"><b>\nLicense: MIT\n"
+           "Classifier: License :: OSI Approved :: BSD License\n")
+
+
+def wheel_of(name: str, version: str, headers: str = HEADERS) -> bytes:
+    """A wheel with these headers in its METADATA."""
+    files = wheel_files(name, version, "")
+    files[f"{name}-{version}.dist-info/METADATA"] += headers
+    body = io.BytesIO()
+    with zipfile.ZipFile(body, "w") as wheel:
+        for path, text in files.items():
+            wheel.writestr(path, text)
+    return body.getvalue()
+
+
+def fill_with_projects(index):
+    """Two projects more: fjord-queue has releases in an order that is not that of letters, and a yank."""
+    index.claim("Fjord.Queue")
+    for version in ("1.9", "1.10", "2.0rc1", "2.0", "2.1"):
+        index.upload("fjord-queue", wheel_name("fjord_queue", version), wheel_of("fjord_queue", version), ">=3.8, <4")
+    index.upload("fjord-queue", "fjord_queue-2.0.tar.gz", b"no archive, and nobody looks")
+    index.request(do="yank", name="fjord-queue", release="2.1", reason=REASON)
+    index.claim("early")
+    index.upload("early", wheel_name("early", "1.0b1"), b"no wheel")
