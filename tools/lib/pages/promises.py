@@ -6,8 +6,8 @@ import re
 from pages.files import read
 from top import TOP
 
-PAGE = "docs/proofs/CLAUSES.md"
-PROMISES = re.compile(r"^\| Promise \| Call \| Clause \|\n\|.*\n((?:\|.*\n)*)", re.M)
+PAGE, SHORT = "docs/proofs/CLAUSES.md", "docs/proofs/PROMISES.md"
+PROMISES = re.compile(r"^\| Promise \| Call \| Clause \|(?: Wrong body \| Test \|)?\n\|.*\n((?:\|.*\n)*)", re.M)
 STEPS = re.compile(r"^\| Step \| Definition \| Lines \|\n\|.*\n((?:\|.*\n)*)", re.M)
 # a definition up to the next line that is empty
 DEFINITION = re.compile(r"^(?:pub record|(?:abbrev|unfoldable) pub) (\w+)\b.*\n(?:.+\n)*", re.M)
@@ -37,8 +37,8 @@ def lacks(call, clauses, found):
 
 
 def promises():
-    """The calls in the tables of the page, each with the clauses that stand beside it."""
-    for table in PROMISES.findall(read(PAGE)):
+    """The calls in the tables of both pages, each with the clauses that stand beside it."""
+    for table in PROMISES.findall(read(SHORT)) + PROMISES.findall(read(PAGE)):
         for row in table.splitlines():
             calls, clauses = (re.findall(r"`([^`]+)`", cell) for cell in row.split("|")[2:4])
             yield from ((call, clauses) for call in calls)
