@@ -7,7 +7,20 @@ sys.dont_write_bytecode = True
 if f"{SERVER}/lib" not in sys.path:
     sys.path.insert(0, f"{SERVER}/lib")
 
-from package_index import changes, commands, database, disk, ends, exchange, front, hints, names, two_machines, units
+from package_index import (
+    changes,
+    commands,
+    database,
+    disk,
+    ends,
+    exchange,
+    front,
+    hints,
+    looks,
+    names,
+    two_machines,
+    units,
+)
 
-__all__ = ["changes", "commands", "database", "disk", "ends", "exchange", "front", "hints", "names", "two_machines",
-           "units"]
+__all__ = ["changes", "commands", "database", "disk", "ends", "exchange", "front", "hints", "looks", "names",
+           "two_machines", "units"]

@@ -1,0 +1,124 @@
+"""What looks one after the other tell, at the boundaries of each rule."""
+import datetime
+import json
+import os
+
+import pytest
+from support.library import looks
+
+NOW, HOUR, DAY, GIB = 2_000_000_000.0, 3600, 86400, 1 << 30
+
+
+def look(hours_ago=0.0, room=None, boot="a", restarts=None, is_set=0.0):
+    """A look so long ago by a clock that was ahead by `is_set` then."""
+    return looks.Look(NOW - hours_ago * HOUR + is_set, boot, 5e6 - hours_ago * HOUR, room or {}, restarts or {})
+
+
+@pytest.mark.parametrize("hours, before, free, told", [
+    (24, 8, 7, []), (24, 8, 6.9, [6.3]),
+    (24, 8, 8, []), (24, 8, 9, []), (24.1, 8, 4, []), (6, 8, 7.5, [3.75]), (5.9, 8, 4, []), (24, 8, 0, [0.0])])
+def test_a_disk_is_told_that_is_full_within_seven_days_at_the_rate_of_the_last(hours, before, free, told):
+    seen = list(looks.disks([look(hours, {"/a": int(before * GIB)}), look(0, {"/a": int(free * GIB), "/b": 1})]))
+    assert len(seen) == len(told)
+    for text, days in zip(seen, told):
+        assert text.startswith("the disk of /a is full in ") and abs(float(text.split()[7]) - days) < 0.06, text
+        assert text.endswith(f"at the rate of the last {hours:.0f} hours")
+
+
+def test_a_disk_is_measured_from_the_earliest_look_of_the_last_day_that_has_it():
+    seen = [look(30, {"/a": 9 * GIB}), look(20, {"/b": 1}), look(10, {"/a": 8 * GIB}), look(1, {"/a": 2 * GIB}),
+            look(0, {"/a": 6 * GIB})]
+    assert list(looks.disks(seen)) == ["the disk of /a is full in 1.2 days, at the rate of the last 10 hours"]
+
+
+@pytest.mark.parametrize("is_set, told", [
+    (0, []), (60, []), (61, ["the clock went back by 61 seconds: timedatectl"]), (-60, []),
+    (-7200, ["the clock went ahead by 7200 seconds: timedatectl"])])
+def test_a_clock_that_was_set_is_told(is_set, told):
+    assert list(looks.clock(look(1, is_set=is_set), look())) == told
+
+
+@pytest.mark.parametrize("hours, told", [
+    (500, []), (0, []), (-0.01, []), (-1, ["the clock went back by 3600 seconds: timedatectl"])])
+def test_after_a_start_only_a_clock_that_went_back_is_seen(hours, told):
+    assert list(looks.clock(look(hours, boot="b"), look())) == told
+
+
+def test_a_unit_that_is_started_again_and_again_is_told():
+    before = look(0.5, restarts={"index.service": 4, "index@1.service": 4, "index@2.service": 9})
+    now = look(0, restarts={"index.service": 7, "index@1.service": 8, "index@2.service": 0, "index@3.service": 99})
+    assert list(looks.restarted(before, now)) == [
+        "index@1.service was started again 4 times in 30 minutes, as if another program had its port: "
+        "journalctl -u index@1.service"]
+    assert list(looks.restarted(before, now._replace(boot="b"))) == []
+
+
+def copy(folder, hours_ago, written=None):
+    moment = datetime.datetime.fromtimestamp(NOW - hours_ago * HOUR, datetime.timezone.utc)
+    path = folder / f"index-{moment:%Y%m%dT%H%M%SZ}.db"
+    path.touch()
+    at = NOW - (hours_ago if written is None else written) * HOUR
+    os.utime(path, (at, at))
+    return path
+
+
+def late(folder, begun=1000.0):
+    return [text.partition(":")[0] for text in looks.backups(str(folder), NOW, NOW - begun * HOUR)]
+
+
+def test_a_backup_is_late_by_the_earlier_of_its_name_and_its_file(tmp_path):
+    copy(tmp_path, 26)
+    assert late(tmp_path) == []
+    for hours, written in ((26.01, 1), (1, 27), (-1, -1), (-1, 0.5)):
+        for old in tmp_path.iterdir():
+            old.unlink()
+        copy(tmp_path, 40)
+        copy(tmp_path, hours, written)
+        told = {26.01: 26, 1: 27}.get(hours, 40)
+        # a name of a later time, whose file was written in time, is a copy of then
+        assert late(tmp_path) == ([] if (hours, written) == (-1, 0.5) else
+                                  [f"no backup was made in {tmp_path} for {told} hours"])
+
+
+def test_an_index_that_is_new_has_a_day_for_its_first_backup(tmp_path):
+    (tmp_path / "index-x.db").touch()
+    assert late(tmp_path, 26) == [] and late(tmp_path / "none", 26) == []
+    assert late(tmp_path, 26.1) == [f"no backup was made in {tmp_path} for 26 hours"]
+    assert late(tmp_path / "none", 30) == [f"no backup was made in {tmp_path}/none for 30 hours"]
+
+
+def test_of_several_indexes_each_has_its_own_backups(tmp_path):
+    for port, hours in (("8080", 2), ("8081", 30)):
+        (tmp_path / port).mkdir()
+        copy(tmp_path / port, hours)
+    assert late(tmp_path) == [f"no backup was made in {tmp_path}/8081 for 30 hours"]
+
+
+def log(folder, *rows):
+    """A log of changes: each row so many lines of this status, so many hours ago."""
+    path = folder / "changes.log"
+    lines = []
+    for number, status, hours in rows:
+        at = datetime.datetime.fromtimestamp(NOW - hours * HOUR, datetime.timezone(datetime.timedelta(hours=2)))
+        lines += [json.dumps({"at": at.isoformat(timespec="seconds"), "status": status})] * number
+    path.write_text("\n".join(["x", "[]", '{"at":"x","status":401}', *lines, ""]))
+    os.utime(path, (NOW, NOW))
+    return str(path)
+
+
+@pytest.mark.parametrize("rows, told", [
+    ([(99, 401, 0.5)], []), ([(100, 401, 0.5)], ["100 changes were answered by 401"]),
+    ([(100, 401, 0.5), (230, 401, 5)], []), ([(101, 401, 0.5), (230, 401, 5)], ["101 changes were answered by 401"]),
+    ([(100, 401, 0.5), (9000, 401, 25)], ["100 changes were answered by 401"]), ([(100, 401, 1.5)], []),
+    ([(100, 200, 0.5), (100, 500, 0.5), (100, 401, -1)], []), ([(60, 401, 0.5), (60, 403, 0.5)], []),
+    ([(60, 404, 0.5), (60, 499, 0.5)], ["120 changes were answered by another refusal"])])
+def test_a_rise_of_refused_changes_is_told(tmp_path, rows, told):
+    seen = list(looks.refused(log(tmp_path, *rows), NOW))
+    assert len(seen) == len(told) and all(text.startswith(start) for text, start in zip(seen, told)), seen
+
+
+def test_a_log_that_is_not_there_or_was_written_days_ago_tells_nothing(tmp_path):
+    path = log(tmp_path, (500, 401, 0.5))
+    assert list(looks.refused(f"{tmp_path}/none", NOW)) == [] and len(list(looks.refused(path, NOW))) == 1
+    os.utime(path, (NOW - DAY - 1, NOW - DAY - 1))
+    assert list(looks.refused(path, NOW)) == []
