@@ -30,7 +30,8 @@ def notes(changelog, version):
 def tag_text(changelog, version):
     """The text of the tag: what CHANGELOG.md says, with the words of links alone, in lines of 72 columns."""
     plain = re.sub(r"\[([^]]*)\]\([^)]*\)", r"\1", notes(changelog, version))
-    paragraphs = [it for it in re.split(r"\n(?=- )|\n\n+", plain.strip()) if it]
+    plain = re.sub(r"^#+ ", "", plain, flags=re.M)      # git takes a line with # for a comment
+    paragraphs = [it for it in re.split(r"\n(?=- |\d+\. )|\n\n+", plain.strip()) if it]
     filled = [textwrap.fill(" ".join(it.split()), COLUMNS, subsequent_indent="  " if it.startswith("- ") else "",
                             break_long_words=False, break_on_hyphens=False) for it in paragraphs]
     return f"index {version}\n\n" + "\n".join(filled) + "\n"

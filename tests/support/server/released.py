@@ -14,10 +14,12 @@ from support.running import run_command, write_below
 from support.server.stand_ins import written
 
 VERSION, TAG, WHO = "9.8.7", "v9.8.7", ["-c", "user.name=ann", "-c", "user.email=ann@example.org"]
-# a link, a line that is too long for a tag, and a section that is older
+# a heading, a link, a line that is too long for a tag, and a section that is older
 CHANGELOG = """# Changelog
 
 ## 9.8.7, {day}
+
+### Added
 
 - The first ([PAGE](docs/PAGE.md#top) says which).
 - {long}
@@ -29,6 +31,7 @@ CHANGELOG = """# Changelog
 LONG = "one two three four five six seven eight nine ten eleven twelve thirteen fourteen"
 TEXT = """index 9.8.7
 
+Added
 - The first (PAGE says which).
 - one two three four five six seven eight nine ten eleven twelve
   thirteen fourteen
