@@ -29,13 +29,15 @@ def without_detours(below):
 
 
 def steps(page):
-    """The steps of the way of one request in which each crate works."""
-    found = {}
+    """The steps of the way of one request in which each crate works, by its drawing and its list."""
+    found, number = {}, ""
     way = page.partition("## The way of one request")[2].partition("\n## ")[0]
-    for number, text in re.findall(r"^(\d+)\. (.*)$", way, re.M):
-        for name in re.findall(r"`(index\w*)/", text):
-            found.setdefault(name, {})[number] = True
-    return {name: " ".join(numbers) for name, numbers in found.items()}
+    for line in way.splitlines():
+        begun = re.match(r"(?: *│ +)?(\d+)(?:\. |  )", line)
+        number = begun[1] if begun else number
+        for name in re.findall(r"\b(index\w*)/", line) if number else []:
+            found.setdefault(name, set()).add(number)
+    return {name: " ".join(sorted(numbers)) for name, numbers in found.items()}
 
 
 def drawn(below, way):
