@@ -14,13 +14,12 @@ from typing import Iterator, List, Sequence, Sized, Tuple, Union
 
 from indexctl.cases import FEWEST_SENT, MEANS, CaseRow, ready_text
 from indexctl.ends import WRONG, Stop
-from indexctl.quotas import OwnedName, QuotaRow, owned_names, quota_row, quota_rows
-from indexctl.standings import Standing
+from indexctl.quotas import HIGH, OwnedName, Overview, QuotaRow, by_fullness
 from indexctl.units import YEAR, counted, due, human, moment
 
 # the HTML of a cell, or that and a number to sort by
 Cell = Union[str, Tuple[str, Union[int, str]]]
-HIGH, TOP = 80, 95
+TOP = 95
 THERE, MISSING, UNKNOWN = ("yes", "✓"), ("no", "–"), ("", "?")
 
 
@@ -106,32 +105,31 @@ def case_card(row: CaseRow, now: int) -> str:
         f'<ul class="marks">{marks}</ul><dl>{texts}</dl></article>\n'))
 
 
-def quota_part(names: Sequence[Standing]) -> str:
+def quota_part(found: Overview) -> str:
     def cells(row: QuotaRow) -> List[Cell]:
         kind = "top" if row.full >= TOP else "high" if row.full >= HIGH else ""
         bar = f'<span class="bar {kind}"><i style="width:{min(100, row.full):.1f}%"></i></span>'
         full = f'<span class="full">{bar}{row.full:.1f} %</span>'
         return [html.escape(row.name), (full, f"{row.full:.3f}"), (human(row.charge), row.charge),
                 (human(row.quota), row.quota), html.escape(", ".join(row.owners))]
-    return table_of(["name", "full", "charge", "quota", "owners"], [cells(it) for it in quota_rows(names, 0)])
+    rows = sorted(found.quotas, key=by_fullness)
+    return table_of(["name", "full", "charge", "quota", "owners"], [cells(it) for it in rows])
 
 
-def owner_part(names: Sequence[Standing]) -> str:
+def owner_part(found: Overview) -> str:
     def cells(user: str, owned: Sequence[OwnedName]) -> List[Cell]:
         marked = "".join(f'<span class="tag{" alone" if it.alone else ""}">{html.escape(it.name)}</span>'
                          for it in owned)
         count, alone = len(owned), sum(it.alone for it in owned)
         return [html.escape(user), (str(count), count), (str(alone), alone), f'<span class="names">{marked}</span>']
-    return table_of(["user", "owns", "alone", "names"], [cells(*it) for it in owned_names(names).items()])
+    return table_of(["user", "owns", "alone", "names"], [cells(*it) for it in sorted(found.owned.items())])
 
 
-def page_of(url: str, names: Sequence[Standing], cases: Sequence[CaseRow], now: int) -> str:
+def page_of(url: str, found: Overview, cases: Sequence[CaseRow], now: int) -> str:
     """The page of the office: one HTML file that asks for nothing else."""
-    full = sum(it.full >= HIGH for it in map(quota_row, names))
-    sole = sum(len(it.owners) == 1 for it in names)
     ready = sum(it.ready for it in cases)
-    tiles = ((len(names), "held names"), (len(cases), "open cases"), (ready, "ready for a transfer"),
-             (full, f"quotas at {HIGH} % or above"), (sole, "names with one owner"))
+    tiles = ((found.held, "held names"), (len(cases), "open cases"), (ready, "ready for a transfer"),
+             (found.full, f"quotas at {HIGH} % or above"), (found.alone, "names with one owner"))
     # as they stand between their tags: the digest is of all that stands there
     style, script = (f"\n{part_of_page(name)}" for name in ("page.css", "page.js"))
     digest = base64.b64encode(hashlib.sha256(script.encode()).digest()).decode()
@@ -139,8 +137,8 @@ def page_of(url: str, names: Sequence[Standing], cases: Sequence[CaseRow], now: 
     return part_of_page("page.html").format(
         digest=digest, host=host, when=moment(now), style=style, script=script,
         tiles="".join(f"<li><b>{number}</b>{what}</li>" for number, what in tiles), due=due_part(cases, now),
-        cases="".join(case_card(it, now) for it in cases) + none_line(cases), quotas=quota_part(names),
-        owners=owner_part(names))
+        cases="".join(case_card(it, now) for it in cases) + none_line(cases), quotas=quota_part(found),
+        owners=owner_part(found))
 
 
 def put_whole(path: str, text: str, is_synced: bool = True) -> None:

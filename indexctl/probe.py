@@ -1,7 +1,7 @@
 """The probe of a case: whether a year has passed since the latest upload, which no answer of the index shows."""
 from __future__ import annotations
 
-from typing import List, Optional, Sequence, Tuple
+from typing import Iterable, List, Optional, Tuple
 
 from indexctl.cases import CaseRow, case_row, soonest
 from indexctl.changes import Desk
@@ -21,7 +21,7 @@ def probe(desk: Desk, name: str) -> str:
     return answer
 
 
-def open_cases(desk: Desk, names: Sequence[Standing], now: int) -> Tuple[List[CaseRow], bool]:
+def open_cases(desk: Desk, names: Iterable[Standing], now: int) -> Tuple[List[CaseRow], bool]:
     """A row for each open case, the soonest first. The year is looked at if the token is of the office."""
     having = [(it, it.case) for it in names if it.case]
     is_office = bool(having and desk.setting.token) and desk.caller() == "office"

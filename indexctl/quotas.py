@@ -1,10 +1,13 @@
 """How full quotas are, and who owns which names."""
 from __future__ import annotations
 
-from dataclasses import dataclass
-from typing import Dict, List, Sequence
+from dataclasses import dataclass, field
+from typing import Dict, Iterable, Iterator, List, NamedTuple, Tuple
 
 from indexctl.standings import Standing
+
+# from so many percent on a quota is nearly full
+HIGH = 80
 
 
 @dataclass(frozen=True)
@@ -17,8 +20,7 @@ class QuotaRow:
     owners: List[str]
 
 
-@dataclass(frozen=True)
-class OwnedName:
+class OwnedName(NamedTuple):
     """A name of an owner, and whether nobody else owns it."""
     name: str
     alone: bool
@@ -29,15 +31,36 @@ def quota_row(found: Standing) -> QuotaRow:
     return QuotaRow(found.name, full, found.charge, found.quota, found.owners)
 
 
-def quota_rows(names: Sequence[Standing], above: float) -> List[QuotaRow]:
-    """The names by how full their quotas are, the fullest first, from so many percent on."""
-    return sorted((it for it in map(quota_row, names) if it.full >= above), key=lambda it: (-it.full, it.name))
+def by_fullness(row: QuotaRow) -> Tuple[float, str]:
+    """The order of quotas: the fullest first."""
+    return -row.full, row.name
 
 
-def owned_names(names: Sequence[Standing]) -> Dict[str, List[OwnedName]]:
-    """The names of each owner, the owners in the order of their ids."""
-    owned: Dict[str, List[OwnedName]] = {}
-    for found in names:
-        for owner in found.owners:
-            owned.setdefault(owner, []).append(OwnedName(found.name, len(found.owners) == 1))
-    return {user: owned[user] for user in sorted(owned)}
+def quota_rows(names: Iterable[Standing], above: float) -> List[QuotaRow]:
+    """The names by how full their quotas are, from so many percent on."""
+    return sorted((it for it in map(quota_row, names) if it.full >= above), key=by_fullness)
+
+
+@dataclass
+class Overview:
+    """What the office's page shows of the held names: how many there are, and the names that somebody has to look at,
+    which are the open cases, the quotas that are nearly full, and what one owner owns alone; with `is_whole` all."""
+    is_whole: bool = False
+    held: int = 0
+    full: int = 0
+    alone: int = 0
+    quotas: List[QuotaRow] = field(default_factory=list)
+    owned: Dict[str, List[OwnedName]] = field(default_factory=dict)
+
+    def look_at(self, names: Iterable[Standing]) -> Iterator[Standing]:
+        """Takes in each name as it comes, and gives those with an open case. No other is kept whole."""
+        for found in names:
+            row, is_alone = quota_row(found), len(found.owners) == 1
+            self.held, self.full, self.alone = self.held + 1, self.full + (row.full >= HIGH), self.alone + is_alone
+            if self.is_whole or row.full >= HIGH:
+                self.quotas.append(row)
+            if self.is_whole or is_alone:
+                for owner in found.owners:
+                    self.owned.setdefault(owner, []).append(OwnedName(found.name, is_alone))
+            if found.case:
+                yield found

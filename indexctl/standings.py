@@ -7,7 +7,7 @@ import secrets
 import threading
 import urllib.parse
 from dataclasses import dataclass, field
-from typing import Any, Callable, Dict, List, Optional, Sequence, Tuple, TypeVar
+from typing import Any, Callable, Dict, Iterator, List, Optional, Sequence, Tuple, TypeVar
 
 from indexctl.ends import REFUSED, WRONG, Stop
 from indexctl.terminal import Progress
@@ -18,6 +18,8 @@ from package_index.names import normal
 Item = TypeVar("Item")
 Result = TypeVar("Result")
 SIDE_BY_SIDE = 8
+# so many items go to a thread at once, in a long walk
+MOST_AT_ONCE = 64
 CASE_KINDS = {"attempts": int, "author": bool, "candidate": str, "contact": str, "kind": str, "opened": int,
               "pages": bool, "profile": bool, "sent": int, "why": str, "work": str}
 # the largest number, and the latest moment, that a standing may have: both can be told in words
@@ -87,9 +89,13 @@ def standing_of(found: Dict[str, Any]) -> Standing:
                     made, found)
 
 
+def path_of(name: str) -> str:
+    return f"/names/{urllib.parse.quote(name, safe='')}"
+
+
 def find_standing(index: Index, name: str) -> Standing:
     """How a name stands."""
-    reply = index.ask(name, Request("GET", f"/names/{urllib.parse.quote(name, safe='')}"))
+    reply = index.ask(name, Request("GET", path_of(name)))
     found = object_of(reply.body)
     if reply.status == 200 and found and is_standing(found):
         return standing_of(found)
@@ -123,44 +129,63 @@ def find_files(index: Index, name: str) -> Tuple[List[str], List[str]]:
     return [it["filename"] for it in found["files"]], [str(it) for it in found.get("versions", [])]
 
 
-def side_by_side(function: Callable[[Item], Result], items: Sequence[Item], what: str) -> List[Result]:
-    """What a function gives for each item, in their order. Several threads ask; the first failure ends them all."""
-    asked: queue.SimpleQueue[Tuple[int, Item]] = queue.SimpleQueue()
+def side_by_side(function: Callable[[Item], Result], items: Sequence[Item], what: str) -> Iterator[Result]:
+    """What a function gives for each item, in their order and as it comes. Several threads ask; the first failure ends
+    the walk."""
+    length = max(1, min(MOST_AT_ONCE, len(items) // (4 * SIDE_BY_SIDE)))
+    starts: queue.SimpleQueue[int] = queue.SimpleQueue()
     given: queue.SimpleQueue[Tuple[int, List[Result], Optional[BaseException]]] = queue.SimpleQueue()
-    for pair in enumerate(items):
-        asked.put(pair)
+    for at in range(0, len(items), length):
+        starts.put(at)
 
     def work() -> None:
         while True:
             try:
-                at, item = asked.get_nowait()
+                at = starts.get_nowait()
             except queue.Empty:
                 return
             try:
-                given.put((at, [function(item)], None))
+                given.put((at, [function(item) for item in items[at:at + length]], None))
             except BaseException as end:
                 given.put((at, [], end))
                 return
     for _ in range(min(SIDE_BY_SIDE, len(items))):
         # they end with the program: Ctrl-C waits for none of them
         threading.Thread(target=work, daemon=True).start()
-    found: Dict[int, Result] = {}
+    found: Dict[int, List[Result]] = {}
     with Progress(what, len(items)) as progress:
-        for _ in items:
-            at, result, end = given.get()
-            if end:
-                raise end
-            found[at] = result[0]
-            progress.step()
-    return [found[at] for at in range(len(items))]
+        for due in range(0, len(items), length):
+            while due not in found:
+                at, results, end = given.get()
+                if end:
+                    raise end
+                found[at] = results
+                progress.step(len(results))
+            yield from found.pop(due)
 
 
-def held_names(index: Index, is_fresh: bool = False) -> List[Standing]:
-    """The standing of each held name, in the order of the index's list. One that is given up meanwhile is left out."""
+def walked_standing(index: Index, name: str) -> Standing:
+    """How a name of the index's list stands. A reply that is no standing of this name is asked for once more, by
+    `find_standing`, which says what it is."""
+    found = object_of(index.glance(path_of(name)) or b"")
+    if found and is_standing(found) and found["name"] == normal(name):
+        return standing_of(found)
+    return find_standing(index, name)
+
+
+def listed_names(index: Index, is_fresh: bool = False) -> List[str]:
+    """The held names, in the order of the index's list."""
     listed = find_page(index, "/simple/", "projects", "name", is_fresh)
     if listed is None:
         raise Stop(WRONG, f"{index.setting.url} leads to several indexes, which have no list of names together. Name "
                           "each by an address of its own.")
-    names = [it["name"] for it in listed["projects"]]
-    found = side_by_side(functools.partial(find_standing, index), names, "names")
-    return [it for it in found if it.state == "held"]
+    return [it["name"] for it in listed["projects"]]
+
+
+def held_names(index: Index, is_fresh: bool = False) -> Iterator[Standing]:
+    """The standing of each held name, as it comes. One that is given up meanwhile is left out.
+
+    Each is asked for each time: the index gives no sign by which a standing that was kept could be known to be as it
+    was."""
+    names = listed_names(index, is_fresh)
+    return (it for it in side_by_side(functools.partial(walked_standing, index), names, "names") if it.state == "held")

@@ -4,6 +4,8 @@ from __future__ import annotations
 import base64
 import http.client
 import json
+import re
+import socket
 import ssl
 import threading
 import time
@@ -23,6 +25,10 @@ Headers = Tuple[Tuple[str, str], ...]
 PASSING = (500, 502, 503, 504)
 MOST_SECONDS = 90
 JSON_PAGE = "application/vnd.pypi.simple.v1+json"
+# a reply that is read at a glance: its status, one length, and no coding, in a head that is not longer than this
+MOST_HEAD, PIECE = 16_384, 65_536
+LENGTH = re.compile(rb"\r\ncontent-length: *([0-9]{1,9})(?=\r\n)")
+CODED = re.compile(rb"\r\n(?:transfer|content)-encoding:")
 
 
 @dataclass(frozen=True)
@@ -108,20 +114,51 @@ class Index:
         finally:
             connection.close()
 
-    def look(self, request: Request) -> Reply:
-        """The reply to a GET, on a connection that this thread keeps: behind nginx that spares a handshake for each."""
+    def kept_connection(self) -> HTTPConnection:
+        """The open connection that this thread keeps: behind nginx that spares a handshake for each GET."""
         connection: Optional[HTTPConnection] = getattr(self.kept, "connection", None)
         if connection is None:
             connection = self.kept.connection = self.connection()
+        if connection.sock is None:
+            self.connect(connection)
+        return connection
+
+    def leave(self) -> None:
+        """Closes the connection that this thread keeps, after a reply that was not read to its end."""
+        connection: Optional[HTTPConnection] = getattr(self.kept, "connection", None)
+        if connection is not None:
+            connection.close()
+
+    def look(self, request: Request) -> Reply:
+        """The reply to a GET."""
         try:
-            if connection.sock is None:
-                self.connect(connection)
+            connection = self.kept_connection()
             connection.request("GET", request.path, headers={**self.headers, **dict(request.headers)})
             reply = connection.getresponse()
             return Reply(reply.status, reply.headers, reply.read())
         except BaseException:
-            connection.close()
+            self.leave()
             raise
+
+    def glance(self, path: str) -> Optional[bytes]:
+        """The body of a plain reply of 200 to a GET, or None for all else, which `ask` has to look at.
+
+        A walk over all names asks so: to make a request by http.client and to read a head by it takes most of its
+        time."""
+        headers = {"Host": self.parts.netloc, "Accept-Encoding": "identity", **self.headers}
+        lines = f"GET {path} HTTP/1.1", *(f"{name}: {value}" for name, value in headers.items()), "", ""
+        try:
+            peer = self.kept_connection().sock
+            peer.sendall("\r\n".join(lines).encode("latin-1"))
+            body, is_last = read_plain(peer)
+        except (NotSent, OSError):
+            body, is_last = None, True
+        except BaseException:
+            self.leave()
+            raise
+        if is_last:
+            self.leave()
+        return body
 
     def ask(self, what: str, request: Request) -> Reply:
         """The reply, once it is none that passes by itself. Stops if there is no such reply after all trials."""
@@ -148,6 +185,30 @@ class Index:
         maybe = " It may have been done, and is in no record then." if is_repeat and request.method != "GET" else ""
         raise Stop(UNREACHED, f"{what}: {why}, {counted(self.again + 1, 'time')}. The index does not answer now."
                               f"{maybe} Run this again later.")
+
+
+def read_plain(peer: socket.socket) -> Tuple[Optional[bytes], bool]:
+    """The body of a reply of 200 with a length and as it is, or None for any other; and whether nothing more may be
+    asked on this connection."""
+    given = b""
+    while b"\r\n\r\n" not in given:
+        more = peer.recv(PIECE)
+        if not more or len(given) > MOST_HEAD:
+            return None, True
+        given += more
+    first, _, body = given.partition(b"\r\n\r\n")
+    head = first.lower() + b"\r\n"
+    lengths = LENGTH.findall(head)
+    if not head.startswith(b"http/1.1 200 ") or head.count(b"\r\ncontent-length") != len(lengths) or len(lengths) != 1:
+        return None, True
+    length = int(lengths[0])
+    while len(body) < length:
+        more = peer.recv(PIECE)
+        if not more:
+            return None, True
+        body += more
+    is_plain = len(body) == length and not CODED.search(head)
+    return body if is_plain else None, not is_plain or b"\r\nconnection: close\r\n" in head
 
 
 def first_words(reply: Reply) -> str:

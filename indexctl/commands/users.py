@@ -112,9 +112,13 @@ class Leaving:
 
 def find_leaving(desk: Desk, user: str) -> Leaving:
     """What is the user's now, by a list that nobody has cached."""
-    names = held_names(desk.index, is_fresh=True)
-    return Leaving([it for it in names if user in it.owners],
-                   [it.name for it in names if it.case and it.case.candidate == user])
+    leaving = Leaving([], [])
+    for found in held_names(desk.index, is_fresh=True):
+        if user in found.owners:
+            leaving.owned.append(found)
+        if found.case and found.case.candidate == user:
+            leaving.asked.append(found.name)
+    return leaving
 
 
 def lock_and_pass_on(desk: Desk, user: str, heir: Optional[str]) -> None:

@@ -15,6 +15,7 @@ from indexctl.interrupts import told_if_interrupted
 from indexctl.names import sha256
 from indexctl.page import page_of, put_whole
 from indexctl.probe import open_cases
+from indexctl.quotas import Overview
 from indexctl.replays import Attempts, Line, lines_since, read_lines, replay_line, why_left
 from indexctl.standings import held_names
 from indexctl.terminal import note, say
@@ -53,18 +54,19 @@ def upload(args: argparse.Namespace) -> int:
 
 
 @command("page", "writes the page of the office into a folder",
-         argument("folder", metavar="DIR", help="a folder that is there"))
+         argument("folder", metavar="DIR", help="a folder that is there"),
+         argument("--all", action="store_true", help="with the quotas of all names, and all owners"))
 def page(args: argparse.Namespace) -> None:
-    """The page, DIR/index.html, is one file with open cases, what is due, quotas and owners. It asks for nothing from
-    elsewhere. It is replaced as a whole. With a token of the office it also has the year since the latest upload."""
+    """The page, DIR/index.html, is one file with open cases, what is due, quotas that are nearly full, and names with
+    one owner. It asks for nothing from elsewhere. It is replaced as a whole. With a token of the office it also has the
+    year since the latest upload."""
     if not os.path.isdir(args.folder):
         raise Stop(WRONG, f"{args.folder} is not a folder.")
-    desk, now = Desk(args), int(time.time())
-    names = held_names(desk.index)
-    cases, _ = open_cases(desk, names, now)
+    desk, now, found = Desk(args), int(time.time()), Overview(args.all)
+    cases, _ = open_cases(desk, found.look_at(held_names(desk.index)), now)
     path = os.path.join(args.folder, "index.html")
-    put_whole(path, page_of(desk.setting.url, names, cases, now))
-    say(f"{path}: {counted(len(names), 'name')}, {counted(len(cases), 'open case')}")
+    put_whole(path, page_of(desk.setting.url, found, cases, now))
+    say(f"{path}: {counted(found.held, 'name')}, {counted(len(cases), 'open case')}")
 
 
 @command("replay", "asks again for the changes of a record, after a restore",

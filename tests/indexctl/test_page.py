@@ -12,7 +12,7 @@ from dataclasses import dataclass
 import pytest
 from support.indexctl.control import Control, assert_ends, filled, put
 from support.indexctl.page import DRIVER, Reader, rendered, title_of
-from support.indexctl.sample import CASES, MARKUP, NAMES, USERS, lines_of
+from support.indexctl.sample import CASES, MARKUP, NAMES, QUOTA, USERS, lines_of
 from support.needed import want_module
 from support.places import NGINX, SERVER, TOP
 from support.running import run_command
@@ -23,10 +23,12 @@ pytestmark = pytest.mark.xdist_group("page")
 
 @dataclass
 class Office:
-    """A page that was written, how that and two others ended, and what stood in its folder afterwards."""
+    """A page of all that was written, how that and two others ended, and what stood in its folder afterwards. `brief`
+    is how a page without --all ended, and its text."""
     path: str
     text: str
     ended: object
+    brief: object
     nowhere: object
     refused: object
     left: list
@@ -40,7 +42,10 @@ def office(program, shared_folder):
     os.mkdir(folder)
     with Index(program, path=path) as index:
         by = Control(shared_folder, f"http://127.0.0.1:{index.port}")
-        ended, nowhere = by.run("page", folder), by.run("page", f"{folder}/none")
+        brief = by.run("page", folder)
+        with open(f"{folder}/index.html", encoding="utf-8") as page:
+            brief_text = page.read()
+        ended, nowhere = by.run("page", folder, "--all"), by.run("page", f"{folder}/none")
         left = os.listdir(folder)
         with open(f"{folder}/index.html", encoding="utf-8") as page:
             text = page.read()
@@ -50,7 +55,8 @@ def office(program, shared_folder):
         refused = by.run("page", folder)
         shutil.rmtree(f"{folder}/index.html.part", ignore_errors=True)
     with open(f"{folder}/index.html", encoding="utf-8") as page:
-        return Office(f"{folder}/index.html", text, ended, nowhere, refused, left, page.read() == text)
+        is_kept = page.read() == text
+    return Office(f"{folder}/index.html", text, ended, (brief, brief_text), nowhere, refused, left, is_kept)
 
 
 def test_the_page_is_written(office):
@@ -73,6 +79,16 @@ def test_a_page_that_can_t_be_written_leaves_the_one_before(office):
 
 def test_there_is_a_row_for_each_name_and_each_owner(office):
     assert Reader(office.text).rows == len(NAMES) + len(USERS)
+
+
+def test_without_all_there_are_quotas_that_are_nearly_full_and_names_with_one_owner(office):
+    ended, text = office.brief
+    assert_ends(ended, 0, "18 names, 4 open cases")
+    full = sum(charge >= 0.8 * QUOTA for _, charge in NAMES.values())
+    alone = {owners for owners, _ in NAMES.values() if " " not in owners}
+    assert Reader(text).rows == full + len(alone) and full == 4
+    assert text.count('<span class="tag alone">') == office.text.count('<span class="tag alone">')
+    assert (Reader(text).articles, Reader(text).items) == (len(CASES), len(CASES))
 
 
 def test_there_is_each_case_and_what_is_due_in_it(office):

@@ -18,6 +18,13 @@ def row_at(now, refusal=None, **changed):
     return cases.case_row(held(), case_of(**changed), now, refusal)
 
 
+def overview_of(*names):
+    """An overview with all of these names."""
+    made = quotas.Overview(is_whole=True)
+    list(made.look_at(names))
+    return made
+
+
 READY = row_at(OPENED + 2 * SIX_WEEKS, "HomePageActive")
 
 
@@ -35,12 +42,29 @@ def test_the_fullest_come_first_and_then_by_name():
     assert [it.name for it in quotas.quota_rows(names, 90.1)] == ["d"]
 
 
-def test_owners_come_in_order_with_what_they_own_alone():
+def test_owners_have_what_they_own_alone():
     names = [held("a", owners=["bob", "ann"]), held("b", owners=["bob"])]
-    found = quotas.owned_names(names)
-    assert list(found) == ["ann", "bob"]
+    found = overview_of(*names).owned
     assert [(it.name, it.alone) for it in found["bob"]] == [("a", False), ("b", True)]
     assert [(it.name, it.alone) for it in found["ann"]] == [("a", False)]
+
+
+def test_a_page_keeps_what_somebody_has_to_look_at():
+    names = [held("a", charge=79, quota=100, owners=["ann", "bob"]), held("b", charge=80, quota=100),
+             held("c", owners=["bob"]), held("d", owners=["ann", "bob"], case=case_of())]
+    found = quotas.Overview()
+    assert [it.name for it in found.look_at(names)] == ["d"]
+    assert (found.held, found.full, found.alone) == (4, 1, 2)
+    assert [it.name for it in found.quotas] == ["b"]
+    assert {user: [it.name for it in owned] for user, owned in found.owned.items()} == {"ann": ["b"], "bob": ["c"]}
+
+
+def test_a_page_of_all_keeps_all():
+    names = [held("a", owners=["ann", "bob"]), held("b", charge=80, quota=100)]
+    found = overview_of(*names)
+    assert (found.held, found.full, found.alone, [it.name for it in found.quotas]) == (2, 1, 1, ["a", "b"])
+    assert {user: [it.name for it in owned] for user, owned in found.owned.items()} == {"ann": ["a", "b"],
+                                                                                        "bob": ["a"]}
 
 
 def test_a_case_that_is_ready_is_due_now():
@@ -133,20 +157,20 @@ def test_a_table_has_a_cell_for_each_head_and_numbers_to_sort_by():
 @pytest.mark.parametrize("charge, kind, width", [(79, "", "79.0"), (80, "high", "80.0"), (94, "high", "94.0"),
                                                  (95, "top", "95.0"), (100, "top", "100.0"), (150, "top", "100.0")])
 def test_a_bar_is_coloured_from_eighty_and_from_ninety_five_percent_on(charge, kind, width):
-    part = page.quota_part([held(charge=charge, quota=100)])
+    part = page.quota_part(overview_of(held(charge=charge, quota=100)))
     assert f'<span class="bar {kind}"><i style="width:{width}%"></i></span>{charge:.1f} %' in part
     assert f'data-key="{charge:.3f}"' in part and 'data-key="100"' in part
 
 
 def test_owners_are_listed_with_their_numbers():
-    part = page.owner_part([held("<a>", owners=["ann"]), held("b", owners=["ann", "bob"])])
+    part = page.owner_part(overview_of(held("<a>", owners=["bob"]), held("b", owners=["bob", "ann"])))
     assert '<span class="tag alone">&lt;a&gt;</span><span class="tag">b</span>' in part
-    assert re.findall('data-key="(.*?)"', part) == ["2", "1", "1", "0"]
+    assert re.findall('data-key="(.*?)"', part) == ["1", "0", "2", "1"]
 
 
 def test_tiles_count_names_cases_and_quotas():
     names = [held("a", charge=80, quota=100), held("b", charge=79, quota=100, owners=["x", "y"]), held("c")]
-    text = page.page_of("https://packages.example:8443", names, [READY, row_at(OPENED)], OPENED)
+    text = page.page_of("https://packages.example:8443", overview_of(*names), [READY, row_at(OPENED)], OPENED)
     assert re.findall("<b>(\\d+)</b>(.*?)</li>", text) == [
         ("3", "held names"), ("2", "open cases"), ("1", "ready for a transfer"), ("1", "quotas at 80 % or above"),
         ("2", "names with one owner")]
@@ -154,7 +178,7 @@ def test_tiles_count_names_cases_and_quotas():
 
 
 def test_the_policy_has_the_digest_of_the_script():
-    text = page.page_of("https://h", [], [], OPENED)
+    text = page.page_of("https://h", quotas.Overview(), [], OPENED)
     script = re.search("<script>(.*)</script>", text, re.S)[1]
     digest = base64.b64encode(hashlib.sha256(script.encode()).digest()).decode()
     assert f"script-src 'sha256-{digest}'" in html.unescape(text)

@@ -99,13 +99,25 @@ def test_a_project_that_is_not_there_has_none():
 
 
 def test_what_is_asked_side_by_side_comes_in_order():
-    assert standings.side_by_side(lambda it: it * 2, list(range(50)), "x") == [it * 2 for it in range(50)]
-    assert standings.side_by_side(lambda it: it, [], "x") == []
+    assert list(standings.side_by_side(lambda it: it * 2, list(range(50)), "x")) == [it * 2 for it in range(50)]
+    assert list(standings.side_by_side(lambda it: it, [], "x")) == []
+
+
+def test_what_is_answered_late_comes_in_its_place():
+    later = threading.Event()
+
+    def ask(it):
+        if it == 0:
+            assert later.wait(20)
+        else:
+            later.set()
+        return it
+    assert list(standings.side_by_side(ask, [0, 1, 2], "x")) == [0, 1, 2]
 
 
 def test_eight_are_asked_at_once():
     together = threading.Barrier(8, timeout=20)
-    assert len(standings.side_by_side(lambda _: together.wait(), list(range(8)), "x")) == 8
+    assert len(list(standings.side_by_side(lambda _: together.wait(), list(range(8)), "x"))) == 8
 
 
 def test_the_first_failure_ends_a_walk():
@@ -114,12 +126,12 @@ def test_the_first_failure_ends_a_walk():
             raise Stop(UNREACHED, "no 3")
         return it
     with pytest.raises(Stop, match="no 3"):
-        standings.side_by_side(fail, list(range(20)), "x")
+        list(standings.side_by_side(fail, list(range(20)), "x"))
 
 
 def test_a_name_that_is_given_up_meanwhile_is_left_out():
     index = FakeIndex(as_reply(200, {"projects": [{"name": "a"}]}), as_reply(200, {"name": "a", "state": "free"}))
-    assert standings.held_names(index) == []
+    assert list(standings.held_names(index)) == []
 
 
 def test_several_indexes_behind_one_address_have_no_list():
@@ -131,9 +143,9 @@ def test_several_indexes_behind_one_address_have_no_list():
 def test_no_more_than_eight_are_asked_at_once(monkeypatch):
     made, thread = [], threading.Thread
     monkeypatch.setattr(standings.threading, "Thread", lambda **given: made.append(given) or thread(**given))
-    assert standings.side_by_side(lambda it: it, list(range(20)), "x") == list(range(20))
+    assert list(standings.side_by_side(lambda it: it, list(range(20)), "x")) == list(range(20))
     assert len(made) == 8
-    standings.side_by_side(lambda it: it, [1, 2], "x")
+    assert list(standings.side_by_side(lambda it: it, [1, 2], "x")) == [1, 2]
     assert len(made) == 10
 
 
@@ -145,3 +157,36 @@ def test_a_fresh_page_is_asked_for_as_nobody_asked_before():
     first, second, kept = (dict(it.headers)["Accept"] for it in index.asked)
     assert kept == standings.JSON_PAGE and len({first, second, kept}) == 3
     assert first.startswith(f"{kept}, application/x-fresh-") and second.startswith(f"{kept}, application/x-fresh-")
+
+
+@pytest.mark.parametrize("count", [1, 31, 32, 33, 64, 65, 1_000, 5_003])
+def test_a_long_walk_comes_whole_and_in_order(count):
+    assert list(standings.side_by_side(lambda it: -it, list(range(count)), "x")) == [-it for it in range(count)]
+
+
+def test_what_is_asked_side_by_side_comes_before_all_was_asked():
+    last = threading.Event()
+    found = standings.side_by_side(lambda it: it < 19 or last.wait(20), list(range(20)), "x")
+    assert next(found) is True
+    last.set()
+    assert list(found) == 19 * [True]
+
+
+def test_a_name_of_the_list_is_asked_for_at_a_glance():
+    index = FakeIndex(glances=[json.dumps(HELD).encode()])
+    assert standings.walked_standing(index, "Frob").owners == ["ann"]
+    assert (index.glanced, index.asked) == (["/names/Frob"], [])
+
+
+@pytest.mark.parametrize("seen", [
+    json.dumps({**HELD, "name": "other"}).encode(), json.dumps({**HELD, "quota": -1}).encode(), b"{}", b"[]", b"",
+    None])
+def test_what_a_glance_does_not_show_is_asked_for(seen):
+    index = FakeIndex(as_reply(200, {**HELD, "quota": 7}), glances=[] if seen is None else [seen])
+    assert standings.walked_standing(index, "frob").quota == 7
+    assert [it.path for it in index.asked] == ["/names/frob"]
+
+
+def test_a_name_that_is_refused_in_a_walk_says_what_to_do():
+    with pytest.raises(Stop, match="^x: 400 BadName. This is not a project's name"):
+        standings.walked_standing(FakeIndex(as_reply(400, {"answer": "refused", "name": "BadName"})), "x")

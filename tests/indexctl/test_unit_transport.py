@@ -3,6 +3,8 @@ from __future__ import annotations
 
 import http.client
 import socket
+import struct
+import threading
 
 import pytest
 from indexctl import transport
@@ -179,3 +181,109 @@ def test_where_nobody_listens_nothing_goes_out():
         for send in (index.once, index.look):
             with pytest.raises(NotSent):
                 send(GET)
+
+
+PLAIN = b"HTTP/1.1 200 OK\r\nServer: nginx\r\nContent-Length: 2\r\n"
+
+
+class Listener:
+    """Answers what comes on each connection by the next of these texts, in these pieces, and keeps what came. A
+    connection without texts is reset."""
+
+    def __init__(self, *connections):
+        self.peer, self.connections, self.came = socket.create_server(("127.0.0.1", 0)), connections, []
+        self.thread = threading.Thread(target=self.answer, daemon=True)
+        self.url = f"http://127.0.0.1:{self.peer.getsockname()[1]}"
+
+    def answer(self):
+        for replies in self.connections:
+            with self.peer.accept()[0] as one:
+                if not replies:
+                    one.setsockopt(socket.SOL_SOCKET, socket.SO_LINGER, struct.pack("ii", 1, 0))
+                for pieces in replies:
+                    self.came.append(one.recv(4096))
+                    for piece in pieces:
+                        one.sendall(piece)
+
+    def __enter__(self):
+        self.thread.start()
+        return self
+
+    def __exit__(self, *_):
+        self.thread.join(20)
+        self.peer.close()
+
+
+def glances(connections, count):
+    with Listener(*connections) as listener:
+        index = index_of(listener.url, basic="ann:x")
+        found = [index.glance("/names/a") for _ in range(count)]
+        index.leave()
+    return found, listener.came
+
+
+@pytest.mark.parametrize("pieces", [
+    [PLAIN + b"\r\nok"], [PLAIN + b"\r\n", b"ok"], [PLAIN[:20], PLAIN[20:] + b"\r", b"\no", b"k"],
+    [PLAIN.lower().replace(b"http", b"HTTP") + b"\r\nok"]])
+def test_a_plain_reply_is_seen_at_a_glance(pieces):
+    found, came = glances([[pieces]], 1)
+    assert found == [b"ok"]
+    assert came[0].startswith(b"GET /names/a HTTP/1.1\r\nHost: 127.0.0.1:") and came[0].endswith(b"\r\n\r\n")
+    assert b"\r\nAuthorization: Basic YW5uOng=\r\n" in came[0]
+
+
+class Pieces:
+    """The end of a connection on which these pieces come, and then nothing."""
+
+    def __init__(self, *pieces):
+        self.pieces = list(pieces)
+
+    def recv(self, _):
+        return self.pieces.pop(0) if self.pieces else b""
+
+
+def test_all_pieces_of_a_plain_reply_are_read():
+    assert transport.read_plain(Pieces(PLAIN[:9], PLAIN[9:], b"\r\n", b"o", b"k")) == (b"ok", False)
+    assert transport.read_plain(Pieces(PLAIN, b"\r\n", b"o")) == (None, True)
+
+
+@pytest.mark.parametrize("reply_", [
+    b"HTTP/1.1 404 Not Found\r\nContent-Length: 2\r\n\r\nok", b"HTTP/1.0 200 OK\r\nContent-Length: 2\r\n\r\nok",
+    PLAIN + b"Transfer-Encoding: chunked\r\n\r\nok", PLAIN + b"Content-Encoding: gzip\r\n\r\nok",
+    PLAIN + b"Content-Length: 2\r\n\r\nok", PLAIN + b"Content-Length: 9x\r\n\r\nok", PLAIN + b"\r\nokay",
+    PLAIN + b"\r\no", PLAIN, b"HTTP/1.1 200 OK\r\n\r\nok", b"HTTP/1.1 200 OK\r\nX: content-length: 2\r\n\r\nok",
+    b"\r\n\r\n", b"", b"HTTP/1.1 200 OK\r\nX: " + b"x" * 300_000])
+def test_any_other_reply_is_not_seen_at_a_glance_and_ends_its_connection(reply_):
+    found, _ = glances([[[reply_]], [[PLAIN + b"\r\nok"]]], 2)
+    assert found == [None, b"ok"]
+
+
+def test_a_connection_that_is_reset_is_not_asked_again():
+    assert glances([[], [[PLAIN + b"\r\nok"]]], 2)[0] == [None, b"ok"]
+
+
+def test_a_connection_is_kept_from_glance_to_glance():
+    plain = [PLAIN + b"\r\nok"]
+    assert glances([[plain, plain, plain]], 3)[0] == 3 * [b"ok"]
+
+
+def test_a_connection_that_the_reply_ends_is_not_asked_again():
+    last = [PLAIN + b"Connection: close\r\n\r\nok"]
+    assert glances([[last], [last]], 2)[0] == 2 * [b"ok"]
+
+
+def test_where_nobody_listens_a_glance_shows_nothing():
+    with socket.socket() as taken:
+        taken.bind(("127.0.0.1", 0))
+        assert index_of(f"http://127.0.0.1:{taken.getsockname()[1]}").glance("/x") is None
+
+
+def test_a_kept_connection_that_was_closed_meanwhile_is_opened_again_at_once(monkeypatch):
+    monkeypatch.setattr(transport.time, "sleep", lambda _: pytest.fail("a pause"))
+    plain = [PLAIN + b"\r\nok"]
+    with Listener([plain], [plain]) as listener:
+        index = index_of(listener.url)
+        assert index.glance("/x") == b"ok"
+        assert index.kept.connection.sock.recv(1) == b"", "the listener has closed it"
+        assert index.glance("/x") is None and index.ask("x", GET).body == b"ok"
+        index.leave()

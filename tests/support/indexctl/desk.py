@@ -70,7 +70,7 @@ class Run:
     def listed(self, _, is_fresh=False):
         """The held names. `lists` has how each list was asked for: a fresh one, and behind how many changes."""
         self.lists.append((is_fresh, len(self.desk.asked)))
-        return self.names
+        return iter(self.names)
 
     def standing(self, _, name):
         return next((it for it in self.names if it.name == name), FREE)

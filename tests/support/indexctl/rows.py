@@ -3,7 +3,7 @@ from __future__ import annotations
 
 import argparse
 import email.message
-from typing import Any, Dict, List, Optional
+from typing import Any, Dict, List, Optional, Sequence
 
 from indexctl.settings import Setting
 from indexctl.standings import Case, Standing
@@ -37,11 +37,17 @@ def args(**given: Any) -> argparse.Namespace:
 
 
 class FakeIndex:
-    """Answers by replies in their order, and keeps what it was asked."""
+    """Answers by replies in their order, and keeps what it was asked. `glances` are the bodies that are seen at a
+    glance."""
 
-    def __init__(self, *replies: Reply, setting: Optional[Setting] = None) -> None:
-        self.setting, self.left = setting or SETTING, list(replies)
+    def __init__(self, *replies: Reply, setting: Optional[Setting] = None, glances: Sequence[bytes] = ()) -> None:
+        self.setting, self.left, self.glances = setting or SETTING, list(replies), list(glances)
         self.asked: List[Request] = []
+        self.glanced: List[str] = []
+
+    def glance(self, path: str) -> Optional[bytes]:
+        self.glanced.append(path)
+        return self.glances.pop(0) if self.glances else None
 
     def ask(self, _what: str, request: Request) -> Reply:
         self.asked.append(request)
