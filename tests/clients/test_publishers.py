@@ -76,11 +76,35 @@ def twine_user(person):
     return person
 
 
-@pytest.mark.follows("Upload")
-def test_indexctl_uploads(person):
-    make_dist(person, "1.0")
-    person.succeeds(person.does("Upload"), "2 of 2 files are there")
-    is_published(person, "eggs-1.0-py3-none-any.whl", "eggs-1.0.tar.gz")
+def new_owner(person, user):
+    """Somebody who has the page alone gets indexctl and a token by it; the office makes the user."""
+    ended = person.does("indexctl and a token")
+    token, digest = (line.split()[1] for line in ended.stdout.strip().split("\n")[-2:])
+    person.world.index.request(do="add_user", user=user, office=False, token_sha256=digest)
+    return token
+
+
+@pytest.mark.follows("indexctl and a token", "Upload")
+def test_somebody_with_the_page_alone_uploads(person):
+    token = new_owner(person, "newcomer")
+    make_dist(person, "1.0", name="acorn")
+    person.succeeds(person.does("Upload", token), "user", "claim acorn: accepted", "2 of 2 files are there")
+    is_published(person, "acorn-1.0-py3-none-any.whl", "acorn-1.0.tar.gz", project="acorn")
+    person.succeeds(person.does("Upload", token), "2 of 2 files are there")
+
+
+def test_indexctl_is_served_as_it_is_built(person):
+    status, headers, body = person.gate.ask("GET", "/indexctl")
+    with open(f"{person.world.bin}/indexctl", "rb") as kept:
+        person.looks((status, body) == (200, kept.read()), "/indexctl", (status, len(body)), "the one file")
+    person.looks(headers["Content-Type"] == "application/zip", "/indexctl", headers["Content-Type"], "a zip archive")
+
+
+@pytest.mark.follows("twine by its environment", client="twine")
+def test_twine_uploads_by_its_environment(person):
+    make_dist(person, "2.5")
+    person.succeeds(person.does("twine by its environment"))
+    is_published(person, "eggs-2.5-py3-none-any.whl", "eggs-2.5.tar.gz")
 
 
 @pytest.mark.follows("Settings of twine and flit", "twine", client="twine")

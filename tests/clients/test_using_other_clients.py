@@ -5,6 +5,7 @@ import os
 import pytest
 from support.clients.person import DEBIAN, want_module
 from support.clients.sources import make_project
+from support.clients.world import REASON
 
 WHEEL = "frob-1.0-py3-none-any.whl"
 # what a project has before a recipe adds the index to it
@@ -57,6 +58,13 @@ def test_poetry_locks_and_installs(person):
     person.writes("Poetry")
     locks(person, "Poetry, a dependency", "poetry", "poetry.lock", 'version = "1.0"')
     person.gets("HTML")
+
+
+@pytest.mark.follows("Poetry", client="poetry")
+def test_poetry_locks_a_yanked_release_by_its_exact_version_and_prints_the_reason(person):
+    person.puts("pyproject.toml", POETRY)
+    person.writes("Poetry")
+    person.succeeds(person.run(["poetry", "add", "--lock", "frob==1.1"]), "yanked", REASON)
 
 
 @pytest.mark.follows("PDM", "PDM, a dependency", client="pdm")

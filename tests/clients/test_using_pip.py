@@ -98,6 +98,15 @@ def test_a_password_for_all_clients_lets_pip_in(new_person, world):
     person.succeeds(person.run([*PIP, "install", "frob"]), "frob-1.0")
 
 
+@pytest.mark.follows("pip by its environment")
+def test_pip_says_the_same_of_a_name_that_nobody_holds_and_of_one_without_files(pip_user):
+    pip_user.takes("pip by its environment")
+    for name, said in (("nobody-has-it", "NoProject"), ("ham", "<html>")):
+        pip_user.fails(pip_user.run([*PIP, "install", name]), "from versions: none", "No matching distribution found")
+        pip_user.succeeds(pip_user.run(["curl", "-sS", f"{pip_user.url}/simple/{name}/"]), said)
+    pip_user.fails(pip_user.run([*PIP, "install", "frob>=99"]), "(from versions: 0.8, 0.9, 1.0")
+
+
 @pytest.mark.follows("pip by its environment", "A password for all clients")
 def test_a_wrong_password_lets_nobody_in(new_person, world):
     person = locked_out(new_person, world)
@@ -113,7 +122,7 @@ def locked_out(new_person, world):
     """Somebody to whom nginx gives nothing without a password."""
     person = new_person(world.locked).enter_environment(machines_python())
     person.takes("pip by its environment")
-    person.fails(person.run([*PIP, "install", "frob"]))
+    person.fails(person.run([*PIP, "install", "frob"]), "from versions: none")
     return person
 
 

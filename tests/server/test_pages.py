@@ -16,6 +16,8 @@ from support.serving import JSON_PAGE, accepted
 MOST = 16 << 20
 # nginx keeps a page for a second, and counts whole seconds
 KEPT_SECONDS = 2.1
+# without it a client may read a page of HTML as Latin-1
+UTF_8 = "; charset=utf-8"
 
 
 class TestPages:
@@ -24,11 +26,11 @@ class TestPages:
     def test_a_type_that_nobody_has_leaves_the_other_types(self, filled_index, front):
         assert_reply(front.ask("GET", "/simple/frob/", Accept="image/png"), 406)
         assert_reply(front.ask("GET", "/simple/frob/", Accept=PIP), 200, JSON_PAGE, b"frob-1.0")
-        assert_reply(front.ask("GET", "/simple/frob/", Accept="text/html"), 200, "text/html", b"<a href")
+        assert_reply(front.ask("GET", "/simple/frob/", Accept="text/html"), 200, f"text/html{UTF_8}", b"<a href")
 
     def test_a_path_that_is_no_route_leaves_the_root_page(self, filled_index, front):
         assert_reply(front.ask("GET", "/simple//"), 404, "application/json", b"NoRoute")
-        assert_reply(front.ask("GET", "/simple/"), 200, "text/html", b"/simple/frob/")
+        assert_reply(front.ask("GET", "/simple/"), 200, f"text/html{UTF_8}", b"/simple/frob/")
 
     def test_another_spelling_is_moved(self, filled_index, front):
         reply = front.ask("GET", "/simple/FROB")

@@ -36,7 +36,7 @@ def test_a_name_is_on_its_index_with_its_page_and_files(name, indexes, shards):
     accepted(claim(shards, name))
     assert_reply(indexes[NAMES[name]].ask("GET", f"/names/{name}"), 200, None, b'"held"')
     accepted(shards.upload(normal, f"{normal}-1.0.tar.gz", name.encode()))
-    assert_reply(shards.ask("GET", f"/simple/{normal}/"), 200, "text/html", b"-1.0.tar.gz")
+    assert_reply(shards.ask("GET", f"/simple/{normal}/"), 200, "text/html; charset=utf-8", b"-1.0.tar.gz")
     assert_reply(shards.ask("GET", f"/files/{normal}/{normal}-1.0.tar.gz"), 200, None, name.encode())
 
 

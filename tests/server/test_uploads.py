@@ -32,7 +32,7 @@ def test_what_is_there_already_is_well(filled_index, uploads):
 def test_a_wheel_tells_its_requires_python_on_the_page(filled_index, uploads, front):
     assert_ends(uploads.run(uploads.wheel("frob", "1.2", requires=">=99")), 0, "frob-1.2")
     page = front.ask("GET", "/simple/frob/", Accept="text/html")
-    assert_reply(page, 200, "text/html", b'data-requires-python="&gt;=99"')
+    assert_reply(page, 200, "text/html; charset=utf-8", b'data-requires-python="&gt;=99"')
 
 
 class TestRefused:

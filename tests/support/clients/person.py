@@ -87,9 +87,9 @@ class Person:
                 raise
         return subprocess.CompletedProcess(words, process.returncode, said)
 
-    def does(self, name: str) -> subprocess.CompletedProcess:
-        """The end of the commands of a recipe."""
-        return self.run(["bash", "-euc", self.filled(self.recipe(name).text)])
+    def does(self, name: str, token: str = ANN) -> subprocess.CompletedProcess:
+        """The end of the commands of a recipe, with this token in it."""
+        return self.run(["bash", "-euc", self.filled(self.recipe(name).text.replace("YOUR-TOKEN", token))])
 
     def takes(self, name: str) -> None:
         """From now on the environment is as a recipe exports it."""
@@ -144,7 +144,7 @@ class Person:
     def gets(self, kind: str, besides: Sequence[str] = ()) -> None:
         """The pages that came were `JSON` or `HTML`, and all was there that was asked for `besides` these paths."""
         pages = [it for it in self.asked() if it[2].startswith("/simple/") and it[0] == "200"]
-        wanted = JSON_PAGE if kind == "JSON" else "text/html"
+        wanted = JSON_PAGE if kind == "JSON" else "text/html; charset=utf-8"
         self.looks(bool(pages) and all(it[3] == wanted for it in pages), "pages", pages, f"each as {wanted}")
         wrong = [it for it in self.asked() if it[0] not in ("200", "206", "301", "304") and it[2] not in besides]
         self.looks(not wrong, "pages and files", wrong, "nothing that is not there")

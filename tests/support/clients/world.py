@@ -21,7 +21,7 @@ from support.server.kept import Kept
 from support.serving import Asking, accepted, sha256
 
 PAGE = f"{TOP}/docs/users/USING.md"
-REASON = "it was <broken>"
+REASON = "it was <broken>, gr\u00f6\u00dfer als 1.0 \U0001f4a5"
 # one for each person: no test run has more people
 PORTS = 64
 ASKED = "$server_port $status $request_method $request_uri|$sent_http_content_type|$http_accept"
@@ -203,6 +203,9 @@ class World:
             service = stack.enter_context(Service(index.port))
             self.gate = stack.enter_context(Gate(f"{self.folder}/gate", certificate, port, service.port))
             self.locked = stack.enter_context(Gate(f"{self.folder}/locked", certificate, port, service.port, 8, True))
+            for gate in (self.gate, self.locked):
+                os.symlink(f"{self.bin}/indexctl", f"{gate.folder}/indexctl")
+            self.index = index
             self.stack = stack.pop_all()
         return self
 

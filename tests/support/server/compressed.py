@@ -38,8 +38,10 @@ def differences(reply: tuple, of_index: tuple, accept_encoding: str) -> Iterator
     """In what a reply of nginx is not that of the index, as a client gets it that says this."""
     status, headers, _ = reply
     kind = of_index[1]["Content-Type"]
+    charset = "; charset=utf-8" if kind in ("text/html", HTML_PAGE) else ""
     is_packed = accept_encoding in PACKED and kind in ("text/html", JSON_PAGE, HTML_PAGE)
-    wanted = {"Content-Type": kind, "Location": of_index[1]["Location"], "Vary": "Accept, Accept-Encoding",
+    wanted = {"Content-Type": f"{kind}{charset}" if kind else None, "Location": of_index[1]["Location"],
+              "Vary": "Accept, Accept-Encoding",
               "Content-Encoding": "gzip" if is_packed else None,
               "Content-Length": None if is_packed else of_index[1]["Content-Length"]}
     if status != of_index[0]:

@@ -123,6 +123,7 @@ class Front(Nginx, Asking):
         self.put("conf.d/packages.conf", kept("packages.conf"), **compressing, **{
             "listen 443 ssl;": f"listen 127.0.0.1:{self.port}{'' if is_plain else ' ssl'};",
             "listen [::]:443 ssl;": f"listen [::1]:{self.port} ssl;" if has_ipv6() and not is_plain else "",
+            "/usr/local/bin/indexctl": f"{folder}/indexctl",
             "/etc/ssl/packages.example.pem": certificate, "/var/cache/nginx/": f"{folder}/cache/",
             # a machine that tries this may have less room
             "/var/log/nginx/": f"{folder}/", "min_free=2g": "min_free=16m",
