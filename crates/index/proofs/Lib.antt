@@ -10,3 +10,4 @@ pub mod RunLemmas
 pub mod ThereLemmas
 pub mod ServesLemmas
 pub mod RefutedLemmas
+pub mod RefusedLemmas

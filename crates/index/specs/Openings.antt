@@ -1,10 +1,10 @@
 -- Two files that are opened, and a run that does nothing on them.
-use Rattle.std.specs.Prelude.{◌≡◌, ◌⊎◌, ◌<◌, Bool, true, false, length, IsTrue, IfSome}
+use Rattle.std.specs.Prelude.{◌≡◌, ◌⊎◌, ◌<◌, ◌&&◌, Bool, true, false, length, IsTrue, IfSome}
 use Rattle.std.specs.Prelude.{Option, Some, None, Result, Ok, Err, IfOk, IfErr}
 use Rattle.sqlite.specs.Effect.{Database, IsDatabase}
 use Rattle.sqlite.specs.FileStore.{recovers}
 use Rattle.sqlite.specs.declared.FileStore.{FileStore}
-use Rattle.sqlite.specs.Files.{AreFoundIn, HoldsDatabase, IsBlankAs, IsCleanLeft, IsEmpty}
+use Rattle.sqlite.specs.Files.{AreFoundIn, HoldsDatabase, IsBlankAs, IsCleanLeft, IsClosed, IsEmpty}
 use Rattle.sqlite.specs.Files.{IsFullLeft, IsNothing, IsOpened, faults_left, faults_of}
 use Rattle.sqlite.specs.Files.{file_state, image_of, over_files, tally_left}
 use Rattle.sqlite.specs.Start.{FindsIn}
@@ -21,7 +21,7 @@ use Rattle.sqlite_trees.specs.View.{IsClean}
 use Rattle.sqlite_disk.specs.declared.Disk as disk
 use Rattle.sqlite_disk.specs.declared.Files.{Files}
 use Rattle.sqlite_pool.specs.Stored.{StandsAs}
-use Rattle.sqlite_store.specs.FileStore.{view}
+use Rattle.sqlite_store.specs.FileStore.{files, view}
 use Rattle.sqlite_store.specs.Unopened.{state_of}
 use Rattle.index_digest.specs.Digest.{read_digest}
 use Rattle.index_rules.specs.declared.open.OpenFault.{OpenFault}
@@ -41,7 +41,7 @@ use Rattle.index.specs.declared.database.Unclosed.{Unclosed}
 use Rattle.index.specs.declared.database.Left.TheVariants as unused
 use Rattle.index.specs.declared.end.End.{End}
 use Rattle.index.specs.declared.end.End.TheVariants as end
-use Rattle.index.specs.Causes.{cause_of_calls, is_at_path}
+use Rattle.index.specs.Causes.{TellsSchema, cause_of_calls, is_at_path}
 use Rattle.index.specs.Ends.{is_fault, is_store}
 
 -- they recover to this database, and hold no other
@@ -221,10 +221,25 @@ module _ {D : Type 0} {g : disk.Ghosts D} where
       × ((first : Held (FileStore D g))
       × IsOpenedOn start first × IsFor first left.conn left.why)
 
-  -- The end that is told of two files on which nothing was done. The cause for which a database was
-  -- refused is looked for in its schema, and in what its files met.
+  -- the cause that the files of a store tell, by the calls that failed on them, and their syncs
+  abbrev pub cause_of_store : FileStore D g → Option Cause
+  cause_of_store store =
+      let calls = files store in
+      cause_of_calls (tally_of_files g calls) (g.is_usable calls.0 && g.is_usable calls.1)
+
+  -- Why a database was refused on this connection. The schema that it has tells the cause. Or the
+  -- files do that it left.
+  abbrev pub IsWhyRefused : Held (FileStore D g) → Option Cause → Type 0
+  IsWhyRefused conn found =
+      TellsSchema (file_state conn).now.schema found
+      ⊎ ((last : FileStore D g) × IsClosed conn last × (found ≡ cause_of_store last))
+
+  -- The end that is told of two files on which nothing was done. Where the store failed for which
+  -- a database was refused, the cause is that of the connection that was refused.
   abbrev pub IsToldOf : End → Option (Left D g) → End → Type 0
   IsToldOf why None told = told ≡ why
   IsToldOf why (Some (unused.Shut left)) told = told ≡ why
   IsToldOf why (Some (unused.Refused left)) told =
-      (is_store told ≡ is_store why) × (is_store why ≡ false → told ≡ why)
+      (is_store why ≡ false → told ≡ why)
+      × (is_store why ≡ true → (found : Option Cause) × (told ≡ end.Store found)
+      × IsWhyRefused left.conn found)

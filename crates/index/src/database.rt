@@ -19,8 +19,8 @@ ghost use Rattle.index.specs.declared.end.End.{End as EndData};
 ghost use Rattle.index.specs.Causes.{IsKnown, IsObject, TellsSchema, other_object};
 ghost use Rattle.index.specs.Chains.{InitLeadsOn, WorkLeadsOn};
 ghost use Rattle.index.specs.Ends.{closing_of, is_fault};
-ghost use Rattle.index.specs.Openings.{IsCleanClosed, IsOpenedOn, IsToldOf, IsUnmade, IsWhyUnfound};
-ghost use Rattle.index.specs.Openings.{IsWhyUnmade, IsWhyUnused, LeavesUnused};
+ghost use Rattle.index.specs.Openings.{IsCleanClosed, IsOpenedOn, IsToldOf, IsUnmade, IsWhyRefused};
+ghost use Rattle.index.specs.Openings.{IsWhyUnfound, IsWhyUnmade, IsWhyUnused, LeavesUnused};
 ghost use Rattle.index.specs.Runs.{Created, CreatedInLog, EndsInitOn, EndsRunOn, EndsWork};
 ghost use Rattle.index.specs.Runs.{IsMadeNew, LeavesAsWas};
 ghost use Rattle.index.specs.Tasks.{Does, MayLeaveBy, Task, TellsBy};
@@ -353,10 +353,9 @@ pub fn why<D: Disk + Drop>(alloc: Global, unused: Unused<D>) -> End
 
 /// Why a database was refused that could be opened, where its schema tells that, or what its files
 /// met. They are let go.
-fn cause_of_refused<D: Disk + Drop>(
-    alloc: Global,
-    conn: Connection<FileStore<D>>,
-) -> Option<Cause> {
+fn cause_of_refused<D: Disk + Drop>(alloc: Global, conn: Connection<FileStore<D>>) -> Option<Cause>
+    ensures { IsWhyRefused conn result }
+{
     let cause = cause_of_schema(alloc, &conn).unwrap_or(None);
     let files = conn.into_store().close();
     if cause.is_some() {
