@@ -8,6 +8,7 @@ pub mod OfficeLemmas
 pub mod OpeningLemmas
 pub mod RunLemmas
 pub mod ThereLemmas
+pub mod WrongLemmas
 pub mod ServesLemmas
 pub mod RefutedLemmas
 pub mod RefusedLemmas

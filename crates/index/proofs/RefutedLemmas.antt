@@ -27,7 +27,7 @@ pub created_run_found_none : (user token : Bytes) (start next : Image) → (¬ H
 created_run_found_none user token start next some leads = some leads.0
 
 -- a list with one input fewer for each connection that came
-came_fewer : (inputs : List (List ℕ)) (later : KnownList) (exchanges : List Exchange) → Came (Some inputs) later exchanges → (rest : List (List ℕ)) × (later ≡ Some rest) × (length inputs ≡ length rest + length exchanges)
+pub came_fewer : (inputs : List (List ℕ)) (later : KnownList) (exchanges : List Exchange) → Came (Some inputs) later exchanges → (rest : List (List ℕ)) × (later ≡ Some rest) × (length inputs ≡ length rest + length exchanges)
 came_fewer inputs later [] it = (inputs, it, omega arith)
 came_fewer inputs later (exchange ∷ earlier) it =
     let before = came_fewer inputs it.0 earlier it.1 in

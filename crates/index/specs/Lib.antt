@@ -5,5 +5,6 @@ pub mod GoesOn
 pub mod Jobs
 pub mod Openings
 pub mod Printed
+pub mod Refuted
 pub mod Runs
 pub mod Tasks

@@ -1,0 +1,163 @@
+-- Wrong outcomes do not meet the words of the contracts.
+use Rattle.std.proofs.Common.{◌≡◌, ◌∙◌, ◌⊎◌, ◌+◌, ◌&&◌, ℕ, suc, Bool, true, false, Option, Some, Result, Ok, Err, refl, sym, ap, subst, inl, inr, List, [], ◌∷◌, length, arith}
+use Rattle.std.specs.Prelude.{IfOk, IfErr, IsErrAnd, if◌then◌else◌, is_ok}
+use Rattle.sqlite.specs.declared.FileStore.{FileStore}
+use Rattle.sqlite.specs.Files.{image_of}
+use Rattle.sqlite.specs.Recovery.{Image}
+use Rattle.sqlite.specs.WalReads.{AreClean}
+use Rattle.sqlite_disk.specs.declared.Disk.{Ghosts}
+use Rattle.sqlite_disk.specs.declared.Files.{Files}
+use Rattle.index_cli.specs.Connections.{Exchange, KnownList}
+use Rattle.index_cli.specs.declared.end.LineEnd.{LineEnd}
+use Rattle.index_cli.specs.declared.end.ServeEnd.{ServeEnd}
+use Rattle.index_cli.specs.Ends.{EndsRun, Telling}
+use Rattle.index_cli.specs.Lines.{lines_of}
+use Rattle.index_desk.specs.Checks.{wrong_charges_in}
+use Rattle.index_rules.specs.FirstTables.{first_tables}
+use Rattle.index_rules.specs.Maps.{Bytes}
+use Rattle.index_rules.specs.Tables.{Tables}
+use Rattle.index.specs.declared.database.Finished.{Finished}
+use Rattle.index.specs.declared.database.Unclosed.{Unclosed}
+use Rattle.index.specs.declared.database.Unused.{Unused}
+use Rattle.index.specs.declared.end.End.{End}
+use Rattle.index.specs.declared.end.End.TheVariants as end
+use Rattle.index.specs.Ends.{closing_of, end_by, end_of, end_of_serving, is_store}
+use Rattle.index.specs.Jobs.{ComesOfInit, ComesOfRun}
+use Rattle.index.specs.Refuted.{HoldsNoIndex, RefutesConnections, RefutesInit, RefutesLines, RefutesTasks, RefutesWork}
+use Rattle.index.specs.Openings.{IsToldOf}
+use Rattle.index.specs.Runs.{Created, DigestHas, EndsInitOn, EndsRunOn, HoldsNone, Ran}
+use Rattle.index.specs.Tasks.{AreAmong, Does, IsServingEnd, Task}
+use Rattle.index.proofs.RefutedLemmas.{came_fewer}
+use Rattle.index.proofs.ThereLemmas.{current_is_there}
+
+-- ---- the end of work
+
+abbrev number_in : Result ℕ End → ℕ
+number_in (Ok count) = count
+number_in (Err early) = 0
+
+abbrev is_well : Result ℕ End → Bool
+is_well (Ok count) = true
+is_well (Err early) = false
+
+abbrev is_want : Result ℕ End → Bool
+is_want (Err end.OutOfMemory) = true
+is_want _ = false
+
+is_no_error : (count : ℕ) (early : End) → ¬ (Ok count ≡ Err early)
+is_no_error count early is = let no : true ≡ false = ap (λ (it : Result ℕ End). is_well it) is in cc no
+
+is_neither : (first : Bool) (fault early : End) (count : ℕ) → ¬ (Ok count ≡ (if first then Err fault else Err early))
+is_neither true fault early count is = is_no_error count fault is
+is_neither false fault early count is = is_no_error count early is
+
+-- where closing failed no work ends well
+no_end : (told : Result ℕ End) (fault : End) (count : ℕ) → ¬ (Ok count ≡ end_by told (Err fault))
+no_end (Ok n) fault count is = is_no_error count fault is
+no_end (Err early) fault count is = is_neither (is_store early && is_store fault) fault early count is
+
+-- ---- what is said of files
+
+module _ {D : Type 0} (g : Ghosts D) where
+  no_work : (task : Task) (start : Image) (count : ℕ) (clean : (log db : D) → AreClean g log db) (none : HoldsNoIndex start)
+      (closed : Result (Files D) (Unclosed D g)) (told : Result ℕ End)
+      → IfOk closed (λ files. AreClean g files.log files.db → Ran g (Does task told) start files) → ¬ (Ok count ≡ end_by told (closing_of closed))
+  no_work task start count clean none (Ok files) told ran is = let it = ran (clean files.log files.db) in none (it.before, it.held)
+  no_work task start count clean none (Err unclosed) told ran is = no_end told unclosed.fault count is
+
+  no_run : (task : Task) (start : Image) (count : ℕ) (clean : (log db : D) → AreClean g log db) (none : HoldsNoIndex start)
+      (run : Result (Finished D g) (Unused D g)) → EndsRunOn g task start run
+      → IfOk run (λ it. Ok count ≡ end_by it.end (closing_of it.closed)) → IfErr run (λ it. IsErrAnd {T = ℕ} (Ok count) (IsToldOf it.why it.left)) → ⊥
+  no_run task start count clean none (Ok run) ends done refused = no_work task start count clean none run.closed run.end ends.ran done
+  no_run task start count clean none (Err it) ends done refused = absurd refused
+
+  pub refutes_work : RefutesWork g
+  refutes_work = record {
+    ran = λ task told start files none it. current_is_there _ _ it.left.seen none;
+    interrupted = λ task told start store none it. none (it.before, it.held);
+    ends = λ task told start files emptied it. current_is_there _ _ (it.ran emptied.0).left.seen emptied.1;
+    leads = λ task told start files emptied it. current_is_there _ _ (it.ended emptied.0 (image_of g files) (inl refl)).left emptied.1;
+    comes = λ task start count clean none it. no_run task start count clean none it.run it.ends it.done it.refused;
+  }
+
+  not_anew : (T : Tables) (start : Image) (files : Files D) → HoldsNone (image_of g files) ⊎ (¬ HoldsNone start) → ¬ Created g T start files
+  not_anew T start files (inl none) it = current_is_there _ _ it.left.seen none
+  not_anew T start files (inr some) it = some it.held
+
+  no_made : (user digits : Bytes) (start : Image) (clean : (log db : D) → AreClean g log db) (some : ¬ HoldsNone start) (closed : Result (Files D) (Unclosed D g))
+      → IfOk closed (λ files. AreClean g files.log files.db → DigestHas digits (λ digest. Created g (first_tables user digest) start files))
+      → ¬ (Ok tt ≡ closing_of closed)
+  no_made user digits start clean some (Ok files) created is = some (created (clean files.log files.db)).2.held
+  no_made user digits start clean some (Err unclosed) created is =
+      let no : true ≡ false = ap (λ (it : Result (Unit {0}) End). is_ok it) is in cc no
+
+  no_init : (user digits : Bytes) (page_sums : Bool) (start : Image) (clean : (log db : D) → AreClean g log db) (some : ¬ HoldsNone start)
+      (run : Result (Result (Files D) (Unclosed D g)) (Unused D g)) → EndsInitOn g user digits page_sums start run
+      → IfOk run (λ closed. Ok tt ≡ closing_of closed) → IfErr run (λ it. IsErrAnd {T = Unit {0}} (Ok tt) (IsToldOf it.why it.left)) → ⊥
+  no_init user digits page_sums start clean some (Ok closed) ends done refused = no_made user digits start clean some closed ends.created done
+  no_init user digits page_sums start clean some (Err it) ends done refused = absurd refused
+
+  pub refutes_init : RefutesInit g
+  refutes_init = record {
+    created = not_anew;
+    in_log = λ T start store some it. some it.held;
+    ends = λ user digits page_sums start files emptied it. current_is_there _ _ (it.created emptied.0).2.left.seen emptied.1;
+    anew = λ user digits page_sums start files clean some it. some (it.created clean).2.held;
+    leads = λ user token start files emptied it. current_is_there _ _ (it.made emptied.0 (image_of g files) (inl refl)).1 emptied.1;
+    comes = λ user digits page_sums start clean some it. no_init user digits page_sums start clean some it.run it.ends it.done it.refused;
+  }
+
+-- ---- what is said of a task
+
+-- the lines that were counted are those of the input
+counted_all : (tells : Telling) (T : Tables) (given : List ℕ) (left had has : Option (List ℕ)) (count : ℕ) (ended : Result ℕ LineEnd)
+    → Ok count ≡ end_of ended → EndsRun tells T (Some given) left had has ended → count ≡ length (lines_of given)
+counted_all tells T given left had has count (Ok n) is ends =
+    ap (λ (it : Result ℕ End). number_in it) is ∙ ends.counted ∙ ap (λ (input : List ℕ). length (lines_of input)) ends.is_input
+counted_all tells T given left had has count (Err early) is ends = absurd (is_no_error count (end.Lines early) is)
+
+wrong_lines : (given : List ℕ) (left had has : Option (List ℕ)) (T T' : Tables) (count : ℕ) → (¬ (count ≡ length (lines_of given))) → RefutesLines given left had has T T' count
+wrong_lines given left had has T T' count wrong = record {
+  answers = λ it. wrong (counted_all _ _ given left had has count it.ended it.is it.tables);
+  first = λ it. wrong (counted_all _ _ given left had has count it.ended it.is it.tables);
+  leaves = λ it. wrong (counted_all _ _ given left had has count it.ended it.is it.tables);
+}
+
+-- of no connections none was answered
+none_came : (later replies replies' : KnownList) (exchanges : List Exchange) → AreAmong (Some []) later replies replies' exchanges → length exchanges ≡ 0
+none_came later replies replies' exchanges it =
+    let came = came_fewer [] it.later exchanges it.came in
+    let sum : 0 ≡ length came.0 + length exchanges = came.2 in
+    omega (arith, sum)
+
+too_few : (later replies replies' : KnownList) (exchanges : List Exchange) (requests count : ℕ)
+    → AreAmong (Some []) later replies replies' exchanges → length exchanges ≡ count → ¬ (count ≡ suc requests)
+too_few later replies replies' exchanges requests count are counted is =
+    let none = none_came later replies replies' exchanges are in
+    omega (arith, none, counted, is)
+
+wrong_connections : (at : Option ℕ) (requests found : ℕ) (later replies replies' : KnownList) (T T' : Tables) → RefutesConnections at requests found later replies replies' T T'
+wrong_connections at requests found later replies replies' T T' = record {
+  answers = λ it. let serves = it.tables.2 in too_few later replies replies' serves.exchanges requests it.tables.0 serves.are serves.counted it.tables.1;
+  first = λ it. let serves = it.tables.2 in too_few later replies replies' serves.exchanges requests it.tables.0 serves.are serves.counted it.tables.1;
+  leaves = λ it. let serves = it.tables.2 in too_few later replies replies' serves.exchanges requests it.tables.0 serves.are.0 serves.counted it.tables.1;
+}
+
+no_memory : (ended : Result (Unit {0}) ServeEnd) → ¬ (Err end.OutOfMemory ≡ end_of_serving ended)
+no_memory (Ok done) is = let no : false ≡ true = ap (λ (it : Result ℕ End). is_well it) is in cc no
+no_memory (Err early) is = let no : true ≡ false = ap (λ (it : Result ℕ End). is_want it) is in cc no
+
+no_serving_end : ¬ IsServingEnd (Err end.OutOfMemory)
+no_serving_end (inl (inl is)) = let no : true ≡ false = ap (λ (it : Result ℕ End). is_want it) is in cc no
+no_serving_end (inl (inr is)) = let no : true ≡ false = ap (λ (it : Result ℕ End). is_want it) is in cc no
+no_serving_end (inr it) = no_memory it.0 it.1
+
+pub refutes_tasks : RefutesTasks
+refutes_tasks = record {
+  lines = wrong_lines;
+  connections = wrong_connections;
+  report = λ had has told T T' changed it. changed it.unchanged;
+  check = λ count T T' wrong it. wrong it.count;
+  changes = λ told T T' changed it. changed it.unchanged;
+  serve = no_serving_end;
+}
