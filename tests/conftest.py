@@ -77,14 +77,23 @@ def pytest_collection_modifyitems(config, items):
     items[:] = [it for it in items if it in chosen]
     config.hook.pytest_deselected(items=left_out)
     needs = [it for it in items if "program" in getattr(it, "fixturenames", ())]
-    if needs and not config.option.collectonly and not os.access(config.option.program, os.X_OK):
-        raise pytest.UsageError(f"no program is at {config.option.program}, and {len(needs)} tests need one. "
-                                "`tools/build` builds it; --program PATH names another; `-k unit` asks for none")
+    # a worker of xdist can only let tests fail
+    if needs and not config.option.collectonly and not hasattr(config, "workerinput"):
+        if not os.access(config.option.program, os.X_OK):
+            raise pytest.UsageError(f"{len(needs)} tests need a program: {no_program(config)}; `-k unit` asks for none")
+
+
+def no_program(config):
+    return (f"no program is at {config.option.program}. `tools/build` proves and builds it, `tools/try` builds it "
+            "without a proof; --program PATH names another")
 
 
 @pytest.fixture(scope="session")
-def program(pytestconfig):
+def program(request, pytestconfig):
     """The path of the built program."""
+    if not os.access(pytestconfig.option.program, os.X_OK):
+        request.session.shouldfail = no_program(pytestconfig)
+        pytest.fail(no_program(pytestconfig), pytrace=False)
     return os.path.abspath(pytestconfig.option.program)
 
 

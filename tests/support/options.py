@@ -4,7 +4,7 @@ from __future__ import annotations
 import random
 import re
 
-from support.places import PROGRAM
+from support.places import built_program
 
 
 def whole_number(word: str) -> int:
@@ -29,8 +29,8 @@ def share_of(those: list, which: tuple[int, int] | None) -> list:
 
 def add_options(parser) -> None:
     group = parser.getgroup("index")
-    group.addoption("--program", metavar="PATH", default=PROGRAM, help="the built program; crates/index/out/index if "
-                    "not given")
+    group.addoption("--program", metavar="PATH", default=built_program(), help="the built program; if not given, the "
+                    "proved one, or else the one of `tools/try`")
     group.addoption("--rounds", type=whole_number, metavar="N", help="how often what is random is tried; each test has "
                     "its own default")
     group.addoption("--seconds", type=whole_number, metavar="N", help="how long a test goes on that could go on for "

@@ -8,3 +8,8 @@ PROGRAM, UNPROVED = f"{TOP}/crates/index/out/index", f"{TOP}/crates/index/try/in
 SERVER, BIN, NGINX = f"{TOP}/server", f"{TOP}/server/bin", f"{TOP}/server/nginx"
 # the words of `indexctl`, by this Python and with nothing but its standard library
 INDEXCTL = [sys.executable, "-S", f"{TOP}/indexctl"]
+
+
+def built_program() -> str:
+    """The proved program, or else the one that `tools/try` made; where the proved one would be if neither is there."""
+    return next((it for it in (PROGRAM, UNPROVED) if os.access(it, os.X_OK)), PROGRAM)
