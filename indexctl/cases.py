@@ -69,11 +69,19 @@ def case_row(found: Standing, case: Case, now: int, refusal: Optional[str]) -> C
                    latest=latest, contact=case.contact, work=case.work, why=case.why)
 
 
+def lacks_attempts(row: CaseRow) -> bool:
+    """Whether no moment makes a case ready, but more attempts do."""
+    return row.first is None or row.sent < FEWEST_SENT or not all(map(row.has, MEANS))
+
+
 def ready_text(row: CaseRow) -> str:
+    """When a case is ready, or why there is no such moment."""
     if row.ready:
         return "now"
     if row.first is None:
         return "not begun"
+    if lacks_attempts(row):
+        return "lacks attempts"
     return f"by {due(row.latest)}" if row.year == "not over" else f"from {due(row.earliest)}"
 
 

@@ -12,9 +12,10 @@ import urllib.parse
 from contextlib import suppress
 from typing import Iterator, List, Sequence, Sized, Tuple, Union
 
-from indexctl.cases import FEWEST_SENT, MEANS, CaseRow, ready_text
+from indexctl.cases import FEWEST_SENT, MEANS, CaseRow, lacks_attempts, ready_text
 from indexctl.ends import WRONG, Stop
 from indexctl.quotas import HIGH, OwnedName, Overview, QuotaRow, by_fullness
+from indexctl.terminal import printable
 from indexctl.units import YEAR, counted, due, human, moment
 
 # the HTML of a cell, or that and a number to sort by
@@ -28,6 +29,11 @@ def part_of_page(name: str) -> str:
     return (pkgutil.get_data("indexctl", name) or b"").decode()
 
 
+def text_of(value: object) -> str:
+    """A text as HTML, in which no character turns the direction of writing."""
+    return html.escape(printable(value))
+
+
 def none_line(rows: Sized) -> str:
     """The line that shows as long as a part has no rows, or none that are searched for."""
     return f'<p class="none soft"{" hidden" if rows else ""}>None.</p>'
@@ -37,26 +43,32 @@ def table_of(heads: Sequence[str], rows: Sequence[Sequence[Cell]]) -> str:
     """A table of these rows, and the line that shows if there are none."""
     def cell(head: str, content: Cell) -> str:
         if isinstance(content, str):
-            return f'<td data-head="{head}">{content}</td>'
-        return f'<td data-head="{head}" class="number" data-key="{content[1]}">{content[0]}</td>'
-    lines = "".join("<tr data-find>" + "".join(map(cell, heads, row)) + "</tr>\n" for row in rows)
-    head = "".join(f"<th>{it}</th>" for it in heads)
-    table = f'<div class="box"><table><thead><tr>{head}</tr></thead>\n<tbody>\n{lines}</tbody></table></div>'
+            return f'<td role="cell" data-head="{head}">{content}</td>'
+        return f'<td role="cell" data-head="{head}" class="number" data-key="{content[1]}">{content[0]}</td>'
+
+    def line(row: Sequence[Cell]) -> str:
+        first = f'<th scope="row" role="rowheader">{row[0]}</th>'
+        return f'<tr role="row" data-find>{first}{"".join(map(cell, heads[1:], row[1:]))}</tr>\n'
+    # a telephone gets rows as blocks, and a browser forgets then what they were unless it is said
+    head = "".join(f'<th scope="col" role="columnheader">{it}</th>' for it in heads)
+    table = (f'<div class="box"><table role="table"><thead role="rowgroup"><tr role="row">{head}</tr></thead>\n'
+             f'<tbody role="rowgroup">\n{"".join(map(line, rows))}</tbody></table></div>')
     return (table if rows else "") + none_line(rows)
 
 
 def due_of(row: CaseRow, now: int) -> Tuple[int, str]:
     """When something is due in a case, and what."""
-    name = html.escape(row.name)
+    name = text_of(row.name)
+    case = f'<a href="#case-{name}">{name}</a>'
     if row.ready:
         what = f"look at the owner’s home page, then <code>indexctl case transfer {name} --quiet</code>"
-        return now, f"<b>{name}</b>: {what}"
+        return now, f"{case}: {what}"
     attempts = [it for it in row.lacks if it.endswith("sent") or it.startswith("an attempt")]
     if attempts:
-        return now, f"<b>{name}</b>: {html.escape(', '.join(attempts))}"
+        return now, f"{case}: {html.escape(', '.join(attempts))}"
     if row.earliest > now:
-        return row.earliest, f"<b>{name}</b>: the six weeks are over"
-    return row.latest, f"<b>{name}</b>: the year since the latest upload is over by then"
+        return row.earliest, f"{case}: the six weeks are over"
+    return row.latest, f"{case}: the year since the latest upload is over by then"
 
 
 def due_part(cases: Sequence[CaseRow], now: int) -> str:
@@ -89,17 +101,18 @@ def unbroken(text: str) -> str:
 
 def case_card(row: CaseRow, now: int) -> str:
     """An open case with what it has and lacks, and its texts."""
-    e = {key: html.escape(str(value)) for key, value in dataclasses.asdict(row).items()}
+    e = {key: text_of(value) for key, value in dataclasses.asdict(row).items()}
     kind = {"continue": "to continue it", "reuse": "to reuse the name"}.get(row.kind, e["kind"])
     marks = "".join(f'<li class="tag {colour}">{sign} {unbroken(text)}</li>'
                     for (colour, sign), text in marks_of(row, now))
     texts = "".join(f"<dt>{head}</dt><dd>{e[key]}</dd>" for head, key in
                     (("tried", "contact"), ("work", "work"), ("why this name", "why")))
-    ready = "not begun" if row.first is None else f"ready {ready_text(row)}"
+    ready = ready_text(row) if lacks_attempts(row) else f"ready {ready_text(row)}"
     return "".join((
-        f'<article data-find{" class=ready" if row.ready else ""}><div class="head"><h3>{e["name"]}</h3>',
+        f'<article id="case-{e["name"]}" data-find{" class=ready" if row.ready else ""}>',
+        f'<div class="head"><h3>{e["name"]}</h3>',
         f'<span class="tag{" yes" if row.ready else ""}">{ready}</span></div>',
-        f'<p>{e["candidate"]} asks {html.escape(", ".join(row.owners))} for it, {kind}. ',
+        f'<p>{e["candidate"]} asks {text_of(", ".join(row.owners))} for it, {kind}. ',
         f'<span class="soft">Opened {unbroken(moment(row.opened))}, ',
         f'{counted(row.attempts, "attempt")}.</span></p>',
         f'<ul class="marks">{marks}</ul><dl>{texts}</dl></article>\n'))
@@ -110,18 +123,18 @@ def quota_part(found: Overview) -> str:
         kind = "top" if row.full >= TOP else "high" if row.full >= HIGH else ""
         bar = f'<span class="bar {kind}"><i style="width:{min(100, row.full):.1f}%"></i></span>'
         full = f'<span class="full">{bar}{row.full:.1f} %</span>'
-        return [html.escape(row.name), (full, f"{row.full:.3f}"), (human(row.charge), row.charge),
-                (human(row.quota), row.quota), html.escape(", ".join(row.owners))]
+        return [text_of(row.name), (full, f"{row.full:.3f}"), (human(row.charge), row.charge),
+                (human(row.quota), row.quota), text_of(", ".join(row.owners))]
     rows = sorted(found.quotas, key=by_fullness)
     return table_of(["name", "full", "charge", "quota", "owners"], [cells(it) for it in rows])
 
 
 def owner_part(found: Overview) -> str:
     def cells(user: str, owned: Sequence[OwnedName]) -> List[Cell]:
-        marked = "".join(f'<span class="tag{" alone" if it.alone else ""}">{html.escape(it.name)}</span>'
+        marked = "".join(f'<span class="tag{" alone" if it.alone else ""}">{text_of(it.name)}</span>'
                          for it in owned)
         count, alone = len(owned), sum(it.alone for it in owned)
-        return [html.escape(user), (str(count), count), (str(alone), alone), f'<span class="names">{marked}</span>']
+        return [text_of(user), (str(count), count), (str(alone), alone), f'<span class="names">{marked}</span>']
     return table_of(["user", "owns", "alone", "names"], [cells(*it) for it in sorted(found.owned.items())])
 
 

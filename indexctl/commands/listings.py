@@ -3,7 +3,7 @@ from __future__ import annotations
 
 import argparse
 from dataclasses import dataclass
-from typing import Any, List
+from typing import Any, List, Optional
 
 from indexctl.changes import Desk
 from indexctl.command_line import argument, command
@@ -28,11 +28,12 @@ class NameRow:
 
 @dataclass(frozen=True)
 class OwnedRow:
-    """A name of one owner, and whether nobody else owns it."""
+    """A name of one owner, whether nobody else owns it, and who has opened a case on it."""
     name: str
     alone: bool
     owners: List[str]
     charge: int
+    case: Optional[str]
 
 
 def charge_text(row: Any) -> str:
@@ -99,6 +100,7 @@ def who(args: argparse.Namespace) -> None:
 def owned_by(args: argparse.Namespace) -> None:
     check_users(args.user)
     found = [it for it in held_names(Desk(args).index) if args.user in it.owners]
-    rows = [OwnedRow(it.name, len(it.owners) == 1, it.owners, it.charge) for it in found]
+    rows = [OwnedRow(it.name, len(it.owners) == 1, it.owners, it.charge,
+                     it.case.candidate if it.case else None) for it in found]
     listing(args, rows, {**texts("name", "owners"), "alone": lambda row: "alone" if row.alone else "",
-                         "charge": charge_text})
+                         "charge": charge_text, "case": lambda row: f"of {row.case}" if row.case else ""})

@@ -6,7 +6,7 @@ import json
 import os
 import time
 from collections import deque
-from typing import Sequence
+from typing import Dict, Sequence
 
 from indexctl.changes import Desk
 from indexctl.command_line import argument, command
@@ -17,7 +17,7 @@ from indexctl.page import page_of, put_whole
 from indexctl.probe import open_cases
 from indexctl.quotas import Overview
 from indexctl.replays import Attempts, Line, lines_since, read_lines, replay_line, why_left
-from indexctl.standings import held_names
+from indexctl.standings import Case, find_standing, held_names
 from indexctl.terminal import note, say
 from indexctl.units import counted, read_moment
 from indexctl.uploads import files_of, upload_file
@@ -42,8 +42,10 @@ def upload(args: argparse.Namespace) -> int:
     desk = Desk(args)
     desk.token()
     try:
+        cases = cases_on(desk, [file.project for file in files])
         for file in files:
             done += upload_file(desk, file, args.claim)
+            tell_ended(desk, cases, file.project)
     except Stop as end:
         if end.status == WRONG:
             raise
@@ -51,6 +53,25 @@ def upload(args: argparse.Namespace) -> int:
         status = end.status
     say(f"{done} of {len(files)} files are there")
     return status or (0 if done == len(files) else REFUSED)
+
+
+def cases_on(desk: Desk, projects: Sequence[str]) -> Dict[str, Case]:
+    """The open cases on these projects, of which each is told: an upload by an owner ends it."""
+    found = {it: find_standing(desk.index, it).case for it in sorted({*projects})}
+    cases = {project: case for project, case in found.items() if case}
+    for project, case in cases.items():
+        note(f"{project}: {case.candidate} has opened a case on this name, to {case.kind} it. An upload ends it.",
+             "yellow")
+    return cases
+
+
+def tell_ended(desk: Desk, cases: Dict[str, Case], project: str) -> None:
+    """Tells that a case is no longer open, once."""
+    case = cases.get(project)
+    if case and find_standing(desk.index, project).case is None:
+        del cases[project]
+        note(f"{project}: the case of {case.candidate} has ended by this upload. If nobody looks after the name any "
+             "more, take this user off its owners.", "yellow")
 
 
 @command("page", "writes the page of the office into a folder",

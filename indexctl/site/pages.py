@@ -6,19 +6,13 @@ import urllib.parse
 from typing import Iterator, List, Sequence, Tuple
 
 from indexctl.contents import FileRow
-from indexctl.page import part_of_page
+from indexctl.page import part_of_page, text_of
 from indexctl.site.about import About
 from indexctl.site.projects import Project, Release, file_path
 from indexctl.standings import Case, Standing
-from indexctl.terminal import printable
 from indexctl.units import counted, human, moment
 
 KINDS = {"continue": "to continue the project", "reuse": "to reuse the name"}
-
-
-def text_of(value: str) -> str:
-    """A text as HTML, in which no character turns the direction of writing."""
-    return html.escape(printable(value))
 
 
 def link(path: str, text: str) -> str:

@@ -10,6 +10,7 @@ from contextlib import suppress
 from dataclasses import dataclass
 
 import pytest
+from support.indexctl.browser import CONTRASTS, opened
 from support.indexctl.control import Control, assert_ends, filled, put
 from support.indexctl.page import DRIVER, Reader, rendered, title_of
 from support.indexctl.sample import CASES, MARKUP, NAMES, QUOTA, USERS, lines_of
@@ -121,13 +122,44 @@ def test_who_owns_alone_is_marked(office):
 def test_a_browser_has_no_complaint_and_runs_the_script(office):
     page, console = rendered(office.path)
     assert console == []
-    assert page.count("<th><button>") == 9 and 'id="find"' in page and "<title>The office of " in page
+    assert page.count('role="columnheader"><button>') == 9 and 'id="find"' in page and "<title>The office of " in page
 
 
 def test_no_other_script_runs(office, folder):
     injected = office.text.replace("</main>", "<script>document.title = 'injected'</script></main>")
     page, console = rendered(put(f"{folder}/injected.html", injected, 0o644))
     assert title_of(page).startswith("The office of ") and console != []
+
+
+@pytest.fixture(scope="module")
+def chromium():
+    with opened() as page:
+        yield page
+
+
+@pytest.mark.parametrize("scheme", ["light", "dark"])
+def test_texts_have_a_contrast_of_four_and_a_half(office, chromium, scheme):
+    chromium.look(scheme=scheme)
+    chromium.go(f"file://{office.path}")
+    found = chromium.value(CONTRASTS)
+    assert found["seen"] > 100 and found["found"] == []
+
+
+def test_a_telephone_gets_tables_with_their_heads(office, chromium):
+    chromium.look(wide=390, is_telephone=True)
+    chromium.go(f"file://{office.path}")
+    spoken = chromium.spoken()
+    assert chromium.value("document.documentElement.scrollWidth") == 390
+    assert ("rowheader", "Aurora-Client".lower()) in spoken and ("rowheader", "hugo") in spoken
+    assert [name.split()[0] for role, name in spoken if role == "columnheader"][:3] == ["name", "full", "charge"]
+
+
+def test_what_is_due_leads_to_its_case(office, chromium):
+    chromium.look()
+    chromium.go(f"file://{office.path}")
+    links = chromium.value("Array.from(document.querySelectorAll('.due a'), function (it) { return "
+                           "document.querySelector(it.hash).querySelector('h3').textContent === it.textContent; })")
+    assert links == [True] * len(CASES)
 
 
 @pytest.fixture(scope="module")

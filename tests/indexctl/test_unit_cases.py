@@ -58,6 +58,12 @@ def test_a_case_says_until_when_its_six_weeks_are():
     assert cases.ready_text(row) == f"from {due(row.earliest)}"
 
 
+@pytest.mark.parametrize("changed", [{"sent": 2}, {"pages": False}, {"profile": False}, {"author": False}])
+def test_a_case_that_lacks_attempts_is_ready_at_no_moment(changed):
+    row = cases.case_row(held(), case_of(**changed), OPENED + 2 * SIX_WEEKS, None)
+    assert cases.ready_text(row) == "lacks attempts"
+
+
 def test_a_case_whose_year_is_not_over_lacks_that():
     row = case_at(OPENED + SIX_WEEKS, "RecentRelease")
     assert row.lacks == [f"a year since the latest upload, until {due(OPENED + YEAR)} at the latest"]

@@ -25,6 +25,7 @@ def overview_of(*names):
     return made
 
 
+LINK = '<a href="#case-frob">frob</a>'
 READY = row_at(OPENED + 2 * SIX_WEEKS, "HomePageActive")
 
 
@@ -74,18 +75,18 @@ def test_a_case_that_is_ready_is_due_now():
 
 def test_a_case_that_lacks_attempts_is_due_now():
     at, what = page.due_of(row_at(OPENED + 5, pages=False, sent=1), 7)
-    assert (at, what) == (7, "<b>frob</b>: 2 more attempts sent, an attempt by pages")
+    assert (at, what) == (7, f"{LINK}: 2 more attempts sent, an attempt by pages")
 
 
 def test_a_case_in_its_six_weeks_is_due_at_their_end():
     row = row_at(OPENED + 5)
-    assert page.due_of(row, OPENED + 5) == (OPENED + SIX_WEEKS, "<b>frob</b>: the six weeks are over")
+    assert page.due_of(row, OPENED + 5) == (OPENED + SIX_WEEKS, f"{LINK}: the six weeks are over")
 
 
 def test_a_case_in_its_year_is_due_at_its_end():
     row = row_at(OPENED + SIX_WEEKS)
     at, what = page.due_of(row, OPENED + SIX_WEEKS)
-    assert (at, what) == (OPENED + YEAR, "<b>frob</b>: the year since the latest upload is over by then")
+    assert (at, what) == (OPENED + YEAR, f"{LINK}: the year since the latest upload is over by then")
 
 
 def test_what_is_due_comes_in_order():
@@ -137,8 +138,18 @@ def test_a_card_says_who_asks_whom_for_what(kind, said):
 
 def test_a_card_of_a_case_that_is_ready_is_marked():
     card = page.case_card(READY, OPENED)
-    assert "<article data-find class=ready>" in card and '<span class="tag yes">ready now</span>' in card
+    assert '<article id="case-frob" data-find class=ready>' in card and '<span class="tag yes">ready now</span>' in card
     assert '<span class="tag">not begun</span>' in page.case_card(row_at(OPENED, first=None), OPENED)
+
+
+def test_no_text_turns_the_line():
+    row = row_at(OPENED, why="a\u202eb", candidate="\u2066")
+    assert "a\\u202eb" in page.case_card(row, OPENED) and "\\u2066 asks" in page.case_card(row, OPENED)
+
+
+def test_a_card_is_ready_at_no_moment_if_attempts_lack():
+    card = page.case_card(row_at(OPENED + 2 * SIX_WEEKS, pages=False), OPENED)
+    assert '<span class="tag">lacks attempts</span>' in card
 
 
 def test_a_moment_is_not_broken():
@@ -147,9 +158,9 @@ def test_a_moment_is_not_broken():
 
 def test_a_table_has_a_cell_for_each_head_and_numbers_to_sort_by():
     table = page.table_of(["a", "b"], [["x", ("1 KiB", 1024)]])
-    assert "<tr><th>a</th><th>b</th></tr>" in table
-    assert ('<tr data-find><td data-head="a">x</td><td data-head="b" class="number" data-key="1024">1 KiB</td></tr>'
-            in table)
+    assert re.findall('<th scope="(col|row)" role="(.*?)">(.*?)</th>', table) == [
+        ("col", "columnheader", "a"), ("col", "columnheader", "b"), ("row", "rowheader", "x")]
+    assert '<td role="cell" data-head="b" class="number" data-key="1024">1 KiB</td></tr>' in table
     assert table.endswith('<p class="none soft" hidden>None.</p>')
     assert page.table_of(["a"], []) == '<p class="none soft">None.</p>'
 

@@ -22,7 +22,7 @@ function shown() { return there("[data-find]"); }
 document.body.style.width = "360px";
 var all = shown().length, wide = document.body.scrollWidth > 360;
 heads[0].click(); heads[0].click();
-var last = document.querySelector("section:nth-of-type(3) tbody tr td").textContent;
+var last = document.querySelector("section:nth-of-type(3) tbody tr th").textContent;
 heads[1].click();
 var least = document.querySelector("section:nth-of-type(3) tbody tr td:nth-child(2)").dataset.key;
 find.value = "GLASSHOUSE"; find.dispatchEvent(new Event("input"));
@@ -54,7 +54,7 @@ class Reader(html.parser.HTMLParser):
             self.articles += tag == "article"
             self.items += tag == "li"
         self.asks += [given[it] for it in ("src", "href", "srcset", "action")
-                      if not (given.get(it, "data:") or "").startswith("data:")]
+                      if not (given.get(it, "data:") or "").startswith(("data:", "#"))]
 
     def handle_endtag(self, tag: str) -> None:
         self.skips = None if tag == self.skips else self.skips
