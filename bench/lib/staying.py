@@ -1,16 +1,18 @@
 """What bench measures of the memory that stays: after an opening of small files, and after large uploads, each without
-and with the line for it in server/systemd/index.service."""
+and with the lines for it in server/systemd/index.service."""
 import os
 import re
 import tempfile
 
-from lib.figures import line, memory_of
+from lib.figures import goal, line, memory_of
 from lib.on_disk import apply, asked, file_name
 from lib.rates import bytes_of
 from support.places import TOP
 from support.serving import Index, accepted, make_index, sha256
 
 FILES, LENGTH, ROUNDS, LARGE = 10_000, 10_000, 20, 16 << 20
+# of the most that an opening took, what may stay by the unit's lines
+MOST_STAYS = 0.2
 # so many uploads go to the program at once
 AT_ONCE = 1_000
 SETTING = re.compile(r"^Environment=(MALLOC_\w+)=(\d+)$", re.M)
@@ -38,15 +40,16 @@ def filled(program, folder, files, length):
     return path
 
 
-def tell(name, what, measure):
-    """The memory that stays, and the most that was taken, without and with the unit's line."""
+def tell(name, what, measure, is_opening=False):
+    """The memory that stays, and the most that was taken, without and with the unit's lines."""
     of_unit = setting()
     if not of_unit:
         raise SystemExit("server/systemd/index.service sets nothing for the allocator")
     same = "by " + " ".join(map("=".join, of_unit.items()))
     for begins, said, given in ((name, what, {}), ("", same, of_unit)):
         stays, most = measure(given)
-        line(begins, f"{said}: {stays / 1024:,.0f} MiB stay, at most {most / 1024:,.0f}")
+        more = [goal(round(stays / most, 2), most=MOST_STAYS)] if given and is_opening else []
+        line(begins, f"{said}: {stays / 1024:,.0f} MiB stay, at most {most / 1024:,.0f}", *more)
 
 
 def taken(index):
@@ -77,7 +80,7 @@ def bench_opened(program, files=FILES, length=LENGTH):
     with tempfile.TemporaryDirectory() as folder:
         path = filled(program, folder, files, length)
         size = os.path.getsize(path) / (1 << 20)
-        tell("opened", f"{files:,} files, {size:,.0f} MiB", lambda it: opened(program, path, it))
+        tell("opened", f"{files:,} files, {size:,.0f} MiB", lambda it: opened(program, path, it), is_opening=True)
 
 
 def bench_uploaded(program, rounds=ROUNDS, length=LARGE):
