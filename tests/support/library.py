@@ -14,6 +14,7 @@ from package_index import (
     disk,
     ends,
     exchange,
+    followed,
     front,
     hints,
     looks,
@@ -22,5 +23,5 @@ from package_index import (
     units,
 )
 
-__all__ = ["changes", "commands", "database", "disk", "ends", "exchange", "front", "hints", "looks", "names",
-           "two_machines", "units"]
+__all__ = ["changes", "commands", "database", "disk", "ends", "exchange", "followed", "front", "hints", "looks",
+           "names", "two_machines", "units"]

@@ -1,0 +1,212 @@
+"""index-uncache-follow: what a delete, a ban or a prohibition removes goes out of nginx's cache by itself."""
+import json
+import os
+import signal
+import sys
+from contextlib import contextmanager
+
+import pytest
+from support.library import followed
+from support.places import BIN, SERVER
+from support.programs import program_of
+from support.running import run_command
+from support.server.expected import assert_ends, assert_reply
+from support.server.waits import wait_for
+from support.server.watched import unit
+from support.serving import Running, accepted, sha256
+
+FOLLOW = program_of("index-uncache-follow")
+FILES = "frob-8.0.tar.gz", "frob-8.1+fix.1.tar.gz", "frob-8.2-py3-none-any.whl"
+
+
+@pytest.fixture
+def cached(front):
+    """nginx keeps three files of a project."""
+    accepted(front.claim("frob"))
+    for file in FILES:
+        accepted(front.upload("frob", file, b"new"))
+        assert_reply(front.ask("GET", address(file)), 200, None, b"new")
+    return front
+
+
+def address(file):
+    return f"/files/frob/{file.replace('+', '%2B')}"
+
+
+@contextmanager
+def following(front, again="3600"):
+    """What is taken out once more is so after these seconds: a test sees the first time alone."""
+    words = ["--again", again, "--log", f"{front.folder}/index-changes.log", "--cache", f"{front.folder}/cache/index-files",
+             "--place", f"{front.folder}/place"]
+    with open(f"{front.folder}/followed", "a") as said:
+        with Running([sys.executable, f"{BIN}/index-uncache-follow", *words], stdout=said, stderr=said) as runs:
+            yield runs
+
+
+def ban(front, file):
+    accepted(front.request(do="ban_file", file=file))
+
+
+def is_gone(front, file):
+    return front.ask("GET", address(file))[0] == 404
+
+
+def wait_until_gone(front, *files):
+    assert wait_for(lambda: all(is_gone(front, file) for file in files), seconds=30)
+
+
+def test_a_ban_a_delete_and_a_prohibition_take_files_out(cached):
+    with following(cached):
+        ban(cached, FILES[0])
+        wait_until_gone(cached, FILES[0])
+        accepted(cached.ask("DELETE", address(FILES[1]), X_Index_Token="office", X_Index_SHA256=sha256(b"new")))
+        wait_until_gone(cached, FILES[1])
+        assert not is_gone(cached, FILES[2])
+        accepted(cached.request(do="prohibit", name="frob"))
+        wait_until_gone(cached, FILES[2])
+
+
+def test_without_it_nginx_keeps_what_is_banned(cached):
+    ban(cached, FILES[0])
+    assert not is_gone(cached, FILES[0])
+
+
+def test_what_came_while_it_was_killed_is_taken_out_too_also_over_a_rotation(cached):
+    log = f"{cached.folder}/index-changes.log"
+    with following(cached, "0") as runs:
+        ban(cached, FILES[0])
+        wait_until_gone(cached, FILES[0])
+        end = os.stat(log).st_ino, os.path.getsize(log)
+        assert wait_for(lambda: followed.place_in(f"{cached.folder}/place") == end, seconds=30)
+        runs.process.kill()
+        runs.process.wait()
+    ban(cached, FILES[1])
+    os.rename(log, f"{log}.1")
+    os.kill(cached.process.pid, signal.SIGUSR1)
+    assert wait_for(lambda: os.path.exists(log), seconds=30)
+    ban(cached, FILES[2])
+    assert not is_gone(cached, FILES[1]) and not is_gone(cached, FILES[2])
+    with following(cached):
+        wait_until_gone(cached, *FILES[1:])
+
+
+def test_a_rotation_is_followed_and_a_line_that_nginx_still_writes_into_the_old_log_is_read(cached):
+    log = f"{cached.folder}/index-changes.log"
+    with following(cached):
+        assert wait_for(lambda: os.path.exists(f"{cached.folder}/place"), seconds=30)
+        os.rename(log, f"{log}.1")
+        with open(log, "w"):
+            # logrotate makes the new one, and nginx writes into the old one until it is told
+            pass
+        ban(cached, FILES[0])
+        wait_until_gone(cached, FILES[0])
+        os.kill(cached.process.pid, signal.SIGUSR1)
+        # (each process of nginx opens it when it comes to it)
+        assert wait_for(lambda: cached.request(do="ban_file", file=FILES[1]) and os.path.getsize(log), seconds=30)
+        wait_until_gone(cached, FILES[1])
+
+
+def test_an_old_log_is_read_until_another_is_written_into(tmp_path):
+    log = tmp_path / "log"
+    log.write_text("1\n")
+    found = followed.lines_from(str(log), None)
+    with open(log, "a", encoding="ascii") as old:
+        def after(text=""):
+            old.write(text)
+            old.flush()
+            return [next(found)[0].strip() for _ in range(2 if text else 1)]
+
+        assert after() == ["1"] and after() == [""]
+        log.rename(tmp_path / "log.1")
+        assert after() == [""] and after("2\n") == ["2", ""]
+        log.touch()
+        assert after() == [""] and after("3\n") == ["3", ""]
+        log.write_text("4\n")
+        assert after() == [""] and after() == ["4"]
+    found.close()
+
+
+def test_the_second_time_is_for_a_reply_that_was_under_way(monkeypatch, tmp_path):
+    taken, now = [], [100.0]
+    line = json.dumps({"status": 200, "method": "DELETE", "path": "/files/a/a-1.zip", "body": ""})
+
+    def lines(*_):
+        yield line, followed.Place(1, 9)
+        for moment in (104.9, 105.0, 106.0):
+            now[0] = moment
+            yield "", followed.Place(1, 9)
+
+    monkeypatch.setattr(FOLLOW, "lines_from", lines)
+    monkeypatch.setattr(FOLLOW, "take_out", lambda words, cache: taken.append((now[0], words)))
+    monkeypatch.setattr(FOLLOW.time, "monotonic", lambda: now[0])
+    kept = []
+    monkeypatch.setattr(FOLLOW, "keep_place", lambda path, place: kept.append((now[0], place)))
+    FOLLOW.follow(FOLLOW.argparse.Namespace(place=f"{tmp_path}/place", log="x", cache="y", again=5))
+    assert taken == [(100.0, ["a", "a-1.zip"]), (105.0, ["a", "a-1.zip"])] and kept == [(105.0, (1, 9))]
+
+
+@pytest.mark.parametrize("status, method, path, body, words", [
+    (200, "DELETE", "/files/frob/frob-1%2B2.zip", "", ["frob", "frob-1+2.zip"]),
+    (404, "DELETE", "/files/frob/frob-1.zip", "", []),
+    (200, "POST", "/requests", '{"do":"ban_file","file":"frob-x-1.0.tar.gz"}', ["frob-x", "frob-x-1.0.tar.gz"]),
+    (200, "POST", "/requests", '{"do":"ban_file","file":"frob_x-1-py3-none-any.whl"}',
+     ["frob_x", "frob_x-1-py3-none-any.whl"]),
+    (403, "POST", "/requests", '{"do":"ban_file","file":"frob-1.0.tar.gz"}', []),
+    (200, "POST", "/requests", '{"do":"prohibit","name":"frob"}', ["frob"]),
+    (200, "POST", "/requests", '{"do":"claim","name":"frob"}', []), (200, "POST", "/requests", '[]', []),
+    (201, "PUT", "/files/frob/frob-1.zip", "", []), (200, "POST", "/legacy/", "", [])])
+def test_a_line_says_what_is_gone(status, method, path, body, words):
+    line = json.dumps({"status": status, "method": method, "path": path, "body": body})
+    assert FOLLOW.removed_by(line) == words
+    assert FOLLOW.removed_by(line[:-1]) == [] == FOLLOW.removed_by("7")
+
+
+def test_a_file_that_can_not_be_taken_out_is_told_and_tried_again(tmp_path):
+    """As one of another user: the place stays before the line."""
+    (tmp_path / "cache").mkdir()
+    log = tmp_path / "log"
+    log.write_text(json.dumps({"status": 200, "method": "DELETE", "path": "/files/a/b", "body": ""}) + "\n")
+    words = ["--log", log, "--cache", tmp_path / "cache", "--place", tmp_path / "place"]
+    script = tmp_path / "bin" / "index-uncache"
+    script.parent.mkdir()
+    os.symlink(f"{SERVER}/lib", tmp_path / "lib")
+    with open(f"{BIN}/index-uncache-follow") as kept:
+        (tmp_path / "bin" / "follow").write_text(kept.read())
+    script.write_text("import sys\nprint('no right to remove it')\nsys.exit(2)\n")
+    ended = run_command([sys.executable, "-B", f"{tmp_path}/bin/follow", *map(str, words)])
+    assert_ends(ended, 1, "index-uncache a b: no right to remove it")
+    assert not (tmp_path / "place").exists()
+
+
+def test_a_place_that_is_gone_or_spoilt_has_all_logs_read(tmp_path):
+    log, oldest = tmp_path / "log", tmp_path / "log.2"
+    oldest.write_text("1\n2\n")
+    (tmp_path / "log.1").write_text("x\n")
+    log.write_text("3\npart")
+    os.utime(oldest, (1, 1))
+    os.utime(tmp_path / "log.1", (2, 2))
+    inode = os.stat(oldest).st_ino
+    for place, lines in ((None, "12x3"), (followed.Place(7, 0), "12x3"), (followed.Place(inode, 9), "12x3"),
+                         (followed.Place(inode, 2), "2x3"), (followed.Place(os.stat(log).st_ino, 2), "")):
+        found, seen = followed.lines_from(str(log), place), ""
+        for line, at in found:
+            if not line and at == (os.stat(log).st_ino, 2):
+                break
+            seen += line.strip()
+        found.close()
+        assert seen == lines
+    (tmp_path / "place").write_text("x")
+    assert followed.place_in(f"{tmp_path}/place") is None and followed.place_in(f"{tmp_path}/none") is None
+    followed.keep_place(f"{tmp_path}/place", at)
+    assert followed.place_in(f"{tmp_path}/place") == at
+
+
+def test_the_unit_keeps_its_place_and_tells():
+    text = unit("index-uncache-follow.service")
+    for line in ("StateDirectory=index-uncache", "Restart=on-failure", "StartLimitBurst=3",
+                 "ReadWritePaths=-/var/cache/nginx"):
+        assert f"\n{line}\n" in text
+    with open(f"{BIN}/index-uncache-follow") as kept:
+        assert 'default="/var/lib/index-uncache/place"' in kept.read()
+    with open(f"{SERVER}/debian/package-index.prerm") as kept:
+        assert " index-uncache-follow.service " in kept.read()
