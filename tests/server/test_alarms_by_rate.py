@@ -34,8 +34,8 @@ class Watched:
 
     def run(self, *words, **setting):
         return run_command([sys.executable, f"{BIN}/index-alarms", "--state", self.state, "--folder", self.folder,
-                            "--backups", f"{self.folder}/backups", "--front", f"{self.folder}/none.conf",
-                            "--changes", f"{self.folder}/changes.log", *words], PATH=self.path, **setting)
+                            "--backups", f"{self.folder}/backups", "--changes", f"{self.folder}/changes.log", *words],
+                           PATH=self.path, **setting)
 
     def kept(self):
         with open(self.state) as kept:
@@ -100,11 +100,6 @@ def test_a_rise_of_wrong_tokens_is_told(watched):
     assert_ends(watched.run(), 9, "120 changes were answered by 401")
 
 
-def test_a_certificate_that_ends_soon_is_told(watched, front):
-    """The one of these tests is valid for two days, and for another name: any fault of it is told here too."""
-    assert_ends(watched.run("--front", f"{front.folder}/conf.d/packages.conf"), 9, "nginx's certificate for")
-
-
 def test_a_state_that_can_not_be_read_is_told_and_begun_again(watched):
     with open(watched.state, "w") as made:
         made.write('{"begun": 1')
@@ -131,7 +126,7 @@ def test_looks_of_more_than_a_day_ago_are_forgotten(watched):
 
 def test_a_drill_raises_each_alarm_once_and_says_who_was_told(watched):
     ended = watched.run("--drill", MAIL="ALARM_MAIL=you@example.org", STARTS=":")
-    kinds = ["disk", "clock", "restarts", "backup", "certificate", "refused"]
+    kinds = ["disk", "clock", "restarts", "backup", "refused", "health", "certificate"]
     assert_ends(ended, 0, *(f"{kind}: told to the journal; mail to you@example.org\n" for kind in kinds))
     started = [it for it in called(f"{watched.folder}/bin").splitlines() if "start index-alarm@drill-" in it]
     assert [it.split("-")[2] for it in started] == kinds

@@ -33,8 +33,8 @@ def words_for(front):
     return "--front", f"{front.folder}/conf.d/packages.conf", f"http://{address}"
 
 
-def look(front):
-    return run_command([*HEALTH, "--patience", "1", *words_for(front)])
+def look(front, *words):
+    return run_command([*HEALTH, "--patience", "1", *words, *words_for(front)])
 
 
 def test_an_nginx_that_answers_by_its_name_is_well(named):
@@ -74,11 +74,13 @@ def test_a_certificate_that_has_ended_is_told(kept_index, certificate, folder):
         assert_ends(look(nginx), 10, f"nginx's certificate for {HOST}: certificate has expired")
 
 
-def test_a_certificate_that_ends_soon_is_seen(named):
-    front = library.front_of(f"{named.folder}/conf.d/packages.conf")
-    assert library.fault_of_certificate(front, 60, 1.5) == ""
-    told = library.fault_of_certificate(front, 60, 21)
-    assert re.fullmatch(rf"nginx's certificate for {HOST} ends in 2 days, \w+ .* GMT", told), told
+def test_a_certificate_that_ends_soon_is_told(named):
+    assert_ends(look(named, "--days", "1.5"), 0)
+    ended = look(named, "--days", "21")
+    assert_ends(ended, 10)
+    told = ended.stdout.strip()
+    assert re.fullmatch(rf"index-health: nginx's certificate for {HOST} ends in 2 days, \w+ .* GMT", told), told
+    assert "--days 21 " in unit("index-certificate.service") and "=1d\n" in unit("index-certificate.timer")
 
 
 def test_readers_that_need_a_password_are_no_fault_and_an_answer_of_another_kind_is(named):
@@ -93,7 +95,7 @@ def test_readers_that_need_a_password_are_no_fault_and_an_answer_of_another_kind
         with open(conf, "w") as made:
             made.write(whole.replace("location = /health {", "location = /well {"))
         named.process.send_signal(signal.SIGHUP)
-        wait_for(lambda: (look(named).returncode, said) == (status, said), seconds=20)
+        wait_for(lambda: look(named).returncode == status and said in look(named).stdout, seconds=20)
         assert_ends(look(named), status, said)
 
 

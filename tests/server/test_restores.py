@@ -136,7 +136,8 @@ def test_a_unit_of_a_link_to_the_database_is_its_own(by):
 class TestANewMachine:
     """What is not enabled is off when the machine starts again."""
 
-    NAMES = ["index.service", "index-backup.timer", "index-health.timer", "index-alarms.timer"]
+    NAMES = ["index.service", "index-backup.timer", "index-health.timer", "index-alarms.timer",
+             "index-certificate.timer"]
 
     def test_units_that_are_not_enabled_are_named(self, by):
         by.manager.shown["index-backup.timer", "UnitFileState"] = "disabled"
