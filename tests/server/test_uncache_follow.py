@@ -36,8 +36,8 @@ def address(file):
 @contextmanager
 def following(front, again="3600"):
     """What is taken out once more is so after these seconds: a test sees the first time alone."""
-    words = ["--again", again, "--log", f"{front.folder}/index-changes.log", "--cache", f"{front.folder}/cache/index-files",
-             "--place", f"{front.folder}/place"]
+    words = ["--again", again, "--place", f"{front.folder}/place", "--log", f"{front.folder}/index-changes.log",
+             "--cache", f"{front.folder}/cache/index-files"]
     with open(f"{front.folder}/followed", "a") as said:
         with Running([sys.executable, f"{BIN}/index-uncache-follow", *words], stdout=said, stderr=said) as runs:
             yield runs
