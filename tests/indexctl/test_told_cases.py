@@ -33,8 +33,8 @@ def test_the_list_of_what_is_owned_has_the_case(ann):
 
 def test_an_upload_tells_of_the_case_and_that_it_ended(ann, folder):
     wheel = wheel_in(folder, "frob")
-    assert_ends(ann.run("upload", wheel), 0, "frob: bob has opened a case on this name, to reuse it. An upload ends it.",
-                "frob: the case of bob has ended by this upload.")
+    assert_ends(ann.run("upload", wheel), 0, "frob: the case of bob has ended by this upload.",
+                "frob: bob has opened a case on this name, to reuse it. An upload ends it.")
     again = ann.run("upload", wheel)
     assert_ends(again, 0, "is there already")
     assert "case" not in again.stdout
