@@ -9,6 +9,7 @@ pub mod OpeningLemmas
 pub mod RunLemmas
 pub mod ThereLemmas
 pub mod WrongLemmas
+pub mod WrongCalls
 pub mod ServesLemmas
 pub mod RefutedLemmas
 pub mod RefusedLemmas

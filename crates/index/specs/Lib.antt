@@ -6,5 +6,6 @@ pub mod Jobs
 pub mod Openings
 pub mod Printed
 pub mod Refuted
+pub mod RefutedCalls
 pub mod Runs
 pub mod Tasks
