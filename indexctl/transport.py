@@ -24,6 +24,8 @@ from package_index.hints import hint
 Headers = Tuple[Tuple[str, str], ...]
 PASSING = (500, 502, 503, 504)
 MOST_SECONDS = 90
+# what OpenSSL calls a certificate that is not valid yet, or no more
+OUT_OF_TIME = (9, 10)
 JSON_PAGE = "application/vnd.pypi.simple.v1+json"
 # a reply that is read at a glance: its status, one length, and no coding, in a head that is not longer than this
 MOST_HEAD, PIECE = 16_384, 65_536
@@ -90,9 +92,11 @@ class Index:
         try:
             connection.connect()
         except ssl.SSLCertVerificationError as end:
-            raise Stop(WRONG, f"The certificate of {self.setting.url} is not trusted: {end.verify_message}. "
-                              "INDEX_CA, or `ca` of the profile, may name a file of certificates to trust.") from end
+            raise Stop(WRONG, untrusted(self.setting.url, end)) from end
         except OSError as end:
+            if isinstance(end, socket.gaierror) and end.errno == socket.EAI_NONAME:
+                raise Stop(WRONG, f"There is no host {connection.host}, which {self.setting.place} names. Is the "
+                                  "address right?") from end
             raise NotSent(end) from end
 
     def once(self, request: Request) -> Reply:
@@ -209,6 +213,15 @@ def read_plain(peer: socket.socket) -> Tuple[Optional[bytes], bool]:
         body += more
     is_plain = len(body) == length and not CODED.search(head)
     return body if is_plain else None, not is_plain or b"\r\nconnection: close\r\n" in head
+
+
+def untrusted(url: str, end: ssl.SSLCertVerificationError) -> str:
+    """Why a certificate is not trusted, and what to do about it."""
+    if end.verify_code in OUT_OF_TIME:
+        return (f"The certificate of {url} is not valid at this time: {end.verify_message}. Is your clock right? If it "
+                "is, tell the operator of the index.")
+    return (f"The certificate of {url} is not trusted: {end.verify_message}. INDEX_CA, or `ca` of the profile, may name "
+            "a file of certificates to trust.")
 
 
 def first_words(reply: Reply) -> str:

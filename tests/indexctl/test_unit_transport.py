@@ -3,6 +3,7 @@ from __future__ import annotations
 
 import http.client
 import socket
+import ssl
 import struct
 import threading
 
@@ -287,3 +288,36 @@ def test_a_kept_connection_that_was_closed_meanwhile_is_opened_again_at_once(mon
         assert index.kept.connection.sock.recv(1) == b"", "the listener has closed it"
         assert index.glance("/x") is None and index.ask("x", GET).body == b"ok"
         index.leave()
+
+
+class Unreached:
+    """A connection that fails to open."""
+    host = "packages.exmaple"
+
+    def __init__(self, end):
+        self.end = end
+
+    def connect(self):
+        raise self.end
+
+
+def test_a_host_that_does_not_exist_is_told_at_once():
+    with pytest.raises(Stop, match="no host packages.exmaple, which the environment names. Is the address") as end:
+        Index(SETTING).connect(Unreached(socket.gaierror(socket.EAI_NONAME, "Name or service not known")))
+    assert end.value.status == WRONG
+
+
+@pytest.mark.parametrize("end", [socket.gaierror(socket.EAI_AGAIN, "x"), ConnectionRefusedError(), TimeoutError()])
+def test_a_connection_that_may_open_later_is_tried_again(end):
+    with pytest.raises(NotSent):
+        Index(SETTING).connect(Unreached(end))
+
+
+@pytest.mark.parametrize("code, said", [(10, "not valid at this time"), (9, "Is your clock right"), (18, "INDEX_CA"),
+                                        (92, "is not trusted")])
+def test_a_certificate_out_of_its_time_wants_no_other_authority(code, said):
+    end = ssl.SSLCertVerificationError(1, "x")
+    end.verify_code, end.verify_message = code, "why"
+    with pytest.raises(Stop, match=said) as stop:
+        Index(SETTING).connect(Unreached(end))
+    assert stop.value.status == WRONG and ("INDEX_CA" in str(stop.value)) == (code not in (9, 10))
