@@ -220,8 +220,8 @@ def untrusted(url: str, end: ssl.SSLCertVerificationError) -> str:
     if end.verify_code in OUT_OF_TIME:
         return (f"The certificate of {url} is not valid at this time: {end.verify_message}. Is your clock right? If it "
                 "is, tell the operator of the index.")
-    return (f"The certificate of {url} is not trusted: {end.verify_message}. INDEX_CA, or `ca` of the profile, may name "
-            "a file of certificates to trust.")
+    return (f"The certificate of {url} is not trusted: {end.verify_message}. INDEX_CA, or `ca` of the profile, may "
+            "name a file of certificates to trust.")
 
 
 def first_words(reply: Reply) -> str:
