@@ -1,7 +1,6 @@
 -- Wrong outcomes do not meet the words of the contracts.
-use Rattle.std.proofs.Common.{◌≡◌, ◌∙◌, ◌⊎◌, ◌+◌, ◌&&◌, ℕ, suc, Bool, true, false, Option, Some, Result, Ok, Err, refl, sym, ap, subst, inl, inr, List, [], ◌∷◌, length, arith}
+use Rattle.std.proofs.Common.{◌≡◌, ◌∙◌, ◌⊎◌, ◌+◌, ◌&&◌, ℕ, suc, Bool, true, false, Option, Some, Result, Ok, Err, refl, ap, inl, inr, List, [], length, arith}
 use Rattle.std.specs.Prelude.{IfOk, IfErr, IsErrAnd, if◌then◌else◌, is_ok}
-use Rattle.sqlite.specs.declared.FileStore.{FileStore}
 use Rattle.sqlite.specs.Files.{image_of}
 use Rattle.sqlite.specs.Recovery.{Image}
 use Rattle.sqlite.specs.WalReads.{AreClean}
@@ -12,7 +11,6 @@ use Rattle.index_cli.specs.declared.end.LineEnd.{LineEnd}
 use Rattle.index_cli.specs.declared.end.ServeEnd.{ServeEnd}
 use Rattle.index_cli.specs.Ends.{EndsRun, Telling}
 use Rattle.index_cli.specs.Lines.{lines_of}
-use Rattle.index_desk.specs.Checks.{wrong_charges_in}
 use Rattle.index_rules.specs.FirstTables.{first_tables}
 use Rattle.index_rules.specs.Maps.{Bytes}
 use Rattle.index_rules.specs.Tables.{Tables}
@@ -22,7 +20,6 @@ use Rattle.index.specs.declared.database.Unused.{Unused}
 use Rattle.index.specs.declared.end.End.{End}
 use Rattle.index.specs.declared.end.End.TheVariants as end
 use Rattle.index.specs.Ends.{closing_of, end_by, end_of, end_of_serving, is_store}
-use Rattle.index.specs.Jobs.{ComesOfInit, ComesOfRun}
 use Rattle.index.specs.Refuted.{HoldsNoIndex, RefutesConnections, RefutesInit, RefutesLines, RefutesTasks, RefutesWork}
 use Rattle.index.specs.Openings.{IsToldOf}
 use Rattle.index.specs.Runs.{Created, DigestHas, EndsInitOn, EndsRunOn, HoldsNone, Ran}
