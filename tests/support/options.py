@@ -54,5 +54,7 @@ def add_options(parser) -> None:
     group.addoption("--alter", metavar="'PATTERN => TEXT'", help="for a break: pages are altered on their way from the "
                     "index")
     group.addoption("--kept-programs", metavar="FOLDER", help="where wrong programs are kept that were built")
+    group.addoption("--two-machines", action="store_true", help="also cut the power and the cable of two virtual "
+                    "machines: some minutes each")
     group.addoption("--file-systems", metavar="NAMES", default="ext4", help="those whose power is cut: of ext4, xfs "
                     "and btrfs")

@@ -7,7 +7,7 @@ from pages.links import FENCED
 ROOMS = {
     "users": {"USING", "OWNING", "NAMES"},
     "office": {"OFFICE", "RETENTION"},
-    "operators": {"INSTALL", "OPERATING", "RECOVERY", "SCALING", "PERFORMANCE"},
+    "operators": {"INSTALL", "OPERATING", "RECOVERY", "SCALING", "TWO-MACHINES", "PERFORMANCE"},
     "reference": {"REQUESTS", "HTTP", "FORMATS", "PAGES", "TABLES"},
     "proofs": {"PROMISES", "CLAUSES", "HISTORY", "WORDS"},
     "developers": {"ARCHITECTURE", "CHANGING", "PROOF-COSTS", "DECISIONS", "DECISIONS-SQLITE"},

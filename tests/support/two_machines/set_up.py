@@ -1,0 +1,64 @@
+"""Two guests that serve an index by the page for operators, in its blocks as they stand."""
+from __future__ import annotations
+
+from collections.abc import Iterator
+from contextlib import contextmanager
+
+from support.two_machines.guests import Guest, NoAnswer
+from support.two_machines.image import make_image
+from support.two_machines.page import block
+from support.two_machines.pair import POWER_OFF, Pair, two_guests
+from support.two_machines.uploads import Served
+
+FILES, READY, MAKE = "index.res > /etc/drbd.d/index.res", "drbdadm create-md", "mkfs.ext4"
+BACK, LEAVE = "drbdadm up index\n", "index-leave\n"
+TAKE = block("index-take\n", starts=True)
+SAID = "touch /run/index-peer-is-off"
+
+
+def prepare(guest: Guest) -> None:
+    """A machine has the files for two machines. A guest forgets them with its power, since they are in memory."""
+    guest.must(block(FILES))
+    guest.must(POWER_OFF)
+
+
+def set_up(pair: Pair) -> Served:
+    for guest in pair.guests:
+        prepare(guest)
+        guest.must(block(READY))
+    pair.wait_until_connected()
+    first = pair.guests[0]
+    first.must(block(MAKE))
+    said = first.must(block("index init", "INSTALL"))
+    if "created" not in said:
+        raise NoAnswer(f"no index was made: {said}")
+    take(first)
+    index = Served(first)
+    if not index.answers():
+        raise NoAnswer("the index does not answer")
+    return index
+
+
+def take(guest: Guest, patience: int = 60) -> str:
+    """A person runs index-take, again and again while DRBD sees no more than that the other machine is silent."""
+    for _ in range(patience):
+        status, said = guest.sh(TAKE)
+        if status == 0:
+            return said
+    raise NoAnswer(f"{guest.name} does not take over: {said}")
+
+
+def bring_back(pair: Pair, guest: Guest) -> tuple[float, float]:
+    """A machine whose power was cut starts, and is brought up to date: the seconds of both."""
+    guest.start()
+    booted = guest.booted()
+    prepare(guest)
+    guest.must(block(BACK, starts=True))
+    return booted, pair.wait_until_in_step()
+
+
+@contextmanager
+def served_by_two(program: str, folder: str) -> Iterator[tuple[Pair, Served]]:
+    with two_guests(folder, make_image(folder, program)) as pair:
+        pair.boot()
+        yield pair, set_up(pair)
