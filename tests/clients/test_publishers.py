@@ -100,6 +100,17 @@ def test_indexctl_is_served_as_it_is_built(person):
     person.looks(headers["Content-Type"] == "application/zip", "/indexctl", headers["Content-Type"], "a zip archive")
 
 
+@pytest.mark.follows(client="twine")
+def test_twine_that_uploads_to_the_pages_is_told_where_to(person):
+    make_dist(person, "2.6")
+    words = ["twine", "upload", "--verbose", "--username", "__token__", "--password", ANN, "--repository-url",
+             f"{person.url}/simple/", "dist/eggs-2.6-py3-none-any.whl"]
+    person.fails(person.run(words), "405 Method Not Allowed", "indexctl upload", "/legacy/")
+    status, headers, body = person.gate.ask("POST", "/simple/", "x")
+    person.looks((status, headers["Allow"], b'"BadMethod"' in body) == (405, "GET, HEAD", True), "POST /simple/",
+                 (status, headers.items(), body), "405 with what is allowed")
+
+
 @pytest.mark.follows("twine by its environment", client="twine")
 def test_twine_uploads_by_its_environment(person):
     make_dist(person, "2.5")
