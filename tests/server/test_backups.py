@@ -1,5 +1,6 @@
 """index-backup: copies under uploads, copies for which there is no room, and copies that are not well."""
 import os
+import re
 import shutil
 import signal
 import sqlite3
@@ -13,6 +14,7 @@ from support.server.expected import assert_ends
 from support.server.front import replaced
 from support.server.kept import Uploader
 from support.server.stand_ins import called, stand_ins
+from support.server.watched import unit
 from support.serving import Index, accepted, make_index
 
 BACKUPS = 3
@@ -198,3 +200,18 @@ class TestAnIndexThatNeverPauses:
         assert (ended.returncode, ended.stdout) == (-signal.Signals[f"SIG{number}"], "index-backup: stopped\n")
         assert called(f"{folder}/bin").splitlines()[-1] == "ended start one.service", called(f"{folder}/bin")
         assert os.listdir(backups) == []
+
+    @pytest.mark.parametrize("moment", ["stop", "cp", "start", ""])
+    def test_killed_at_any_moment_its_own_unit_starts_the_other(self, program, changing, hurried, backups, folder,
+                                                                moment):
+        path, own = stand_ins(f"{folder}/bin", systemctl=SYSTEMCTL, cp=COPY), f"{folder}/own"
+        os.mkdir(own)
+        setting = {"PATH": path, "STOPPED": f"{folder}/stopped", "SIGNAL": "KILL", "INDEX": program,
+                   "RUNTIME_DIRECTORY": own}
+        words = ["setsid", hurried, changing, backups, "--unit", "one.service"]
+        assert run_command(words, **setting, MOMENT=moment).returncode == (-signal.SIGKILL if moment else 0)
+        before = called(f"{folder}/bin")
+        after = re.search(r"^ExecStopPost=/bin/sh -c '(.*)'$", unit("index-backup.service"), re.M)[1]
+        assert_ends(run_command(["sh", "-c", after.replace("$$", "$")], **setting, MOMENT=""), 0)
+        started = called(f"{folder}/bin")[len(before):]
+        assert started == ("systemctl start one.service\nended start one.service\n" if moment else ""), started
