@@ -247,6 +247,11 @@ def test_nothing_is_left_to_stop_or_to_disable(life, what):
     assert len(life.removed["units"]) > 5 and not set(life.removed["units"]) - life.removed[what]
 
 
+def test_an_index_of_several_does_not_start_by_itself_after_another_installation(life):
+    assert_ends(life.removed["remove"], 0)
+    assert {"index@8081.service", "index-health@8081.timer"} <= life.removed["disable"]
+
+
 def test_what_was_changed_stays_after_a_remove_and_nothing_else(life):
     assert life.removed["stays"] == "/etc/nginx/index/indexes.conf\n" and life.removed["library"] == ""
 

@@ -222,7 +222,9 @@ class Life:
         there = "ls /usr/bin/index /lib/systemd/system/index.service /etc/nginx/index/indexes.conf 2> /dev/null"
         listed = "cd /lib/systemd/system; grep -l '^\\[Install' index*.service index*.timer | grep -v @"
         seen = {"units": root.sh(listed).stdout.split()}
-        root.sh("mkdir -p /run/systemd/system; rm /systemctl.log")
+        root.sh("mkdir -p /run/systemd/system; rm /systemctl.log; cd /etc/systemd/system; mkdir -p a.wants b.wants; "
+                "ln -s /lib/systemd/system/index@.service a.wants/index@8081.service; "
+                "ln -s /lib/systemd/system/index-health@.timer b.wants/index-health@8081.timer")
         seen["remove"] = root.sh("apt-get remove --yes package-index")
         log = root.sh("cat /systemctl.log").stdout
         for what in ("stop", "disable"):
