@@ -118,6 +118,15 @@ def test_a_wrong_password_lets_nobody_in(new_person, world):
     person.looks(len(refused) > 1, "pages", person.asked(), "status 401")
 
 
+@pytest.mark.follows("A password for all clients")
+def test_curl_takes_the_password_with_n_alone(new_person, world):
+    person = new_person(world.locked)
+    person.writes("A password for all clients")
+    words = ["curl", "-fsS", f"{person.url}/simple/frob/"]
+    person.fails(person.run(words), "401")
+    person.succeeds(person.run([*words, "-n"]), "frob-1.0")
+
+
 def locked_out(new_person, world):
     """Somebody to whom nginx gives nothing without a password."""
     person = new_person(world.locked).enter_environment(machines_python())
