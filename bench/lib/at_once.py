@@ -81,6 +81,10 @@ class Requests:
         """Connects and sends at once, so that a server which reads one message at a time waits for none."""
         request = Request(kind, message, due)
         request.peer.connect_ex(self.address)
+        self.add(request)
+
+    def add(self, request):
+        """Goes on with a request that has begun to connect."""
         self.under_way[request.peer.fileno()] = request
         self.poll.register(request.peer.fileno(), select.EPOLLIN if request.send() else select.EPOLLOUT)
 
