@@ -1,0 +1,66 @@
+"""index-reseal and index-backup: after a signal or a kill at any step, the database has what it had, and a
+second run does what was asked for."""
+import os
+import shutil
+import signal
+import sys
+
+import pytest
+from support.places import BIN
+from support.running import kill_after, run_command
+from support.server.restores import names_of
+from support.server.stops import NOT_REACHED, STOPPED
+from support.serving import make_index
+
+SIGNALS = signal.SIGINT, signal.SIGTERM, signal.SIGHUP, signal.SIGKILL
+COMMANDS = {
+    "reseal": lambda at: [f"{BIN}/index-reseal", f"{at}/index.db", f"{at}/sealed.db"],
+    "backup": lambda at: [f"{BIN}/index-backup", f"{at}/index.db", f"{at}/copies"],
+}
+
+
+@pytest.fixture
+def made(program, folder):
+    """A database whose log has a claim, and a folder for copies."""
+    os.makedirs(f"{folder}/made/copies")
+    kill_after(program, make_index(program, f"{folder}/made/index.db"),
+               [b'{"at":1,"token":"office","do":"claim","name":"later"}\n'])
+    return f"{folder}/made"
+
+
+def results(at):
+    """The databases that the command made, and what else it left."""
+    found = [f"{at}/sealed.db", *(f"{at}/copies/{it}" for it in sorted(os.listdir(f"{at}/copies")))]
+    whole = [it for it in found if os.path.exists(it) and it.endswith(".db")]
+    known = {"index.db", "index.db-wal", "index.db-shm", "copies", "sealed.db"}
+    left = [it for it in os.listdir(at) if it not in known] + [it for it in found[1:] if it not in whole]
+    return whole, left
+
+
+@pytest.mark.slow
+@pytest.mark.parametrize("number", SIGNALS)
+@pytest.mark.parametrize("command", COMMANDS)
+def test_stopped_at_each_step_nothing_is_lost_and_a_second_run_does_it(program, made, folder, looked, command, number):
+    step, is_reached = 0, True
+    while is_reached:
+        at = shutil.copytree(made, f"{folder}/{step}")
+        words = COMMANDS[command](at)
+        ended = run_command([sys.executable, "-c", STOPPED, str(step), str(int(number)), *words], INDEX=program)
+        is_reached = NOT_REACHED not in ended.stdout
+        said = command, step, number, ended.returncode, ended.stdout
+        looked(ended.returncode == (-number if is_reached else 0), *said)
+        looked(names_of(f"{at}/index.db", folder) == ["later"], *said)
+        whole, left = results(at)
+        looked(all(names_of(it, folder) == ["later"] for it in whole), *said)
+        looked(number == signal.SIGKILL or left == [], left, *said)
+        if command == "reseal" and whole:
+            # it was done: the page says to remove the file and to begin again
+            os.remove(f"{at}/sealed.db")
+        again = run_command(words, INDEX=program)
+        whole, left = results(at)
+        looked(again.returncode == 0 and left == [] and len(whole) > 0, again.stdout, left, *said)
+        looked(names_of(f"{at}/index.db", folder) == ["later"], *said)
+        shutil.rmtree(at)
+        step += 1
+    print(f"{command}: {step - 1} steps by {number.name}")
+    assert step > 2
