@@ -73,8 +73,8 @@ def bench_behind(program, connections=CONNECTIONS, seconds=SECONDS):
             room_for(front, connections)
             with front:
                 waits = crowd_waits(front.port, connections, seconds)
-    most = 1000 * max(waits)
-    line("behind", f"nginx, {connections} connections, standings: p99 {part_of(waits, 0.99):.0f} ms, longest {most:,.0f}",
+    late, most = part_of(waits, 0.99), 1000 * max(waits)
+    line("behind", f"nginx, {connections} connections, standings: p99 {late:.0f} ms, longest {most:,.0f}",
          goal(round(most), most=LONGEST_BEHIND), f"{len(waits) / seconds:,.0f} a second", load())
 
 
@@ -101,6 +101,6 @@ def bench_readers(program, count=UPLOADS):
             bytes_of(index, "/simple/small/")
             waits.append(time.monotonic() - begun)
         uploader.join()
-    most = 1000 * max(waits)
-    line("readers", f"a small page while {count} of 16 MiB come in: p50 {part_of(waits, 0.5):.1f} ms, longest {most:,.0f}",
+    middle, most = part_of(waits, 0.5), 1000 * max(waits)
+    line("readers", f"a small page while {count} of 16 MiB come in: p50 {middle:.1f} ms, longest {most:,.0f}",
          goal(round(most), most=LONGEST_READ), load())
