@@ -10,7 +10,7 @@ from contextlib import suppress
 from support.two_machines.guests import Guest, NoAnswer
 from support.two_machines.pair import Pair
 from support.two_machines.rounds import look
-from support.two_machines.set_up import BACK, LEAVE, TAKE, prepare, take
+from support.two_machines.set_up import LEAVE, TAKE, prepare, take
 from support.two_machines.page import block
 from support.two_machines.uploads import Served, Uploader
 
@@ -84,7 +84,7 @@ def an_old_copy(pair: Pair, index: Served, looked) -> None:
     other.start()
     other.booted()
     prepare(other)
-    other.must(block(BACK, starts=True))
+    other.must("drbdadm up index")
     asked = len(pair.switch.asked)
     for is_gone in (False, True):
         if is_gone:
@@ -97,7 +97,7 @@ def an_old_copy(pair: Pair, index: Served, looked) -> None:
     for guest in pair.guests:
         guest.put_cable(True)
     prepare(active)
-    active.must(block(BACK, starts=True))
+    active.must("drbdadm up index")
     pair.wait_until_in_step()
     take(active)
     looked(index.answers(), "the newer copy does not serve again", pair.states())

@@ -11,7 +11,7 @@ from support.two_machines.pair import POWER_OFF, Pair, two_guests
 from support.two_machines.uploads import Served
 
 FILES, READY, MAKE = "index.res > /etc/drbd.d/index.res", "drbdadm create-md", "mkfs.ext4"
-BACK, LEAVE = "drbdadm up index\n", "index-leave\n"
+BACK, LEAVE = "drbdadm adjust index\n", "index-leave\n"
 TAKE = block("index-take\n", starts=True)
 SAID = "touch /run/index-peer-is-off"
 
@@ -53,7 +53,9 @@ def bring_back(pair: Pair, guest: Guest) -> tuple[float, float]:
     guest.start()
     booted = guest.booted()
     prepare(guest)
-    guest.must(block(BACK, starts=True))
+    # twice, as if systemd had done it already
+    for _ in range(2):
+        guest.must(block(BACK, starts=True))
     return booted, pair.wait_until_in_step()
 
 
