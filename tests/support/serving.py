@@ -133,12 +133,13 @@ class Index(Running, Asking):
     asked. `under` are the words of a command that becomes it. What it says on standard error is kept."""
 
     def __init__(self, program, requests=1_000_000, path=None, patience=30, setting=None, port=0, at=None, keep=None,
-                 host="127.0.0.1", listen=None, under=()):
+                 host="127.0.0.1", listen=None, under=(), rounds=None):
         self.patience, self.program, self.host, self.listen = patience, program, host, listen or host
         self.said, self.folder = tempfile.TemporaryFile(), tempfile.TemporaryDirectory()
         self.path = path or f"{self.folder.name}/index.db"
         words = [*under, program, "serve", "--db", self.path]
         words += ["--listen", f"{self.listen}:{port}", "--requests", str(requests)]
+        words += [] if rounds is None else ["--rounds", str(rounds)]
         words += [] if at is None else ["--at", str(at)]
         words += [] if keep is None else ["--keep-recent", str(keep)]
         super().__init__(words, stdout=subprocess.PIPE, stderr=self.said, env={**os.environ, **(setting or {})})

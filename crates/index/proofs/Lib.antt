@@ -6,6 +6,7 @@ pub mod JobLemmas
 pub mod NewFileLemmas
 pub mod OfficeLemmas
 pub mod OpeningLemmas
+pub mod RoundLemmas
 pub mod RunLemmas
 pub mod ThereLemmas
 pub mod WrongLemmas

@@ -1,5 +1,5 @@
 -- How a subcommand ends, by the run that it made.
-use Rattle.std.specs.Prelude.{◌≡◌, ◌⊎◌, ◌↔◌, ℕ, Bool, List, [], ◌∷◌, ◌++◌, codes, decimal}
+use Rattle.std.specs.Prelude.{◌≡◌, ◌⊎◌, ◌↔◌, ◌*◌, ℕ, Bool, List, [], ◌∷◌, ◌++◌, codes, decimal}
 use Rattle.std.specs.Prelude.{Option, Some, None, option_map}
 use Rattle.std.specs.Prelude.{Result, Ok, Err, IfErr, IfOk, IsErr, IsErrAnd}
 use Rattle.std.specs.Io.KnownBytes.{Appends}
@@ -136,7 +136,8 @@ EndsJob g (job.Init db user digits page_sums) start result =
 EndsJob g (job.Apply db) start result =
     OrWantsMemory ((given : Option (List ℕ)) × EndsApply g db given start result) result
 EndsJob g (job.Serve db words) start result =
-    OrWantsMemory (EndsAs g (answer_sockets words.at words.requests) start IsStatusOf result) result
+    OrWantsMemory (EndsAs g (answer_sockets words.at (words.requests * words.rounds)) start
+    IsStatusOf result) result
 EndsJob g (job.Report db) start result = EndsReport g start result
 EndsJob g (job.Check db) start result = EndsCheck g start result
 

@@ -1,5 +1,5 @@
 //! The program's subcommands.
-ghost use Rattle.std.specs.Prelude.{◌≡◌, ◌↔◌, codes, false};
+ghost use Rattle.std.specs.Prelude.{◌≡◌, ◌↔◌, ◌*◌, codes, false};
 ghost use Rattle.std.specs.Prelude.{Err, IfErr, IfOk, IsOk, IsTrue, Ok};
 ghost use Rattle.std.specs.Process.{exit_status};
 ghost use Rattle.sqlite.specs.WalFiles.{image_at};
@@ -190,8 +190,8 @@ impl<R: Source, K: Sink> Work for Lines<R, K> {
     }
 }
 
-/// Answers so many connections on the tables of a database, which is opened before the first of
-/// them can come.
+/// Answers so many connections, so many times, on the tables of a database, which is opened before
+/// the first of them can come.
 pub fn serve<S: Start>(
     rt: &HostRuntime,
     db: &str,
@@ -199,8 +199,8 @@ pub fn serve<S: Start>(
     site: &Site,
     words: ServeWords<'_>,
 ) -> Result<ExitCode, End>
-    ensures { EndsAs ⟦<FileFrom<S> as Disk>⟧ (answer_sockets words.entry.at words.entry.requests)
-        (image_at S.Start) IsStatusOf result }
+    ensures { EndsAs ⟦<FileFrom<S> as Disk>⟧ (answer_sockets words.entry.at
+        (words.entry.requests * words.entry.rounds)) (image_at S.Start) IsStatusOf result }
 {
     let mut serving = serving_by(site, words);
     work_on(rt, db, start, &mut serving)?;

@@ -1,5 +1,5 @@
 //! The work of `serve`: connections are answered, over sockets or whatever they come on.
-ghost use Rattle.std.specs.Prelude.{◌≡◌, ◌⊎◌, unwrap_or, IfErr, IfOk, OnErr};
+ghost use Rattle.std.specs.Prelude.{◌≡◌, ◌*◌, ◌⊎◌, unwrap_or, IfErr, IfOk, OnErr};
 ghost use Rattle.index_cli.specs.Connections.{KnownList};
 
 use crate::database::Work;
@@ -17,7 +17,7 @@ const KEPT_BYTES: u64 = 268_435_456;
 /// The work that the words of `serve` ask for.
 pub fn serving_by<'a>(site: &'a Site, words: ServeWords<'a>) -> Serving<'a, Address<'a>>
     ensures at { result.at ≡ words.entry.at }
-    ensures requests { result.requests ≡ words.entry.requests }
+    ensures requests { result.requests ≡ words.entry.requests * words.entry.rounds }
     ensures kept { result.keep_recent ≡ unwrap_or words.entry.keep_recent KEPT_BYTES }
 {
     Serving {
@@ -25,10 +25,18 @@ pub fn serving_by<'a>(site: &'a Site, words: ServeWords<'a>) -> Serving<'a, Addr
         from: Address {
             address: words.listen,
         },
-        requests: words.requests,
+        requests: all_rounds(words.requests, words.rounds),
         at: words.at,
         keep_recent: bytes_kept(words.keep_recent),
     }
+}
+
+/// How many connections are served, of which so many are a round.
+#[tactic(auto, using(crate::proofs::RoundLemmas::product_fits))]
+fn all_rounds(requests: u32, rounds: u32) -> u64
+    ensures { result ≡ requests * rounds }
+{
+    requests as u64 * rounds as u64
 }
 
 /// How many bytes of files and pages are kept at hand, if so many were asked for, or none were.
@@ -70,7 +78,7 @@ pub trait Listens {
 pub struct Serving<'a, L> {
     site: &'a Site,
     from: L,
-    requests: u32,
+    requests: u64,
     at: Option<u64>,
     keep_recent: usize,
 }

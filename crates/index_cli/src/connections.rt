@@ -40,7 +40,7 @@ pub trait Connections {
     fn accept(
         &mut self,
         rt: &HostRuntime,
-        left: u32,
+        left: u64,
     ) -> Result<Option<Connection<Self::ReadHalf, Self::WriteHalf>>, Failed>
         ensures first { IfOk result (λ next. IfSome next (λ it.
             TakesFirst (coming self.old) (coming self.new) (Self.ReadHalf.remaining it.source))) }

@@ -71,7 +71,7 @@ impl Connections for Listening {
     fn accept(
         &mut self,
         rt: &HostRuntime,
-        left: u32,
+        left: u64,
     ) -> Result<Option<Connection<Input<Half>, Output<BufWriter<Half>>>>, Failed> {
         match next_waiting(rt, &self.listener, &mut self.waiting, left) {
             Ok(stream) => Ok(connection_over(rt.alloc(), stream)),
@@ -148,7 +148,7 @@ fn next_waiting(
     rt: &HostRuntime,
     listener: &TcpListener,
     waiting: &mut VecDeque<TcpStream>,
-    left: u32,
+    left: u64,
 ) -> io::Result<TcpStream> {
     let most = MOST_WAITING.min(left as usize);
     if listener.set_nonblocking(true).is_ok() {

@@ -39,7 +39,7 @@ use std::time::{Duration, SystemTime};
 pub fn answer_connections<C: Connections, B: Keeper>(
     rt: &HostRuntime,
     connections: &mut C,
-    requests: u32,
+    requests: u64,
     at: Option<u64>,
     site: &Site,
     desk: &mut Desk<B>,
@@ -113,7 +113,7 @@ pub fn answer_connections<C: Connections, B: Keeper>(
 fn answer_next<C: Connections, B: Keeper>(
     rt: &HostRuntime,
     connections: &mut C,
-    left: u32,
+    left: u64,
     at: Option<u64>,
     site: &Site,
     desk: &mut Desk<B>,

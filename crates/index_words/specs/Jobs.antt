@@ -45,6 +45,11 @@ abbrev pub HasNumberOrNone : Text → List Row → Option ℕ → Type 0
 HasNumberOrNone id rows None = first_of id rows ≡ None
 HasNumberOrNone id rows (Some n) = HasNumber id rows n × (n < 2 ^ 64)
 
+-- this number is meant by the text of an option, or by none
+abbrev pub IsNumberOr : ℕ → Option Text → ℕ → Type 0
+IsNumberOr default None n = n ≡ default
+IsNumberOr default (Some text) n = IsDecimalText n text
+
 -- the job is the subcommand that was entered, with the values of its options
 abbrev pub IsJob : Option (Text × List Row) → Job → Type 0
 IsJob None job = ⊥
@@ -58,6 +63,8 @@ IsJob (Some (name, rows)) (job.Serve db words) = (name ≡ codes "serve")
     × HasText (codes "db") rows db.now × HasText (codes "listen") rows words.listen.now
     × HasNumber (codes "requests") rows words.requests
     × (1 ≤ words.requests) × (words.requests ≤ 1000000)
+    × IsNumberOr 1 (first_of (codes "rounds") rows) words.rounds
+    × (1 ≤ words.rounds) × (words.rounds ≤ 1000000)
     × HasNumberOrNone (codes "at") rows words.at
     × HasNumberOrNone (codes "keep-recent") rows words.keep_recent
 IsJob (Some (name, rows)) (job.Report db) = (name ≡ codes "report")

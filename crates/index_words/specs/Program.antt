@@ -46,9 +46,10 @@ apply_app = with_rule (new_app (codes "apply")) (option (codes "db"))
 -- the subcommand `serve` with its options
 abbrev pub serve_app : App
 serve_app =
-    with_rule (with_rule (with_rule (with_rule
+    with_rule (with_rule (with_rule (with_rule (with_rule
     (database_app (codes "serve")) (required (codes "listen")))
     (number_between 1 1000000 (required (codes "requests"))))
+    (number_between 1 1000000 (option (codes "rounds"))))
     (any_number (option (codes "at"))))
     (any_number (option (codes "keep-recent")))
 

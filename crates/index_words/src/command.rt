@@ -86,6 +86,14 @@ fn requests<'a>(alloc: Global) -> Arg<'a>
     whole_number(required_arg(alloc, "requests", help), 1, 1_000_000)
 }
 
+/// The option `--rounds`.
+fn rounds<'a>(alloc: Global) -> Arg<'a>
+    ensures { IsArg result (number_between 1 1000000 (option (codes "rounds"))) }
+{
+    let help = "How many times so many connections are served, 1 to 1,000,000, or once";
+    whole_number(optional_arg(alloc, "rounds", help), 1, 1_000_000)
+}
+
 /// The option `--at`.
 fn at<'a>(alloc: Global) -> Arg<'a>
     ensures { IsArg result (any_number (option (codes "at"))) }
@@ -110,6 +118,7 @@ fn serve<'a>(alloc: Global) -> Result<Command<'a>, AllocError>
     on_database(alloc, "serve", "Answers HTTP requests, one a connection")?
         .arg(required_arg(alloc, "listen", help))?
         .arg(requests(alloc))?
+        .arg(rounds(alloc))?
         .arg(at(alloc))?
         .arg(keep_recent(alloc))
 }

@@ -3,7 +3,7 @@ ghost use Rattle.std.specs.Prelude.{◌≡◌, ◌≤◌, ◌<◌, ◌^◌, [], 
 ghost use Rattle.std.specs.Prelude.{◌↔◌, codes, map, option_map, string_bytes, IfErr, IfOk, IsOk, IsTrue};
 ghost use Rattle.clap.specs.Words.{first_of, subcommand_rows_of};
 ghost use Rattle.index_words.specs.Program.{index_app, IsApp};
-ghost use Rattle.index_words.specs.Jobs.{FindsExactly, HasNumberOrNone, IsGiven, IsJob, IsDecimalText, rows_entered, rows_in};
+ghost use Rattle.index_words.specs.Jobs.{FindsExactly, HasNumberOrNone, IsGiven, IsJob, IsDecimalText, IsNumberOr, rows_entered, rows_in};
 ghost use Rattle.index_words.specs.Reading.{ReadsJob};
 
 use crate::command;
@@ -18,6 +18,8 @@ pub struct ServeWords<'a> {
     pub listen: &'a str,
     /// How many connections are served, 1 to 1,000,000.
     pub requests: u32,
+    /// How many times so many are served, 1 to 1,000,000: once if that was not said.
+    pub rounds: u32,
     /// The moment of every request in Unix seconds, or the clock's.
     pub at: Option<u64>,
     /// How many bytes of answers are kept at hand, or as many as the program likes.
@@ -188,11 +190,13 @@ fn serve_of<'a>(given: &ArgMatches<'a>) -> Option<Job<'a>>
     let db = text(given, "db")?;
     let listen = text(given, "listen")?;
     let requests = count(text(given, "requests")?)?;
+    let rounds = rounds_of(given)?;
     let at = number_or_none(given, "at")?;
     let keep_recent = number_or_none(given, "keep-recent")?;
     let words = ServeWords {
         listen,
         requests,
+        rounds,
         at,
         keep_recent,
     };
@@ -223,7 +227,18 @@ fn number_or_none(given: &ArgMatches<'_>, id: &str) -> Option<Option<u64>>
     }
 }
 
-/// A count of connections.
+/// How many times connections are served: once if that is not given.
+fn rounds_of(given: &ArgMatches<'_>) -> Option<u32>
+    ensures { FindsExactly (λ n. IsNumberOr 1 (first_of (codes "rounds") (rows_in given.now)) n
+        × (1 ≤ n) × (n ≤ 1000000)) result }
+{
+    match text(given, "rounds") {
+        Some(text) => count(text),
+        None => Some(1),
+    }
+}
+
+/// A count of connections, or of times that these are served.
 fn count(text: &str) -> Option<u32>
     ensures { FindsExactly (λ n. IsDecimalText n text.now × (1 ≤ n) × (n ≤ 1000000)) result }
 {

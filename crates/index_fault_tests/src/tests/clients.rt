@@ -71,7 +71,7 @@ impl<R: Abort> Connections for Clients<'_, R> {
     fn accept(
         &mut self,
         rt: &HostRuntime,
-        _left: u32,
+        _left: u64,
     ) -> Result<Option<Connection<Input<&'static [u8]>, Output<Vec<u8>>>>, Failed> {
         let Some((message, _)) = self.coming.next() else {
             return Err(Failed);
@@ -109,7 +109,7 @@ impl<R: Abort> Connections for Clients<'_, R> {
 fn answer_clients<R: Abort, B: Keeper>(
     host: &HostRuntime,
     clients: &mut Clients<'_, R>,
-    requests: u32,
+    requests: u64,
     site: &Site,
     desk: &mut Desk<B>,
 ) -> Result<(), ServeEnd>
@@ -267,7 +267,7 @@ const EXAMPLES: &[Exchange] = &[
 struct Run<'a> {
     exchanges: &'a [Exchange],
     without_memory: Option<usize>,
-    requests: u32,
+    requests: u64,
     replied: usize,
     ended: Result<(), ServeEnd>,
 }

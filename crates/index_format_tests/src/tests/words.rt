@@ -70,22 +70,32 @@ fn reads_the_words(rt: HostRuntime) {
 fn reads_serve(rt: HostRuntime) {
     let listen = "127.0.0.1:8080";
     let rows = [
-        ("--requests 1000000", 1_000_000, None, None),
-        ("--requests 7 --at 0", 7, Some(0), None),
-        ("--requests 7 --keep-recent 0", 7, None, Some(0)),
+        ("--requests 1000000", 1_000_000, 1, None, None),
+        ("--requests 7 --at 0", 7, 1, Some(0), None),
+        ("--requests 7 --keep-recent 0", 7, 1, None, Some(0)),
+        ("--requests 7 --rounds 3", 7, 3, None, None),
+        (
+            "--rounds 1000000 --requests 1000000",
+            1_000_000,
+            1_000_000,
+            None,
+            None,
+        ),
         (
             "--at 18446744073709551615 --requests=1",
+            1,
             1,
             Some(18_446_744_073_709_551_615),
             None,
         ),
     ];
-    for (options, requests, at, keep_recent) in rows {
+    for (options, requests, rounds, at, keep_recent) in rows {
         let line = format!(in rt.alloc(); "index serve --db a --listen {listen} {options}");
         let line = line.expect(&rt, "a line");
         let words = ServeWords {
             listen,
             requests,
+            rounds,
             at,
             keep_recent,
         };
@@ -151,6 +161,12 @@ fn refuses_other_serves(rt: HostRuntime) {
         "index serve --db a --listen 127.0.0.1:0 --requests 0",
         "index serve --db a --listen 127.0.0.1:0 --requests 1000001",
         "index serve --db a --listen 127.0.0.1:0 --requests x",
+        "index serve --db a --listen 127.0.0.1:0 --rounds 1",
+        "index serve --db a --listen 127.0.0.1:0 --requests 1 --rounds 0",
+        "index serve --db a --listen 127.0.0.1:0 --requests 1 --rounds 1000001",
+        "index serve --db a --listen 127.0.0.1:0 --requests 1 --rounds x",
+        "index serve --db a --listen 127.0.0.1:0 --requests 1 --rounds",
+        "index serve --db a --listen 127.0.0.1:0 --requests 1 --rounds 2 --rounds 2",
         "index serve --db a --listen 127.0.0.1:0 --requests 1 --at -1",
         "index serve --db a --listen 127.0.0.1:0 --requests 1 --at 18446744073709551616",
         "index serve --db a --listen 127.0.0.1:0 --requests 1 --requests 2",

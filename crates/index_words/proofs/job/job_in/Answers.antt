@@ -1,11 +1,13 @@
-use Rattle.std.proofs.Common.{rules, ◌≡◌, refl, inl, inr, [], List, true, Result, Ok, Err, IfErr, IsErrAnd, map, string_bytes, subst, sym}
+use Rattle.std.proofs.Common.{rules, ◌≡◌, refl, inl, inr, [], List, Option, false, true, Result, Ok, Err, IfErr, IfSome, IsErrAnd, IsSome, map, string_bytes, subst, sym}
 use Rattle.clap.proofs.OnLiterals.{clap_on_literals}
-use Rattle.clap.specs.Words.{App, HasKind, IsAmong, Text, app_of, fault_of, is_simple_and_free, kind_of, takes}
+use Rattle.clap.specs.Words.{App, HasKind, HasMatchesOf, IsAmong, Text, app_of, fault_of, is_simple, is_simple_and_free, kind_of, subcommand_of, subcommand_rows_of, takes}
+use Rattle.clap.specs.declared.parser.matches.ArgMatches.{ArgMatches}
 use Rattle.clap.specs.declared.error.Error.{Error}
-use Rattle.clap.specs.declared.error.ErrorKind.TheVariants.{OutOfMemory as NoMemory}
+use Rattle.clap.specs.declared.error.ErrorKind.TheVariants.{MissingSubcommand, OutOfMemory as NoMemory}
 use Rattle.index_words.specs.declared.job.Job.{Job}
 use Rattle.index_words.specs.declared.job.WordsEnd.{WordsEnd}
 use Rattle.index_words.specs.declared.job.WordsEnd.TheVariants.{Clap, OutOfMemory}
+use Rattle.index_words.specs.Jobs.{IsJob}
 use Rattle.index_words.specs.Program.{index_app}
 use Rattle.index_words.specs.Reading.{IsEndOf, IsRefusal}
 use Rattle.index_words.proofs.job.job_in.Goals as goal
@@ -42,6 +44,16 @@ has_kind : (a b : App) (words : List Text) (error : Error) → a ≡ b → is_si
 has_kind a b words error same is holds =
     subst (λ (x : App). HasKind (fault_of x words) error) same (holds (subst (λ (x : App). is_simple_and_free x ≡ true) (sym same) is))
 
+-- ---- the job of the rows that clap found
+
+plain : is_simple index_app ≡ true
+unfolding clap_on_literals
+plain = refl
+
+-- the rows are those of the words
+same_rows : (a : App) (words : List Text) (m : ArgMatches) → a ≡ index_app → HasMatchesOf a words m → subcommand_rows_of m ≡ subcommand_of index_app words
+same_rows a words m same has = (subst (λ (x : App). HasMatchesOf x words m) same has plain).1
+
 pub returns-in_err-matches : goal.returns-in_err-matches
 returns-in_err-matches c =
     let words = map string_bytes c.args.words.now in
@@ -59,9 +71,27 @@ returns-in_err-matches c =
     }
 
 pub returns-in-Some : goal.returns-in-Some
-returns-in-Some c = record {
-  job = search rules;
-  read = search rules;
-  taken = λ _. no_fault (app_of c.args.command.now) index_app (map string_bytes c.args.words.now) c.requires.app simple c.in_ok-matches.ensures.kinds;
-  why = tt;
-}
+returns-in-Some c =
+    let words = map string_bytes c.args.words.now in
+    let rows = same_rows (app_of c.args.command.now) words c.in_ok-matches.matches c.requires.app c.in_ok-matches.ensures.ok.2 in
+    let is = subst (λ (r : Option Job). IfSome r (IsJob (subcommand_rows_of c.in_ok-matches.matches))) c.in-Some.is c.job_of.ensures.is in
+    record {
+      job = subst (λ x. IsJob x c.in-Some.job) rows is;
+      read = λ _ _ _. tt;
+      taken = λ _. no_fault (app_of c.args.command.now) index_app words c.requires.app simple c.in_ok-matches.ensures.kinds;
+      why = tt;
+    }
+
+pub returns : goal.returns
+returns c =
+    let words = map string_bytes c.args.words.now in
+    let rows = same_rows (app_of c.args.command.now) words c.in_ok-matches.matches c.requires.app c.in_ok-matches.ensures.ok.2 in
+    let none : (job : Job) → ¬ IsJob (subcommand_of index_app words) job =
+    λ job asked. let never : false ≡ true = subst IsSome c.in-None.is (c.job_of.ensures.found job (subst (λ x. IsJob x job) (sym rows) asked)) in cc in
+    let kind : kind_of c.in_ok-error-in-None.field-0 ≡ MissingSubcommand = search rules in
+    record {
+      job = tt;
+      read = λ _ job asked. absurd (none job asked);
+      taken = λ ok. let never : false ≡ true = ok in cc;
+      why = inr (kind, none);
+    }

@@ -14,7 +14,7 @@ other P name same differs = let never : true ≡ false = ap (λ text. bytes_eq t
 misread : (rows : List Row) (P : Type 0) → ((n : Option ℕ) → HasNumberOrNone (codes "keep-recent") rows n → false ≡ true) → (asked : Job) → IsJob (Some (codes "serve", rows)) asked → P
 misread rows P none (job.Init db user token page_sums) is = other P _ is.0 refl
 misread rows P none (job.Apply db) is = other P _ is.0 refl
-misread rows P none (job.Serve db words) is = let never = none words.keep_recent is.7 in cc
+misread rows P none (job.Serve db words) is = let never = none words.keep_recent is.10 in cc
 misread rows P none (job.Report db) is = other P _ is.0 refl
 misread rows P none (job.Check db) is = other P _ is.0 refl
 
