@@ -29,6 +29,15 @@ MORE = {"an index": ("frob", "CREATE INDEX frob ON names (shown)"), "statistics"
 DAMAGED = {"cut in a page": (lambda whole: whole[:6000], "damaged"),
            "cut after a page": (lambda whole: whole[:4096], "damaged"),
            "no head": (lambda whole: b"\0" * 100 + whole[100:], NO_DATABASE)}
+NO_DIGEST = "--token-sha256 is not 64 digits of 0-9a-f"
+OF_NO_TOKEN = "--token-sha256 is the digest of the empty text"
+NO_USER = "--user is not 1 to 32 of a-z and 0-9"
+TOKEN = sha256(b"office")
+# who can't be the first user, and why; where both are wrong the digest is told, which is looked at first
+FIRST_USERS = [("Office", TOKEN, NO_USER), ("of-fice", TOKEN, NO_USER), ("o" * 33, TOKEN, NO_USER),
+               ("", TOKEN, NO_USER), ("office", "BA78", NO_DIGEST), ("office", TOKEN.upper(), NO_DIGEST),
+               ("office", TOKEN[1:], NO_DIGEST), ("office", "office", NO_DIGEST), ("Office", f"{TOKEN}0", NO_DIGEST),
+               ("Office", "", NO_DIGEST), ("office", sha256(b""), OF_NO_TOKEN), ("Office", sha256(b""), OF_NO_TOKEN)]
 # bytes that are zeros from there on
 SPOILT_AT = 20, 100, 4096, 20480, 45056
 
@@ -189,7 +198,7 @@ def empty_database(path):
 
 def test_an_empty_file_is_no_index(end, path):
     empty_file(path)
-    assert end("check", "--db", path) == End(1, b"", b"index: NotAnIndex\n")
+    assert end("check", "--db", path) == End(1, b"", f"index: NotAnIndex\nindex: {path}: not an index\n".encode())
 
 
 @pytest.mark.parametrize("make", [empty_database, lambda path: write(path, b"No database.")],
@@ -237,11 +246,10 @@ def test_the_logs_of_two_new_files_with_page_sums_have_other_salts(program, end,
 
 # first users, schemas, rights
 
-@pytest.mark.parametrize("user, digest", [("Office", sha256(b"office")), ("office", sha256(b"")), ("office", "BA78")],
-                         ids=["no-user-id", "the-digest-of-no-token", "malformed-digits"])
-def test_a_user_who_cannot_be_the_first_is_refused_before_a_file_is_made(end, path, leaves, user, digest):
+@pytest.mark.parametrize("user, digest, cause", FIRST_USERS)
+def test_a_user_who_cannot_be_the_first_is_refused_before_a_file_is_made(end, path, leaves, user, digest, cause):
     ended = end("init", "--db", path, "--user", user, "--token-sha256", digest)
-    assert ended == End(1, b"", b"index: BadFirstUser\n")
+    assert ended == End(1, b"", f"index: BadFirstUser\nindex: {path}: {cause}\n".encode())
     leaves()
 
 

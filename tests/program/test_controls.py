@@ -20,9 +20,9 @@ def is_control(character):
     return unicodedata.category(character) == "Cc"
 
 
-def told(path, cause):
-    """The end as `Store`, whose second line is the last."""
-    return End(1, b"", f"index: Store\nindex: {escaped(path)}: {escaped(cause)}\n".encode())
+def told(subject, cause, name="Store"):
+    """The end of this name, whose second line is the last."""
+    return End(1, b"", f"index: {name}\nindex: {escaped(subject)}: {escaped(cause)}\n".encode())
 
 
 @NAMED
@@ -40,9 +40,17 @@ def test_the_name_of_a_table_is_printed_without_controls(end, index_file, contro
 
 
 @NAMED
-def test_an_address_is_not_printed(end, index_file, control):
-    words = "serve", "--db", index_file, NO_ADDRESS[0], f"nowhere{control}", *NO_ADDRESS[2:]
-    assert end(*words) == End(1, b"", b"index: Listen\n")
+def test_an_address_is_printed_without_controls(end, index_file, control):
+    address = f"nowhere{control}é"
+    words = "serve", "--db", index_file, NO_ADDRESS[0], address, *NO_ADDRESS[2:]
+    assert end(*words) == told(address, "not an IP address with a port", "Listen")
+
+
+@NAMED
+def test_the_path_of_no_index_is_printed_without_controls(end, folder, control):
+    path = f"{folder}/é{control}.db"
+    open(path, "w").close()
+    assert end("check", "--db", path) == told(path, "not an index", "NotAnIndex")
 
 
 @NAMED

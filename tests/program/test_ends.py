@@ -20,6 +20,12 @@ spam                     prohibited        0              0              0
 FILE = {"file": "frob_nest-1.0.tar.gz", "sha256": sha256(b"abc"), "hex": b"abc".hex(), "requires_python": ""}
 MORE = line_of("abc", do="upload", **FILE) + line_of("office", do="prohibit", name="spam")
 LOOK = "/files/frob-nest/frob_nest-1.0.tar.gz"
+NO_INDEX = {"NotAnIndex": "not an index", "OtherVersion": "an index of another version"}
+
+
+def told(name, path, cause):
+    """The end of this name on the database at this path."""
+    return End(1, b"", f"index: {name}\nindex: {path}: {cause}\n".encode())
 
 
 @contextmanager
@@ -120,7 +126,7 @@ def test_the_version_names_the_kit_that_is_here(end):
 def test_init_makes_an_index_once(end, folder):
     words = "init", "--db", f"{folder}/init.db", *OFFICE
     assert end(*words) == End(0, b"created\n")
-    assert end(*words) == End(1, b"", b"index: NotEmpty\n")
+    assert end(*words) == told("NotEmpty", f"{folder}/init.db", "a table of an index is there already")
 
 
 def empty_file(path):
@@ -140,22 +146,22 @@ def no_version(path):
 
 
 @pytest.mark.parametrize("job", WORKING)
-@pytest.mark.parametrize("make, error", [(empty_file, b"NotAnIndex"), (other_tables, b"NotAnIndex"),
-                                         (another_version, b"OtherVersion"), (no_version, b"NotAnIndex")],
+@pytest.mark.parametrize("make, name", [(empty_file, "NotAnIndex"), (other_tables, "NotAnIndex"),
+                                        (another_version, "OtherVersion"), (no_version, "NotAnIndex")],
                          ids=lambda it: getattr(it, "__name__", ""))
-def test_a_database_that_is_no_index_is_refused(program, end, folder, job, make, error):
+def test_a_database_that_is_no_index_is_refused(program, end, folder, job, make, name):
     path = f"{folder}/other.db"
     if make in (another_version, no_version):
         make_index(program, path)
     make(path)
-    assert end(*words_of(job, path)) == End(1, b"", b"index: " + error + b"\n")
+    assert end(*words_of(job, path)) == told(name, path, NO_INDEX[name])
 
 
 def test_init_refuses_a_database_with_a_table_of_such_a_name(end, folder):
     path = f"{folder}/other.db"
     other_tables(path)
     by_sqlite(path, "CREATE TABLE names (name TEXT)")
-    assert end("init", "--db", path, *OFFICE) == End(1, b"", b"index: NotEmpty\n")
+    assert end("init", "--db", path, *OFFICE) == told("NotEmpty", path, "a table of an index is there already")
 
 
 def test_the_tables_are_there_after_a_restart(end, index_file, stored_lines, stored_answers):
@@ -213,10 +219,6 @@ def test_serve_listens_where_it_is_asked_to_and_says_where(program, path, looked
             peer.sendall(b"GET /names/x HTTP/1.1\r\n\r\n")
             reply = peer.recv(1 << 16)
         looked(reply.startswith(b"HTTP/1.1 200 OK\r\n"), reply)
-
-
-def test_an_address_that_is_none_is_refused(end, path):
-    assert end("serve", "--db", path, "--listen", "x", "--requests", "1") == End(1, b"", b"index: Listen\n")
 
 
 def test_serve_gives_a_file_of_the_database(program, path):

@@ -1,5 +1,5 @@
 -- Connections that were answered, by what is known of them before and after.
-use Rattle.std.proofs.Common.{◌≡◌, ◌⊎◌, ℕ, List, [], Option, Result, Ok, Err, inl, inr, refl, subst, subst₂, sym, arith}
+use Rattle.std.proofs.Common.{◌≡◌, ℕ, List, [], Option, Result, Ok, Err, inl, inr, refl, subst, subst₂, sym, arith}
 use Rattle.index_rules.specs.Tables.{Tables}
 use Rattle.index_cli.specs.Connections.{AreOn, Came, Closed, Exchange, IsRest, KnownList}
 use Rattle.index_cli.specs.declared.end.ServeEnd.{ServeEnd}
@@ -13,7 +13,7 @@ use Rattle.index_rules.specs.StandsFor.{StandsFor}
 use Rattle.index.specs.declared.end.End.{End}
 use Rattle.index.specs.declared.end.End.TheVariants as end
 use Rattle.index.specs.Ends.{end_of_serving}
-use Rattle.index.specs.Tasks.{AnswersConnections, AnswersFirstConnections, AreAmong, IsServingEnd, IsUpTo, LeavesConnections}
+use Rattle.index.specs.Tasks.{AnswersConnections, AnswersFirstConnections, AreAmong, IsNoListening, IsServingEnd, IsUpTo, LeavesConnections}
 
 -- from what gives connections to what is known of them
 pub among : {C : Type 0} (coming replies : C → KnownList) (old new : C) (a a' r r' : KnownList) → coming old ≡ a → a' ≡ coming new → replies old ≡ r → r' ≡ replies new
@@ -72,15 +72,18 @@ module _ (Are Are' : List Exchange → Type 0) (are : (exchanges : List Exchange
   }
 
 -- no connection was answered
-module _ (a a' r r' : KnownList) (kept : (a' ≡ a) × (r' ≡ r)) (early : End) (fault : (early ≡ end.Listen) ⊎ (early ≡ end.WriteFault)) where
+module _ (a a' r r' : KnownList) (kept : (a' ≡ a) × (r' ≡ r)) (early : End) (fault : IsNoListening early) where
   none_are : AreAmong a a' r r' []
   none_are = record { later = a'; came = kept.0; rest = inl refl; closed = kept.1 }
 
   none_end : (requests : ℕ) → IsServingEnd (Err early) × IsUpTo requests (Err early) 0
-  none_end requests = elim fault as (λ _. IsServingEnd (Err early) × IsUpTo requests (Err early) 0) [
-    | inl listen ↦ subst (λ e. IsServingEnd (Err e) × IsUpTo requests (Err e) 0) (sym listen) (inl (inl refl), refl)
-    | inr told ↦ subst (λ e. IsServingEnd (Err e) × IsUpTo requests (Err e) 0) (sym told) (inl (inr refl), refl)
-  ]
+  none_end requests = (
+    inl fault,
+    elim fault as (λ _. IsUpTo requests (Err early) 0) [
+      | inl (cause, of, listen) ↦ subst (λ e. IsUpTo requests (Err e) 0) (sym listen) refl
+      | inr told ↦ subst (λ e. IsUpTo requests (Err e) 0) (sym told) refl
+    ],
+  )
 
   pub none_answered : (at : Option ℕ) (requests : ℕ) (T : Tables) → AnswersFirstConnections (AreAmong a a' r r') at requests T (Err early)
   none_answered at requests T = record {

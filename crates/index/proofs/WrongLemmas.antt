@@ -145,8 +145,8 @@ no_memory (Ok done) is = let no : false ≡ true = ap (λ (it : Result ℕ End).
 no_memory (Err early) is = let no : true ≡ false = ap (λ (it : Result ℕ End). is_want it) is in cc no
 
 no_serving_end : ¬ IsServingEnd (Err end.OutOfMemory)
-no_serving_end (inl (inl is)) = let no : true ≡ false = ap (λ (it : Result ℕ End). is_want it) is in cc no
-no_serving_end (inl (inr is)) = let no : true ≡ false = ap (λ (it : Result ℕ End). is_want it) is in cc no
+no_serving_end (inl (inl (cause, of, is))) = let no : true ≡ false = ap (λ (it : End). is_want (Err it)) is in cc no
+no_serving_end (inl (inr is)) = let no : true ≡ false = ap (λ (it : End). is_want (Err it)) is in cc no
 no_serving_end (inr it) = no_memory it.0 it.1
 
 pub refutes_tasks : RefutesTasks

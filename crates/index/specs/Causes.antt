@@ -1,10 +1,12 @@
--- Why the database failed, by what is known of it.
+-- Why the database failed, or an address can't be listened on, by what is known of them.
 use Rattle.std.specs.Prelude.{◌≡◌, ◌⊎◌, ℕ, Bool, true, false, ◌==◌, ◌&&◌, not, List, Option, Some}
 use Rattle.std.specs.Prelude.{None, codes, find, option_map, if◌then◌else◌, string_bytes}
 use Rattle.std.specs.List.{list_any, starts_with}
+use Rattle.std.specs.Net.Grammar.{IsSocketText}
 use Rattle.std.specs.Str.Lossy.{utf8_lossy}
 use Rattle.std.specs.declared.io.ErrorKind.{ErrorKind}
 use Rattle.std.specs.declared.io.ErrorKind.TheVariants as kind
+use Rattle.std.specs.declared.net.socket_addr.SocketAddr.{SocketAddr}
 use Rattle.sqlite.specs.declared.error.Error.{Error}
 use Rattle.sqlite.specs.declared.error.Error.TheVariants.{SqliteFailure}
 use Rattle.sqlite.specs.declared.error.ErrorCode.TheVariants as code
@@ -63,6 +65,28 @@ is_at_path cause.NoRegularFile = true
 is_at_path cause.SecondName = true
 is_at_path cause.Beside = true
 is_at_path _ = false
+
+-- ---- an address
+
+-- an error of the system at an address that can't be listened on
+abbrev pub cause_of_bind : ErrorKind → Cause
+cause_of_bind kind.AddrInUse = cause.AddressInUse
+cause_of_bind kind.AddrNotAvailable = cause.OtherMachine
+cause_of_bind kind.PermissionDenied = cause.NoRightToPort
+cause_of_bind _ = cause.NotListened
+
+-- a text is not an address with a port
+abbrev pub IsNoAddress : List ℕ → Type 0
+IsNoAddress text = (address : SocketAddr) → ¬ IsSocketText text address
+
+-- it is about the address of a server
+abbrev pub is_of_address : Cause → Bool
+is_of_address cause.NoAddress = true
+is_of_address cause.AddressInUse = true
+is_of_address cause.OtherMachine = true
+is_of_address cause.NoRightToPort = true
+is_of_address cause.NotListened = true
+is_of_address _ = false
 
 -- ---- the objects of a schema
 

@@ -1,6 +1,6 @@
 -- The ends of the program with the status 1: which of them tell a fault, and the ends that faults
 -- of other layers are.
-use Rattle.std.specs.Prelude.{ℕ, ◌&&◌, Bool, true, false, Option, None, Result, Ok, Err}
+use Rattle.std.specs.Prelude.{ℕ, ◌&&◌, Bool, true, false, None, Result, Ok, Err}
 use Rattle.std.specs.Prelude.{if◌then◌else◌}
 use Rattle.sqlite.specs.declared.error.Error.{Error}
 use Rattle.sqlite.specs.declared.error.Error.TheVariants.{SqliteFailure}
@@ -14,7 +14,6 @@ use Rattle.index_desk.specs.declared.desk.report.ReportFault.TheVariants as repo
 use Rattle.index_rules.specs.declared.answer.Fault.{Fault}
 use Rattle.index_rules.specs.declared.answer.Fault.TheVariants as fault
 use Rattle.index_rules.specs.declared.open.OpenFault.TheVariants as open_fault
-use Rattle.index.specs.declared.cause.Cause.{Cause}
 use Rattle.index.specs.declared.end.End.{End}
 use Rattle.index.specs.declared.database.Unclosed.{Unclosed}
 use Rattle.index.specs.declared.end.End.TheVariants as end
@@ -32,11 +31,6 @@ abbrev pub is_fault : End → Bool
 is_fault end.OutOfMemory = true
 is_fault (end.Open open_fault.OutOfMemory) = true
 is_fault end = is_store end
-
--- the cause for which it failed, where that is known
-abbrev pub cause_in : End → Option Cause
-cause_in (end.Store cause) = cause
-cause_in _ = None
 
 -- the end that an error of SQLite is
 abbrev pub end_of_error : Error → End

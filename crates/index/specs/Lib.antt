@@ -8,4 +8,5 @@ pub mod Printed
 pub mod Refuted
 pub mod RefutedCalls
 pub mod Runs
+pub mod SecondLines
 pub mod Tasks

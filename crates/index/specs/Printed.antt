@@ -1,4 +1,4 @@
--- What the ends of the program print, and the causes of a failed database.
+-- What the ends of the program print, and their causes.
 use Rattle.std.specs.Prelude.{ℕ, false, List, [], codes, chars, ◌++◌, encode_utf8, flat_map}
 use Rattle.std.specs.Prelude.{if◌then◌else◌, string_bytes}
 use Rattle.std.specs.Char.{is_control}
@@ -15,7 +15,7 @@ abbrev pub end_text : End → List ℕ
 end_text (end.Open fault) = open_fault_text fault
 end_text (end.Lines early) = line_end_text early
 end_text (end.Connections early) = serve_end_text early
-end_text end.Listen = codes "Listen"
+end_text (end.Listen cause) = codes "Listen"
 end_text end.OutOfMemory = codes "OutOfMemory"
 end_text (end.Store cause) = codes "Store"
 end_text end.WriteFault = codes "WriteFault"
@@ -39,6 +39,17 @@ cause_words cause.OtherTables = codes "tables that are not as an index has them"
 cause_words cause.DiskFailed = codes "the disk failed"
 cause_words cause.Full = codes "the disk or the file is full"
 cause_words cause.Shut = codes "shut by an earlier failure of the disk"
+cause_words cause.NoIndex = codes "not an index"
+cause_words cause.HasTables = codes "a table of an index is there already"
+cause_words cause.OtherVersion = codes "an index of another version"
+cause_words cause.NoDigest = codes "--token-sha256 is not 64 digits of 0-9a-f"
+cause_words cause.EmptyToken = codes "--token-sha256 is the digest of the empty text"
+cause_words cause.NoUserId = codes "--user is not 1 to 32 of a-z and 0-9"
+cause_words cause.NoAddress = codes "not an IP address with a port"
+cause_words cause.AddressInUse = codes "in use by another program"
+cause_words cause.OtherMachine = codes "not an address of this machine"
+cause_words cause.NoRightToPort = codes "no right to listen on this port"
+cause_words cause.NotListened = codes "the system can't listen there"
 
 -- the name of the object, of the cause that has one
 abbrev pub object_in : Cause → List ℕ

@@ -1,6 +1,7 @@
 -- What each kind of work makes of the tables of an index, what it tells of them, and what a crash
 -- may leave of it.
-use Rattle.std.specs.Prelude.{◌≡◌, ◌⊎◌, ◌≤◌, ℕ, IsTrue, List, Option, Result, Ok, Err, IfOk, IfErr}
+use Rattle.std.specs.Prelude.{◌≡◌, ◌⊎◌, ◌≤◌, ℕ, IsTrue, List, Option, Result, Ok, Err}
+use Rattle.std.specs.Prelude.{IfOk, IfErr, IsErrAnd}
 use Rattle.index_cli.specs.declared.end.LineEnd.{LineEnd}
 use Rattle.index_cli.specs.declared.end.ServeEnd.{ServeEnd}
 use Rattle.index_cli.specs.Ends.{EndsRun}
@@ -20,8 +21,10 @@ use Rattle.index_rules.specs.History.{History}
 use Rattle.index_rules.specs.Legal.{IsLegal}
 use Rattle.index_rules.specs.StandsFor.{StandsFor}
 use Rattle.index_rules.specs.Tables.{Tables}
+use Rattle.index.specs.declared.cause.Cause.{Cause}
 use Rattle.index.specs.declared.end.End.{End}
 use Rattle.index.specs.declared.end.End.TheVariants as end
+use Rattle.index.specs.Causes.{is_of_address}
 use Rattle.index.specs.Ends.{end_of, end_of_reporting, end_of_serving, is_fault}
 
 -- ---- each kind of work
@@ -71,18 +74,23 @@ pub record CountsWrong (T T' : Tables) (result : Result ℕ End) : Type 0 where
   pub fault : IfErr result (λ e. IsTrue (is_fault e))
   pub unchanged : T' ≡ T
 
--- it ended as the connections did, or before the first: the address can't be listened on, or was
--- not told
+-- the address can't be listened on, or was not told
+abbrev pub IsNoListening : End → Type 0
+IsNoListening told =
+    ((cause : Cause) × IsTrue (is_of_address cause) × (told ≡ end.Listen cause))
+    ⊎ (told ≡ end.WriteFault)
+
+-- it ended as the connections did, or before the first
 abbrev pub IsServingEnd : Result ℕ End → Type 0
 IsServingEnd result =
-    ((result ≡ Err end.Listen) ⊎ (result ≡ Err end.WriteFault))
+    IsErrAnd result IsNoListening
     ⊎ ((ended : Result (Unit {0}) ServeEnd) × (result ≡ end_of_serving ended))
 
 -- all of so many connections; none of them where the address can't be listened on, or was not told;
 -- or some of them where the work ended early
 abbrev pub IsUpTo : ℕ → Result ℕ End → ℕ → Type 0
 IsUpTo requests (Ok done) count = count ≡ requests
-IsUpTo requests (Err end.Listen) count = count ≡ 0
+IsUpTo requests (Err (end.Listen cause)) count = count ≡ 0
 IsUpTo requests (Err end.WriteFault) count = count ≡ 0
 IsUpTo requests (Err early) count = count ≤ requests
 

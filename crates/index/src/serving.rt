@@ -1,14 +1,17 @@
 //! The work of `serve`: connections are answered, over sockets or whatever they come on.
-ghost use Rattle.std.specs.Prelude.{◌≡◌, ◌*◌, ◌⊎◌, unwrap_or, IfErr, IfOk, OnErr};
+ghost use Rattle.std.specs.Prelude.{◌≡◌, ◌*◌, ◌↔◌, unwrap_or, IfErr, IfOk, IsErrOf, IsTrue, OnErr};
 ghost use Rattle.index_cli.specs.Connections.{KnownList};
+ghost use Rattle.index.specs.Causes.{IsNoAddress, is_of_address};
+ghost use Rattle.index.specs.Tasks.{IsNoListening};
 
+use crate::cause::{Cause, cause_of_bind};
 use crate::database::Work;
 use crate::end::End;
 use index_cli::{Connections, Listening, answer_connections};
 use index_desk::{Desk, Keeper};
 use index_message::Site;
 use index_words::ServeWords;
-use std::io::{self, ErrorKind};
+use std::io;
 use std::net::{SocketAddr, TcpListener};
 
 /// How many bytes of files and pages are kept at hand, if the command line does not say.
@@ -65,7 +68,7 @@ pub trait Listens {
         ensures replies { IfOk result (λ it. Self.Coming.replies it ≡ replies self.old) }
         ensures awaited { OnErr result (coming self.new ≡ coming self.old) }
         ensures unsent { OnErr result (replies self.new ≡ replies self.old) }
-        ensures fault { IfErr result (λ e. (e ≡ End.Listen) ⊎ (e ≡ End.WriteFault)) };
+        ensures fault { IfErr result IsNoListening };
 
     /// Listens no longer. These connections are left.
     fn end(&mut self, left: Self::Coming)
@@ -125,8 +128,9 @@ impl Listens for Address<'_> {
     ghost replies = { λ _. unknown };
 
     fn listen(&mut self, rt: &HostRuntime) -> Result<Listening, End> {
-        let Ok(listener) = listen_at(rt, self.address) else {
-            return Err(End::Listen);
+        let listener = match listen_at(rt, self.address) {
+            Ok(listener) => listener,
+            Err(cause) => return Err(End::Listen(cause)),
         };
         if tell_address(rt, &listener).is_err() {
             return Err(End::WriteFault);
@@ -140,10 +144,16 @@ impl Listens for Address<'_> {
 }
 
 /// Listens at an address and a port. Port 0 is any that is free.
-fn listen_at(rt: &HostRuntime, address: &str) -> io::Result<TcpListener> {
-    match address.parse::<SocketAddr>() {
-        Ok(address) => TcpListener::bind(rt, address),
-        Err(_) => Err(ErrorKind::InvalidInput.into()),
+fn listen_at(rt: &HostRuntime, address: &str) -> Result<TcpListener, Cause>
+    ensures cause { IfErr result (λ cause. IsTrue (is_of_address cause)) }
+    ensures no_address { IsErrOf result Cause.NoAddress ↔ IsNoAddress address.now }
+{
+    let Ok(address) = address.parse::<SocketAddr>() else {
+        return Err(Cause::NoAddress);
+    };
+    match TcpListener::bind(rt, address) {
+        Ok(listener) => Ok(listener),
+        Err(error) => Err(cause_of_bind(error.kind())),
     }
 }
 
