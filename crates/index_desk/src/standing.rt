@@ -11,7 +11,7 @@ pub struct HeldName {
     pub case: Option<CaseRecord>,
 }
 
-// By hand: a drop is then one call at each exit of a function (docs/PROOF-COSTS.md).
+// By hand: a drop is then one call at each exit of a function (docs/developers/PROOF-COSTS.md).
 impl Drop for HeldName {
     fn drop(self) {
         let HeldName {

@@ -13,7 +13,7 @@ pub struct Sealed {
     digest: Digest256,
 }
 
-// By hand: a drop is then one call at each exit of a function (docs/PROOF-COSTS.md).
+// By hand: a drop is then one call at each exit of a function (docs/developers/PROOF-COSTS.md).
 impl Drop for Sealed {
     fn drop(self) {
         let Sealed {

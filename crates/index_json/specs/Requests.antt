@@ -18,7 +18,7 @@ use Rattle.index_json.specs.Reading.{texts}
 
 -- ---- rows on users
 
--- a row for each request: its keys, as docs/FORMATS.md lists them
+-- a row for each request: its keys, as docs/reference/FORMATS.md lists them
 abbrev pub add_user_row : Reading Request
 add_user_row = do
   office ← flag (codes "office")

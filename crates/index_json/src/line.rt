@@ -24,7 +24,7 @@ pub enum Line {
     Standing(Bytes),
 }
 
-/// What a line asks, without its line feed: a JSON object (RFC 8259) of one of the rows in `docs/FORMATS.md`. `None` is
+/// What a line asks, without its line feed: a JSON object (RFC 8259) of one of the rows in `FORMATS.md`. `None` is
 /// a line that asks nothing.
 ///
 /// # Errors

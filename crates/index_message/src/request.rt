@@ -25,7 +25,7 @@ pub struct Asked {
     pub length: u64,
 }
 
-// By hand: a drop is then one call at each exit of a function (docs/PROOF-COSTS.md).
+// By hand: a drop is then one call at each exit of a function (docs/developers/PROOF-COSTS.md).
 impl Drop for Asked {
     fn drop(self) {
         let Asked {

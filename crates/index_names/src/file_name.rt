@@ -48,7 +48,7 @@ pub struct FileName {
     kind: FileKind,
 }
 
-// By hand: a drop is then one call at each exit of a function (docs/PROOF-COSTS.md).
+// By hand: a drop is then one call at each exit of a function (docs/developers/PROOF-COSTS.md).
 impl Drop for FileName {
     fn drop(self) {
         let FileName {

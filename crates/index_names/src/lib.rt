@@ -1,6 +1,6 @@
 //! Project names, releases and file names of a Python package index, read from bytes.
 //!
-//! Each is read exactly where its grammar has it (`docs/NAMES.md`): a project name to its normal form (PEP 503), a
+//! Each is read exactly where its grammar has it (`NAMES.md`): a project name to its normal form (PEP 503), a
 //! version text to its release, and the name of a wheel (PEP 427) or a source archive (PEP 625) to the one project,
 //! release and kind that it spells.
 #![tactic(auto)]

@@ -22,7 +22,7 @@ pub struct NormalName {
     text: Text,
 }
 
-// By hand: a drop is then one call at each exit of a function (docs/PROOF-COSTS.md).
+// By hand: a drop is then one call at each exit of a function (docs/developers/PROOF-COSTS.md).
 impl Drop for NormalName {
     fn drop(self) {
         let NormalName { text: _text } = self;

@@ -21,7 +21,7 @@ pub struct Release {
     text: Text,
 }
 
-// By hand: a drop is then one call at each exit of a function (docs/PROOF-COSTS.md).
+// By hand: a drop is then one call at each exit of a function (docs/developers/PROOF-COSTS.md).
 impl Drop for Release {
     fn drop(self) {
         let Release { text: _text } = self;

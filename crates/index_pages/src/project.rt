@@ -27,7 +27,7 @@ pub struct ProjectPage {
     releases: BTreeSet<Release>,
 }
 
-// By hand: a drop is then one call at each exit of a function (docs/PROOF-COSTS.md).
+// By hand: a drop is then one call at each exit of a function (docs/developers/PROOF-COSTS.md).
 impl Drop for ProjectPage {
     fn drop(self) {
         let ProjectPage {

@@ -19,7 +19,7 @@ pub(crate) struct Accounts {
     ghost agree: { AreBearers (table_of users) (bearers_of bearers) },
 }
 
-// By hand: a drop is then one call at each exit of a function (docs/PROOF-COSTS.md).
+// By hand: a drop is then one call at each exit of a function (docs/developers/PROOF-COSTS.md).
 impl Drop for Accounts {
     fn drop(self) {
         let Accounts {

@@ -37,7 +37,7 @@ pub struct PlainBooks {
     failures: u64,
 }
 
-// By hand: a drop is then one call at each exit of a function (docs/PROOF-COSTS.md).
+// By hand: a drop is then one call at each exit of a function (docs/developers/PROOF-COSTS.md).
 impl Drop for PlainBooks {
     fn drop(self) {
         let PlainBooks {

@@ -28,7 +28,7 @@ pub struct Keys {
     pub release: Option<Release>,
 }
 
-// By hand: a drop is then one call at each exit of a function (docs/PROOF-COSTS.md).
+// By hand: a drop is then one call at each exit of a function (docs/developers/PROOF-COSTS.md).
 impl Drop for Keys {
     fn drop(self) {
         let Keys {

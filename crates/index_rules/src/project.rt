@@ -27,7 +27,7 @@ pub struct Project {
     last_upload: Option<u64>,
 }
 
-// By hand: a drop is then one call at each exit of a function (docs/PROOF-COSTS.md).
+// By hand: a drop is then one call at each exit of a function (docs/developers/PROOF-COSTS.md).
 impl Drop for Project {
     fn drop(self) {
         let Project {

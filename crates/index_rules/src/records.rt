@@ -40,7 +40,7 @@ pub struct CaseRecord {
     pub state: CaseState,
 }
 
-// By hand: a drop is then one call at each exit of a function (docs/PROOF-COSTS.md).
+// By hand: a drop is then one call at each exit of a function (docs/developers/PROOF-COSTS.md).
 impl Drop for CaseRecord {
     fn drop(self) {
         let CaseRecord {

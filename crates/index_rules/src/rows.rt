@@ -15,7 +15,7 @@ pub struct NameRow {
     pub record: NameRecord,
 }
 
-// By hand: a drop is then one call at each exit of a function (docs/PROOF-COSTS.md).
+// By hand: a drop is then one call at each exit of a function (docs/developers/PROOF-COSTS.md).
 impl Drop for NameRow {
     fn drop(self) {
         let NameRow {

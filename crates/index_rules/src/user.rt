@@ -18,7 +18,7 @@ pub struct UserId {
     text: Text,
 }
 
-// By hand: a drop is then one call at each exit of a function (docs/PROOF-COSTS.md).
+// By hand: a drop is then one call at each exit of a function (docs/developers/PROOF-COSTS.md).
 impl Drop for UserId {
     fn drop(self) {
         let UserId { text: _text } = self;

@@ -12,7 +12,7 @@ pub struct Owners {
     users: Vec<UserId>,
 }
 
-// By hand: a drop is then one call at each exit of a function (docs/PROOF-COSTS.md).
+// By hand: a drop is then one call at each exit of a function (docs/developers/PROOF-COSTS.md).
 impl Drop for Owners {
     fn drop(self) {
         let Owners { users: _users } = self;

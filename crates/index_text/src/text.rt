@@ -15,7 +15,7 @@ pub struct Text {
     string: String,
 }
 
-// By hand: a drop is then one call at each exit of a function (docs/PROOF-COSTS.md).
+// By hand: a drop is then one call at each exit of a function (docs/developers/PROOF-COSTS.md).
 impl Drop for Text {
     fn drop(self) {
         let Text { string: _string } = self;

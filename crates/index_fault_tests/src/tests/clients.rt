@@ -1,4 +1,4 @@
-//! Clients in memory, one after the other: each gets the reply of docs/HTTP.md, and nothing else.
+//! Clients in memory, one after the other: each gets the reply of docs/reference/HTTP.md, and nothing else.
 ghost use Rattle.std.specs.Prelude.{◌≡◌, ℕ, [], ◌∷◌, ◌++◌, map, Some};
 ghost use Rattle.std.specs.Slice.Iter.{iter_rest};
 ghost use Rattle.index_desk.specs.Rules.{by_tables};
