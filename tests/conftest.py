@@ -21,9 +21,11 @@ def pytest_addoption(parser):
 
 
 def pytest_configure(config):
+    # as they are for what is started in the background or by nohup: what tests start could never be interrupted
     if signal.getsignal(signal.SIGINT) == signal.SIG_IGN:
-        # as it is for a command that is started in the background: what tests start could never be interrupted
         signal.signal(signal.SIGINT, signal.default_int_handler)
+    if signal.getsignal(signal.SIGHUP) == signal.SIG_IGN:
+        signal.signal(signal.SIGHUP, signal.SIG_DFL)
     # each worker of xdist draws a seed of its own otherwise
     config.seed = getattr(config, "workerinput", {}).get("seed", config.option.seed)
     config.looked, config.ended = 0, {"passed": 0, "failed": 0, "skipped": 0}

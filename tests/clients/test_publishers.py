@@ -113,9 +113,9 @@ def test_twine_that_uploads_to_the_pages_is_told_where_to(person):
 
 @pytest.mark.follows("twine by its environment", client="twine")
 def test_twine_uploads_by_its_environment(person):
-    make_dist(person, "2.5")
+    make_dist(person, "2.7")
     person.succeeds(person.does("twine by its environment"))
-    is_published(person, "eggs-2.5-py3-none-any.whl", "eggs-2.5.tar.gz")
+    is_published(person, "eggs-2.7-py3-none-any.whl", "eggs-2.7.tar.gz")
 
 
 @pytest.mark.follows("Settings of twine and flit", "twine", client="twine")

@@ -16,7 +16,7 @@ from support.needed import want_command
 from support.places import SERVER, TOP
 
 GROUPS = ("token", "profile", "user", "name", "owner", "file", "release", "quota", "quotas", "names", "who", "owned-by",
-          "files", "releases", "status", "case", "upload", "page", "replay", "completion", "man")
+          "files", "releases", "status", "case", "upload", "page", "site", "replay", "completion", "man")
 COMPLETES = {"nothing": ([""], {"token", "user", "case", "upload", "who"}), "use": (["use"], {"user"}),
              "user": (["user", ""], {"add", "rotate", "lock", "leave"}),
              "means": (["case", "attempt", "x", "pa"], {"pages"}),
@@ -59,7 +59,7 @@ def paths(plain):
 
 
 def test_help_names_all_commands(paths):
-    assert len(paths) == 39 and {it.split()[0] for it in paths} == set(GROUPS)
+    assert len(paths) == 40 and {it.split()[0] for it in paths} == set(GROUPS)
 
 
 def test_a_verb_has_help(plain):

@@ -280,7 +280,7 @@ def test_where_nobody_listens_a_glance_shows_nothing():
 
 
 def test_a_kept_connection_that_was_closed_meanwhile_is_opened_again_at_once(monkeypatch):
-    monkeypatch.setattr(transport.time, "sleep", lambda _: pytest.fail("a pause"))
+    with_time(monkeypatch, transport, sleep=lambda _: pytest.fail("a pause"))
     plain = [PLAIN + b"\r\nok"]
     with Listener([plain], [plain]) as listener:
         index = index_of(listener.url)

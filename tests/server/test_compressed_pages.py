@@ -131,7 +131,7 @@ class TestFaults:
 
     def test_a_large_body_reaches_the_index_whole(self, behind):
         reply = behind.ask("POST", self.PATH, bytes(3 << 20))
-        assert (reply[0], reply[2]) == (405, b"%d" % (3 << 20)), reply
+        assert (reply[0], reply[2]) == (400, b"%d" % (3 << 20)), reply
 
     @pytest.mark.parametrize("said", ["gzip", "identity"])
     def test_a_page_that_broke_off_is_neither_whole_nor_kept(self, said, failing, behind):

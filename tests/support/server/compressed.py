@@ -74,7 +74,8 @@ class FailingIndex(InThread):
 
             def do_POST(self) -> None:
                 read = self.rfile.read(int(self.headers["Content-Length"]))
-                self.send_response_only(405)
+                # (a 405 is answered by nginx, with a body of its own)
+                self.send_response_only(400)
                 self.end_headers()
                 self.wfile.write(b"%d" % len(read))
 
