@@ -4,13 +4,13 @@ use Rattle.std.proofs.lemmas.Bool.{cases_lt}
 use Rattle.sqlite.specs.Recovery.{Image}
 use Rattle.index_cli.specs.Connections.{Exchange}
 use Rattle.index_cli.specs.Lines.{longest_line}
-use Rattle.index_cli.specs.Serving.{AnswersEach}
-use Rattle.index_cli.specs.Telling.{TellsAsked, TellsLines}
-use Rattle.index_cli.specs.TellsCalls.{TellsCalls}
-use Rattle.index_cli.proofs.Choices.{Ends-choice, LeavingOn-choice, TellsCalls-choice}
+use Rattle.index_cli.specs.Serving.{ExchangesAreAnswered}
+use Rattle.index_cli.specs.Telling.{TextAnswersLines, TextAnswersParsedLine}
+use Rattle.index_cli.specs.LineCalls.{LineCallsLeave}
+use Rattle.index_cli.proofs.Choices.{LinesEnd-choice, LeavingTables-choice, LineCallsLeave-choice}
 use Rattle.index_desk.specs.Rules.{by_history}
-use Rattle.index_http.specs.Ends.{Ends}
-use Rattle.index_http.specs.Exchanges.{Acts, Replies, RepliesTo}
+use Rattle.index_http.specs.Ends.{ReplyEnds}
+use Rattle.index_http.specs.Exchanges.{Acts, MessageGetsText, RequestGetsReply}
 use Rattle.index_http.specs.Replies.{Reply}
 use Rattle.index_http.specs.declared.end.IoEnd.{IoEnd}
 use Rattle.index_http.specs.declared.end.IoEnd.TheVariants as io
@@ -69,12 +69,12 @@ after_call_is h call answer h' is = subst (IsFrontOf h) (sym is) (after_call h c
 
 -- ---- what is told of lines
 
-told_asked : (asked : Option Line) (h : History) (text : List ℕ) (h' : History) → TellsAsked by_history asked h text h' → IsFrontOf h h'
+told_asked : (asked : Option Line) (h : History) (text : List ℕ) (h' : History) → TextAnswersParsedLine by_history asked h text h' → IsFrontOf h h'
 told_asked None h text h' it = as_is h h' it.1
 told_asked (Some (line.Call call)) h text h' it = after_call_is h call it.0 h' it.3
 told_asked (Some (line.Standing name)) h text h' it = as_is h h' it.1
 
-told_lines : (h : History) (lines : List (List ℕ)) (text : List ℕ) (h' : History) → TellsLines by_history h lines text h' → IsFrontOf h h'
+told_lines : (h : History) (lines : List (List ℕ)) (text : List ℕ) (h' : History) → TextAnswersLines by_history h lines text h' → IsFrontOf h h'
 told_lines h [] text h' it = as_is h h' it.1
 told_lines h (asked ∷ lines) text h' it =
     longer h it.2 h' (elim (cases_lt longest_line (length asked)) [
@@ -89,23 +89,23 @@ acted Cause by_put h None reply h' it = as_is h h' it.1
 acted Cause by_put h (Some call) reply h' it = after_call_is h call it.0 h' it.3
 
 replied : (Cause : Type 0) (at : ℕ) (h : History) (request : HttpRequest) (body : Bytes) (reads : Bool) (reply : Reply) (h' : History)
-    → Replies by_history Cause at h request body reads reply h' → IsFrontOf h h'
+    → RequestGetsReply by_history Cause at h request body reads reply h' → IsFrontOf h h'
 replied Cause at h request body true reply h' it = as_is h h' it.1
 replied Cause at h request body false reply h' it = acted Cause _ h _ reply h' it
 
-replied_to : (Cause : Type 0) (at : ℕ) (h : History) (message : Message) (text : Bytes) (h' : History) → RepliesTo by_history Cause at h message text h' → IsFrontOf h h'
+replied_to : (Cause : Type 0) (at : ℕ) (h : History) (message : Message) (text : Bytes) (h' : History) → MessageGetsText by_history Cause at h message text h' → IsFrontOf h h'
 replied_to Cause at h (Faulty fault is_head) text h' it = as_is h h' it.1
 replied_to Cause at h (Whole request body) text h' it = replied Cause at h request body _ it.0 h' it.2
 
 sent : (IsReply : Bytes → Type 0) (h h' : History) → ((text : Bytes) → IsReply text → IsFrontOf h h') → (before after : Option Bytes) (result : Result (Unit {0}) IoEnd)
-    → Ends IsReply (h' ≡ h) before after result → IsFrontOf h h'
+    → ReplyEnds IsReply (h' ≡ h) before after result → IsFrontOf h h'
 sent IsReply h h' front before after (Ok done) it = front it.0 it.1
 sent IsReply h h' front before after (Err (io.WriteFault count)) it = front it.0 it.1
 sent IsReply h h' front before after (Err (io.Cut count)) it = front it.0 it.1
 sent IsReply h h' front before after (Err io.ReadFault) it = as_is h h' it.0
 sent IsReply h h' front before after (Err io.OutOfMemory) it = as_is h h' it.0
 
-answered_each : (exchanges : List Exchange) (h h' : History) → AnswersEach by_history exchanges h h' → IsFrontOf h h'
+answered_each : (exchanges : List Exchange) (h h' : History) → ExchangesAreAnswered by_history exchanges h h' → IsFrontOf h h'
 answered_each [] h h' it = as_is h h' it
 answered_each (exchange ∷ earlier) h h' it =
     longer h it.0 h' (answered_each earlier h it.0 it.1)
@@ -127,7 +127,7 @@ become h h' (call ∷ calls) (Fault fault ∷ answers) T (inr it) = after_call_i
 
 carried_on : (task : Task) (result : Result ℕ End) (h h' : History) (T' : Tables) → Carries task result h h' T' → IsFrontOf h h'
 carried_on (AnswerLines given left had has) result h h' T' it =
-    (Ends-choice (IsFrontOf h h') (λ lines text T. TellsLines by_history h lines text h') (λ a lines text T. Unit {0}) T'
+    (LinesEnd-choice (IsFrontOf h h') (λ lines text T. TextAnswersLines by_history h lines text h') (λ a lines text T. Unit {0}) T'
     (λ lines text told. (told_lines h lines text h' told, tt)) given left had has it.0 it.2).0
 carried_on (AnswerConnections at requests coming coming' replies replies') result h h' T' it = answered_each it.2.exchanges h h' it.2.answered
 carried_on (WriteReport had has) result h h' T' it = as_is h h' it
@@ -135,11 +135,11 @@ carried_on CountWrong result h h' T' it = as_is h h' it
 
 may_carry_on : (task : Task) (result : Result ℕ End) (h h' : History) (T' : Tables) → MayCarry task result h h' T' → IsFrontOf h h'
 may_carry_on (AnswerLines given left had has) result h h' T' it =
-    (Ends-choice (IsFrontOf h h') (TellsCalls (MayBecome h h')) (λ a lines text T. Unit {0}) T'
-    (λ lines text told. ((TellsCalls-choice (IsFrontOf h h') T' (MayBecome h h') (λ a calls answers T. Unit {0}) (λ calls answers left. (become h h' calls answers T' left, tt)) lines text told).0, tt))
+    (LinesEnd-choice (IsFrontOf h h') (LineCallsLeave (MayBecome h h')) (λ a lines text T. Unit {0}) T'
+    (λ lines text told. ((LineCallsLeave-choice (IsFrontOf h h') T' (MayBecome h h') (λ a calls answers T. Unit {0}) (λ calls answers left. (become h h' calls answers T' left, tt)) lines text told).0, tt))
     given left had has it.0 it.2).0
 may_carry_on (AnswerConnections at requests coming coming' replies replies') result h h' T' it =
-    (LeavingOn-choice (AreAmong coming coming' replies replies') (IsFrontOf h h') T' (MayBecome h h') (λ a calls answers T. Unit {0}) (λ calls answers left. (become h h' calls answers T' left, tt)) by_history at it.0 h it.2).0
+    (LeavingTables-choice (AreAmong coming coming' replies replies') (IsFrontOf h h') T' (MayBecome h h') (λ a calls answers T. Unit {0}) (λ calls answers left. (become h h' calls answers T' left, tt)) by_history at it.0 h it.2).0
 may_carry_on (WriteReport had has) result h h' T' it = as_is h h' it
 may_carry_on CountWrong result h h' T' it = as_is h h' it
 

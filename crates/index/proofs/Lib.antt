@@ -10,7 +10,15 @@ pub mod RoundLemmas
 pub mod RunLemmas
 pub mod ThereLemmas
 pub mod WrongLemmas
+pub mod WrongLines
 pub mod WrongCalls
+pub mod WrongFiles
+pub mod WrongHeads
+pub mod WrongJobs
+pub mod WrongLooks
+pub mod WrongMessages
+pub mod WrongReplies
+pub mod WrongTexts
 pub mod ServesLemmas
 pub mod RefutedLemmas
 pub mod RefusedLemmas

@@ -10,13 +10,13 @@ use Rattle.sqlite_disk.specs.Tally.{both_counts}
 use Rattle.sqlite_schema.specs.declared.schema.Schema.{Schema}
 use Rattle.sqlite_store.specs.FileStore.{files}
 use Rattle.index.specs.declared.cause.Cause.{Cause}
-use Rattle.index.specs.Causes.{TellsSchema, cause_of_calls}
+use Rattle.index.specs.Causes.{SchemaHasCause, cause_of_calls}
 use Rattle.index.specs.Openings.{cause_of_store}
 
--- the schema told it, where there is one
+-- the schema told it, if there is one
 pub told_by_schema : {E : Type 0} (schema : Schema) (found : Result (Option Cause) E) (cause : Option Cause)
-    → IfOk found (λ cause. IsSome cause → TellsSchema schema cause) → cause ≡ result_unwrap_or found None → is_some cause ≡ true → TellsSchema schema cause
-told_by_schema schema (Ok (Some told)) cause tells is some = subst (λ it. TellsSchema schema it) (sym is) (tells refl)
+    → IfOk found (λ cause. IsSome cause → SchemaHasCause schema cause) → cause ≡ result_unwrap_or found None → is_some cause ≡ true → SchemaHasCause schema cause
+told_by_schema schema (Ok (Some told)) cause tells is some = subst (λ it. SchemaHasCause schema it) (sym is) (tells refl)
 told_by_schema schema (Ok None) cause tells is some = let no : false ≡ true = subst (λ it. is_some it ≡ true) is some in cc no
 told_by_schema schema (Err e) cause tells is some = let no : false ≡ true = subst (λ it. is_some it ≡ true) is some in cc no
 

@@ -1,6 +1,6 @@
 -- What no run may do: wrong outcomes do not meet the words of the contracts.
 use Rattle.std.proofs.Common.{◌≡◌, ◌∙◌, ◌+◌, ℕ, suc, Result, Some, refl, ap, subst, inl, inr, List, [], ◌∷◌, length, arith}
-use Rattle.index_cli.specs.Connections.{Came, Exchange, KnownList, TakesFirst}
+use Rattle.index_cli.specs.Connections.{Came, ClientTaken, Exchange, KnownList}
 use Rattle.sqlite.specs.Recovery.{Image}
 use Rattle.index_rules.specs.FirstTables.{first_tables}
 use Rattle.index_rules.specs.Maps.{Bytes}
@@ -11,7 +11,7 @@ use Rattle.index.specs.Runs.{Holds, HoldsNone}
 use Rattle.index.specs.Tasks.{AreAmong, Task}
 use Rattle.index.proofs.ThereLemmas.{current_is_there, not_found}
 
--- trees of an index are no trees in which there is nothing of one
+-- trees of an index are not trees that have nothing of one
 pub index_is_not_none : (image : Image) (T : Tables) (holds : Holds image T) (none : HoldsNone image) → ¬ (none.db.trees ≡ holds.db.trees)
 index_is_not_none image T holds none same = not_found none holds.db T same holds.found
 
@@ -19,7 +19,7 @@ index_is_not_none image T holds none same = not_found none holds.db T same holds
 pub cut_run_leaves_an_index : (task : Task) (result : Result ℕ End) (start next : Image) → HoldsNone next → ¬ LeadsOn (CutRun task result) start next
 cut_run_leaves_an_index task result start next none leads = leads.there none
 
--- nor does an init that ended well, which made its index where there was none
+-- nor does an init that ended well, which made an index if there was none
 pub created_run_leaves_an_index : (user token : Bytes) (start next : Image) → HoldsNone next → ¬ LeadsOn (CreatedRun user token) start next
 created_run_leaves_an_index user token start next none leads = current_is_there next (first_tables user token) leads.1 none
 
@@ -31,7 +31,7 @@ pub came_fewer : (inputs : List (List ℕ)) (later : KnownList) (exchanges : Lis
 came_fewer inputs later [] it = (inputs, it, omega arith)
 came_fewer inputs later (exchange ∷ earlier) it =
     let before = came_fewer inputs it.0 earlier it.1 in
-    let took = subst (λ known. TakesFirst known later exchange.given) before.1 it.2 in
+    let took = subst (λ known. ClientTaken known later exchange.given) before.1 it.2 in
     (took.1, took.4, let same : length before.0 ≡ suc (length took.1) = ap length took.2 in omega (arith, same, before.2))
 
 -- a list of no length is empty
@@ -49,7 +49,7 @@ none_came inputs r r' exchanges it =
           let lengths : length inputs ≡ length came.0 = ap length same in
           omega (arith, lengths, came.2)
       | inr more ↦
-          let took = subst (λ known. TakesFirst known (Some inputs) more.0) came.1 more.1 in
+          let took = subst (λ known. ClientTaken known (Some inputs) more.0) came.1 more.1 in
           let both : Some inputs ≡ Some took.1 = took.4 in
           let same : inputs ≡ took.1 = cc in
           let lengths : length inputs ≡ length took.1 = ap length same in

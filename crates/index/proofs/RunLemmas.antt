@@ -41,8 +41,8 @@ use Rattle.index_tables.specs.declared.opening.Unopened.{Unopened}
 use Rattle.sqlite.specs.WalReads.{AreClean}
 use Rattle.index.specs.declared.database.Unclosed.{Unclosed}
 use Rattle.index.proofs.ThereLemmas.{not_same, there_by}
-use Rattle.index.specs.Openings.{HoldsOnly, IsCleanClosed, LeavesOfShut, OpensAgain, Refused}
-use Rattle.index.specs.Runs.{Began, Created, CreatedInLog, FindsOnly, Holds, HoldsAfterCrash, HoldsCurrent, HoldsNone, Interrupted, IsMadeNew, LeavesAsWas, LeavesOnly, Ran, Worked}
+use Rattle.index.specs.Openings.{HoldsOnly, IsCleanClosed, OpensAgain, Refused, ShutLeaves}
+use Rattle.index.specs.Runs.{Began, CrashLeavesDatabase, CrashLeavesOnlyTables, Created, CreatedInLog, FindsOnly, Holds, HoldsAfterCrash, HoldsCurrent, HoldsNone, Interrupted, IsMadeNew, Ran, Worked}
 
 -- an index of today is found as it is, and never as one of version 1
 same_found : (db other : Database) (T found : Tables) → IsCurrent db T → IsFound other found → other.trees ≡ db.trees → found ≡ T
@@ -63,7 +63,7 @@ keeps_of image db T current held = record {
   next = λ found holds. same_found db holds.db T found current holds.found (∥∥₁_elim held.both (Trees-set _ _) (holds.only.alone _));
 }
 
--- where a new index was made, no table had the name of one of its own
+-- if a new index was made, no table had the name of one of its own
 pub free_of : {S A : Type 0} (user token : Bytes) (schema : Schema) (result : Result A (Unopened S)) → (IsRefusedAs BadFirstUser result ↔ IsBadFirstUser user token)
     → (IsTaken user token schema → IsRefusedAs NotEmpty result ⊎ IsRefusedAs OutOfMemory result) → IfOk result (λ _. has_any_of schema index_schema.tables ≡ false)
 free_of user token schema (Ok made) bad taken = elim (cases_Bool (has_any_of schema index_schema.tables)) [
@@ -72,12 +72,12 @@ free_of user token schema (Ok made) bad taken = elim (cases_Bool (has_any_of sch
 ]
 free_of user token schema (Err refused) bad taken = tt
 
--- what a crash leaves of the log or the database file after these calls, where these are what the two held
+-- what a crash leaves of the log or the database file after these calls, if these are what the two held
 abbrev LeavesFile : Bool → List ℕ → List ℕ → Bool → List Event → List ℕ → Type 0
 LeavesFile mixes log db is_log history bytes =
     let m = replay (if is_log then log else db) history in MayLeaveFile mixes m.seen m.synced m.steps bytes
 
--- where it was settled, and nothing has happened since, that is what it held
+-- if it was settled, and nothing has happened since, that is what it held
 pub settled_leaves : (mixes : Bool) (log db : List ℕ) (is_log which : Bool) (key : ℕ) (history : List Event) (bytes : List ℕ) → is_log ≡ which → history ≡ settled key ∷ []
     → LeavesFile mixes log db is_log history bytes → bytes ≡ (if which then log else db)
 settled_leaves mixes log db is_log which key history bytes is fresh may =
@@ -122,7 +122,7 @@ module _ {D : Type 0} {g : Ghosts D} where
   found_among last again next may T holds =
       ∥∥₁_map (opens_again last again.0 again.1 next may) (λ it. subst (over_files.recovers last) (sym (holds.only.alone it.0 it.2)) it.1)
 
-  found_next : (Are : Tables → Type 0) (last : Held (FileStore D g)) → OpensAgain last.store → LeavesOnly (file_state last).may_leave Are
+  found_next : (Are : Tables → Type 0) (last : Held (FileStore D g)) → OpensAgain last.store → CrashLeavesOnlyTables (file_state last).may_leave Are
       → (image : Image) → MayLeave last image → FindsOnly image Are
   found_next Are last again left image may found holds =
       ∥∥₁_map (found_among last.store again image may found holds) (λ allowed. left holds.db.trees allowed found (tables_of_found holds.db found holds.found))
@@ -168,7 +168,7 @@ module _ {D : Type 0} {g : Ghosts D} where
       }
 
   pub refused_by : (Made : Database → Trees → Type 0) (start : Image) (first last : Held (FileStore D g)) → IsOpened first → FindsIn start (file_state first)
-      → LeavesAsWas Made (file_state first) (file_state last) → Refused Made start (file_state last)
+      → CrashLeavesDatabase Made (file_state first) (file_state last) → Refused Made start (file_state last)
   refused_by Made start first last opened finds leaves = record {
     db = (file_state first).now;
     sound = (opened.1 opened.0.is_open).0;
@@ -188,7 +188,7 @@ module _ {D : Type 0} {g : Ghosts D} where
 
   -- an opening that fails, over files that nothing had happened to
   pub shut_by : (start : Image) (files : Files D) (left : Leftover D g) → image_of g files ≡ start → ((image : Image) → outcomes g files.log files.db image → image ≡ start)
-      → LeavesFiles files left → LeavesOfShut start left
+      → LeavesFiles files left → ShutLeaves start left
   shut_by start files (leftover.Files now) same still leaves = λ image may. still image (leaves image may)
   shut_by start files (leftover.Unopened now) same still leaves = λ image may. elim leaves [
     | inl new ↦ elim (new.1 image may) [ inl old ↦ inl (still image old) | inr begun ↦ inr (inl (subst IsNothing same new.0, begun)) ]

@@ -3,9 +3,9 @@ use Rattle.std.proofs.Common.{◌≡◌, ℕ, List, [], Option, Result, Ok, Err,
 use Rattle.index_rules.specs.Tables.{Tables}
 use Rattle.index_cli.specs.Connections.{AreOn, Came, Closed, Exchange, IsRest, KnownList}
 use Rattle.index_cli.specs.declared.end.ServeEnd.{ServeEnd}
-use Rattle.index_cli.specs.ServesFront.{LeavingOn, ServesFrontOn}
-use Rattle.index_cli.specs.Serving.{IsCount, ServesHistoryOn, ServesOn}
-use Rattle.index_desk.specs.Crashes.{LeavesAll, LeavesAllOf}
+use Rattle.index_cli.specs.ServesFront.{LeavingTables, ServesFirst}
+use Rattle.index_cli.specs.Serving.{IsCount, ServesByHistory, Serves}
+use Rattle.index_desk.specs.Crashes.{CallsLeaveHistory, CallsLeaveTables}
 use Rattle.index_desk.specs.Rules.{by_history, by_tables}
 use Rattle.index_rules.specs.History.{History}
 use Rattle.index_rules.specs.Legal.{IsLegal}
@@ -30,8 +30,8 @@ up_to requests (Ok done) count is = is
 up_to requests (Err early) count is = omega (arith, is)
 
 module _ (Are Are' : List Exchange → Type 0) (are : (exchanges : List Exchange) → Are exchanges → Are' exchanges) (at : Option ℕ) (requests : ℕ) (ended : Result (Unit {0}) ServeEnd) where
-  pub serves_done : (T T' : Tables) → (count : ℕ) × IsCount requests ended count × ServesOn Are by_tables at count T T'
-      → ((h : History) → IsLegal h → StandsFor T h → (count : ℕ) × IsCount requests ended count × ServesHistoryOn Are h at count T')
+  pub serves_done : (T T' : Tables) → (count : ℕ) × IsCount requests ended count × Serves Are by_tables at count T T'
+      → ((h : History) → IsLegal h → StandsFor T h → (count : ℕ) × IsCount requests ended count × ServesByHistory Are h at count T')
       → AnswersConnections Are' at requests T T' (end_of_serving ended)
   serves_done T T' it by = record {
     ends = inr (ended, refl);
@@ -50,8 +50,8 @@ module _ (Are Are' : List Exchange → Type 0) (are : (exchanges : List Exchange
         );
   }
 
-  pub serves_told : (T : Tables) → (count : ℕ) × IsCount requests ended count × ServesFrontOn Are by_tables at count T
-      → ((h : History) → IsLegal h → StandsFor T h → (count : ℕ) × IsCount requests ended count × ServesFrontOn Are by_history at count h)
+  pub serves_told : (T : Tables) → (count : ℕ) × IsCount requests ended count × ServesFirst Are by_tables at count T
+      → ((h : History) → IsLegal h → StandsFor T h → (count : ℕ) × IsCount requests ended count × ServesFirst Are by_history at count h)
       → AnswersFirstConnections Are' at requests T (end_of_serving ended)
   serves_told T it by = record {
     ends = inr (ended, refl);
@@ -61,8 +61,8 @@ module _ (Are Are' : List Exchange → Type 0) (are : (exchanges : List Exchange
         (it.0, up_to requests ended it.0 it.1, record { exchanges = it.2.exchanges; are = are it.2.exchanges it.2.are; answered = it.2.answered; counted = it.2.counted; are_given = it.2.are_given });
   }
 
-  pub serves_left : (T T' : Tables) → (count : ℕ) × IsCount requests ended count × ServesFrontOn (LeavingOn Are (LeavesAll T) T') by_tables at count T
-      → ((h : History) → IsLegal h → StandsFor T h → (count : ℕ) × IsCount requests ended count × ServesFrontOn (LeavingOn Are (LeavesAllOf h) T') by_history at count h)
+  pub serves_left : (T T' : Tables) → (count : ℕ) × IsCount requests ended count × ServesFirst (LeavingTables Are (CallsLeaveTables T) T') by_tables at count T
+      → ((h : History) → IsLegal h → StandsFor T h → (count : ℕ) × IsCount requests ended count × ServesFirst (LeavingTables Are (CallsLeaveHistory h) T') by_history at count h)
       → LeavesConnections Are' at requests T T' (end_of_serving ended)
   serves_left T T' it by = record {
     tables = (it.0, up_to requests ended it.0 it.1, record { exchanges = it.2.exchanges; are = (are it.2.exchanges it.2.are.0, it.2.are.1); answered = it.2.answered; counted = it.2.counted; are_given = it.2.are_given });

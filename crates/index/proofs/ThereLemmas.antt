@@ -19,10 +19,10 @@ use Rattle.sqlite_schema.specs.declared.schema.Table.{Table}
 use Rattle.sqlite_store.specs.FileStore as store
 use Rattle.sqlite_value.specs.Order.{Row}
 use Rattle.sqlite_value.specs.declared.value.Value.TheVariants.{Text}
-use Rattle.index_cli.specs.TellsCalls.{TellsCalls}
-use Rattle.index_cli.proofs.Choices.{Ends-choice, LeavingOn-choice, TellsCalls-choice}
+use Rattle.index_cli.specs.LineCalls.{LineCallsLeave}
+use Rattle.index_cli.proofs.Choices.{LinesEnd-choice, LeavingTables-choice, LineCallsLeave-choice}
 use Rattle.index_desk.specs.Rules.{by_tables}
-use Rattle.index_desk.specs.Crashes.{LeavesAll}
+use Rattle.index_desk.specs.Crashes.{CallsLeaveTables}
 use Rattle.index_names.specs.FileName as names
 use Rattle.index_rules.specs.declared.answer.Answer.{Answer}
 use Rattle.index_rules.specs.declared.answer.Answer.TheVariants.{Accepted, Already, Refused, Fault}
@@ -46,8 +46,8 @@ use Rattle.index_tables.specs.Adopted.{IsFound}
 use Rattle.index_tables.specs.BooksState.{AreCurrent}
 use Rattle.index.specs.declared.end.End.{End}
 use Rattle.index.specs.Openings.{OpensAgain}
-use Rattle.index.specs.Runs.{HoldsCurrent, HoldsNone, LeavesOnly}
-use Rattle.index.specs.Tasks.{AreAmong, Task, AnswerLines, AnswerConnections, WriteReport, CountWrong, MayLeaveBy}
+use Rattle.index.specs.Runs.{CrashLeavesOnlyTables, HoldsCurrent, HoldsNone}
+use Rattle.index.specs.Tasks.{AreAmong, Task, AnswerLines, AnswerConnections, WriteReport, CountWrong, TaskMayLeave}
 
 -- ---- a list of objects has one first table
 
@@ -128,7 +128,7 @@ keeps_empty T at token (BanFile file) accepts =
     put_other T.bans file (other_than_empty file reads)
 keeps_empty T at token request accepts = refl
 
-leaves_empty : (T : Tables) (calls : List Call) (answers : List Answer) (T' : Tables) → LeavesAll T calls answers T' → get T'.bans [] ≡ get T.bans []
+leaves_empty : (T : Tables) (calls : List Call) (answers : List Answer) (T' : Tables) → CallsLeaveTables T calls answers T' → get T'.bans [] ≡ get T.bans []
 leaves_empty T [] [] T' it = ap (λ (T : Tables). get T.bans []) it
 leaves_empty T [] (answer ∷ answers) T' it = absurd it
 leaves_empty T (call ∷ calls) [] T' it = absurd it
@@ -142,13 +142,13 @@ leaves_empty T (call ∷ calls) (Fault fault ∷ answers) T' (inr it) = ap (λ (
 abbrev KeepsEmpty : Tables → Tables → Type 0
 KeepsEmpty T T' = get T'.bans [] ≡ get T.bans []
 
-left_keeps : (task : Task) (result : Result ℕ End) (T T' : Tables) → MayLeaveBy task result T T' → KeepsEmpty T T'
+left_keeps : (task : Task) (result : Result ℕ End) (T T' : Tables) → TaskMayLeave task result T T' → KeepsEmpty T T'
 left_keeps (AnswerLines given left had has) result T T' it =
-    (Ends-choice (KeepsEmpty T T') (TellsCalls (LeavesAll T)) (λ a lines text T. Unit {0}) T'
-    (λ lines text told. ((TellsCalls-choice (KeepsEmpty T T') T' (LeavesAll T) (λ a calls answers T. Unit {0}) (λ calls answers leaves. (leaves_empty T calls answers T' leaves, tt)) lines text told).0, tt))
+    (LinesEnd-choice (KeepsEmpty T T') (LineCallsLeave (CallsLeaveTables T)) (λ a lines text T. Unit {0}) T'
+    (λ lines text told. ((LineCallsLeave-choice (KeepsEmpty T T') T' (CallsLeaveTables T) (λ a calls answers T. Unit {0}) (λ calls answers leaves. (leaves_empty T calls answers T' leaves, tt)) lines text told).0, tt))
     given left had has it.ended it.tables).0
 left_keeps (AnswerConnections at requests coming coming' replies replies') result T T' it =
-    (LeavingOn-choice (AreAmong coming coming' replies replies') (KeepsEmpty T T') T' (LeavesAll T) (λ a calls answers T. Unit {0}) (λ calls answers leaves. (leaves_empty T calls answers T' leaves, tt)) by_tables at it.tables.0 T it.tables.2).0
+    (LeavingTables-choice (AreAmong coming coming' replies replies') (KeepsEmpty T T') T' (CallsLeaveTables T) (λ a calls answers T. Unit {0}) (λ calls answers leaves. (leaves_empty T calls answers T' leaves, tt)) by_tables at it.tables.0 T it.tables.2).0
 left_keeps (WriteReport had has) result T T' it = ap (λ (T : Tables). get T.bans []) it
 left_keeps CountWrong result T T' it = ap (λ (T : Tables). get T.bans []) it
 
@@ -167,16 +167,16 @@ toggled T (Some there) is = (
       let both : None ≡ Some there = sym gone ∙ keeps ∙ is in cc,
 )
 
-pub not_left : (task : Task) (result : Result ℕ End) (T : Tables) → (T' : Tables) × (¬ MayLeaveBy task result T T')
+pub not_left : (task : Task) (result : Result ℕ End) (T : Tables) → (T' : Tables) × (¬ TaskMayLeave task result T T')
 not_left task result T = let it = toggled T (get T.bans []) refl in (it.0, λ left. it.1 (left_keeps task result T it.0 left))
 
 pub not_same : (T : Tables) → (T' : Tables) × (¬ (T' ≡ T))
 not_same T = let it = toggled T (get T.bans []) refl in (it.0, λ same. it.1 (ap (λ (T : Tables). get T.bans []) same))
 
--- ---- so an index is there where some tables can't be left
+-- ---- so an index is there if some tables can't be left
 
 module _ {D : Type 0} {g : Ghosts D} where
-  pub there_by : (Are : Tables → Type 0) (last : FileStore D g) → OpensAgain last → LeavesOnly (over_files.recovers last) Are → ((T : Tables) × (¬ Are T))
+  pub there_by : (Are : Tables → Type 0) (last : FileStore D g) → OpensAgain last → CrashLeavesOnlyTables (over_files.recovers last) Are → ((T : Tables) × (¬ Are T))
       → (image : Image) → (store.state last).may_leave image → ¬ HoldsNone image
   there_by Are last again left other image may none = ∥∥₁_elim (opens_again last again.0 again.1 image may) no_proof (λ it.
       other.1 (left it.0 it.1 other.0 (λ current. absurd (not_these none it.0 (none.only.alone it.0 it.2) current))))

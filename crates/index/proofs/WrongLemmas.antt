@@ -9,7 +9,7 @@ use Rattle.sqlite_disk.specs.declared.Files.{Files}
 use Rattle.index_cli.specs.Connections.{Exchange, KnownList}
 use Rattle.index_cli.specs.declared.end.LineEnd.{LineEnd}
 use Rattle.index_cli.specs.declared.end.ServeEnd.{ServeEnd}
-use Rattle.index_cli.specs.Ends.{EndsRun, Telling}
+use Rattle.index_cli.specs.Ends.{LinesEnd, Telling}
 use Rattle.index_cli.specs.Lines.{lines_of}
 use Rattle.index_rules.specs.FirstTables.{first_tables}
 use Rattle.index_rules.specs.Maps.{Bytes}
@@ -22,14 +22,14 @@ use Rattle.index.specs.declared.end.End.TheVariants as end
 use Rattle.index.specs.Ends.{closing_of, end_by, end_of, end_of_serving, is_store}
 use Rattle.index.specs.Refuted.{HoldsNoIndex, RefutesConnections, RefutesInit, RefutesLines, RefutesTasks, RefutesWork}
 use Rattle.index.specs.Openings.{IsToldOf}
-use Rattle.index.specs.Runs.{Created, DigestHas, EndsInitOn, EndsRunOn, HoldsNone, Ran}
+use Rattle.index.specs.Runs.{Created, DigestHas, InitEndsOnFiles, RunEndsOnFiles, HoldsNone, Ran}
 use Rattle.index.specs.Tasks.{AreAmong, Does, IsServingEnd, Task}
 use Rattle.index.proofs.RefutedLemmas.{came_fewer}
 use Rattle.index.proofs.ThereLemmas.{current_is_there}
 
 -- ---- the end of work
 
-abbrev number_in : Result ℕ End → ℕ
+abbrev pub number_in : Result ℕ End → ℕ
 number_in (Ok count) = count
 number_in (Err early) = 0
 
@@ -41,15 +41,15 @@ abbrev is_want : Result ℕ End → Bool
 is_want (Err end.OutOfMemory) = true
 is_want _ = false
 
-is_no_error : (count : ℕ) (early : End) → ¬ (Ok count ≡ Err early)
+pub is_no_error : (count : ℕ) (early : End) → ¬ (Ok count ≡ Err early)
 is_no_error count early is = let no : true ≡ false = ap (λ (it : Result ℕ End). is_well it) is in cc no
 
 is_neither : (first : Bool) (fault early : End) (count : ℕ) → ¬ (Ok count ≡ (if first then Err fault else Err early))
 is_neither true fault early count is = is_no_error count fault is
 is_neither false fault early count is = is_no_error count early is
 
--- where closing failed no work ends well
-no_end : (told : Result ℕ End) (fault : End) (count : ℕ) → ¬ (Ok count ≡ end_by told (Err fault))
+-- if closing failed, no work ends well
+pub no_end : (told : Result ℕ End) (fault : End) (count : ℕ) → ¬ (Ok count ≡ end_by told (Err fault))
 no_end (Ok n) fault count is = is_no_error count fault is
 no_end (Err early) fault count is = is_neither (is_store early && is_store fault) fault early count is
 
@@ -63,7 +63,7 @@ module _ {D : Type 0} (g : Ghosts D) where
   no_work task start count clean none (Err unclosed) told ran is = no_end told unclosed.fault count is
 
   no_run : (task : Task) (start : Image) (count : ℕ) (clean : (log db : D) → AreClean g log db) (none : HoldsNoIndex start)
-      (run : Result (Finished D g) (Unused D g)) → EndsRunOn g task start run
+      (run : Result (Finished D g) (Unused D g)) → RunEndsOnFiles g task start run
       → IfOk run (λ it. Ok count ≡ end_by it.end (closing_of it.closed)) → IfErr run (λ it. IsErrAnd {T = ℕ} (Ok count) (IsToldOf it.why it.left)) → ⊥
   no_run task start count clean none (Ok run) ends done refused = no_work task start count clean none run.closed run.end ends.ran done
   no_run task start count clean none (Err it) ends done refused = absurd refused
@@ -89,7 +89,7 @@ module _ {D : Type 0} (g : Ghosts D) where
       let no : true ≡ false = ap (λ (it : Result (Unit {0}) End). is_ok it) is in cc no
 
   no_init : (user digits : Bytes) (page_sums : Bool) (start : Image) (clean : (log db : D) → AreClean g log db) (some : ¬ HoldsNone start)
-      (run : Result (Result (Files D) (Unclosed D g)) (Unused D g)) → EndsInitOn g user digits page_sums start run
+      (run : Result (Result (Files D) (Unclosed D g)) (Unused D g)) → InitEndsOnFiles g user digits page_sums start run
       → IfOk run (λ closed. Ok tt ≡ closing_of closed) → IfErr run (λ it. IsErrAnd {T = Unit {0}} (Ok tt) (IsToldOf it.why it.left)) → ⊥
   no_init user digits page_sums start clean some (Ok closed) ends done refused = no_made user digits start clean some closed ends.created done
   no_init user digits page_sums start clean some (Err it) ends done refused = absurd refused
@@ -108,7 +108,7 @@ module _ {D : Type 0} (g : Ghosts D) where
 
 -- the lines that were counted are those of the input
 counted_all : (tells : Telling) (T : Tables) (given : List ℕ) (left had has : Option (List ℕ)) (count : ℕ) (ended : Result ℕ LineEnd)
-    → Ok count ≡ end_of ended → EndsRun tells T (Some given) left had has ended → count ≡ length (lines_of given)
+    → Ok count ≡ end_of ended → LinesEnd tells T (Some given) left had has ended → count ≡ length (lines_of given)
 counted_all tells T given left had has count (Ok n) is ends =
     ap (λ (it : Result ℕ End). number_in it) is ∙ ends.counted ∙ ap (λ (input : List ℕ). length (lines_of input)) ends.is_input
 counted_all tells T given left had has count (Err early) is ends = absurd (is_no_error count (end.Lines early) is)

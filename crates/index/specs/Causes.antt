@@ -1,6 +1,6 @@
--- Why the database failed, or an address can't be listened on, by what is known of them.
-use Rattle.std.specs.Prelude.{◌≡◌, ◌⊎◌, ℕ, Bool, true, false, ◌==◌, ◌&&◌, not, List, Option, Some}
-use Rattle.std.specs.Prelude.{None, codes, find, option_map, if◌then◌else◌, string_bytes}
+-- The cause of a failed database, or of an address that can't be listened on.
+use Rattle.std.specs.Prelude.{Bool, List, None, Option, Some, codes, false, find, if◌then◌else◌}
+use Rattle.std.specs.Prelude.{not, option_map, string_bytes, true, ℕ, ◌&&◌, ◌==◌, ◌≡◌, ◌⊎◌}
 use Rattle.std.specs.List.{list_any, starts_with}
 use Rattle.std.specs.Net.Grammar.{IsSocketText}
 use Rattle.std.specs.Str.Lossy.{utf8_lossy}
@@ -19,7 +19,7 @@ use Rattle.index_sql_schema.specs.Schema.{index_schema, no_schema}
 use Rattle.index.specs.declared.cause.Cause.{Cause}
 use Rattle.index.specs.declared.cause.Cause.TheVariants as cause
 
--- an error of SQLite
+-- the cause of an error of SQLite
 abbrev pub cause_of_error : Error → Option Cause
 cause_of_error (SqliteFailure code.DatabaseBusy) = Some cause.InUse
 cause_of_error (SqliteFailure code.NotADatabase) = Some cause.NoDatabase
@@ -29,7 +29,7 @@ cause_of_error (SqliteFailure code.DiskFull) = Some cause.Full
 cause_of_error (SqliteFailure code.Closed) = Some cause.Shut
 cause_of_error _ = None
 
--- what the failed calls of the files met, and whether each sync went well
+-- The cause of failed calls of the files. `may_be_used` says whether every sync succeeded.
 abbrev pub cause_of_calls : Tally → Bool → Option Cause
 cause_of_calls tally may_be_used =
     if not (tally.caught == 0) then Some cause.Damaged
@@ -37,7 +37,7 @@ cause_of_calls tally may_be_used =
     else if may_be_used then None
     else Some cause.DiskFailed
 
--- an error of the system at a path
+-- the cause of an error of the system at a path
 abbrev pub cause_of_kind : ErrorKind → Option Cause
 cause_of_kind kind.NotFound = Some cause.NoFile
 cause_of_kind kind.NotADirectory = Some cause.NoFolder
@@ -46,7 +46,7 @@ cause_of_kind kind.ReadOnlyFilesystem = Some cause.NoRight
 cause_of_kind kind.IsADirectory = Some cause.Folder
 cause_of_kind _ = None
 
--- what is at a path: whether it is a folder, whether a file, and how many names it has
+-- the cause at a path: whether it is a folder, whether it is a file, and how many names it has
 abbrev pub cause_of_node : Bool → Bool → ℕ → Option Cause
 cause_of_node is_folder is_file names =
     if is_folder then Some cause.Folder
@@ -54,7 +54,7 @@ cause_of_node is_folder is_file names =
     else if names == 1 then None
     else Some cause.SecondName
 
--- it is found at the path of a database, whose files are not opened for it
+-- the cause is found at the path of a database, without opening its files
 abbrev pub is_at_path : Cause → Bool
 is_at_path cause.NoFile = true
 is_at_path cause.NoFolder = true
@@ -68,18 +68,18 @@ is_at_path _ = false
 
 -- ---- an address
 
--- an error of the system at an address that can't be listened on
+-- the cause of an error of the system at an address that can't be listened on
 abbrev pub cause_of_bind : ErrorKind → Cause
 cause_of_bind kind.AddrInUse = cause.AddressInUse
 cause_of_bind kind.AddrNotAvailable = cause.OtherMachine
 cause_of_bind kind.PermissionDenied = cause.NoRightToPort
 cause_of_bind _ = cause.NotListened
 
--- a text is not an address with a port
+-- the text is not an address with a port
 abbrev pub IsNoAddress : List ℕ → Type 0
 IsNoAddress text = (address : SocketAddr) → ¬ IsSocketText text address
 
--- it is about the address of a server
+-- the cause is about the address of a server
 abbrev pub is_of_address : Cause → Bool
 is_of_address cause.NoAddress = true
 is_of_address cause.AddressInUse = true
@@ -90,12 +90,12 @@ is_of_address _ = false
 
 -- ---- the objects of a schema
 
--- a table of an index has this name; the case of ASCII letters does not count
+-- a table of an index has this name, in either case of ASCII letters
 abbrev pub is_table : List ℕ → Bool
 is_table name =
     list_any (λ (table : Table). same_name table.name name) index_schema.tables
 
--- SQLite gives such a name to the index of a key, and lets nobody else give one
+-- SQLite gives such names to the indexes of keys, and reserves them
 abbrev pub is_of_key : List ℕ → Bool
 is_of_key name = starts_with (λ a b. a == b) name (codes "sqlite_autoindex_")
 
@@ -103,13 +103,13 @@ is_of_key name = starts_with (λ a b. a == b) name (codes "sqlite_autoindex_")
 abbrev pub is_other : List ℕ → Bool
 is_other name = not (is_table name) && not (is_of_key name)
 
--- the first, where there is one, else the second
+-- the first value, or else the second
 abbrev pub or_else : {T : Type 0} → Option T → Option T → Option T
 or_else (Some first) second = Some first
 or_else None second = second
 
--- the name of the first object that an index has not: of the tables, then of the indexes, then of
--- what is kept as it is
+-- the name of the first object that an index does not have: of the tables, then of the indexes,
+-- then of the views and whatever else is kept as it is
 abbrev pub other_object : Schema → Option (List ℕ)
 other_object schema =
     or_else (option_map (λ table. table.name) (find (λ table. is_other table.name) schema.tables))
@@ -117,19 +117,19 @@ other_object schema =
     (option_map (λ index. index.name) (find (λ index. is_other index.name) schema.indexes))
     (option_map (λ view. view.name) (find (λ view. is_other view.name) schema.views)))
 
--- the schema of nothing, of an index, or of one of version 1
+-- the schema of an empty database, of an index, or of an index of version 1
 abbrev pub IsKnown : Schema → Type 0
 IsKnown schema =
     (schema ≡ no_schema) ⊎ ((schema ≡ index_schema) ⊎ (schema ≡ first_version_schema))
 
--- an object of this name, as text
+-- the cause names this object, as text
 abbrev pub IsObject : List ℕ → Option Cause → Type 0
 IsObject name told =
     (text : _) × (told ≡ Some (cause.Object text)) × (string_bytes text ≡ utf8_lossy name)
 
--- the cause that a schema tells: by the first object that no index has, or by tables that are not
--- as those of an index
-abbrev pub TellsSchema : Schema → Option Cause → Type 0
-TellsSchema schema told =
+-- the cause in a schema: the first object that no index has, or tables that differ from those of an
+-- index
+abbrev pub SchemaHasCause : Schema → Option Cause → Type 0
+SchemaHasCause schema told =
     ((name : List ℕ) × (other_object schema ≡ Some name) × IsObject name told)
     ⊎ ((other_object schema ≡ None) × (told ≡ Some cause.OtherTables))

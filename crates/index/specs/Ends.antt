@@ -1,5 +1,4 @@
--- The ends of the program with the status 1: which of them tell a fault, and the ends that faults
--- of other layers are.
+-- The ends of the program with status 1, and the faults of other layers behind them.
 use Rattle.std.specs.Prelude.{ℕ, ◌&&◌, Bool, true, false, None, Result, Ok, Err}
 use Rattle.std.specs.Prelude.{if◌then◌else◌}
 use Rattle.sqlite.specs.declared.error.Error.{Error}
@@ -26,18 +25,18 @@ is_store (end.Open open_fault.Store) = true
 is_store (end.Connections serve_end.Store) = true
 is_store _ = false
 
--- or memory was wanting
-abbrev pub is_fault : End → Bool
-is_fault end.OutOfMemory = true
-is_fault (end.Open open_fault.OutOfMemory) = true
-is_fault end = is_store end
+-- the database failed, or memory ran out
+abbrev pub is_fault_end : End → Bool
+is_fault_end end.OutOfMemory = true
+is_fault_end (end.Open open_fault.OutOfMemory) = true
+is_fault_end end = is_store end
 
--- the end that an error of SQLite is
+-- the end for an error of SQLite
 abbrev pub end_of_error : Error → End
 end_of_error (SqliteFailure code.OutOfMemory) = end.OutOfMemory
 end_of_error error = end.Store (cause_of_error error)
 
--- the end that a fault of the desk is, and that of a report
+-- the ends for a fault of the desk and of a report
 abbrev pub end_of_fault : Fault → End
 end_of_fault fault.OutOfMemory = end.OutOfMemory
 end_of_fault fault.Store = end.Store None
@@ -47,8 +46,8 @@ end_of_report report_fault.OutOfMemory = end.OutOfMemory
 end_of_report report_fault.Store = end.Store None
 end_of_report (report_fault.WriteFault count) = end.WriteFault
 
--- what comes of a run over lines, of one over connections, and of a report: these two find no
--- number
+-- The results of a run over lines, of one over connections and of a report. Only the first has a
+-- number.
 abbrev pub end_of : Result ℕ LineEnd → Result ℕ End
 end_of (Ok count) = Ok count
 end_of (Err early) = Err (end.Lines early)
@@ -61,14 +60,14 @@ abbrev pub end_of_reporting : Result (Unit {0}) ReportFault → Result ℕ End
 end_of_reporting (Ok done) = Ok 0
 end_of_reporting (Err fault) = Err (end_of_report fault)
 
--- what comes of work, where it is as well closed; where the database failed in both, the end of
--- closing has the cause
+-- The result of work whose files are closed too. If the database failed in both, the end of closing
+-- has the cause.
 abbrev pub end_by : Result ℕ End → Result (Unit {0}) End → Result ℕ End
 end_by end (Ok done) = end
 end_by (Ok count) (Err fault) = Err fault
 end_by (Err early) (Err fault) = if is_store early && is_store fault then Err fault else Err early
 
--- what comes of closing
+-- the result of closing
 abbrev pub closing_of : {F D : Type 0} → {g : Ghosts D} → Result F (Unclosed D g)
     → Result (Unit {0}) End
 closing_of (Ok files) = Ok tt

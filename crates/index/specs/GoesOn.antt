@@ -1,4 +1,4 @@
--- The history goes on through runs: none of them begins it anew.
+-- Runs carry the history on: none of them begins it again.
 use Rattle.std.specs.Prelude.{◌≡◌, List, Some, length}
 use Rattle.sqlite.specs.Recovery.{Image}
 use Rattle.index_digest.specs.Digest.{sha256}
@@ -11,15 +11,14 @@ use Rattle.index_rules.specs.Tables.{Tables}
 use Rattle.index.specs.Chains.{ComesByRuns, LeadTo, Run}
 use Rattle.index.specs.Runs.{FindsOnly, Holds, HoldsNone}
 
--- bytes that are served of one file name after the one and after the other have one digest and size
+-- if both histories serve a file name, the bytes have the same digest and size
 abbrev pub BindServed : History → History → Type 0
 BindServed one other =
     (f first second : Bytes) → body_after one f ≡ Some first → body_after other f ≡ Some second
     → (sha256 first ≡ sha256 second) × (length first ≡ length second)
 
--- From files on that hold something of an index, they do so after any runs, and a history that
--- comes by these runs of a given one goes on from it; what is served of a file name after the one
--- is what was served after the other.
+-- If the first files hold some part of an index, the last ones do after any runs. A history that
+-- these runs make of a given one goes on from it, and serves each file name as that one did.
 abbrev pub GoesOn : List Run → Image → Image → Type 0
 GoesOn runs first last =
     (¬ HoldsNone first) → (leads : LeadTo runs first last)
@@ -28,7 +27,7 @@ GoesOn runs first last =
     → ComesByRuns runs first last leads (λ h. h ≡ given) later
     → IsFrontOf given later × BindServed given later)
 
--- the tables stand for a legal history that goes on from one that came by these runs
+-- the tables stand for a legal history that goes on from one that these runs made
 pub record StandOnwards (runs : List Run) (first mid : Image) (leads : LeadTo runs first mid)
     (T : Tables) : Type 0 where
   pub earlier : History
@@ -39,8 +38,8 @@ pub record StandOnwards (runs : List Run) (first mid : Image) (leads : LeadTo ru
   pub goes_on : IsFrontOf earlier later
   pub served : BindServed earlier later
 
--- From files on in which there is no index: what is found after any runs goes on from what was
--- there, where something of an index was, after the first so many of them.
+-- if the first files hold no index, and those after some runs hold some part of one, then the
+-- tables after more runs go on from the history at that point
 abbrev pub StandOn : List Run → List Run → Image → Image → Image → Type 0
 StandOn runs others first mid last =
     (¬ ((T : Tables) × Holds first T)) → (leads : LeadTo runs first mid) → (¬ HoldsNone mid)

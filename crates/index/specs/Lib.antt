@@ -7,6 +7,11 @@ pub mod Openings
 pub mod Printed
 pub mod Refuted
 pub mod RefutedCalls
+pub mod RefutedJobs
+pub mod RefutedLines
+pub mod RefutedLooks
+pub mod RefutedMessages
+pub mod RefutedReplies
 pub mod Runs
 pub mod SecondLines
 pub mod Tasks

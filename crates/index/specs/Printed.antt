@@ -1,4 +1,4 @@
--- What the ends of the program print, and their causes.
+-- The text that the ends of the program print, and their causes.
 use Rattle.std.specs.Prelude.{ℕ, false, List, [], codes, chars, ◌++◌, encode_utf8, flat_map}
 use Rattle.std.specs.Prelude.{if◌then◌else◌, string_bytes}
 use Rattle.std.specs.Char.{is_control}
@@ -10,7 +10,7 @@ use Rattle.index.specs.declared.cause.Cause.TheVariants as cause
 use Rattle.index.specs.declared.end.End.{End}
 use Rattle.index.specs.declared.end.End.TheVariants as end
 
--- each end prints its name
+-- the name of an end
 abbrev pub end_text : End → List ℕ
 end_text (end.Open fault) = open_fault_text fault
 end_text (end.Lines early) = line_end_text early
@@ -20,7 +20,7 @@ end_text end.OutOfMemory = codes "OutOfMemory"
 end_text (end.Store cause) = codes "Store"
 end_text end.WriteFault = codes "WriteFault"
 
--- the words for each cause
+-- the words of a cause
 abbrev pub cause_words : Cause → List ℕ
 cause_words cause.InUse = codes "in use by another program"
 cause_words cause.NoFile = codes "no such file"
@@ -51,12 +51,12 @@ cause_words cause.OtherMachine = codes "not an address of this machine"
 cause_words cause.NoRightToPort = codes "no right to listen on this port"
 cause_words cause.NotListened = codes "the system can't listen there"
 
--- the name of the object, of the cause that has one
+-- the name of the object in a cause, if it has one
 abbrev pub object_in : Cause → List ℕ
 object_in (cause.Object name) = string_bytes name
 object_in _ = []
 
--- a character as it is printed: a control character (0 to 31 and 127 to 159) by its number, in hex
+-- a character as it is printed: a control character (0 to 31 and 127 to 159) as its number in hex
 -- digits
 abbrev pub escaped_char : ℕ → List ℕ
 escaped_char c =
@@ -66,6 +66,6 @@ escaped_char c =
 abbrev pub escaped : List ℕ → List ℕ
 escaped text = flat_map escaped_char (chars text)
 
--- each cause prints its words, and the object behind them
+-- the words of a cause, and the name of its object
 abbrev pub cause_text : Cause → List ℕ
 cause_text cause = cause_words cause ++ escaped (object_in cause)

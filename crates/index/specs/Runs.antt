@@ -1,7 +1,7 @@
--- A run of the program: what it finds in a database file and its log, and what is left in the
--- files, at the end of the run and by a crash.
-use Rattle.std.specs.Prelude.{◌≡◌, ◌⊎◌, ◌↔◌, Bool, false, IsTrue, None, Some, IfSome}
-use Rattle.std.specs.Prelude.{Result, IfOk, IfErr, IsErrOf}
+-- A run of the program: what it finds in a database file and its log, and what it leaves in them at
+-- its end or by a crash.
+use Rattle.std.specs.Prelude.{Bool, IfErr, IfOk, IfSome, IsErrOf, IsTrue, None, Result, Some, false}
+use Rattle.std.specs.Prelude.{◌↔◌, ◌≡◌, ◌⊎◌}
 use Rattle.sqlite.specs.Closing.{HoldsAlone}
 use Rattle.sqlite.specs.Effect.{Database, IsDatabase}
 use Rattle.sqlite.specs.declared.FileStore.{FileStore}
@@ -30,33 +30,33 @@ use Rattle.index.specs.declared.database.Finished.{Finished}
 use Rattle.index.specs.declared.database.Unclosed.{Unclosed}
 use Rattle.index.specs.declared.database.Unused.{Unused}
 use Rattle.index.specs.declared.end.End.TheVariants as end
-use Rattle.index.specs.Ends.{is_fault}
+use Rattle.index.specs.Ends.{is_fault_end}
 use Rattle.index.specs.Openings.{HasSumsAs, HoldsOnly, IsBadFirstUserByHex, IsCleanClosed}
 use Rattle.index.specs.Openings.{IsOpenedOn, IsUnfound, IsUnmade, IsWhyUnfound, IsWhyUnmade}
-use Rattle.index.specs.Openings.{IsWhyUnused, LeavesUnused}
-use Rattle.index.specs.Tasks.{Does, MayLeaveBy, Task, TellsBy}
+use Rattle.index.specs.Openings.{IsWhyUnused, UnusedLeaves}
+use Rattle.index.specs.Tasks.{Does, TaskMayLeave, Task, TaskTells}
 
 -- ---- two files
 
--- they hold an index with these tables, of this version or of version 1
+-- the files hold an index with these tables, of the current version or of version 1
 pub record Holds (image : Image) (T : Tables) : Type 0 where
   pub db : Database
   pub found : IsFound db T
   pub only : HoldsOnly image db
 
--- whatever index a run finds in them has tables of this kind
+-- whatever index a run finds in the files has tables of this kind
 abbrev pub FindsOnly : Image → (Tables → Type 0) → Type 0
 FindsOnly image Are = (found : Tables) → Holds image found → ∥ Are found ∥₁
 
--- they hold an index of today with these tables, and so does the database file with no log; no
--- next run finds others
+-- the files hold a current index with these tables, the database file alone does too, and the next
+-- run finds no others
 pub record HoldsCurrent (image : Image) (T : Tables) : Type 0 where
   pub db : Database
   pub current : IsCurrent db T
   pub held : HoldsAlone image db.trees
   pub next : (found : Tables) → Holds image found → found ≡ T
 
--- so they do as they read now, and whatever a crash leaves of them
+-- the files hold these tables now, and so does whatever a crash leaves of them
 pub record HoldsAfterCrash {D : Type 0}
     (g : Ghosts D) (files : Files D) (T : Tables) : Type 0 where
   pub seen : HoldsCurrent (image_of g files) T
@@ -64,8 +64,7 @@ pub record HoldsAfterCrash {D : Type 0}
 
 -- ---- a run
 
--- they held an index with some tables, work was done on them, and they hold an index with what it
--- made of them
+-- the files held an index, work was done on its tables, and the files hold the result
 pub record Ran {D : Type 0} (g : Ghosts D) (Does : Tables → Tables → Type 0)
     (start : Image) (files : Files D) : Type 0 where
   pub before : Tables
@@ -74,49 +73,51 @@ pub record Ran {D : Type 0} (g : Ghosts D) (Does : Tables → Tables → Type 0)
   pub did : Does before after
   pub left : HoldsAfterCrash g files after
 
--- of the databases that an open after a crash may find, each has tables of this kind. One that is
--- no index of today would have any tables at all
-abbrev pub LeavesOnly : (Trees → Type 0) → (Tables → Type 0) → Type 0
-LeavesOnly may_leave Are =
+-- Every database that an open after a crash may find has tables of this kind. One that is not a
+-- current index counts as any tables at all.
+abbrev pub CrashLeavesOnlyTables : (Trees → Type 0) → (Tables → Type 0) → Type 0
+CrashLeavesOnlyTables may_leave Are =
     (db : Trees) → may_leave db → (T : Tables) → (AreCurrent db → T ≡ tables_in db) → Are T
 
--- they held a database in which no table has the name of one of an index
+-- the files held a database, no table of which has the name of one of an index
 pub record HoldsNone (image : Image) : Type 0 where
   pub db : Database
-  -- its trees list this schema
+  -- the trees of the database list this schema
   pub sound : IsDatabase db
   pub only : HoldsOnly image db
   pub free : has_any_of db.schema index_schema.tables ≡ false
 
--- They held an index with some tables, the work told this of them, and a crash leaves what it may
--- leave of it. So it does of some connection whose close left this store: whatever index the next
--- run finds in what a crash leaves of that, has such tables.
+-- The work on an index was cut short. It reported what `Told` says, and a crash leaves what `Left`
+-- says.
 pub record Interrupted {D : Type 0} {g : Ghosts D}
     (Told : Tables → Type 0) (Left : Tables → Tables → Type 0) (start : Image)
     (store : FileStore D g) : Type 0 where
   pub before : Tables
   pub held : Holds start before
   pub told : Told before
-  pub left : LeavesOnly (over_files.recovers store) (Left before)
+  -- what a crash leaves of the store
+  pub left : CrashLeavesOnlyTables (over_files.recovers store) (Left before)
+  -- a connection whose close left this store
   pub last : Held (FileStore D g)
   pub closed : IsClosed last store
+  -- whatever index the next run finds is one that the work may leave
   pub next : (image : Image) → MayLeave last image → FindsOnly image (Left before)
-  -- and an index is there
+  -- the next files hold some part of an index
   pub there : (image : Image) → MayLeave last image → ¬ HoldsNone image
 
--- they held nothing of an index, and hold a new one with these tables
+-- the files held no part of an index, and hold a new one with these tables
 pub record Created {D : Type 0}
     (g : Ghosts D) (T : Tables) (start : Image) (files : Files D) : Type 0 where
   pub held : HoldsNone start
   pub left : HoldsAfterCrash g files T
 
--- They held nothing of an index, and a crash leaves a new one with these tables. So it does of
--- some connection whose close left this store: whatever index the next run finds in what a crash
--- leaves of that, has these tables.
+-- The files held no part of an index, and a crash leaves a new one with these tables, in the log.
+-- Whatever index the next run finds has these tables, for some connection whose close left this
+-- store.
 pub record CreatedInLog {D : Type 0} {g : Ghosts D}
     (T : Tables) (start : Image) (store : FileStore D g) : Type 0 where
   pub held : HoldsNone start
-  pub left : LeavesOnly (over_files.recovers store) (λ found. found ≡ T)
+  pub left : CrashLeavesOnlyTables (over_files.recovers store) (λ found. found ≡ T)
   pub last : Held (FileStore D g)
   pub closed : IsClosed last store
   pub next : (image : Image) → MayLeave last image → FindsOnly image (λ found. found ≡ T)
@@ -124,59 +125,58 @@ pub record CreatedInLog {D : Type 0} {g : Ghosts D}
 
 -- ---- a run of work on the index in two files
 
--- how it ends, by its task
-pub record EndsRunOn {D : Type 0} (g : Ghosts D) (task : Task) (start : Image)
+-- how a run of work ends, by its task
+pub record RunEndsOnFiles {D : Type 0} (g : Ghosts D) (task : Task) (start : Image)
     (result : Result (Finished D g) (Unused D g)) : Type 0 where
-  -- the files held an index, and hold what the work made of it
+  -- the files held an index, and hold the result of the work
   pub ran : IfOk result (λ run. IfOk run.closed (λ files. AreClean g files.log files.db
       → Ran g (Does task run.end) start files))
-  -- where the log was not copied, what was answered is right up to a fault since which no call was
-  -- accepted, and a crash leaves what it may leave of the work
+  -- if the log was not copied, the answers are right up to a fault, after which no call was
+  -- accepted, and a crash leaves what the work may leave
   pub interrupted : IfOk result (λ run. IfErr run.closed (λ it.
       IsClean (over_files.view it.store)
-      → Interrupted (TellsBy task run.end) (MayLeaveBy task run.end) start it.store))
-  pub fault : IfOk result (λ run. IfErr run.closed (λ it. IsTrue (is_fault it.fault)))
-  -- what is refused is as it was, or an index of version 1 became one of today
-  pub refused : IfErr result (λ it. IfSome it.left (LeavesUnused IsUnfound start))
+      → Interrupted (TaskTells task run.end) (TaskMayLeave task run.end) start it.store))
+  pub fault : IfOk result (λ run. IfErr run.closed (λ it. IsTrue (is_fault_end it.fault)))
+  -- a refused database is as it was, or an index of version 1 became a current one
+  pub refused : IfErr result (λ it. IfSome it.left (UnusedLeaves IsUnfound start))
   pub why : IfErr result (λ it. IsWhyUnused false (IsWhyUnfound over_files) start it.why it.left)
 
 -- ---- an init on two files
 
--- these hex digits are of a digest with which this holds
+-- the hex digits are of a digest for which this holds
 abbrev pub DigestHas : Bytes → (Bytes → Type 0) → Type 0
 DigestHas digits Has = (digest : Bytes) × (read_digest digits ≡ Some digest) × Has digest
 
--- how it ends, by its user, the hex digits of the token's digest, and whether page sums were asked
--- for
-pub record EndsInitOn {D : Type 0}
+-- how an init ends, by its user, the hex digits of the token's digest, and whether page sums were
+-- asked for
+pub record InitEndsOnFiles {D : Type 0}
     (g : Ghosts D) (user digits : Bytes) (page_sums : Bool) (start : Image)
     (result : Result (Result (Files D) (Unclosed D g)) (Unused D g)) : Type 0 where
   -- the first user is refused before a file is opened
   pub bad_first_user :
       IsErrOf result (record { why = end.Open open_fault.BadFirstUser; left = None })
       ↔ IsBadFirstUserByHex user digits
-  -- the files held nothing of an index, and hold the new one
+  -- the files held no part of an index, and hold the new one
   pub created : IfOk result (λ closed. IfOk closed (λ files. AreClean g files.log files.db
       → DigestHas digits (λ digest. Created g (first_tables user digest) start files)))
-  -- where the log was not copied, a crash leaves the new index
+  -- if the log was not copied, a crash leaves the new index
   pub unclosed : IfOk result (λ closed. IfErr closed (λ it.
       IsClean (over_files.view it.store)
       → DigestHas digits (λ digest. CreatedInLog (first_tables user digest) start it.store)))
-  pub fault : IfOk result (λ closed. IfErr closed (λ it. IsTrue (is_fault it.fault)))
-  -- it was made on a connection whose pages end in sums, where these were asked for
+  pub fault : IfOk result (λ closed. IfErr closed (λ it. IsTrue (is_fault_end it.fault)))
+  -- the index was made on a connection whose pages end in sums, if these were asked for
   pub sums : IfOk result (λ closed. IsCleanClosed closed
       → (first : Held (FileStore D g)) × IsOpenedOn start first × HasSumsAs page_sums start first)
-  -- what is refused is as it was
+  -- a refused database is as it was
   pub refused : IfErr result (λ it. IfSome it.left (λ left.
-      DigestHas digits (λ digest. LeavesUnused (IsUnmade (first_tables user digest)) start left)))
+      DigestHas digits (λ digest. UnusedLeaves (IsUnmade (first_tables user digest)) start left)))
   pub why : (digest : Bytes) → read_digest digits ≡ Some digest → (¬ IsBadFirstUser user digest)
       → IfErr result (λ it.
       IsWhyUnused page_sums (IsWhyUnmade user digest over_files) start it.why it.left)
 
--- ---- the same of a connection, before its files are known
+-- ---- a connection, before its files are known
 
--- an index with some tables was found in a database, work was done on them, and what it made of
--- them is committed
+-- an index was found in a database, work was done on its tables, and the result is committed
 pub record Worked
     (Does : Tables → Tables → Type 0) (was : Database) (now : State) : Type 0 where
   pub before : Tables
@@ -185,17 +185,17 @@ pub record Worked
   pub did : Does before after
   pub committed : IsCommitted now after
 
--- an index with some tables was found in a database, the work told this of them, and a crash leaves
--- what it may leave of it
+-- an index was found in a database, the work on it reported what `Told` says, and a crash leaves
+-- what `Left` says
 pub record Began (Told : Tables → Type 0) (Left : Tables → Tables → Type 0) (was : Database)
     (may_leave : Trees → Type 0) : Type 0 where
   pub before : Tables
   pub found : IsFound was before
   pub told : Told before
-  pub left : LeavesOnly may_leave (Left before)
+  pub left : CrashLeavesOnlyTables may_leave (Left before)
 
--- how work on a connection ends; it works, or is clean, only where it was so before
-pub record EndsWork (Does : Tables → Tables → Type 0) (Tells : Tables → Type 0)
+-- How work on a connection ends. The connection works, or is clean, only if it was before.
+pub record WorkEndsOnConnection (Does : Tables → Tables → Type 0) (Tells : Tables → Type 0)
     (Leaves : Tables → Tables → Type 0) (was now : State) : Type 0 where
   pub was_working : IsWorking now → IsWorking was
   pub was_clean : HasCleanDisk now → HasCleanDisk was
@@ -203,19 +203,19 @@ pub record EndsWork (Does : Tables → Tables → Type 0) (Tells : Tables → Ty
   pub began : HasCleanDisk now → IsTrue was.is_open
       → Began Tells Leaves was.now now.may_leave
 
--- a new index with these tables was made where nothing of one was, on a connection that works, or
--- is clean, only where it was so before; a crash leaves that index alone
+-- A new index with these tables was made in a database without one. The connection works, or is
+-- clean, only if it was before. A crash leaves only that index.
 pub record IsMadeNew (T : Tables) (was now : State) : Type 0 where
   pub free : has_any_of was.now.schema index_schema.tables ≡ false
   pub was_working : IsWorking now → IsWorking was
   pub was_clean : HasCleanDisk now → HasCleanDisk was
   pub committed : IsWorking now → IsCommitted now T
   pub left : HasCleanDisk now → IsTrue was.is_open
-      → LeavesOnly now.may_leave (λ found. found ≡ T)
+      → CrashLeavesOnlyTables now.may_leave (λ found. found ≡ T)
 
--- The disk was clean before. Of an open database, all of which was committed, a crash leaves what
--- was there, or, where a fault has shut it, what was made of it.
-pub record LeavesAsWas (Made : Database → Trees → Type 0) (was now : State) : Type 0 where
+-- The disk was clean before. If all was committed in an open database, a crash leaves what was
+-- there, or, if a fault has shut it, what `Made` says.
+pub record CrashLeavesDatabase (Made : Database → Trees → Type 0) (was now : State) : Type 0 where
   pub was_clean : HasCleanDisk was
   pub left : IsTrue was.is_open → was.now ≡ was.committed → (db : Trees) → now.may_leave db
       → (db ≡ was.now.trees) ⊎ ((now.is_open ≡ false) × Made was.now db)

@@ -1,21 +1,21 @@
--- The cause that an end prints on its second line, and what that is about.
+-- The cause that an end prints on its second line, and its subject.
 use Rattle.std.specs.Prelude.{◌≡◌, ◌⊎◌, [], if◌then◌else◌, Option, Some, None}
 use Rattle.index_digest.specs.Digest.{read_digest, sha256}
 use Rattle.index_rules.specs.declared.open.OpenFault.{OpenFault}
 use Rattle.index_rules.specs.declared.open.OpenFault.TheVariants as open_fault
 use Rattle.index_rules.specs.Maps.{Bytes}
 use Rattle.index_rules.specs.Users.{read_user}
-use Rattle.index_words.specs.declared.job.Job.{Job}
-use Rattle.index_words.specs.declared.job.Job.TheVariants as job
+use Rattle.index_args.specs.declared.job.Job.{Job}
+use Rattle.index_args.specs.declared.job.Job.TheVariants as job
 use Rattle.index.specs.declared.cause.Cause.{Cause}
 use Rattle.index.specs.declared.cause.Cause.TheVariants as cause
 use Rattle.index.specs.declared.end.End.{End}
 use Rattle.index.specs.declared.end.End.TheVariants as end
 use Rattle.index.specs.Causes.{is_of_address}
-use Rattle.index.specs.Jobs.{path_of}
+use Rattle.index.specs.Jobs.{path_of_job}
 use Rattle.index.specs.Openings.{IsBadFirstUserByHex}
 
--- this cause is true of a user and of the hex digits of a digest, with which no index is made
+-- the cause is true of a user and of the hex digits of a digest, with which no index is made
 abbrev pub IsWhyBadFirstUser : Bytes → Bytes → Cause → Type 0
 IsWhyBadFirstUser user digits told =
     ((told ≡ cause.NoDigest) × (read_digest digits ≡ None))
@@ -23,32 +23,32 @@ IsWhyBadFirstUser user digits told =
     ⊎ ((told ≡ cause.NoUserId) × (read_user user ≡ None)))
 
 -- the cause of an init whose first user is not valid
-abbrev pub TellsFirstUser : Job → Option Cause → Type 0
-TellsFirstUser (job.Init db user digits page_sums) told =
+abbrev pub InitPrintsCause : Job → Option Cause → Type 0
+InitPrintsCause (job.Init db user digits page_sums) told =
     IsBadFirstUserByHex user.now digits.now
     → (why : Cause) × (told ≡ Some why) × IsWhyBadFirstUser user.now digits.now why
-TellsFirstUser asked told = told ≡ None
+InitPrintsCause asked told = told ≡ None
 
--- the cause of what is found in a database that is no index, or is one
+-- the cause of a database that is not an index, or is one where a new one was to be made
 abbrev pub cause_of_open : OpenFault → Option Cause
 cause_of_open open_fault.NotEmpty = Some cause.HasTables
 cause_of_open open_fault.NotAnIndex = Some cause.NoIndex
 cause_of_open open_fault.OtherVersion = Some cause.OtherVersion
 cause_of_open _ = None
 
--- the cause that a job prints of its end, where it is known
-abbrev pub TellsCause : Job → End → Option Cause → Type 0
-TellsCause asked (end.Store found) told = told ≡ found
-TellsCause asked (end.Listen why) told = told ≡ Some why
-TellsCause asked (end.Open open_fault.BadFirstUser) told = TellsFirstUser asked told
-TellsCause asked (end.Open fault) told = told ≡ cause_of_open fault
-TellsCause asked _ told = told ≡ None
+-- the cause that a job prints of its end, if it is known
+abbrev pub JobPrintsCause : Job → End → Option Cause → Type 0
+JobPrintsCause asked (end.Store found) told = told ≡ found
+JobPrintsCause asked (end.Listen why) told = told ≡ Some why
+JobPrintsCause asked (end.Open open_fault.BadFirstUser) told = InitPrintsCause asked told
+JobPrintsCause asked (end.Open fault) told = told ≡ cause_of_open fault
+JobPrintsCause asked _ told = told ≡ None
 
 -- the address of a server
 abbrev pub address_of : Job → Option Bytes
-address_of (job.Serve db words) = Some words.listen.now
+address_of (job.Serve db args) = Some args.listen.now
 address_of asked = None
 
--- what a cause is about: the address, or the database by its path
+-- the subject of a cause: the address, or the path of the database
 abbrev pub subject_of : Job → Cause → Option Bytes
-subject_of asked why = if is_of_address why then address_of asked else path_of asked
+subject_of asked why = if is_of_address why then address_of asked else path_of_job asked

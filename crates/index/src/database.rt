@@ -1,4 +1,4 @@
-//! The index in a database of SQLite: made or adopted, worked on, and closed.
+//! The index in an SQLite database: created or opened, worked on, and closed.
 ghost use Rattle.std.specs.Prelude.{◌≡◌, false, ℕ, Result, Err, None, Some, IfOk, IfErr, IfSome, IsSome, IsTrue, OnErr};
 ghost use Rattle.sqlite.specs.Closing.{IsCopied};
 ghost use Rattle.sqlite.specs.Files.{IsClosed, file_state, over_files};
@@ -16,22 +16,23 @@ ghost use Rattle.index_sql_schema.specs.Schema.{no_schema};
 ghost use Rattle.index_tables.specs.Adopted.{IsRaised};
 ghost use Rattle.index_tables.specs.Opened.{IsCreated};
 ghost use Rattle.index.specs.declared.end.End.{End as EndData};
-ghost use Rattle.index.specs.Causes.{IsKnown, IsObject, TellsSchema, other_object};
+ghost use Rattle.index.specs.Causes.{IsKnown, IsObject, SchemaHasCause, other_object};
 ghost use Rattle.index.specs.Chains.{InitLeadsOn, WorkLeadsOn};
-ghost use Rattle.index.specs.Ends.{closing_of, is_fault};
+ghost use Rattle.index.specs.Ends.{closing_of, is_fault_end};
 ghost use Rattle.index.specs.Openings.{IsCleanClosed, IsOpenedOn, IsToldOf, IsUnmade, IsWhyRefused};
-ghost use Rattle.index.specs.Openings.{IsWhyUnfound, IsWhyUnmade, IsWhyUnused, LeavesUnused};
-ghost use Rattle.index.specs.Runs.{Created, CreatedInLog, EndsInitOn, EndsRunOn, EndsWork};
-ghost use Rattle.index.specs.Runs.{IsMadeNew, LeavesAsWas};
-ghost use Rattle.index.specs.Tasks.{Does, MayLeaveBy, Task, TellsBy};
+ghost use Rattle.index.specs.Openings.{IsWhyUnfound, IsWhyUnmade, IsWhyUnused, UnusedLeaves};
+ghost use Rattle.index.specs.Runs.{Created, CreatedInLog, InitEndsOnFiles, RunEndsOnFiles, WorkEndsOnConnection};
+ghost use Rattle.index.specs.Runs.{CrashLeavesDatabase, IsMadeNew};
+ghost use Rattle.index.specs.Tasks.{Does, TaskMayLeave, Task, TaskTells};
 
 use crate::cause::{Cause, cause_of_calls};
 use crate::end::End;
+use crate::failed_opening::FailedOpening;
 use crate::objects::other_object;
-use crate::opening::{first_token, open, open_there};
-use index_desk::{Desk, Keeper};
+use crate::opening::{first_token_digest, open, open_existing};
+use index_cache::Cache;
+use index_desk::{CachesAnswers, Desk};
 use index_digest::Digest256;
-use index_recent::Recent;
 use index_rules::OpenFault;
 use index_sql_opening::{is_blank, is_first_version, is_ours};
 use index_tables::{SqlBooks, Unopened};
@@ -39,12 +40,12 @@ use sqlite::{Alter, Connection, FileFrom, FileStore, Files, Leftover, Start};
 use sqlite_disk::Disk;
 use std::alloc::{AllocError, Global};
 
-/// What comes of closing: the files, or why they could not be closed.
+/// The result of closing: the files, or why they could not be closed.
 pub type Closed<D> = Result<Files<D>, Unclosed<D>>;
 
-/// A database whose log was not copied into the file.
+/// A database whose log was not copied into its file.
 pub struct Unclosed<D: Disk> {
-    /// The fault for which it was not.
+    /// Why the log was not copied.
     pub fault: End,
     /// The store that has the log.
     pub store: FileStore<D>,
@@ -52,58 +53,62 @@ pub struct Unclosed<D: Disk> {
 
 /// A run of work that was done.
 pub struct Finished<D: Disk> {
-    /// What came of closing the files.
+    /// The result of closing the files.
     pub closed: Closed<D>,
-    /// The end of the work, with the number that it found.
+    /// The result of the work, with its number.
     pub end: Result<u64, End>,
 }
 
 /// Two files on which nothing was done.
 pub struct Unused<D: Disk> {
-    /// Why nothing was.
+    /// Why nothing was done.
     pub why: End,
-    /// What is left of them, where they were opened.
+    /// The files, if they were opened.
     pub left: Option<Left<D>>,
 }
 
-/// What is left of two files on which nothing was done.
+/// Two opened files on which nothing was done.
 pub enum Left<D: Disk> {
-    /// They can't be opened as a database.
+    /// The files can't be opened as a database.
     Shut(Leftover<D>),
-    /// Their database was refused.
+    /// The files' database was refused.
     Refused(Unopened<FileStore<D>>),
 }
 
-/// Work at a desk over the tables of a database, whatever its store is.
+/// Work at a desk over the tables of a database, in any store.
 pub trait Work {
-    /// What it is to do, and on what: itself before and after.
+    /// The task of the work, from the work before and after.
     ghost task: { Self → Self → Task };
 
-    /// How many bytes of files and pages the books may keep at hand for it.
+    /// The size of the books' cache, in bytes.
     fn keep_recent(&self) -> usize;
 
-    /// Does the work, and gives the number that it found.
-    fn run<B: Keeper>(&mut self, rt: &HostRuntime, desk: &mut Desk<B>) -> Result<u64, End>
+    /// Does the work, and returns its number.
+    fn run<B: CachesAnswers>(&mut self, rt: &HostRuntime, desk: &mut Desk<B>) -> Result<u64, End>
         ensures done { B.IsHonest desk.new → HasOneBearer (B.tables desk.old) →
             Does (task self.old self.new) result (B.tables desk.old) (B.tables desk.new) }
-        ensures told { B.IsHonest desk.old → B.IsClean desk.new →
-            HasOneBearer (B.tables desk.old) →
-            TellsBy (task self.old self.new) result (B.tables desk.old) }
+        ensures told { B.IsHonest desk.old → B.IsClean desk.new → HasOneBearer (B.tables desk.old) →
+            TaskTells (task self.old self.new) result (B.tables desk.old) }
         ensures crash { B.IsHonest desk.old → B.IsClean desk.new →
             HasOneBearer (B.tables desk.old) → (T : Tables) → B.may_leave desk.new T →
-            MayLeaveBy (task self.old self.new) result (B.tables desk.old) T }
+            TaskMayLeave (task self.old self.new) result (B.tables desk.old) T }
         ensures honest { B.IsHonest desk.new → B.IsHonest desk.old }
         ensures clean { B.IsClean desk.new → B.IsClean desk.old }
-        // A fault of the store is no want of memory.
+        // A failed store is never reported as out of memory.
         ensures stores { result ≡ Err End.OutOfMemory → B.stores desk.new ≡ B.stores desk.old };
 }
 
-/// Makes a new index with one user, of the office, whose token has the digest of these hex digits,
-/// and closes the files.
+/// Makes a new index with one user, of the office, whose token has the digest with these hex digits, and closes the
+/// files.
 ///
-/// `BadFirstUser`, also where the digits are malformed, and then no file is opened or made;
-/// `NotEmpty`, `OutOfMemory`, or `Store`, also where page sums are asked for and the file is not
-/// empty.
+/// # Errors
+///
+/// - `BadFirstUser`, before a file is opened or made: the digits are malformed, the digest is that of the empty text,
+///   or the user id is malformed.
+/// - `NotEmpty`: a table of the database has the name of one of an index.
+/// - `OutOfMemory`: memory ran out.
+/// - `Store`: the files are in use, can't be opened, or are not a database; the database has something else; page sums
+///   are asked for and the file is not empty; or the store fails.
 pub fn create<S: Start>(
     rt: &HostRuntime,
     path: &str,
@@ -112,14 +117,14 @@ pub fn create<S: Start>(
     token: &str,
     page_sums: bool,
 ) -> Result<Closed<FileFrom<S>>, Unused<FileFrom<S>>>
-    ensures ends { EndsInitOn ⟦<FileFrom<S> as Disk>⟧ user.now token.now page_sums
+    ensures ends { InitEndsOnFiles ⟦<FileFrom<S> as Disk>⟧ user.now token.now page_sums
         (image_at S.Start) result }
 
-    // No next run finds anything but what was there, or the new index.
+    // The next run finds what was there before, or the new index.
     ensures leads { (digest : _) → read_digest token.now ≡ Some digest
         → InitLeadsOn ⟦<FileFrom<S> as Disk>⟧ user.now digest (image_at S.Start) result }
 {
-    let token = match first_token(rt.alloc(), user, token) {
+    let token = match first_token_digest(rt.alloc(), user, token) {
         Ok(token) => token,
         Err(why) => {
             return Err(Unused {
@@ -130,7 +135,7 @@ pub fn create<S: Start>(
     };
     match open(rt, path, start, page_sums) {
         Ok(conn) => create_and_close(rt, conn, user, token),
-        Err((why, left)) => match left {
+        Err(FailedOpening { why, left }) => match left {
             Some(left) => Err(Unused {
                 why,
                 left: Some(Left::Shut(left)),
@@ -140,30 +145,35 @@ pub fn create<S: Start>(
     }
 }
 
-/// Does work on the index in a file, and closes the files. The end of the work comes beside what
-/// came of closing.
+/// Does work on the index in a file, and closes the files. Returns the result of the work beside that of closing.
 ///
-/// `NotAnIndex`, `OtherVersion`, `OutOfMemory`, or `Store`, also where there is no file, and none
-/// is made.
+/// # Errors
+///
+/// - `NotAnIndex`: the database has no table `meta` of an index, no version in it, or no table with the name of one of
+///   that version.
+/// - `OtherVersion`: the version is neither 1 nor 2.
+/// - `OutOfMemory`: memory ran out.
+/// - `Store`: there is no file (none is made); the files are in use, can't be opened, or are not a database; the
+///   objects of the database are not those of an index; or the store fails.
 pub fn work_on<S: Start, W: Work>(
     rt: &HostRuntime,
     path: &str,
     start: S,
     work: &mut W,
 ) -> Result<Finished<FileFrom<S>>, Unused<FileFrom<S>>>
-    ensures ends { EndsRunOn ⟦<FileFrom<S> as Disk>⟧ (W.task work.old work.new)
+    ensures ends { RunEndsOnFiles ⟦<FileFrom<S> as Disk>⟧ (W.task work.old work.new)
         (image_at S.Start) result }
 
-    // No next run finds anything but what this one leaves.
+    // The next run finds what this one leaves.
     ensures leads { WorkLeadsOn ⟦<FileFrom<S> as Disk>⟧ (W.task work.old work.new)
         (image_at S.Start) result }
 
-    // If nothing was done on the files, no work was.
+    // If nothing was done on the files, the work is unchanged.
     ensures idle { OnErr result (work.new ≡ work.old) }
 {
-    match open_there(rt, path, start) {
+    match open_existing(rt, path, start) {
         Ok(conn) => work_and_close(rt, conn, work),
-        Err((why, left)) => match left {
+        Err(FailedOpening { why, left }) => match left {
             Some(left) => Err(Unused {
                 why,
                 left: Some(Left::Shut(left)),
@@ -173,7 +183,7 @@ pub fn work_on<S: Start, W: Work>(
     }
 }
 
-/// Makes a new index in an empty database, whatever disk its files are on, and closes these.
+/// Makes a new index in an empty database, on any disk, and closes its files.
 fn create_and_close<D: Disk + Drop>(
     rt: &HostRuntime,
     conn: Connection<FileStore<D>>,
@@ -189,9 +199,9 @@ fn create_and_close<D: Disk + Drop>(
         → CreatedInLog (first_tables user.now token) start it.store)) }
     ensures was_clean { IfOk result (λ closed. IsCleanClosed closed
         → HasCleanDisk (file_state conn)) }
-    ensures fault { IfOk result (λ closed. IfErr closed (λ it. IsTrue (is_fault it.fault))) }
+    ensures fault { IfOk result (λ closed. IfErr closed (λ it. IsTrue (is_fault_end it.fault))) }
     ensures refused { IfErr result (λ it. IfSome it.left (λ left. (start : Image) →
-        IsOpenedOn start conn → LeavesUnused (IsUnmade (first_tables user.now token)) start left)) }
+        IsOpenedOn start conn → UnusedLeaves (IsUnmade (first_tables user.now token)) start left)) }
     ensures why { IfErr result (λ it. (page_sums : _) (start : Image) → IsOpenedOn start conn →
         IsWhyUnused page_sums (IsWhyUnmade user.now token over_files) start it.why it.left) }
 {
@@ -208,14 +218,14 @@ fn create_and_close<D: Disk + Drop>(
     }
 }
 
-/// Does work on the index that is there, whatever disk its files are on, and closes these.
+/// Does work on the index in a database, on any disk, and closes its files.
 fn work_and_close<D: Disk + Drop, W: Work>(
     rt: &HostRuntime,
     conn: Connection<FileStore<D>>,
     work: &mut W,
 ) -> Result<Finished<D>, Unused<D>>
     requires outside { conn.in_transaction ≡ false }
-    ensures ends { (start : Image) → IsOpenedOn start conn → EndsRunOn D.Disk
+    ensures ends { (start : Image) → IsOpenedOn start conn → RunEndsOnFiles D.Disk
         (W.task work.old work.new) start result }
     ensures idle { OnErr result (work.new ≡ work.old) }
 {
@@ -235,7 +245,7 @@ fn work_and_close<D: Disk + Drop, W: Work>(
     }
 }
 
-/// The connection as it is: what a crash leaves of it can be opened again.
+/// Returns the connection unchanged, for the proof: what a crash leaves of it can be opened again.
 fn worked_on<S: Alter>(conn: Connection<S>) -> Connection<S>
     ensures same { result ≡ conn }
     ensures numbered { HasCleanDisk (state S.Store result)
@@ -247,7 +257,7 @@ fn worked_on<S: Alter>(conn: Connection<S>) -> Connection<S>
     conn
 }
 
-/// Makes a new index in an empty database. Where none is made, the database is left as it is.
+/// Makes a new index in an empty database. If it fails, the database is as it was.
 fn create_in<S: Alter + Drop>(
     rt: &HostRuntime,
     conn: Connection<S>,
@@ -258,7 +268,7 @@ fn create_in<S: Alter + Drop>(
     ensures made { IfOk result (λ made.
         IsMadeNew (first_tables user.now token) (state S.Store conn) (state S.Store made)) }
     ensures refused { IfErr result (λ left. HasCleanDisk (state S.Store left.conn)
-        → LeavesAsWas (IsCreated (first_tables user.now token)) (state S.Store conn)
+        → CrashLeavesDatabase (IsCreated (first_tables user.now token)) (state S.Store conn)
         (state S.Store left.conn)) }
     ensures why { IfErr result (λ left.
         IsWhyUnmade user.now token S.Store conn left.conn left.why) }
@@ -269,7 +279,7 @@ fn create_in<S: Alter + Drop>(
     }
 }
 
-/// Does work on the index that is there, and gives the connection back with the end of the work.
+/// Does work on the index in a database, and returns the connection and the result of the work.
 fn work_in<S: Alter + Drop, W: Work>(
     rt: &HostRuntime,
     conn: Connection<S>,
@@ -277,16 +287,16 @@ fn work_in<S: Alter + Drop, W: Work>(
 ) -> Result<(Connection<S>, Result<u64, End>), Unopened<S>>
     requires outside { conn.in_transaction ≡ false }
     ensures worked { let task = W.task work.old work.new in IfOk result (λ done.
-        EndsWork (Does task done.1) (TellsBy task done.1) (MayLeaveBy task done.1)
+        WorkEndsOnConnection (Does task done.1) (TaskTells task done.1) (TaskMayLeave task done.1)
         (state S.Store conn) (state S.Store done.0)) }
     ensures refused { IfErr result (λ left. HasCleanDisk (state S.Store left.conn)
-        → LeavesAsWas IsRaised (state S.Store conn) (state S.Store left.conn)) }
+        → CrashLeavesDatabase IsRaised (state S.Store conn) (state S.Store left.conn)) }
     ensures why { IfErr result (λ left. IsWhyUnfound S.Store conn left.conn left.why) }
     ensures idle { OnErr result (work.new ≡ work.old) }
 {
     match SqlBooks::adopt(rt.alloc(), conn) {
         Ok(books) => {
-            let mut desk = Desk::new(Recent::new(rt.alloc(), books, work.keep_recent()));
+            let mut desk = Desk::new(Cache::new(rt.alloc(), books, work.keep_recent()));
             let end = work.run(rt, &mut desk);
             Ok((desk.into_books().into_books().into_connection(), end))
         }
@@ -296,13 +306,12 @@ fn work_in<S: Alter + Drop, W: Work>(
 
 /// Closes the database: the log of the last changes is copied into the file.
 ///
-/// `OutOfMemory` or `Store` where the copy fails. The changes are kept then too, by the log, which
-/// the store has.
+/// `OutOfMemory` or `Store` if the copy fails. The changes are kept then too, in the log, which the store has.
 #[tactic(auto, using(crate::proofs::FaultLemmas::error_is_fault))]
 fn close<D: Disk + Drop>(conn: Connection<FileStore<D>>) -> Closed<D>
     ensures copied { IfOk result (λ it. AreClean D.Disk it.log it.db → IsCopied conn it) }
     ensures kept { IfErr result (λ it. IsClosed conn it.store) }
-    ensures fault { IfErr result (λ it. IsTrue (is_fault it.fault)) }
+    ensures fault { IfErr result (λ it. IsTrue (is_fault_end it.fault)) }
 {
     match conn.close_files() {
         Ok(files) => Ok(files),
@@ -313,7 +322,7 @@ fn close<D: Disk + Drop>(conn: Connection<FileStore<D>>) -> Closed<D>
     }
 }
 
-/// Lets the files go. The fault is the one for which the log was not copied.
+/// Drops the files. The error is why the log was not copied.
 pub fn let_go<D: Disk + Drop>(closed: Closed<D>) -> Result<(), End>
     ensures { result ≡ closing_of closed }
 {
@@ -329,9 +338,8 @@ pub fn let_go<D: Disk + Drop>(closed: Closed<D>) -> Result<(), End>
     }
 }
 
-/// Why nothing was done. The files are let go as they are. What they hold, and what became of the
-/// calls on them, may tell why they were refused.
-pub fn why<D: Disk + Drop>(alloc: Global, unused: Unused<D>) -> End
+/// Why nothing was done, with the cause if the files' contents or their failed calls show it. The files are dropped.
+pub fn end_of_unused<D: Disk + Drop>(alloc: Global, unused: Unused<D>) -> End
     ensures { IsToldOf unused.why unused.left result }
 {
     let Unused { why, left } = unused;
@@ -351,8 +359,7 @@ pub fn why<D: Disk + Drop>(alloc: Global, unused: Unused<D>) -> End
     }
 }
 
-/// Why a database was refused that could be opened, where its schema tells that, or what its files
-/// met. They are let go.
+/// Why a database that could be opened was refused, from its schema or from its files' failed calls. They are dropped.
 fn cause_of_refused<D: Disk + Drop>(alloc: Global, conn: Connection<FileStore<D>>) -> Option<Cause>
     ensures { IsWhyRefused conn result }
 {
@@ -364,10 +371,10 @@ fn cause_of_refused<D: Disk + Drop>(alloc: Global, conn: Connection<FileStore<D>
     cause_of_calls(files.tally(), files.may_be_used())
 }
 
-/// Why a database was refused, where its schema tells that: by an object that no index has, or by
-/// tables that were not seen to be those of an index or of version 1.
+/// Why a database was refused, from its schema: by an object that no index has, or by tables that differ from those of
+/// an index.
 ///
-/// `AllocError` for want of memory.
+/// `AllocError` if memory ran out.
 fn cause_of_schema<S: Alter>(
     alloc: Global,
     conn: &Connection<S>,
@@ -377,7 +384,7 @@ fn cause_of_schema<S: Alter>(
     ensures blank { (state S.Store conn.now).now.schema ≡ no_schema
         → IfOk result (λ cause. cause ≡ None) }
     ensures told { IfOk result (λ cause. IsSome cause
-        → TellsSchema (state S.Store conn.now).now.schema cause) }
+        → SchemaHasCause (state S.Store conn.now).now.schema cause) }
     ensures tables { IfOk result (λ cause. cause ≡ None
         → IsKnown (state S.Store conn.now).now.schema) }
 {

@@ -1,55 +1,81 @@
 //! The program's subcommands.
-ghost use Rattle.std.specs.Prelude.{◌≡◌, ◌↔◌, ◌*◌, codes, false};
+ghost use Rattle.std.specs.Prelude.{◌≡◌, ◌↔◌, ◌*◌, ◌++◌, ◌∷◌, [], codes, false};
 ghost use Rattle.std.specs.Prelude.{Err, IfErr, IfOk, IsOk, IsTrue, Ok};
 ghost use Rattle.std.specs.Process.{exit_status};
 ghost use Rattle.sqlite.specs.WalFiles.{image_at};
+ghost use Rattle.index_cli.specs.Ends.{WritesText};
+ghost use Rattle.index_cli.specs.Lines.{line_feed};
 ghost use Rattle.index_digest.specs.Digest.{sha256};
+ghost use Rattle.index_http.specs.Steps.{to_sink};
 ghost use Rattle.index_rules.specs.FirstTables.{first_tables};
 ghost use Rattle.index_rules.specs.Tables.{Tables};
 ghost use Rattle.index.specs.Ends.{end_by, is_store};
-ghost use Rattle.index.specs.Jobs.{ComesByPath, ComesOfInit, ComesOfRun, EndsApply, EndsAs};
-ghost use Rattle.index.specs.Jobs.{EndsAsInit, EndsCheck, EndsReport, IsStatusOf};
-ghost use Rattle.index.specs.Jobs.{IsStatusOfCheck};
+ghost use Rattle.index.specs.Jobs.{ComesByPath, ComesOfInit, ComesOfRun, ApplyEnds, JobEndsAsRun};
+ghost use Rattle.index.specs.Jobs.{JobEndsAsInit, ReportEnds, IsStatusOf};
+ghost use Rattle.index.specs.Jobs.{IsStatusOfCheck, IsStatusOfInit};
 ghost use Rattle.index.specs.Tasks.{CountWrong, Does, answer_sockets};
 
 use crate::database::{self, Finished, Work};
 use crate::end::End;
 use crate::serving::serving_by;
+use index_args::ServeArgs;
+use index_cache::Cache;
 use index_cli::apply_lines;
-use index_desk::{Desk, Keeper};
+use index_desk::{CachesAnswers, Desk};
 use index_digest::Digest256;
-use index_io::{Input, Output, Sink, Source};
+use index_io::{Input, Sink, Source, write_bytes};
 use index_message::Site;
 use index_plain::PlainBooks;
-use index_recent::Recent;
 use index_rules::OpenFault;
-use index_words::ServeWords;
+use itoa::Buffer;
 use sqlite::{FileFrom, Start};
 use sqlite_disk::Disk;
-use std::io::{self, BufReader, Stdin, Write};
+use std::io::{BufReader, Stdin};
 use std::process::ExitCode;
 
-/// Makes a new index, with page sums or without, and says so.
-pub fn init<S: Start>(
+/// How a job ended, and the sink that it wrote to.
+pub struct Ended<K> {
+    pub end: Result<ExitCode, End>,
+    pub sink: K,
+}
+
+/// Makes a new index, with page sums or without, and writes to a sink that it did.
+pub fn init<S: Start, K: Sink>(
     rt: &HostRuntime,
     db: &str,
     start: S,
     user: &str,
     token: &str,
     page_sums: bool,
+    sink: &mut K,
 ) -> Result<ExitCode, End>
-    ensures { EndsAsInit ⟦<FileFrom<S> as Disk>⟧ user.now token.now page_sums
-        (image_at S.Start) result }
+    ensures { JobEndsAsInit ⟦<FileFrom<S> as Disk>⟧ user.now token.now page_sums
+        (image_at S.Start) (IsStatusOfInit (to_sink K.Sink sink.old sink.new)) result }
 {
-    make(rt, db, start, user, token, page_sums)?;
-    match println!(rt; "created") {
+    create(rt, db, start, user, token, page_sums)?;
+    match write_line(sink, b"created") {
         Ok(()) => Ok(ExitCode::SUCCESS),
         Err(_) => Err(End::WriteFault),
     }
 }
 
+/// Writes a text and a line feed.
+///
+/// # Errors
+///
+/// How many of their bytes went out, before a write failed or took no byte.
+fn write_line<K: Sink>(sink: &mut K, text: &[u8]) -> Result<(), usize>
+    ensures { WritesText K.Sink sink.old sink.new (text.now ++ line_feed ∷ []) result }
+{
+    write_bytes(sink, text)?;
+    if write_bytes(sink, b"\n".as_slice()).is_err() {
+        return Err(text.len());
+    }
+    Ok(())
+}
+
 /// Makes a new index in a file.
-fn make<S: Start>(
+fn create<S: Start>(
     rt: &HostRuntime,
     db: &str,
     start: S,
@@ -62,11 +88,11 @@ fn make<S: Start>(
 {
     match database::create(rt, db, start, user, token, page_sums) {
         Ok(closed) => database::let_go(closed),
-        Err(unused) => Err(database::why(rt.alloc(), unused)),
+        Err(unused) => Err(database::end_of_unused(rt.alloc(), unused)),
     }
 }
 
-/// Standard input, with room for some of it.
+/// Standard input, buffered.
 pub fn standard_input(rt: &HostRuntime) -> Result<Input<BufReader<Stdin>>, End>
     ensures { IfErr result (λ e. e ≡ End.OutOfMemory) }
 {
@@ -76,27 +102,36 @@ pub fn standard_input(rt: &HostRuntime) -> Result<Input<BufReader<Stdin>>, End>
     }
 }
 
-/// Answers the lines of a source on standard output, on the tables of a database or on tables in
-/// memory.
-pub fn apply<S: Start, R: Source + Drop>(
+/// Answers the lines of a source on a sink, with the tables of a database or with tables in memory.
+pub fn apply<S: Start, R: Source + Drop, K: Sink>(
     rt: &HostRuntime,
     db: Option<&str>,
     start: S,
     source: R,
-) -> Result<ExitCode, End>
-    ensures { EndsApply ⟦<FileFrom<S> as Disk>⟧ db.entry (R.remaining source) (image_at S.Start)
-        result }
+    sink: K,
+) -> Ended<K>
+    ensures { ApplyEnds ⟦<FileFrom<S> as Disk>⟧ db.entry (R.remaining source) (image_at S.Start)
+        (to_sink K.Sink sink result.sink) result.end }
 {
-    let mut lines = Lines {
-        source,
-        sink: Output::new(io::writer(rt)),
-    };
-    work_by_path(rt, db, start, &mut lines)?;
-    Ok(ExitCode::SUCCESS)
+    let mut lines = Lines { source, sink };
+    let found = work_by_path(rt, db, start, &mut lines);
+    let Lines {
+        source: _source,
+        sink,
+    } = lines;
+    match found {
+        Ok(_) => Ended {
+            end: Ok(ExitCode::SUCCESS),
+            sink,
+        },
+        Err(end) => Ended {
+            end: Err(end),
+            sink,
+        },
+    }
 }
 
-/// Does work on the index in a file or, where no path is given, on tables in memory, and gives the
-/// number that it found.
+/// Does work on the index in a file or, without a path, on tables in memory, and returns the number that it found.
 fn work_by_path<S: Start, W: Work>(
     rt: &HostRuntime,
     db: Option<&str>,
@@ -112,7 +147,7 @@ fn work_by_path<S: Start, W: Work>(
     }
 }
 
-/// Does work on the index in a file, and gives the number that it found.
+/// Does work on the index in a file, and returns the number that it found.
 fn work_on<S: Start, W: Work>(
     rt: &HostRuntime,
     db: &str,
@@ -124,17 +159,15 @@ fn work_on<S: Start, W: Work>(
 {
     match database::work_on(rt, db, start, work) {
         Ok(Finished { closed, end }) => ended_by(end, database::let_go(closed)),
-        Err(unused) => Err(database::why(rt.alloc(), unused)),
+        Err(unused) => Err(database::end_of_unused(rt.alloc(), unused)),
     }
 }
 
-/// What came of work, where it is as well closed. A database that failed in the work tells the
-/// cause as it is closed.
+/// The result of work and of closing. If the database failed in the work, closing has the cause.
 fn ended_by(end: Result<u64, End>, closed: Result<(), End>) -> Result<u64, End>
     ensures is { result ≡ end_by end closed }
 
-    // The same, case by case: the end of the work, but where closing failed and the work did not,
-    // or where the database failed in both.
+    // Case by case: the result of the work, unless closing failed and the work did not, or the database failed in both.
     ensures closed { IsOk closed → result ≡ end }
     ensures unclosed { IfErr closed (λ fault. IfOk end (λ _. result ≡ Err fault)) }
     ensures ended { IfErr end (λ e. is_store e ≡ false → result ≡ Err e) }
@@ -152,19 +185,18 @@ fn ended_by(end: Result<u64, End>, closed: Result<(), End>) -> Result<u64, End>
     }
 }
 
-/// Does work on tables in memory whose one user is `office`, of the office, with the token
-/// `office`.
+/// Does work on tables in memory. Their only user is `office`, of the office, with the token `office`.
 fn work_in_memory<W: Work>(rt: &HostRuntime, work: &mut W) -> Result<Result<u64, End>, OpenFault>
     ensures worked { let first = first_tables (codes "office") (sha256 (codes "office")) in
         IfOk result (λ end. (T : Tables) × Does (W.task work.old work.new) end first T) }
     ensures fault { IfErr result (λ fault. fault ≡ OpenFault.OutOfMemory) }
 {
     let books = PlainBooks::new(rt.alloc(), b"office", Digest256::of(b"office"))?;
-    let mut desk = Desk::new(Recent::new(rt.alloc(), books, work.keep_recent()));
+    let mut desk = Desk::new(Cache::new(rt.alloc(), books, work.keep_recent()));
     Ok(work.run(rt, &mut desk))
 }
 
-/// The lines of a source are answered to a sink.
+/// The work of `apply`: the lines of a source are answered on a sink.
 #[derive(Drop)]
 struct Lines<R, K> {
     source: R,
@@ -182,7 +214,7 @@ impl<R: Source, K: Sink> Work for Lines<R, K> {
         0
     }
 
-    fn run<B: Keeper>(&mut self, rt: &HostRuntime, desk: &mut Desk<B>) -> Result<u64, End> {
+    fn run<B: CachesAnswers>(&mut self, rt: &HostRuntime, desk: &mut Desk<B>) -> Result<u64, End> {
         match apply_lines(rt.alloc(), &mut self.source, &mut self.sink, desk) {
             Ok(count) => Ok(count),
             Err(early) => Err(End::Lines(early)),
@@ -190,35 +222,43 @@ impl<R: Source, K: Sink> Work for Lines<R, K> {
     }
 }
 
-/// Answers so many connections, so many times, on the tables of a database, which is opened before
-/// the first of them can come.
+/// Answers rounds of connections with the tables of a database, which is opened before the first of them can come.
 pub fn serve<S: Start>(
     rt: &HostRuntime,
     db: &str,
     start: S,
     site: &Site,
-    words: ServeWords<'_>,
+    args: ServeArgs<'_>,
 ) -> Result<ExitCode, End>
-    ensures { EndsAs ⟦<FileFrom<S> as Disk>⟧ (answer_sockets words.entry.at
-        (words.entry.requests * words.entry.rounds)) (image_at S.Start) IsStatusOf result }
+    ensures { JobEndsAsRun ⟦<FileFrom<S> as Disk>⟧ (answer_sockets args.entry.at
+        (args.entry.requests * args.entry.rounds)) (image_at S.Start) IsStatusOf result }
 {
-    let mut serving = serving_by(site, words);
+    let mut serving = serving_by(site, args);
     work_on(rt, db, start, &mut serving)?;
     Ok(ExitCode::SUCCESS)
 }
 
-/// Writes the report on the tables of a database.
-pub fn report<S: Start>(rt: &HostRuntime, db: &str, start: S) -> Result<ExitCode, End>
-    ensures { EndsReport ⟦<FileFrom<S> as Disk>⟧ (image_at S.Start) result }
+/// Writes the report on the tables of a database to a sink.
+pub fn report<S: Start, K: Sink>(rt: &HostRuntime, db: &str, start: S, sink: K) -> Ended<K>
+    ensures { ReportEnds ⟦<FileFrom<S> as Disk>⟧ (image_at S.Start)
+        (to_sink K.Sink sink result.sink) result.end }
 {
-    let mut reporting = Reporting {
-        sink: Output::new(io::writer(rt)),
-    };
-    work_on(rt, db, start, &mut reporting)?;
-    Ok(ExitCode::SUCCESS)
+    let mut reporting = Reporting { sink };
+    let found = work_on(rt, db, start, &mut reporting);
+    let Reporting { sink } = reporting;
+    match found {
+        Ok(_) => Ended {
+            end: Ok(ExitCode::SUCCESS),
+            sink,
+        },
+        Err(end) => Ended {
+            end: Err(end),
+            sink,
+        },
+    }
 }
 
-/// The report is written to a sink.
+/// The work of `report`: the report is written to a sink.
 #[derive(Drop)]
 struct Reporting<K> {
     sink: K,
@@ -233,46 +273,31 @@ impl<K: Sink> Work for Reporting<K> {
         0
     }
 
-    fn run<B: Keeper>(&mut self, rt: &HostRuntime, desk: &mut Desk<B>) -> Result<u64, End> {
+    fn run<B: CachesAnswers>(&mut self, rt: &HostRuntime, desk: &mut Desk<B>) -> Result<u64, End> {
         desk.report(rt.alloc(), &mut self.sink)?;
         Ok(0)
     }
 }
 
-/// Prints how many names have a wrong charge in the tables of a database, and fails where there is
-/// one.
-pub fn check<S: Start>(rt: &HostRuntime, db: &str, start: S) -> Result<ExitCode, End>
-    ensures { EndsCheck ⟦<FileFrom<S> as Disk>⟧ (image_at S.Start) result }
-{
-    check_to(rt, db, start, &mut io::writer(rt))
-}
-
-/// The same, where the number is written to any writer.
-fn check_to<S: Start, W: Write>(
+/// Writes to a sink how many names have a wrong charge in a database, and fails if any has.
+pub fn check<S: Start, K: Sink>(
     rt: &HostRuntime,
     db: &str,
     start: S,
-    writer: &mut W,
+    sink: &mut K,
 ) -> Result<ExitCode, End>
-    ensures { EndsAs ⟦<FileFrom<S> as Disk>⟧ CountWrong (image_at S.Start)
-        (IsStatusOfCheck (W.contents writer.old) (W.contents writer.new)) result }
+    ensures { JobEndsAsRun ⟦<FileFrom<S> as Disk>⟧ CountWrong (image_at S.Start)
+        (IsStatusOfCheck (to_sink K.Sink sink.old sink.new)) result }
 {
     let count = work_on(rt, db, start, &mut Checking)?;
-    tell_count(writer, count)
-}
-
-/// Writes how many names have a wrong charge, in decimal digits with a line feed, and gives the
-/// status.
-fn tell_count<W: Write>(writer: &mut W, count: u64) -> Result<ExitCode, End>
-    ensures { IsStatusOfCheck (W.contents writer.old) (W.contents writer.new) (Ok count) result }
-{
-    match writeln!(writer, "{count}") {
+    let mut buffer = Buffer::new();
+    match write_line(sink, buffer.format(count).as_bytes()) {
         Ok(()) => Ok(status_of(count)),
         Err(_) => Err(End::WriteFault),
     }
 }
 
-/// The wrong charges are counted.
+/// The work of `check`: the wrong charges are counted.
 #[derive(Clone, Copy)]
 struct Checking;
 
@@ -286,12 +311,12 @@ impl Work for Checking {
     }
 
     #[tactic(auto, using(crate::proofs::FaultLemmas::desk_fault_is_fault))]
-    fn run<B: Keeper>(&mut self, rt: &HostRuntime, desk: &mut Desk<B>) -> Result<u64, End> {
+    fn run<B: CachesAnswers>(&mut self, rt: &HostRuntime, desk: &mut Desk<B>) -> Result<u64, End> {
         Ok(desk.check(rt.alloc())?)
     }
 }
 
-/// The status of a check that found so many wrong charges.
+/// The status of a check that found this many wrong charges.
 fn status_of(count: u64) -> ExitCode
     ensures { (exit_status result ≡ 0) ↔ (count ≡ 0) }
 {

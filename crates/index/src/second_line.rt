@@ -1,16 +1,16 @@
-//! The second line that an end prints: the cause, where it is known, and what that is about.
+//! The second line that an end prints: the cause, if it is known, and its subject.
 ghost use Rattle.std.specs.Prelude.{◌≡◌, option_map};
-ghost use Rattle.index.specs.SecondLines.{TellsCause, subject_of};
+ghost use Rattle.index.specs.SecondLines.{JobPrintsCause, subject_of};
 
 use crate::cause::Cause;
 use crate::end::End;
+use index_args::Job;
 use index_digest::Digest256;
 use index_rules::OpenFault;
-use index_words::Job;
 
-/// The cause of an end, where it is known.
+/// The cause of an end, if it is known.
 pub fn cause_of_end(asked: Job<'_>, end: End) -> Option<Cause>
-    ensures { TellsCause asked.entry end result }
+    ensures { JobPrintsCause asked.entry end result }
 {
     match end {
         End::Store(cause) => cause,
@@ -30,12 +30,12 @@ pub fn cause_of_end(asked: Job<'_>, end: End) -> Option<Cause>
     }
 }
 
-/// What a cause is about: the address of a server, or the database by its path.
+/// The subject of a cause: the address of a server, or the path of the database.
 pub fn subject_of<'a>(asked: Job<'a>, cause: &Cause) -> Option<&'a str>
     ensures { option_map (λ it. it.now) result ≡ subject_of asked.entry cause.now }
 {
     match asked {
-        Job::Serve { words, .. } if cause.is_of_address() => Some(words.listen),
+        Job::Serve { args, .. } if cause.is_of_address() => Some(args.listen),
         _ if cause.is_of_address() => None,
         Job::Init { db, .. } | Job::Serve { db, .. } | Job::Report { db } | Job::Check { db } => {
             Some(db)

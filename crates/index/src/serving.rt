@@ -1,4 +1,4 @@
-//! The work of `serve`: connections are answered, over sockets or whatever they come on.
+//! The work of `serve`: connections are answered, over sockets or from any other source.
 ghost use Rattle.std.specs.Prelude.{◌≡◌, ◌*◌, ◌↔◌, unwrap_or, IfErr, IfOk, IsErrOf, IsTrue, OnErr};
 ghost use Rattle.index_cli.specs.Connections.{KnownList};
 ghost use Rattle.index.specs.Causes.{IsNoAddress, is_of_address};
@@ -7,34 +7,34 @@ ghost use Rattle.index.specs.Tasks.{IsNoListening};
 use crate::cause::{Cause, cause_of_bind};
 use crate::database::Work;
 use crate::end::End;
+use index_args::ServeArgs;
 use index_cli::{Connections, Listening, answer_connections};
-use index_desk::{Desk, Keeper};
+use index_desk::{CachesAnswers, Desk};
 use index_message::Site;
-use index_words::ServeWords;
 use std::io;
 use std::net::{SocketAddr, TcpListener};
 
-/// How many bytes of files and pages are kept at hand, if the command line does not say.
+/// The size of the cache in bytes, if the command line does not give it.
 const KEPT_BYTES: u64 = 268_435_456;
 
-/// The work that the words of `serve` ask for.
-pub fn serving_by<'a>(site: &'a Site, words: ServeWords<'a>) -> Serving<'a, Address<'a>>
-    ensures at { result.at ≡ words.entry.at }
-    ensures requests { result.requests ≡ words.entry.requests * words.entry.rounds }
-    ensures kept { result.keep_recent ≡ unwrap_or words.entry.keep_recent KEPT_BYTES }
+/// The work that the arguments of `serve` ask for.
+pub fn serving_by<'a>(site: &'a Site, args: ServeArgs<'a>) -> Serving<'a, Address<'a>>
+    ensures at { result.at ≡ args.entry.at }
+    ensures requests { result.requests ≡ args.entry.requests * args.entry.rounds }
+    ensures kept { result.keep_recent ≡ unwrap_or args.entry.keep_recent KEPT_BYTES }
 {
     Serving {
         site,
         from: Address {
-            address: words.listen,
+            address: args.listen,
         },
-        requests: all_rounds(words.requests, words.rounds),
-        at: words.at,
-        keep_recent: bytes_kept(words.keep_recent),
+        requests: all_rounds(args.requests, args.rounds),
+        at: args.at,
+        keep_recent: bytes_kept(args.keep_recent),
     }
 }
 
-/// How many connections are served, of which so many are a round.
+/// The number of connections in all rounds.
 #[tactic(auto, using(crate::proofs::RoundLemmas::product_fits))]
 fn all_rounds(requests: u32, rounds: u32) -> u64
     ensures { result ≡ requests * rounds }
@@ -42,27 +42,27 @@ fn all_rounds(requests: u32, rounds: u32) -> u64
     requests as u64 * rounds as u64
 }
 
-/// How many bytes of files and pages are kept at hand, if so many were asked for, or none were.
+/// The size of the cache in bytes: as asked, or the default.
 fn bytes_kept(asked: Option<u64>) -> usize
     ensures { result ≡ unwrap_or asked KEPT_BYTES }
 {
     asked.unwrap_or(KEPT_BYTES) as usize
 }
 
-/// What connections come on.
+/// A source of connections.
 pub trait Listens {
     /// The connections that come.
     type Coming: Connections + Drop;
 
-    /// What the clients send whose connections are to come, in order, if that is known.
+    /// What the clients of the connections to come send, in order, if that is known.
     ghost coming: { Self → KnownList };
 
-    /// What went out on the connections that were closed, in order, if that is known.
+    /// What was sent on the connections that were closed, in order, if that is known.
     ghost replies: { Self → KnownList };
 
-    /// Listens, and prints where.
+    /// Listens, and prints the address.
     ///
-    /// `Listen` if it can't, and `WriteFault` if that was not printed.
+    /// `Listen` if it can't listen, and `WriteFault` if the address could not be printed.
     fn listen(&mut self, rt: &HostRuntime) -> Result<Self::Coming, End>
         ensures coming { IfOk result (λ it. Self.Coming.coming it ≡ coming self.old) }
         ensures replies { IfOk result (λ it. Self.Coming.replies it ≡ replies self.old) }
@@ -70,13 +70,13 @@ pub trait Listens {
         ensures unsent { OnErr result (replies self.new ≡ replies self.old) }
         ensures fault { IfErr result IsNoListening };
 
-    /// Listens no longer. These connections are left.
+    /// Stops listening, with these connections left.
     fn end(&mut self, left: Self::Coming)
         ensures coming { coming self.new ≡ Self.Coming.coming left }
         ensures replies { replies self.new ≡ Self.Coming.replies left };
 }
 
-/// So many connections are answered that come on this.
+/// The work of `serve`: this many connections are answered.
 #[derive(Drop)]
 pub struct Serving<'a, L> {
     site: &'a Site,
@@ -98,7 +98,7 @@ impl<L: Listens> Work for Serving<'_, L> {
         self.keep_recent
     }
 
-    fn run<B: Keeper>(&mut self, rt: &HostRuntime, desk: &mut Desk<B>) -> Result<u64, End> {
+    fn run<B: CachesAnswers>(&mut self, rt: &HostRuntime, desk: &mut Desk<B>) -> Result<u64, End> {
         let mut coming = match self.from.listen(rt) {
             Ok(coming) => coming,
             Err(fault) => return Err(fault),
@@ -143,7 +143,7 @@ impl Listens for Address<'_> {
     }
 }
 
-/// Listens at an address and a port. Port 0 is any that is free.
+/// Listens at an address and a port. Port 0 is any free port.
 fn listen_at(rt: &HostRuntime, address: &str) -> Result<TcpListener, Cause>
     ensures cause { IfErr result (λ cause. IsTrue (is_of_address cause)) }
     ensures no_address { IsErrOf result Cause.NoAddress ↔ IsNoAddress address.now }
@@ -157,7 +157,7 @@ fn listen_at(rt: &HostRuntime, address: &str) -> Result<TcpListener, Cause>
     }
 }
 
-/// Prints where connections are awaited.
+/// Prints the address that is listened on.
 fn tell_address(rt: &HostRuntime, listener: &TcpListener) -> io::Result<()> {
     let address = listener.local_addr()?;
     println!(rt; "listening on {address}")

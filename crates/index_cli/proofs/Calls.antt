@@ -8,9 +8,9 @@ use Rattle.index_rules.specs.Runs.{Runs}
 use Rattle.index_rules.specs.Tables.{Tables}
 use Rattle.index_rules.proofs.OneBearer.{HasOneBearer-Runs}
 use Rattle.index_rules.proofs.RunLemmas.{Runs-push}
-use Rattle.index_desk.specs.Crashes.{LeavesAll}
+use Rattle.index_desk.specs.Crashes.{CallsLeaveTables}
 use Rattle.index_desk.specs.Looks.{LeavesTables}
-use Rattle.index_desk.proofs.CrashLemmas.{LeavesAll-push}
+use Rattle.index_desk.proofs.CrashLemmas.{CallsLeaveTables-push}
 use Rattle.index_desk.specs.Takes.{Takes}
 use Rattle.index_http.proofs.AskLemmas.{asks_map}
 use Rattle.index_json.specs.Line.{line_of}
@@ -19,7 +19,7 @@ use Rattle.index_json.specs.declared.line.Line.TheVariants as line
 use Rattle.index_cli.specs.Lines.{line_feed, longest_line}
 use Rattle.index_cli.specs.Connections.{Exchange}
 use Rattle.index_cli.specs.Serving.{AsksEach, AsksOne}
-use Rattle.index_cli.specs.TellsCalls.{AsksKept, AsksLine, AsksOf, TellsCalls}
+use Rattle.index_cli.specs.LineCalls.{AsksKept, AsksLine, AsksOf, LineCallsLeave}
 
 -- what calls and answers, or these and tables, may have to do with one another
 abbrev pub Leaving : Type 1
@@ -31,7 +31,7 @@ module _ {S : Type 0} (g : Ghosts S) where
   -- the tables are those after them, and a crash leaves what it may
   pub record Taken (first now : S) (calls : List Call) (answers : List Answer) : Type 0 where
     pub runs : g.IsHonest now → HasOneBearer (g.tables first) → Runs (g.tables first) calls answers (g.tables now)
-    pub left : g.IsHonest first → g.IsClean now → HasOneBearer (g.tables first) → (T : Tables) → g.may_leave now T → LeavesAll (g.tables first) calls answers T
+    pub left : g.IsHonest first → g.IsClean now → HasOneBearer (g.tables first) → (T : Tables) → g.may_leave now T → CallsLeaveTables (g.tables first) calls answers T
 
   -- so of calls and answers, whatever the tables
   abbrev pub by_taken : (first now : S) → Leaving
@@ -58,7 +58,7 @@ module _ {S : Type 0} (g : Ghosts S) where
             Runs-push (g.tables first) calls answers (g.tables now) call answer (g.tables new) (taken.runs then one)
             (took.verdict honest (before then one)) (took.next honest (before then one));
         left = λ honest clean one T left.
-            LeavesAll-push (g.tables first) calls answers (g.tables now) call answer (g.may_leave now) (g.IsHonest now) (g.IsHonest new) T
+            CallsLeaveTables-push (g.tables first) calls answers (g.tables now) call answer (g.may_leave now) (g.IsHonest now) (g.IsHonest new) T
             (λ then. taken.runs then one) (taken.left honest (took.settles.clean clean) one) (took.settles.lasts clean) took.settles.honest
             (took.settles.nothing_new T left) (λ then. took.crash then clean (before then one) T left);
       }
@@ -88,34 +88,34 @@ AsksKept-read front text size L K short asks line long is =
 pub AsksKept-long : (front text : List ℕ) (size : ℕ) (L : Type 0) (K : Call → Answer → Type 0) → longest_line < size → L → AsksKept size front text L K
 AsksKept-long front text size L K far looked line long is = (λ near. absurd (omega (arith, far, long, near)), λ _. looked)
 
-pub TellsCalls-map : (Left Left' : Leaving) (T T' : Tables) → ((calls : List Call) (answers : List Answer) → Left calls answers T → Left' calls answers T')
-    → (lines : List (List ℕ)) (text : List ℕ) → TellsCalls Left lines text T → TellsCalls Left' lines text T'
-TellsCalls-map Left Left' T T' f [] text (is, left) = (is, f [] [] left)
-TellsCalls-map Left Left' T T' f (line ∷ lines) text (first, more, is, asks) = (
+pub LineCallsLeave-map : (Left Left' : Leaving) (T T' : Tables) → ((calls : List Call) (answers : List Answer) → Left calls answers T → Left' calls answers T')
+    → (lines : List (List ℕ)) (text : List ℕ) → LineCallsLeave Left lines text T → LineCallsLeave Left' lines text T'
+LineCallsLeave-map Left Left' T T' f [] text (is, left) = (is, f [] [] left)
+LineCallsLeave-map Left Left' T T' f (line ∷ lines) text (first, more, is, asks) = (
   first,
   more,
   is,
-  asks_line_map line first _ _ _ _ (λ it. TellsCalls-map Left Left' T T' f lines more it)
-      (λ call answer it. TellsCalls-map (λ calls answers. Left (call ∷ calls) (answer ∷ answers)) (λ calls answers. Left' (call ∷ calls) (answer ∷ answers)) T T' (λ calls answers. f (call ∷ calls) (answer ∷ answers)) lines more it)
+  asks_line_map line first _ _ _ _ (λ it. LineCallsLeave-map Left Left' T T' f lines more it)
+      (λ call answer it. LineCallsLeave-map (λ calls answers. Left (call ∷ calls) (answer ∷ answers)) (λ calls answers. Left' (call ∷ calls) (answer ∷ answers)) T T' (λ calls answers. f (call ∷ calls) (answer ∷ answers)) lines more it)
       asks,
 )
 
 -- one more line
-pub TellsCalls-push : (Left Left' : Leaving) (T U : Tables) (line first : List ℕ)
+pub LineCallsLeave-push : (Left Left' : Leaving) (T U : Tables) (line first : List ℕ)
     → ((calls : List Call) (answers : List Answer) → Left calls answers T → AsksLine line first (Left' calls answers U) (λ call answer. Left' (calls ++ call ∷ []) (answers ++ answer ∷ []) U))
-    → (done : List (List ℕ)) (text : List ℕ) → TellsCalls Left done text T → TellsCalls Left' (done ++ line ∷ []) (text ++ (first ++ line_feed ∷ [])) U
-TellsCalls-push Left Left' T U line first step [] text (is, left) = (
+    → (done : List (List ℕ)) (text : List ℕ) → LineCallsLeave Left done text T → LineCallsLeave Left' (done ++ line ∷ []) (text ++ (first ++ line_feed ∷ [])) U
+LineCallsLeave-push Left Left' T U line first step [] text (is, left) = (
   first,
   [],
   ap (λ l. l ++ (first ++ line_feed ∷ [])) is ∙ sym (append-nil (first ++ line_feed ∷ [])),
   asks_line_map line first _ _ _ _ (λ it. (refl, it)) (λ call answer it. (refl, it)) (step [] [] left),
 )
-TellsCalls-push Left Left' T U line first step (before ∷ done) text (earlier, more, is, asks) = (
+LineCallsLeave-push Left Left' T U line first step (before ∷ done) text (earlier, more, is, asks) = (
   earlier,
   more ++ (first ++ line_feed ∷ []),
   ap (λ l. l ++ (first ++ line_feed ∷ [])) is ∙ append_assoc (earlier ++ line_feed ∷ []) more (first ++ line_feed ∷ []),
-  asks_line_map before earlier _ _ _ _ (λ it. TellsCalls-push Left Left' T U line first step done more it)
-      (λ call answer it. TellsCalls-push (λ calls answers. Left (call ∷ calls) (answer ∷ answers)) (λ calls answers. Left' (call ∷ calls) (answer ∷ answers)) T U line first (λ calls answers. step (call ∷ calls) (answer ∷ answers)) done more it)
+  asks_line_map before earlier _ _ _ _ (λ it. LineCallsLeave-push Left Left' T U line first step done more it)
+      (λ call answer it. LineCallsLeave-push (λ calls answers. Left (call ∷ calls) (answer ∷ answers)) (λ calls answers. Left' (call ∷ calls) (answer ∷ answers)) T U line first (λ calls answers. step (call ∷ calls) (answer ∷ answers)) done more it)
       asks,
 )
 

@@ -12,8 +12,8 @@ use Rattle.index_desk.specs.declared.standing.Standing.{Standing}
 use Rattle.index_json.proofs.OnLiterals.{answers_on_literals}
 use Rattle.index_json.specs.AnswerText.{answer_text_of}
 use Rattle.index_json.specs.StandingText.{standing_text_of}
-use Rattle.index_cli.specs.Causes.{HasCauses, HaveCounted, HaveFailed, store_faults, TellsStoreFault, TellsEach, TellsFault, TellsFaults}
-use Rattle.index_cli.specs.Ends.{TellsBefore}
+use Rattle.index_cli.specs.Causes.{HasCauses, HaveCounted, HaveFailed, LinesReportFaults, OutputReportsFaults, ReplyCountsStoreFault, ReplyReportsFaults, store_faults}
+use Rattle.index_cli.specs.Ends.{LinesBeforeAreAnswered}
 use Rattle.index_cli.specs.Lines.{line_feed}
 use Rattle.index_cli.proofs.Progress.{Pushes}
 use Rattle.index_cli.proofs.RunEnds.{before_map}
@@ -53,9 +53,9 @@ pub answer_causes : (a : Answer) (text : List ℕ) (f0 f1 : ℕ) → text ≡ an
 answer_causes a text f0 f1 is once store = (store_faults a, inl (a, is, refl), answer_failed a f0 f1 once store)
 
 -- lines and one more
-TellsEach-push : (n m : ℕ) (done : List (List ℕ)) (text line first : List ℕ)
-    → TellsEach n done text → TellsFault first m → TellsEach (n + m) (done ++ line ∷ []) (text ++ (first ++ line_feed ∷ []))
-TellsEach-push n m [] text line first told tells = (
+OutputReportsFaults-push : (n m : ℕ) (done : List (List ℕ)) (text line first : List ℕ)
+    → OutputReportsFaults n done text → ReplyReportsFaults first m → OutputReportsFaults (n + m) (done ++ line ∷ []) (text ++ (first ++ line_feed ∷ []))
+OutputReportsFaults-push n m [] text line first told tells = (
   first,
   [],
   m,
@@ -65,24 +65,24 @@ TellsEach-push n m [] text line first told tells = (
   omega (arith, told.1),
   ap (λ l. l ++ (first ++ line_feed ∷ [])) told.0 ∙ sym (append-nil (first ++ line_feed ∷ [])),
 )
-TellsEach-push n m (before ∷ done) text line first (earlier, more, one, others, tells_before, rest, count, is) tells = (
+OutputReportsFaults-push n m (before ∷ done) text line first (earlier, more, one, others, tells_before, rest, count, is) tells = (
   earlier,
   more ++ (first ++ line_feed ∷ []),
   one,
   others + m,
   tells_before,
-  TellsEach-push others m done more line first rest tells,
+  OutputReportsFaults-push others m done more line first rest tells,
   omega (arith, count),
   ap (λ l. l ++ (first ++ line_feed ∷ [])) is ∙ append_assoc (earlier ++ line_feed ∷ []) more (first ++ line_feed ∷ []),
 )
 
-pub faults_push : (n m size : ℕ) (T U : Tables) (kept first : List ℕ) → TellsFault first m
-    → Pushes (TellsFaults n) (TellsFaults (n + m)) T U size kept first
-faults_push n m size T U kept first tells done text line sized front told = TellsEach-push n m done text line first told tells
+pub faults_push : (n m size : ℕ) (T U : Tables) (kept first : List ℕ) → ReplyReportsFaults first m
+    → Pushes (LinesReportFaults n) (LinesReportFaults (n + m)) T U size kept first
+faults_push n m size T U kept first tells done text line sized front told = OutputReportsFaults-push n m done text line first told tells
 
 -- lines before the one in hand, whatever the tables
-pub faults_before : (n : ℕ) (T U : Tables) (a b w0 w1 : Option (List ℕ)) → TellsBefore (TellsFaults n) T a b w0 w1 → TellsBefore (TellsFaults n) U a b w0 w1
-faults_before n T U a b w0 w1 before = before_map (TellsFaults n) (TellsFaults n) T U (λ lines text told. told) a b w0 w1 before
+pub faults_before : (n : ℕ) (T U : Tables) (a b w0 w1 : Option (List ℕ)) → LinesBeforeAreAnswered (LinesReportFaults n) T a b w0 w1 → LinesBeforeAreAnswered (LinesReportFaults n) U a b w0 w1
+faults_before n T U a b w0 w1 before = before_map (LinesReportFaults n) (LinesReportFaults n) T U (λ lines text told. told) a b w0 w1 before
 
 -- the text of a fault
 pub fault_causes : (fault : Fault) (text : List ℕ) (f0 f1 : ℕ) → text ≡ answer_text_of (answer.Fault fault) → FailsAtMostOnce f0 f1 → (fault ≡ Store → HasFailed f0 f1) → HasCauses text f0 f1
@@ -95,7 +95,7 @@ standing_causes standing text f0 f1 is once = (0, inr (inl (standing, is, refl))
 
 -- ---- the count of the store's faults
 
--- the text of `Store` is not that of want of memory
+-- the text of `Store` is not that of `OutOfMemory`
 store_size : length (answer_text_of (answer.Fault Store)) ≡ 33
 unfolding answers_on_literals
 store_size = refl
@@ -108,21 +108,21 @@ store_or_memory : answer_text_of (answer.Fault Store) ≡ answer_text_of (answer
 store_or_memory same = absurd (omega (arith, ap length same, store_size, memory_size))
 
 -- the text of an answer
-pub answer_counted : (a : Answer) (text : List ℕ) (f0 f1 : ℕ) → text ≡ answer_text_of a → CountsStoreFault f0 f1 (answers_store_fault a) → TellsStoreFault text f0 f1
+pub answer_counted : (a : Answer) (text : List ℕ) (f0 f1 : ℕ) → text ≡ answer_text_of a → CountsStoreFault f0 f1 (answers_store_fault a) → ReplyCountsStoreFault text f0 f1
 answer_counted (answer.Fault Store) text f0 f1 is counts = inl (is, counts)
 answer_counted (answer.Fault OutOfMemory) text f0 f1 is counts = inr (inl (answer.Fault OutOfMemory, is, refl), counts)
 answer_counted (answer.Refused refusal) text f0 f1 is counts = inr (inl (answer.Refused refusal, is, refl), counts)
 answer_counted answer.Already text f0 f1 is counts = inr (inl (answer.Already, is, refl), counts)
 answer_counted answer.Accepted text f0 f1 is counts = inr (inl (answer.Accepted, is, refl), counts)
 
--- want of memory is the text of no fault of the store
-pub counted_memory : (text : List ℕ) (f0 f1 : ℕ) → TellsStoreFault text f0 f1 → text ≡ answer_text_of (answer.Fault OutOfMemory) → f1 ≡ f0
+-- if the text is that of `OutOfMemory`, no fault of the store was counted
+pub counted_memory : (text : List ℕ) (f0 f1 : ℕ) → ReplyCountsStoreFault text f0 f1 → text ≡ answer_text_of (answer.Fault OutOfMemory) → f1 ≡ f0
 counted_memory text f0 f1 (inl (store, counts)) memory = absurd (store_or_memory (sym store ∙ memory))
 counted_memory text f0 f1 (inr (none, kept)) memory = kept
 
 -- lines and one more: what it tells, and how many were counted
-pub counted_push : (n : ℕ) (text : List ℕ) (f0 f1 f2 : ℕ) → HaveCounted n f0 f1 → TellsStoreFault text f1 f2
-    → (m : ℕ) × TellsFault text m × HaveCounted (n + m) f0 f2
+pub counted_push : (n : ℕ) (text : List ℕ) (f0 f1 f2 : ℕ) → HaveCounted n f0 f1 → ReplyCountsStoreFault text f1 f2
+    → (m : ℕ) × ReplyReportsFaults text m × HaveCounted (n + m) f0 f2
 counted_push n text f0 f1 f2 before (inl (store, counts)) = (1, inl (answer.Fault Store, store, refl), next before)
   where
     next : HaveCounted n f0 f1 → HaveCounted (n + 1) f0 f2

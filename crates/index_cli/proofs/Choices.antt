@@ -14,25 +14,25 @@ use Rattle.index_json.specs.declared.line.Line.{Line}
 use Rattle.index_json.specs.declared.line.Line.TheVariants as line
 use Rattle.index_cli.specs.declared.end.LineEnd.{LineEnd}
 use Rattle.index_cli.specs.declared.end.LineEnd.TheVariants.{ReadFault, WriteFault, OutOfMemory}
-use Rattle.index_cli.specs.Ends.{EndsRun, Telling}
+use Rattle.index_cli.specs.Ends.{LinesEnd, Telling}
 use Rattle.index_cli.specs.Lines.{longest_line}
 use Rattle.index_cli.specs.Connections.{Exchange}
-use Rattle.index_cli.specs.ServesFront.{LeavingOn, ServesFrontOn}
+use Rattle.index_cli.specs.ServesFront.{LeavingTables, ServesFirst}
 use Rattle.index_cli.specs.Serving.{AsksEach, AsksOne}
-use Rattle.index_cli.specs.TellsCalls.{AsksLine, AsksOf, TellsCalls}
+use Rattle.index_cli.specs.LineCalls.{AsksLine, AsksOf, LineCallsLeave}
 
-pub Ends-choice : (A : Type 0) (tells : Telling) (by_choice : A → Telling) (T : Tables) → ((lines : List (List ℕ)) (text : List ℕ) → tells lines text T → (a : A) × by_choice a lines text T)
-    → (given left had has : Option (List ℕ)) (ended : Result ℕ LineEnd) → EndsRun tells T given left had has ended → (a : A) × EndsRun (by_choice a) T given left had has ended
-Ends-choice A tells by_choice T choose given left had has (Ok count) it =
+pub LinesEnd-choice : (A : Type 0) (tells : Telling) (by_choice : A → Telling) (T : Tables) → ((lines : List (List ℕ)) (text : List ℕ) → tells lines text T → (a : A) × by_choice a lines text T)
+    → (given left had has : Option (List ℕ)) (ended : Result ℕ LineEnd) → LinesEnd tells T given left had has ended → (a : A) × LinesEnd (by_choice a) T given left had has ended
+LinesEnd-choice A tells by_choice T choose given left had has (Ok count) it =
     let chosen = choose _ _ it.told in
     (chosen.0, record { input = it.input; text = it.text; is_input = it.is_input; taken = it.taken; at_end = it.at_end; told = chosen.1; wrote = it.wrote; counted = it.counted })
-Ends-choice A tells by_choice T choose given left had has (Err ReadFault) it =
+LinesEnd-choice A tells by_choice T choose given left had has (Err ReadFault) it =
     let chosen = choose _ _ it.told in
     (chosen.0, record { input = it.input; done = it.done; more = it.more; text = it.text; is_input = it.is_input; lines = it.lines; taken = it.taken; told = chosen.1; wrote = it.wrote })
-Ends-choice A tells by_choice T choose given left had has (Err WriteFault) it =
+LinesEnd-choice A tells by_choice T choose given left had has (Err WriteFault) it =
     let chosen = choose _ _ it.told in
     (chosen.0, record { input = it.input; done = it.done; line = it.line; more = it.more; text = it.text; count = it.count; is_input = it.is_input; lines = it.lines; taken = it.taken; told = chosen.1; less = it.less; wrote = it.wrote })
-Ends-choice A tells by_choice T choose given left had has (Err OutOfMemory) it =
+LinesEnd-choice A tells by_choice T choose given left had has (Err OutOfMemory) it =
     let chosen = choose _ _ it.told in
     (chosen.0, record { input = it.input; done = it.done; more = it.more; text = it.text; is_input = it.is_input; lines = it.lines; taken = it.taken; told = chosen.1; wrote = it.wrote })
 
@@ -68,14 +68,14 @@ module _ (A Looked : Type 0) (LookedBy : A → Type 0) (Took : Call → Answer �
   AsksOne-choice exchange it = let chosen = Asks-choice exchange.had exchange.has it.ended exchange.at exchange.given it.asks in
       (chosen.0, record { ended = it.ended; asks = chosen.1 })
 
-pub TellsCalls-choice : (A : Type 0) (T : Tables) (Left : List Call → List Answer → Tables → Type 0) (LeftBy : A → List Call → List Answer → Tables → Type 0)
+pub LineCallsLeave-choice : (A : Type 0) (T : Tables) (Left : List Call → List Answer → Tables → Type 0) (LeftBy : A → List Call → List Answer → Tables → Type 0)
     → ((calls : List Call) (answers : List Answer) → Left calls answers T → (a : A) × LeftBy a calls answers T)
-    → (lines : List (List ℕ)) (text : List ℕ) → TellsCalls Left lines text T → (a : A) × TellsCalls (LeftBy a) lines text T
-TellsCalls-choice A T Left LeftBy choose [] text it = let chosen = choose [] [] it.1 in (chosen.0, (it.0, chosen.1))
-TellsCalls-choice A T Left LeftBy choose (asked ∷ lines) text it =
-    let chosen = AsksLine-choice A _ (λ a. TellsCalls (LeftBy a) lines it.1 T) _ (λ a call answer. TellsCalls (λ calls answers. LeftBy a (call ∷ calls) (answer ∷ answers)) lines it.1 T)
-    (TellsCalls-choice A T Left LeftBy choose lines it.1)
-    (λ call answer. TellsCalls-choice A T (λ calls answers. Left (call ∷ calls) (answer ∷ answers)) (λ a calls answers. LeftBy a (call ∷ calls) (answer ∷ answers))
+    → (lines : List (List ℕ)) (text : List ℕ) → LineCallsLeave Left lines text T → (a : A) × LineCallsLeave (LeftBy a) lines text T
+LineCallsLeave-choice A T Left LeftBy choose [] text it = let chosen = choose [] [] it.1 in (chosen.0, (it.0, chosen.1))
+LineCallsLeave-choice A T Left LeftBy choose (asked ∷ lines) text it =
+    let chosen = AsksLine-choice A _ (λ a. LineCallsLeave (LeftBy a) lines it.1 T) _ (λ a call answer. LineCallsLeave (λ calls answers. LeftBy a (call ∷ calls) (answer ∷ answers)) lines it.1 T)
+    (LineCallsLeave-choice A T Left LeftBy choose lines it.1)
+    (λ call answer. LineCallsLeave-choice A T (λ calls answers. Left (call ∷ calls) (answer ∷ answers)) (λ a calls answers. LeftBy a (call ∷ calls) (answer ∷ answers))
     (λ calls answers. choose (call ∷ calls) (answer ∷ answers)) lines it.1)
     asked it.0 it.3 in
     (chosen.0, (it.0, it.1, it.2, chosen.1))
@@ -91,10 +91,10 @@ AsksEach-choice A Left LeftBy choose (exchange ∷ earlier) it =
     (choose calls answers) (λ call answer. choose (calls ++ call ∷ []) (answers ++ answer ∷ [])) exchange)
     earlier it
 
-pub LeavingOn-choice : {S : Type 0} (Are : List Exchange → Type 0) (A : Type 0) (T : Tables) (Left : List Call → List Answer → Tables → Type 0) (LeftBy : A → List Call → List Answer → Tables → Type 0)
+pub LeavingTables-choice : {S : Type 0} (Are : List Exchange → Type 0) (A : Type 0) (T : Tables) (Left : List Call → List Answer → Tables → Type 0) (LeftBy : A → List Call → List Answer → Tables → Type 0)
     → ((calls : List Call) (answers : List Answer) → Left calls answers T → (a : A) × LeftBy a calls answers T)
-    → (rules : Rules S) (given : Option ℕ) (count : ℕ) (s : S) → ServesFrontOn (LeavingOn Are Left T) rules given count s
-    → (a : A) × ServesFrontOn (LeavingOn Are (LeftBy a) T) rules given count s
-LeavingOn-choice Are A T Left LeftBy choose rules given count s it =
+    → (rules : Rules S) (given : Option ℕ) (count : ℕ) (s : S) → ServesFirst (LeavingTables Are Left T) rules given count s
+    → (a : A) × ServesFirst (LeavingTables Are (LeftBy a) T) rules given count s
+LeavingTables-choice Are A T Left LeftBy choose rules given count s it =
     let chosen = AsksEach-choice A (λ calls answers. Left calls answers T) (λ a calls answers. LeftBy a calls answers T) choose it.exchanges it.are.1 in
     (chosen.0, record { exchanges = it.exchanges; are = (it.are.0, chosen.1); answered = it.answered; counted = it.counted; are_given = it.are_given })

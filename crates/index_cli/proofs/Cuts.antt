@@ -6,7 +6,7 @@ use Rattle.std.proofs.KnownBytes.{Consumes-nil, Consumes-trans}
 use Rattle.std.proofs.lemmas.List.{take-append-le}
 use Rattle.std.proofs.lemmas.List.Elements.{All-head, All-nil, All-push, All-tail}
 use Rattle.index_io.specs.Bytes.{IsInput}
-use Rattle.index_cli.specs.Lines.{line_feed, longest_line, lines_of, onto_first, Charges, HasNoFeed, IsFrontOfLine, TakesOneLine, TakesLine, TakesLines, TakesPart, TakesWithin}
+use Rattle.index_cli.specs.Lines.{Charges, HasNoFeed, IsFrontOfLine, PartIsTaken, TakesLine, TakesLines, TakesLinesAndPart, TakesOneLine, line_feed, lines_of, longest_line, onto_first}
 
 -- ---- the lines of what begins with a line
 
@@ -83,7 +83,7 @@ Grows-byte a b c size byte kept grows next = (
 
 -- none of them is a feed
 pub Grows-part : (a b c : Option (List ℕ)) (size byte : ℕ) (kept : List ℕ) → Grows a b size kept → Consumes b c (byte ∷ [])
-    → byte ≢ line_feed → TakesPart a c
+    → byte ≢ line_feed → PartIsTaken a c
 Grows-part a b c size byte kept grows next other = (
   grows.line ++ byte ∷ [],
   All-push (λ x. x ≢ line_feed) grows.line byte grows.is.plain other,
@@ -207,13 +207,13 @@ Cuts-taken (Some input) None lines cuts = absurd cuts
 Cuts-taken (Some input) (Some rest) lines cuts = (cuts.taken, cuts.joins, cuts.split)
 
 cut_part : (input rest left : List ℕ) (lines : List (List ℕ)) → Cut input rest lines → (part : List ℕ)
-    → HasNoFeed part → rest ≡ part ++ left → TakesWithin lines (Some input) (Some left)
+    → HasNoFeed part → rest ≡ part ++ left → TakesLinesAndPart lines (Some input) (Some left)
 cut_part input rest left lines cut [] plain taken =
     inl (cut.taken, cut.joins ∙ ap (λ l. cut.taken ++ l) taken, cut.split)
 cut_part input rest left lines cut (byte ∷ more) plain taken = go cut.whole
   where
     go : ((more : List ℕ) → lines_of (cut.taken ++ more) ≡ lines ++ lines_of more) ⊎ (rest ≡ [])
-        → TakesWithin lines (Some input) (Some left)
+        → TakesLinesAndPart lines (Some input) (Some left)
     go (inl whole) =
         let part : List ℕ = byte ∷ more in
         let joins : input ≡ (cut.taken ++ part) ++ left =
@@ -224,7 +224,7 @@ cut_part input rest left lines cut (byte ∷ more) plain taken = go cut.whole
     go (inr empty) = absurd (none_taken rest (byte ∷ more) left empty taken (omega arith))
 
 -- a part of the next line was taken as well
-pub Cuts-part : (a b c : Option (List ℕ)) (lines : List (List ℕ)) → Cuts a b lines → TakesPart b c → TakesWithin lines a c
+pub Cuts-part : (a b c : Option (List ℕ)) (lines : List (List ℕ)) → Cuts a b lines → PartIsTaken b c → TakesLinesAndPart lines a c
 Cuts-part None b c lines cuts (part, plain, taken) = inl (with_feeds lines, tt, lines_of-with_feeds lines cuts)
 Cuts-part (Some input) None c lines cuts (part, plain, taken) = absurd cuts
 Cuts-part (Some input) (Some rest) None lines cuts (part, plain, taken) = absurd taken
@@ -242,5 +242,5 @@ Charges-trans first between now a b c (taken, one, is) (more, next, so) =
     (taken ++ more, Consumes-trans a b c taken more one next, omega (arith, length-append taken more, is, so))
 
 -- nothing was taken
-pub TakesPart-none : (a : Option (List ℕ)) → TakesPart a a
-TakesPart-none a = ([], All-nil (λ x. x ≢ line_feed), Consumes-nil a)
+pub PartIsTaken-none : (a : Option (List ℕ)) → PartIsTaken a a
+PartIsTaken-none a = ([], All-nil (λ x. x ≢ line_feed), Consumes-nil a)

@@ -8,8 +8,8 @@ use Rattle.index_desk.specs.Crashes.{Lasts}
 use Rattle.index_desk.specs.Rules.{by_tables}
 use Rattle.index_json.specs.AnswerText.{answer_text_of}
 use Rattle.index_json.specs.declared.line.Line.TheVariants as line
-use Rattle.index_cli.specs.Telling.{TellsAsked}
-use Rattle.index_cli.specs.TellsFront.{IsFaultText}
+use Rattle.index_cli.specs.Telling.{TextAnswersParsedLine}
+use Rattle.index_cli.specs.LineFronts.{IsFaultText}
 
 -- what is told of a fault
 pub honest_or_mapped : {H F P Q : Type 0} → H ⊎ (F × P) → (P → Q) → H ⊎ (F × Q)
@@ -18,7 +18,7 @@ honest_or_mapped (inr (fault, told)) f = inr (fault, f told)
 
 -- a call after which the store is not shown to be honest was answered by a fault
 pub call_lasts : (H H' : Type 0) (T : Tables) (call : Call) (answer : Answer) (text : List ℕ) → text ≡ answer_text_of answer → Lasts answer H H' → H
-    → H' ⊎ (IsFaultText text × TellsAsked by_tables (Some (line.Call call)) T text T)
+    → H' ⊎ (IsFaultText text × TextAnswersParsedLine by_tables (Some (line.Call call)) T text T)
 call_lasts H H' T call Accepted text is lasts honest = inl lasts
 call_lasts H H' T call Already text is lasts honest = inl (lasts honest)
 call_lasts H H' T call (Refused refusal) text is lasts honest = inl (lasts honest)

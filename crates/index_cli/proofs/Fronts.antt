@@ -1,4 +1,4 @@
--- What was told of lines and of connections by a run in which a fault may have shut the store.
+-- What was told of lines and of connections by a run during which a fault may have shut the store.
 use Rattle.std.proofs.Common.{◌≢◌, ◌⊎◌, ℕ, inl, inr, refl, sym, ap, ◌∙◌, subst, List, [], ◌∷◌, ◌++◌, Option, Result, append_assoc, append-nil}
 use Rattle.index_rules.specs.declared.answer.Answer.{Answer}
 use Rattle.index_rules.specs.declared.answer.Answer.TheVariants.{Accepted, Already, Refused, Fault}
@@ -15,20 +15,20 @@ use Rattle.index_desk.specs.Looks.{LeavesTables}
 use Rattle.index_desk.specs.Rules.{by_history, by_tables}
 use Rattle.index_desk.specs.Takes.{Takes}
 use Rattle.index_cli.specs.declared.end.LineEnd.{LineEnd}
-use Rattle.index_cli.specs.Ends.{EndsRun, Telling}
+use Rattle.index_cli.specs.Ends.{LinesEnd, Telling}
 use Rattle.index_cli.specs.Lines.{line_feed}
-use Rattle.index_cli.specs.Replies.{IsHonestOrFault, TellsKept}
-use Rattle.index_cli.specs.Telling.{TellsLine, TellsLines}
-use Rattle.index_cli.specs.TellsCalls.{AsksKept, AsksLine}
-use Rattle.index_cli.specs.TellsFront.{AcceptsNone, IsFaultText, TellsFront, TellsUpToFault}
+use Rattle.index_cli.specs.Replies.{IsHonestOrFault, KeptLineIsAnswered}
+use Rattle.index_cli.specs.Telling.{TextAnswersLine, TextAnswersLines}
+use Rattle.index_cli.specs.LineCalls.{AsksKept, AsksLine}
+use Rattle.index_cli.specs.LineFronts.{AcceptsNone, IsFaultText, TextAnswersFront, TextAnswersToFault}
 use Rattle.index_cli.proofs.Choices.{AsksLine-choice}
-use Rattle.index_cli.proofs.Histories.{TellsHistory-TellsLines, line_after}
-use Rattle.index_cli.proofs.Progress.{Pushes, TellsLines-push}
-use Rattle.index_cli.proofs.RunEnds.{Ends-map}
+use Rattle.index_cli.proofs.Histories.{HistoryAnswersLines-TextAnswersLines, line_after}
+use Rattle.index_cli.proofs.Progress.{Pushes, TextAnswersLines-push}
+use Rattle.index_cli.proofs.RunEnds.{LinesEnd-map}
 
 -- ---- a call that was accepted shows that the store is honest
 
--- where that was not shown, the answer is no acceptance
+-- if that was not shown, the answer is not Accepted
 abbrev pub NotAccepted : {H : Type 0} → H ⊎ Unit {0} → Call → Answer → Type 0
 NotAccepted (inl honest) call answer = Unit {0}
 NotAccepted (inr none) call answer = answer ≢ Accepted
@@ -72,9 +72,9 @@ AcceptsNone-push (before ∷ done) text line first (earlier, more, is, asked, ot
 )
 
 -- after the fault
-UpToFault-push : (S : Tables) (done : List (List ℕ)) (text line first : List ℕ) → TellsUpToFault by_tables S done text
+UpToFault-push : (S : Tables) (done : List (List ℕ)) (text line first : List ℕ) → TextAnswersToFault by_tables S done text
     → AsksLine line first (Unit {0}) (λ call answer. answer ≢ Accepted)
-    → TellsUpToFault by_tables S (done ++ line ∷ []) (text ++ (first ++ line_feed ∷ []))
+    → TextAnswersToFault by_tables S (done ++ line ∷ []) (text ++ (first ++ line_feed ∷ []))
 UpToFault-push S [] text line first told asks = absurd told
 UpToFault-push S (before ∷ done) text line first (earlier, more, between, is, tells, others) asks = (
   earlier,
@@ -89,15 +89,15 @@ UpToFault-push S (before ∷ done) text line first (earlier, more, between, is, 
 )
 
 -- the fault itself
-UpToFault-fault : (S T : Tables) (done : List (List ℕ)) (text line first : List ℕ) → TellsLines by_tables S done text T
-    → TellsLine by_tables line T first T → IsFaultText first
-    → TellsUpToFault by_tables S (done ++ line ∷ []) (text ++ (first ++ line_feed ∷ []))
+UpToFault-fault : (S T : Tables) (done : List (List ℕ)) (text line first : List ℕ) → TextAnswersLines by_tables S done text T
+    → TextAnswersLine by_tables line T first T → IsFaultText first
+    → TextAnswersToFault by_tables S (done ++ line ∷ []) (text ++ (first ++ line_feed ∷ []))
 UpToFault-fault S T [] text line first told tells fault = (
   first,
   [],
   T,
   ap (λ l. l ++ (first ++ line_feed ∷ [])) told.0 ∙ sym (append-nil (first ++ line_feed ∷ [])),
-  subst (λ x. TellsLine by_tables line x first T) told.1 tells,
+  subst (λ x. TextAnswersLine by_tables line x first T) told.1 tells,
   inr (fault, refl),
 )
 UpToFault-fault S T (before ∷ done) text line first (earlier, more, between, tells_before, others, is) tells fault = (
@@ -112,8 +112,8 @@ UpToFault-fault S T (before ∷ done) text line first (earlier, more, between, t
 module _ {S : Type 0} (g : Ghosts S) where
   -- the lines so far, since the desk was as it was first
   pub record FrontSoFar (first now : S) (lines : List (List ℕ)) (text : List ℕ) : Type 0 where
-    pub told : g.IsHonest now → HasOneBearer (g.tables first) → TellsLines by_tables (g.tables first) lines text (g.tables now)
-    pub front : g.IsHonest first → g.IsClean now → HasOneBearer (g.tables first) → g.IsHonest now ⊎ TellsUpToFault by_tables (g.tables first) lines text
+    pub told : g.IsHonest now → HasOneBearer (g.tables first) → TextAnswersLines by_tables (g.tables first) lines text (g.tables now)
+    pub front : g.IsHonest first → g.IsClean now → HasOneBearer (g.tables first) → g.IsHonest now ⊎ TextAnswersToFault by_tables (g.tables first) lines text
 
   -- so of lines, whatever the tables
   abbrev pub by_front : (first now : S) → Telling
@@ -123,14 +123,14 @@ module _ {S : Type 0} (g : Ghosts S) where
   front_none first = record { told = λ _ _. (refl, refl); front = λ honest _ _. inl honest }
 
   pub front_push : (first now new : S) (T U : Tables) (size : ℕ) (kept text : List ℕ) → KeepsInvariants g first now → KeepsInvariants g now new
-      → (g.IsHonest new → HasOneBearer (g.tables now) → TellsKept size kept (g.tables now) text (g.tables new))
-      → (g.IsHonest now → g.IsClean new → IsHonestOrFault g new text (TellsKept size kept (g.tables now) text (g.tables now)))
+      → (g.IsHonest new → HasOneBearer (g.tables now) → KeptLineIsAnswered size kept (g.tables now) text (g.tables new))
+      → (g.IsHonest now → g.IsClean new → IsHonestOrFault g new text (KeptLineIsAnswered size kept (g.tables now) text (g.tables now)))
       → AsksKept size kept text (LeavesTables g now new) (Takes g now new)
       → Pushes (by_front first now) (by_front first new) T U size kept text
   front_push first now new T U size kept text before keeps reply lasts asks done told line sized front it = record {
     told = λ honest one.
         let then = keeps.honest honest in
-        TellsLines-push _ _ _ done told line text (it.told then one) (reply honest (before.one_bearer then one) line sized front);
+        TextAnswersLines-push _ _ _ done told line text (it.told then one) (reply honest (before.one_bearer then one) line sized front);
     front = λ honest clean one. elim (it.front honest (keeps.clean clean) one) [
       | inl then ↦ elim (lasts then clean) [
         | inl is ↦ inl is
@@ -145,19 +145,19 @@ module _ {S : Type 0} (g : Ghosts S) where
 
   -- at an end
   pub lines_front : (first now : S) → g.IsHonest first → g.IsClean now → HasOneBearer (g.tables first) → (U T : Tables) (a b w0 w1 : Option (List ℕ)) (result : Result ℕ LineEnd)
-      → EndsRun (by_front first now) U a b w0 w1 result → EndsRun (TellsFront by_tables (g.tables first)) T a b w0 w1 result
+      → LinesEnd (by_front first now) U a b w0 w1 result → LinesEnd (TextAnswersFront by_tables (g.tables first)) T a b w0 w1 result
   lines_front first now honest clean one U T a b w0 w1 result ends =
-      Ends-map (by_front first now) (TellsFront by_tables (g.tables first)) U T (λ lines text it. which lines text it (it.front honest clean one)) a b w0 w1 result ends
+      LinesEnd-map (by_front first now) (TextAnswersFront by_tables (g.tables first)) U T (λ lines text it. which lines text it (it.front honest clean one)) a b w0 w1 result ends
     where
       which : (lines : List (List ℕ)) (text : List ℕ) → FrontSoFar first now lines text
-          → g.IsHonest now ⊎ TellsUpToFault by_tables (g.tables first) lines text → TellsFront by_tables (g.tables first) lines text T
+          → g.IsHonest now ⊎ TextAnswersToFault by_tables (g.tables first) lines text → TextAnswersFront by_tables (g.tables first) lines text T
       which lines text it (inl then) = inl (g.tables now, it.told then one)
       which lines text it (inr shut) = inr shut
 
 -- ---- by a history for which the tables stood
 
 UpToFault-history : (h : History) → IsLegal h → (T : Tables) → StandsFor T h → (lines : List (List ℕ)) (text : List ℕ)
-    → TellsUpToFault by_tables T lines text → TellsUpToFault by_history h lines text
+    → TextAnswersToFault by_tables T lines text → TextAnswersToFault by_history h lines text
 UpToFault-history h legal T stands [] text told = told
 UpToFault-history h legal T stands (line ∷ lines) text (first, more, between, is, tells, others) =
     let one = line_after h legal T stands line first between tells in (
@@ -173,12 +173,12 @@ UpToFault-history h legal T stands (line ∷ lines) text (first, more, between, 
     )
 
 front_history : (h : History) → IsLegal h → (S T : Tables) → StandsFor S h → (lines : List (List ℕ)) (text : List ℕ)
-    → TellsFront by_tables S lines text T → TellsFront by_history h lines text T
+    → TextAnswersFront by_tables S lines text T → TextAnswersFront by_history h lines text T
 front_history h legal S T stands lines text (inl told) =
-    let it = TellsHistory-TellsLines h legal S stands lines text told.0 told.1 in inl (it.after, it.told)
+    let it = HistoryAnswersLines-TextAnswersLines h legal S stands lines text told.0 told.1 in inl (it.after, it.told)
 front_history h legal S T stands lines text (inr shut) = inr (UpToFault-history h legal S stands lines text shut)
 
 pub lines_front_history : (h : History) → IsLegal h → (S : Tables) → StandsFor S h → (T : Tables) (a b w0 w1 : Option (List ℕ)) (result : Result ℕ LineEnd)
-    → EndsRun (TellsFront by_tables S) T a b w0 w1 result → EndsRun (TellsFront by_history h) T a b w0 w1 result
+    → LinesEnd (TextAnswersFront by_tables S) T a b w0 w1 result → LinesEnd (TextAnswersFront by_history h) T a b w0 w1 result
 lines_front_history h legal S stands T a b w0 w1 result ends =
-    Ends-map (TellsFront by_tables S) (TellsFront by_history h) T T (λ lines text. front_history h legal S T stands lines text) a b w0 w1 result ends
+    LinesEnd-map (TextAnswersFront by_tables S) (TextAnswersFront by_history h) T T (λ lines text. front_history h legal S T stands lines text) a b w0 w1 result ends

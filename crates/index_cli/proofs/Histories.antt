@@ -13,11 +13,11 @@ use Rattle.index_json.specs.Line.{line_of}
 use Rattle.index_json.specs.declared.line.Line.{Line}
 use Rattle.index_json.specs.declared.line.Line.TheVariants as line
 use Rattle.index_cli.specs.Lines.{longest_line}
-use Rattle.index_cli.specs.Telling.{TellsAsked, TellsLine, TellsLines, TellsStanding}
-use Rattle.index_cli.specs.TellsHistory.{TellsHistory}
+use Rattle.index_cli.specs.Telling.{TextAnswersLine, TextAnswersLines, TextAnswersParsedLine, TextAnswersStanding}
+use Rattle.index_cli.specs.LineHistories.{HistoryAnswersLines}
 
 standing_after : (h : History) (T : Tables) → StandsFor T h → (name : Option (List ℕ)) (text : List ℕ)
-    → TellsStanding by_tables T name text → TellsStanding by_history h name text
+    → TextAnswersStanding by_tables T name text → TextAnswersStanding by_history h name text
 standing_after h T stands None text tells = tells
 standing_after h T stands (Some name) text (inl (standing, is, told)) =
     inl (standing, standing_by_history h T stands name standing is, told)
@@ -26,12 +26,12 @@ standing_after h T stands (Some name) text (inr fault) = inr fault
 -- one line: what was told, and the history for which the tables stand then
 record AfterAsked (asked : Option Line) (h : History) (text : List ℕ) (T' : Tables) : Type 0 where
   after : History
-  told : TellsAsked by_history asked h text after
+  told : TextAnswersParsedLine by_history asked h text after
   legal : IsLegal after
   stands : StandsFor T' after
 
 asked_after : (h : History) → IsLegal h → (T : Tables) → StandsFor T h → (asked : Option Line) (text : List ℕ) (T' : Tables)
-    → TellsAsked by_tables asked T text T' → AfterAsked asked h text T'
+    → TextAnswersParsedLine by_tables asked T text T' → AfterAsked asked h text T'
 asked_after h legal T stands None text T' (is, same) =
     record { after = h; told = (is, refl); legal = legal; stands = subst (λ x. StandsFor x h) (sym same) stands }
 asked_after h legal T stands (Some (line.Call call)) text T' (answer, is, answers, next) =
@@ -51,12 +51,12 @@ asked_after h legal T stands (Some (line.Standing name)) text T' (tells, same) =
 
 pub record AfterLine (line : List ℕ) (h : History) (text : List ℕ) (T' : Tables) : Type 0 where
   pub after : History
-  pub told : TellsLine by_history line h text after
+  pub told : TextAnswersLine by_history line h text after
   pub legal : IsLegal after
   pub stands : StandsFor T' after
 
 pub line_after : (h : History) → IsLegal h → (T : Tables) → StandsFor T h → (line text : List ℕ) (T' : Tables)
-    → TellsLine by_tables line T text T' → AfterLine line h text T'
+    → TextAnswersLine by_tables line T text T' → AfterLine line h text T'
 line_after h legal T stands line text T' tells = elim (cases_lt longest_line (length line)) [
   | inr short ↦
       let one = asked_after h legal T stands (line_of line) text T' (tells.0 short) in
@@ -76,14 +76,14 @@ line_after h legal T stands line text T' tells = elim (cases_lt longest_line (le
       }
 ]
 
-pub TellsHistory-TellsLines : (h : History) → IsLegal h → (T : Tables) → StandsFor T h
+pub HistoryAnswersLines-TextAnswersLines : (h : History) → IsLegal h → (T : Tables) → StandsFor T h
     → (lines : List (List ℕ)) (text : List ℕ) (T' : Tables)
-    → TellsLines by_tables T lines text T' → TellsHistory h lines text T'
-TellsHistory-TellsLines h legal T stands [] text T' (is, same) =
+    → TextAnswersLines by_tables T lines text T' → HistoryAnswersLines h lines text T'
+HistoryAnswersLines-TextAnswersLines h legal T stands [] text T' (is, same) =
     record { after = h; told = (is, refl); legal = legal; stands = subst (λ x. StandsFor x h) (sym same) stands }
-TellsHistory-TellsLines h legal T stands (line ∷ lines) text T' (first, more, between, tells, told, is) =
+HistoryAnswersLines-TextAnswersLines h legal T stands (line ∷ lines) text T' (first, more, between, tells, told, is) =
     let one = line_after h legal T stands line first between tells in
-    let rest = TellsHistory-TellsLines one.after one.legal between one.stands lines more T' told in
+    let rest = HistoryAnswersLines-TextAnswersLines one.after one.legal between one.stands lines more T' told in
     record {
       after = rest.after;
       told = (first, more, one.after, one.told, rest.told, is);

@@ -7,26 +7,26 @@ use Rattle.index_rules.specs.Tables.{Tables}
 use Rattle.index_desk.specs.Rules.{by_tables}
 use Rattle.index_json.specs.AnswerText.{bad_body_text}
 use Rattle.index_json.specs.Line.{line_of}
-use Rattle.index_cli.specs.Ends.{Telling, TellsAll, TellsBefore, TellsDuring}
-use Rattle.index_cli.specs.Lines.{line_feed, longest_line, TakesLine, TakesPart}
-use Rattle.index_cli.specs.Replies.{TellsKept}
-use Rattle.index_cli.specs.Telling.{TellsAsked, TellsLine, TellsLines}
+use Rattle.index_cli.specs.Ends.{AllLinesAreAnswered, LineIsPartlyAnswered, LinesBeforeAreAnswered, Telling}
+use Rattle.index_cli.specs.Lines.{PartIsTaken, TakesLine, line_feed, longest_line}
+use Rattle.index_cli.specs.Replies.{KeptLineIsAnswered}
+use Rattle.index_cli.specs.Telling.{TextAnswersLine, TextAnswersLines, TextAnswersParsedLine}
 use Rattle.index_cli.proofs.Cuts.{Cuts, Cuts-input, Cuts-nil, Cuts-part, Cuts-push, Cuts-taken, Cuts-whole}
 
 -- ---- one line
 
 -- a line that is not too long is its own front
-pub TellsKept-read : (front : List ℕ) (T T' : Tables) (size : ℕ) (text : List ℕ) → size ≤ longest_line
-    → TellsAsked by_tables (line_of front) T text T' → TellsKept size front T text T'
-TellsKept-read front T T' size text short told line long is =
+pub KeptLineIsAnswered-read : (front : List ℕ) (T T' : Tables) (size : ℕ) (text : List ℕ) → size ≤ longest_line
+    → TextAnswersParsedLine by_tables (line_of front) T text T' → KeptLineIsAnswered size front T text T'
+KeptLineIsAnswered-read front T T' size text short told line long is =
     let whole : front ≡ line = is ∙ take_all longest_line line (omega (arith, short, long)) in (
-      λ _. subst (λ (l : List ℕ). TellsAsked by_tables (line_of l) T text T') whole told,
+      λ _. subst (λ (l : List ℕ). TextAnswersParsedLine by_tables (line_of l) T text T') whole told,
       λ far. absurd (omega (arith, short, long, far)),
     )
 
-pub TellsKept-long : (front : List ℕ) (T : Tables) (size : ℕ) (text : List ℕ) → longest_line < size
-    → text ≡ bad_body_text → TellsKept size front T text T
-TellsKept-long front T size text far is line long _ = (λ near. absurd (omega (arith, far, long, near)), λ _. (is, refl))
+pub KeptLineIsAnswered-long : (front : List ℕ) (T : Tables) (size : ℕ) (text : List ℕ) → longest_line < size
+    → text ≡ bad_body_text → KeptLineIsAnswered size front T text T
+KeptLineIsAnswered-long front T size text far is line long _ = (λ near. absurd (omega (arith, far, long, near)), λ _. (is, refl))
 
 -- ---- lines
 
@@ -36,30 +36,30 @@ Pushes tells tells' T U size kept first =
     (done : List (List ℕ)) (text line : List ℕ) → length line ≡ size → kept ≡ take longest_line line
     → tells done text T → tells' (done ++ line ∷ []) (text ++ (first ++ line_feed ∷ [])) U
 
-pub TellsLines-push : (S T U : Tables) (done : List (List ℕ)) (text line first : List ℕ)
-    → TellsLines by_tables S done text T → TellsLine by_tables line T first U
-    → TellsLines by_tables S (done ++ line ∷ []) (text ++ (first ++ line_feed ∷ [])) U
-TellsLines-push S T U [] text line first told tells = (
+pub TextAnswersLines-push : (S T U : Tables) (done : List (List ℕ)) (text line first : List ℕ)
+    → TextAnswersLines by_tables S done text T → TextAnswersLine by_tables line T first U
+    → TextAnswersLines by_tables S (done ++ line ∷ []) (text ++ (first ++ line_feed ∷ [])) U
+TextAnswersLines-push S T U [] text line first told tells = (
   first,
   [],
   U,
-  subst (λ T. TellsLine by_tables line T first U) told.1 tells,
+  subst (λ T. TextAnswersLine by_tables line T first U) told.1 tells,
   (refl, refl),
   ap (λ l. l ++ (first ++ line_feed ∷ [])) told.0 ∙ sym (append-nil (first ++ line_feed ∷ [])),
 )
-TellsLines-push S T U (before ∷ done) text line first (earlier, more, between, tells_before, others, is) tells = (
+TextAnswersLines-push S T U (before ∷ done) text line first (earlier, more, between, tells_before, others, is) tells = (
   earlier,
   more ++ (first ++ line_feed ∷ []),
   between,
   tells_before,
-  TellsLines-push between T U done more line first others tells,
+  TextAnswersLines-push between T U done more line first others tells,
   ap (λ l. l ++ (first ++ line_feed ∷ [])) is ∙ append_assoc (earlier ++ line_feed ∷ []) more (first ++ line_feed ∷ []),
 )
 
-pub lines_push : (S T U : Tables) (size : ℕ) (kept first : List ℕ) → TellsKept size kept T first U
-    → Pushes (TellsLines by_tables S) (TellsLines by_tables S) T U size kept first
+pub lines_push : (S T U : Tables) (size : ℕ) (kept first : List ℕ) → KeptLineIsAnswered size kept T first U
+    → Pushes (TextAnswersLines by_tables S) (TextAnswersLines by_tables S) T U size kept first
 lines_push S T U size kept first tells done text line sized front told =
-    TellsLines-push S T U done text line first told (tells line sized front)
+    TextAnswersLines-push S T U done text line first told (tells line sized front)
 
 -- the lines so far were told of: of a reader (a to b), of a writer (w0 to w1), and these tables
 pub record Progress (tells : Telling) (T : Tables) (a b w0 w1 : Option (List ℕ)) (count : ℕ) : Type 0 where
@@ -97,7 +97,7 @@ Progress-push tells tells' T U a b c w0 w1 w2 count size kept first before (line
 
 -- no line is left
 pub Progress-whole : (tells : Telling) (T : Tables) (a b c w0 w1 : Option (List ℕ)) (count : ℕ)
-    → Progress tells T a b w0 w1 count → Consumes b c [] → IsAtEnd c → TellsAll tells T a c w0 w1 count
+    → Progress tells T a b w0 w1 count → Consumes b c [] → IsAtEnd c → AllLinesAreAnswered tells T a c w0 w1 count
 Progress-whole tells T a b c w0 w1 count before taken end =
     let (input, is_input, whole, lines) = Cuts-whole a b c before.done before.cuts taken end in
     record {
@@ -113,7 +113,7 @@ Progress-whole tells T a b c w0 w1 count before taken end =
 
 -- a part of the next line was taken
 pub Progress-part : (tells : Telling) (T : Tables) (a b c w0 w1 : Option (List ℕ)) (count : ℕ)
-    → Progress tells T a b w0 w1 count → TakesPart b c → TellsBefore tells T a c w0 w1
+    → Progress tells T a b w0 w1 count → PartIsTaken b c → LinesBeforeAreAnswered tells T a c w0 w1
 Progress-part tells T a b c w0 w1 count before part =
     let (input, left, is_input, lines) = Cuts-input a b before.done before.cuts in
     record {
@@ -130,7 +130,7 @@ Progress-part tells T a b c w0 w1 count before part =
 
 -- the next line was taken, and not told of
 pub Progress-taken : (tells : Telling) (T : Tables) (a b c w0 w1 : Option (List ℕ)) (count size : ℕ) (kept : List ℕ)
-    → Progress tells T a b w0 w1 count → TakesLine (Some size) kept b c → TellsBefore tells T a c w0 w1
+    → Progress tells T a b w0 w1 count → TakesLine (Some size) kept b c → LinesBeforeAreAnswered tells T a c w0 w1
 Progress-taken tells T a b c w0 w1 count size kept before (line, is, passes) =
     let (input, left, is_input, lines) = Cuts-input a b before.done before.cuts in
     record {
@@ -149,7 +149,7 @@ Progress-taken tells T a b c w0 w1 count size kept before (line, is, passes) =
 pub Progress-during : (tells tells' : Telling) (T U : Tables) (a b c w0 w1 w2 : Option (List ℕ)) (count size n : ℕ) (kept first : List ℕ)
     → Progress tells T a b w0 w1 count → TakesLine (Some size) kept b c → Pushes tells tells' T U size kept first
     → n < length (first ++ line_feed ∷ []) → Appends w1 w2 (take n (first ++ line_feed ∷ []))
-    → TellsDuring tells' U a c w0 w2
+    → LineIsPartlyAnswered tells' U a c w0 w2
 Progress-during tells tells' T U a b c w0 w1 w2 count size n kept first before (line, is, passes) push less sent =
     let cuts = Cuts-push a b c before.done line before.cuts is.plain passes in
     let (input, left, is_input, lines) = Cuts-input a c (before.done ++ line ∷ []) cuts in

@@ -4,16 +4,16 @@ use Rattle.index_io.specs.Counts.{HasFailed}
 use Rattle.index_rules.specs.Tables.{Tables}
 use Rattle.index_cli.specs.declared.end.LineEnd.{LineEnd}
 use Rattle.index_cli.specs.declared.end.LineEnd.TheVariants.{ReadFault, WriteFault, OutOfMemory}
-use Rattle.index_cli.specs.Ends.{EndsRun, Telling, TellsAll, TellsBefore, TellsDuring}
+use Rattle.index_cli.specs.Ends.{AllLinesAreAnswered, LineIsPartlyAnswered, LinesBeforeAreAnswered, LinesEnd, Telling}
 use Rattle.index_cli.specs.Lines.{Charges}
 use Rattle.index_cli.proofs.Cuts.{Charges-trans}
 
 -- at each end but that of a writer
-pub Ends-before : (tells : Telling) (T : Tables) (a b w0 w1 : Option (List ℕ)) (r : Result ℕ LineEnd) (end : LineEnd)
-    → r ≡ Err end → r ≢ Err WriteFault → TellsBefore tells T a b w0 w1 → EndsRun tells T a b w0 w1 r
-Ends-before tells T a b w0 w1 r ReadFault is other before = subst (λ r. EndsRun tells T a b w0 w1 r) (sym is) before
-Ends-before tells T a b w0 w1 r OutOfMemory is other before = subst (λ r. EndsRun tells T a b w0 w1 r) (sym is) before
-Ends-before tells T a b w0 w1 r WriteFault is other before = absurd (other is)
+pub LinesEnd-before : (tells : Telling) (T : Tables) (a b w0 w1 : Option (List ℕ)) (r : Result ℕ LineEnd) (end : LineEnd)
+    → r ≡ Err end → r ≢ Err WriteFault → LinesBeforeAreAnswered tells T a b w0 w1 → LinesEnd tells T a b w0 w1 r
+LinesEnd-before tells T a b w0 w1 r ReadFault is other before = subst (λ r. LinesEnd tells T a b w0 w1 r) (sym is) before
+LinesEnd-before tells T a b w0 w1 r OutOfMemory is other before = subst (λ r. LinesEnd tells T a b w0 w1 r) (sym is) before
+LinesEnd-before tells T a b w0 w1 r WriteFault is other before = absurd (other is)
 
 -- a read failed, or nothing may be read any more
 pub failed_or_spent : (f0 f1 f2 first left now : ℕ) (a b c : Option (List ℕ)) → f1 ≡ f0
@@ -22,10 +22,10 @@ failed_or_spent f0 f1 f2 first left now a b c same charged more (inl failed) = i
 failed_or_spent f0 f1 f2 first left now a b c same charged more (inr none) =
     inr (subst (λ n. Charges first n a c) none (Charges-trans first left now a b c charged more))
 
--- ---- where more may be told of the same lines by the same text
+-- ---- if more may be told of the same lines by the same text
 
 module _ (tells tells' : Telling) (T T' : Tables) (f : (lines : List (List ℕ)) (text : List ℕ) → tells lines text T → tells' lines text T') where
-  all_map : (a b w0 w1 : Option (List ℕ)) (count : ℕ) → TellsAll tells T a b w0 w1 count → TellsAll tells' T' a b w0 w1 count
+  all_map : (a b w0 w1 : Option (List ℕ)) (count : ℕ) → AllLinesAreAnswered tells T a b w0 w1 count → AllLinesAreAnswered tells' T' a b w0 w1 count
   all_map a b w0 w1 count e = record {
     input = e.input;
     text = e.text;
@@ -37,7 +37,7 @@ module _ (tells tells' : Telling) (T T' : Tables) (f : (lines : List (List ℕ))
     counted = e.counted;
   }
 
-  pub before_map : (a b w0 w1 : Option (List ℕ)) → TellsBefore tells T a b w0 w1 → TellsBefore tells' T' a b w0 w1
+  pub before_map : (a b w0 w1 : Option (List ℕ)) → LinesBeforeAreAnswered tells T a b w0 w1 → LinesBeforeAreAnswered tells' T' a b w0 w1
   before_map a b w0 w1 e = record {
     input = e.input;
     done = e.done;
@@ -50,7 +50,7 @@ module _ (tells tells' : Telling) (T T' : Tables) (f : (lines : List (List ℕ))
     wrote = e.wrote;
   }
 
-  during_map : (a b w0 w1 : Option (List ℕ)) → TellsDuring tells T a b w0 w1 → TellsDuring tells' T' a b w0 w1
+  during_map : (a b w0 w1 : Option (List ℕ)) → LineIsPartlyAnswered tells T a b w0 w1 → LineIsPartlyAnswered tells' T' a b w0 w1
   during_map a b w0 w1 e = record {
     input = e.input;
     done = e.done;
@@ -66,8 +66,8 @@ module _ (tells tells' : Telling) (T T' : Tables) (f : (lines : List (List ℕ))
     wrote = e.wrote;
   }
 
-  pub Ends-map : (a b w0 w1 : Option (List ℕ)) (result : Result ℕ LineEnd) → EndsRun tells T a b w0 w1 result → EndsRun tells' T' a b w0 w1 result
-  Ends-map a b w0 w1 (Ok count) e = all_map a b w0 w1 count e
-  Ends-map a b w0 w1 (Err ReadFault) e = before_map a b w0 w1 e
-  Ends-map a b w0 w1 (Err WriteFault) e = during_map a b w0 w1 e
-  Ends-map a b w0 w1 (Err OutOfMemory) e = before_map a b w0 w1 e
+  pub LinesEnd-map : (a b w0 w1 : Option (List ℕ)) (result : Result ℕ LineEnd) → LinesEnd tells T a b w0 w1 result → LinesEnd tells' T' a b w0 w1 result
+  LinesEnd-map a b w0 w1 (Ok count) e = all_map a b w0 w1 count e
+  LinesEnd-map a b w0 w1 (Err ReadFault) e = before_map a b w0 w1 e
+  LinesEnd-map a b w0 w1 (Err WriteFault) e = during_map a b w0 w1 e
+  LinesEnd-map a b w0 w1 (Err OutOfMemory) e = before_map a b w0 w1 e

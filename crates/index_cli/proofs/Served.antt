@@ -9,15 +9,15 @@ use Rattle.index_http.specs.declared.end.IoEnd.TheVariants.{OutOfMemory}
 use Rattle.index_cli.specs.Connections.{AreOn, Came, Closed, Exchange, IsRest, KnownList, Loses}
 use Rattle.index_http.specs.Steps.{at_desk}
 use Rattle.index_cli.specs.Steps.{on_connections}
-use Rattle.index_cli.specs.Serving.{AnswersMessage, AnswersNext, ServesHistoryOn, ServesOn}
+use Rattle.index_cli.specs.Serving.{DeskAnswersExchange, NextConnectionIsAnswered, Serves, ServesByHistory}
 
 -- ---- connections of one kind are of another
 
 module _ (Are Are' : List Exchange → Type 0) (f : (exchanges : List Exchange) → Are exchanges → Are' exchanges) where
-  pub serves_are : {S : Type 0} (rules : Rules S) (given : Option ℕ) (count : ℕ) (s s' : S) → ServesOn Are rules given count s s' → ServesOn Are' rules given count s s'
+  pub serves_are : {S : Type 0} (rules : Rules S) (given : Option ℕ) (count : ℕ) (s s' : S) → Serves Are rules given count s s' → Serves Are' rules given count s s'
   serves_are rules given count s s' it = record { exchanges = it.exchanges; are = f it.exchanges it.are; answered = it.answered; counted = it.counted; are_given = it.are_given }
 
-  pub history_are : (h : History) (given : Option ℕ) (count : ℕ) (T : Tables) → ServesHistoryOn Are h given count T → ServesHistoryOn Are' h given count T
+  pub history_are : (h : History) (given : Option ℕ) (count : ℕ) (T : Tables) → ServesByHistory Are h given count T → ServesByHistory Are' h given count T
   history_are h given count T it = record { later = it.later; serves = serves_are _ given count h it.later it.serves; legal = it.legal; stands = it.stands }
 
 -- ---- connections so far
@@ -35,7 +35,7 @@ module _ {C : Type 0} (coming replies : C → KnownList) where
 
   -- one more was
   pub are_push : {S : Type 0} (g : Ghosts S) (old new : S) (first now after : C) (given : Option ℕ)
-      → (next : AnswersNext given (at_desk g old new) (on_connections coming replies now after))
+      → (next : NextConnectionIsAnswered given (at_desk g old new) (on_connections coming replies now after))
       → (earlier : List Exchange) → AreSoFar first now earlier → AreSoFar first after (next.exchange ∷ earlier)
   are_push g old new first now after given next earlier it =
       ((coming now, it.0, next.came, next.unsent), (replies now, it.1, next.closed))
@@ -47,7 +47,7 @@ its_moment None = tt
 its_moment (Some at) = refl
 
 unasked : {S : Type 0} (g : Ghosts S) (s : S) (at : ℕ) (given : Option (List ℕ))
-    → AnswersMessage g s s (record { at = at; given = given; had = Some []; has = Some [] })
+    → DeskAnswersExchange g s s (record { at = at; given = given; had = Some []; has = Some [] })
 unasked g s at given = record {
   tables = λ honest one. record { failures = 0; later_failures = 0; ended = Err OutOfMemory; ends = (refl, refl) };
   history = λ honest h legal stands. record {
@@ -66,7 +66,7 @@ unasked g s at given = record {
 
 pub closed_at_once : {S C : Type 0} (g : Ghosts S) (s : S) (coming replies : C → KnownList) (before after : C) (given : Option ℕ)
     → Loses (coming before) (coming after) (replies before) (replies after)
-    → AnswersNext given (at_desk g s s) (on_connections coming replies before after)
+    → NextConnectionIsAnswered given (at_desk g s s) (on_connections coming replies before after)
 closed_at_once g s coming replies before after given lost = record {
   exchange = record { at = unwrap_or given 0; given = lost.0; had = Some []; has = Some [] };
   is_given = its_moment given;

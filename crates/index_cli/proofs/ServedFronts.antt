@@ -11,24 +11,24 @@ use Rattle.index_rules.specs.History.{History}
 use Rattle.index_rules.specs.Legal.{IsLegal}
 use Rattle.index_rules.specs.StandsFor.{StandsFor}
 use Rattle.index_rules.specs.Tables.{Tables}
-use Rattle.index_desk.specs.Crashes.{LeavesAll, LeavesAllOf}
+use Rattle.index_desk.specs.Crashes.{CallsLeaveHistory, CallsLeaveTables}
 use Rattle.index_desk.specs.Invariants.{KeepsInvariants}
 use Rattle.index_desk.specs.Looks.{LeavesTables}
 use Rattle.index_desk.specs.Rules.{by_history, by_tables}
 use Rattle.index_desk.specs.Takes.{Takes}
-use Rattle.index_desk.proofs.CrashLemmas.{LeavesAllOf-LeavesAll}
+use Rattle.index_desk.proofs.CrashLemmas.{CallsLeaveHistory-CallsLeaveTables}
 use Rattle.index_http.specs.Exchanges.{IsFaultless}
 use Rattle.index_http.specs.Steps.{StaysHonest, at_desk}
 use Rattle.index_http.proofs.Failures.{failure_map}
-use Rattle.index_http.proofs.Histories.{EndsAfter-Ends, faultless_after}
+use Rattle.index_http.proofs.Histories.{reply_ends_by_history, faultless_after}
 use Rattle.index_cli.specs.Connections.{Exchange}
-use Rattle.index_cli.specs.ServesFront.{AcceptsNothing, AnswersFront, AnswersUpToFault, LeavingOn, ServesFrontOn}
-use Rattle.index_cli.specs.Serving.{AnswersEach, AnswersMessage, AnswersOne, AsksEach, AsksOne, FailsOne, OneHistory}
+use Rattle.index_cli.specs.ServesFront.{AcceptsNothing, ExchangeFrontIsAnswered, ExchangesAnsweredToFault, LeavingTables, ServesFirst}
+use Rattle.index_cli.specs.Serving.{AsksEach, AsksOne, DeskAnswersExchange, ExchangeIsAnswered, ExchangeShowsFailure, ExchangesAreAnswered, OneHistory}
 use Rattle.index_cli.proofs.Calls.{Taken, asks_each_map, asks_push, taken_call, taken_look, taken_none}
 use Rattle.index_cli.proofs.Choices.{AsksOne-choice}
 use Rattle.index_cli.proofs.Fronts.{NotAccepted}
 
--- where a call was accepted the store stays honest, and else none was
+-- if a call was accepted, the store stays honest; else none was
 module _ {S : Type 0} (g : Ghosts S) (now new : S) where
   abbrev Stays : Type 0
   Stays = StaysHonest (at_desk g now new)
@@ -54,8 +54,8 @@ module _ {S : Type 0} (g : Ghosts S) where
   pub record ServedSoFar (Are : List Exchange → Type 0) (given : Option ℕ) (first now : S) (count : ℕ) : Type 0 where
     pub exchanges : List Exchange
     pub are : Are exchanges
-    pub told : g.IsHonest now → AnswersEach by_tables exchanges (g.tables first) (g.tables now)
-    pub front : g.IsHonest now ⊎ AnswersUpToFault by_tables exchanges (g.tables first)
+    pub told : g.IsHonest now → ExchangesAreAnswered by_tables exchanges (g.tables first) (g.tables now)
+    pub front : g.IsHonest now ⊎ ExchangesAnsweredToFault by_tables exchanges (g.tables first)
     pub asked : AsksEach exchanges (Taken g first now)
     pub counted : length exchanges ≡ count
     pub are_given : AllByRecursion (λ exchange. IfSome given (λ it. exchange.at ≡ it)) exchanges
@@ -72,10 +72,10 @@ module _ {S : Type 0} (g : Ghosts S) where
     are_given = tt;
   }
 
-  -- one more connection, and a look after it, which is made only where a call failed meanwhile
+  -- one more connection, and a look after it, which is made only if a call failed meanwhile
   pub served_push : (Are Are' : List Exchange → Type 0) (exchange : Exchange) → ((earlier : List Exchange) → Are earlier → Are' (exchange ∷ earlier))
       → (given : Option ℕ) → IfSome given (λ it. exchange.at ≡ it)
-      → (first now mid new : S) (count : ℕ) → KeepsInvariants g first now → AnswersMessage g now mid exchange → LeavesTables g mid new
+      → (first now mid new : S) (count : ℕ) → KeepsInvariants g first now → DeskAnswersExchange g now mid exchange → LeavesTables g mid new
       → (g.failures mid ≡ g.failures now → new ≡ mid) → g.IsClean new → HasOneBearer (g.tables first)
       → ServedSoFar Are given first now count → ServedSoFar Are' given first new (count + 1)
   served_push Are Are' exchange more given is_given first now mid new count before answers looked idle clean one it =
@@ -108,7 +108,7 @@ module _ {S : Type 0} (g : Ghosts S) where
 
   -- at an end
   pub served_front : (Are Are' : List Exchange → Type 0) → ((exchanges : List Exchange) → Are exchanges → Are' exchanges)
-      → (given : Option ℕ) (first now : S) (count : ℕ) → ServedSoFar Are given first now count → ServesFrontOn Are' by_tables given count (g.tables first)
+      → (given : Option ℕ) (first now : S) (count : ℕ) → ServedSoFar Are given first now count → ServesFirst Are' by_tables given count (g.tables first)
   served_front Are Are' f given first now count it = record {
     exchanges = it.exchanges;
     are = f it.exchanges it.are;
@@ -123,7 +123,7 @@ module _ {S : Type 0} (g : Ghosts S) where
   -- these connections, of whose calls a crash leaves these tables
   pub served_leaving : (Are Are' : List Exchange → Type 0) → ((exchanges : List Exchange) → Are exchanges → Are' exchanges)
       → (given : Option ℕ) (first now : S) (count : ℕ) → g.IsHonest first → g.IsClean now → HasOneBearer (g.tables first) → (T : Tables) → g.may_leave now T
-      → ServedSoFar Are given first now count → ServesFrontOn (LeavingOn Are' (LeavesAll (g.tables first)) T) by_tables given count (g.tables first)
+      → ServedSoFar Are given first now count → ServesFirst (LeavingTables Are' (CallsLeaveTables (g.tables first)) T) by_tables given count (g.tables first)
   served_leaving Are Are' f given first now count honest clean one T left it =
       record {
         exchanges = it.exchanges;
@@ -138,9 +138,9 @@ module _ {S : Type 0} (g : Ghosts S) where
 
 -- ---- by a history for which the tables stood
 
-one_history : (h : History) → IsLegal h → (T T' : Tables) → StandsFor T h → (exchange : Exchange) → AnswersOne by_tables exchange T T' → OneHistory h exchange T'
+one_history : (h : History) → IsLegal h → (T T' : Tables) → StandsFor T h → (exchange : Exchange) → ExchangeIsAnswered by_tables exchange T T' → OneHistory h exchange T'
 one_history h legal T T' stands exchange one =
-    let it = EndsAfter-Ends _ exchange.at h legal T T' stands exchange.given exchange.had exchange.has one.ended one.ends in
+    let it = reply_ends_by_history _ exchange.at h legal T T' stands exchange.given exchange.had exchange.has one.ended one.ends in
     record {
       later = it.later;
       answers = record { failures = one.failures; later_failures = one.later_failures; ended = one.ended; ends = it.ends };
@@ -151,19 +151,19 @@ one_history h legal T T' stands exchange one =
 -- connections that were answered, by a history
 record EachHistory (h : History) (exchanges : List Exchange) (T' : Tables) : Type 0 where
   later : History
-  answers : AnswersEach by_history exchanges h later
+  answers : ExchangesAreAnswered by_history exchanges h later
   legal : IsLegal later
   stands : StandsFor T' later
 
 each_history : (h : History) → IsLegal h → (T : Tables) → StandsFor T h → (exchanges : List Exchange) (T' : Tables)
-    → AnswersEach by_tables exchanges T T' → EachHistory h exchanges T'
+    → ExchangesAreAnswered by_tables exchanges T T' → EachHistory h exchanges T'
 each_history h legal T stands [] T' same = record { later = h; answers = refl; legal = legal; stands = subst (λ x. StandsFor x h) (sym same) stands }
 each_history h legal T stands (exchange ∷ earlier) T' (between, each, one) =
     let before = each_history h legal T stands earlier between each in
     let it = one_history before.later before.legal between T' before.stands exchange one in
     record { later = it.later; answers = (before.later, before.answers, it.answers); legal = it.legal; stands = it.stands }
 
-fails_history : (h : History) → IsLegal h → (T : Tables) → StandsFor T h → (exchange : Exchange) → FailsOne by_tables exchange T → FailsOne by_history exchange h
+fails_history : (h : History) → IsLegal h → (T : Tables) → StandsFor T h → (exchange : Exchange) → ExchangeShowsFailure by_tables exchange T → ExchangeShowsFailure by_history exchange h
 fails_history h legal T stands exchange it =
     let one = one_history h legal T it.later stands exchange it.answers in
     record {
@@ -175,7 +175,7 @@ fails_history h legal T stands exchange it =
     }
 
 shut_history : (h : History) → IsLegal h → (T : Tables) → StandsFor T h → (exchanges : List Exchange)
-    → AnswersUpToFault by_tables exchanges T → AnswersUpToFault by_history exchanges h
+    → ExchangesAnsweredToFault by_tables exchanges T → ExchangesAnsweredToFault by_history exchanges h
 shut_history h legal T stands [] shut = shut
 shut_history h legal T stands (exchange ∷ earlier) (inl (between, each, fails)) =
     let before = each_history h legal T stands earlier between each in
@@ -183,21 +183,21 @@ shut_history h legal T stands (exchange ∷ earlier) (inl (between, each, fails)
 shut_history h legal T stands (exchange ∷ earlier) (inr none) = inr (none.0, shut_history h legal T stands earlier none.1)
 
 front_history : (h : History) → IsLegal h → (T : Tables) → StandsFor T h → (exchanges : List Exchange)
-    → AnswersFront by_tables exchanges T → AnswersFront by_history exchanges h
+    → ExchangeFrontIsAnswered by_tables exchanges T → ExchangeFrontIsAnswered by_history exchanges h
 front_history h legal T stands exchanges (inl told) =
     let it = each_history h legal T stands exchanges told.0 told.1 in inl (it.later, it.answers)
 front_history h legal T stands exchanges (inr shut) = inr (shut_history h legal T stands exchanges shut)
 
 pub served_front_history : (h : History) → IsLegal h → (T : Tables) → StandsFor T h → (Are : List Exchange → Type 0) (given : Option ℕ) (count : ℕ)
-    → ServesFrontOn Are by_tables given count T → ServesFrontOn Are by_history given count h
+    → ServesFirst Are by_tables given count T → ServesFirst Are by_history given count h
 served_front_history h legal T stands Are given count it =
     record { exchanges = it.exchanges; are = it.are; answered = front_history h legal T stands it.exchanges it.answered; counted = it.counted; are_given = it.are_given }
 
 pub served_leaving_history : (h : History) → IsLegal h → (S : Tables) → StandsFor S h → (Are : List Exchange → Type 0) (T : Tables) (given : Option ℕ) (count : ℕ)
-    → ServesFrontOn (LeavingOn Are (LeavesAll S) T) by_tables given count S → ServesFrontOn (LeavingOn Are (LeavesAllOf h) T) by_history given count h
+    → ServesFirst (LeavingTables Are (CallsLeaveTables S) T) by_tables given count S → ServesFirst (LeavingTables Are (CallsLeaveHistory h) T) by_history given count h
 served_leaving_history h legal S stands Are T given count it = record {
   exchanges = it.exchanges;
-  are = (it.are.0, asks_each_map it.exchanges _ _ (λ calls answers. LeavesAllOf-LeavesAll h legal S stands calls answers T) it.are.1);
+  are = (it.are.0, asks_each_map it.exchanges _ _ (λ calls answers. CallsLeaveHistory-CallsLeaveTables h legal S stands calls answers T) it.are.1);
   answered = front_history h legal S stands it.exchanges it.answered;
   counted = it.counted;
   are_given = it.are_given;

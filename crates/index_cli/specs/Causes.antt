@@ -1,4 +1,4 @@
--- Lines that tell a fault of the store, and what failed there.
+-- Lines that report a failed store, and the failed calls behind them.
 use Rattle.std.specs.Prelude.{◌≡◌, ℕ, ◌+◌, ◌≤◌, ◌⊎◌, true, List, [], ◌∷◌, ◌++◌}
 use Rattle.index_io.specs.Counts.{last_count}
 use Rattle.index_rules.specs.declared.answer.Answer.{Answer}
@@ -11,7 +11,7 @@ use Rattle.index_json.specs.StandingText.{standing_text_of}
 use Rattle.index_cli.specs.Ends.{Telling}
 use Rattle.index_cli.specs.Lines.{line_feed}
 
--- how many faults of the store an answer is
+-- the number of store faults that an answer reports
 abbrev pub store_faults : Answer → ℕ
 store_faults (answer.Fault Store) = 1
 store_faults (answer.Fault OutOfMemory) = 0
@@ -19,39 +19,42 @@ store_faults (answer.Refused refusal) = 0
 store_faults answer.Already = 0
 store_faults answer.Accepted = 0
 
--- the text of a line out, and how many faults of the store it tells
-abbrev pub TellsFault : List ℕ → ℕ → Type 0
-TellsFault text faults =
+-- the text of an output line, and the number of store faults that it reports
+abbrev pub ReplyReportsFaults : List ℕ → ℕ → Type 0
+ReplyReportsFaults text faults =
     ((a : Answer) × (text ≡ answer_text_of a) × (faults ≡ store_faults a))
     ⊎ ((standing : Standing) × (text ≡ standing_text_of standing) × (faults ≡ 0))
     ⊎ ((text ≡ bad_body_text) × (faults ≡ 0))
 
--- what is told of lines, and how many faults of the store it tells
-abbrev pub TellsEach : ℕ → List (List ℕ) → List ℕ → Type 0
-TellsEach faults [] text = (text ≡ []) × (faults ≡ 0)
-TellsEach faults (line ∷ lines) text = (first : List ℕ) × (more : List ℕ) × (one : ℕ) × (others : ℕ)
-    × TellsFault first one × TellsEach others lines more
+-- the text that answers some lines, and the number of store faults that it reports
+abbrev pub OutputReportsFaults : ℕ → List (List ℕ) → List ℕ → Type 0
+OutputReportsFaults faults [] text = (text ≡ []) × (faults ≡ 0)
+OutputReportsFaults faults (line ∷ lines) text =
+    (first : List ℕ) × (more : List ℕ) × (one : ℕ) × (others : ℕ)
+    × ReplyReportsFaults first one × OutputReportsFaults others lines more
     × (faults ≡ one + others) × (text ≡ (first ++ line_feed ∷ []) ++ more)
 
--- the same whatever the tables
-abbrev pub TellsFaults : ℕ → Telling
-TellsFaults faults lines text T = TellsEach faults lines text
+-- `OutputReportsFaults` for any tables
+abbrev pub LinesReportFaults : ℕ → Telling
+LinesReportFaults faults lines text T = OutputReportsFaults faults lines text
 
--- so many calls failed since, or the count has come to its last value
+-- at least this many calls failed since, or the count is at its last value
 abbrev pub HaveFailed : ℕ → ℕ → ℕ → Type 0
 HaveFailed faults before now = (before + faults ≤ now) ⊎ (last_count ≤ now)
 
--- each fault of the store that a text tells has a call that failed since
+-- each store fault that a text reports has a call that failed since
 abbrev pub HasCauses : List ℕ → ℕ → ℕ → Type 0
-HasCauses text before now = (faults : ℕ) × TellsFault text faults × HaveFailed faults before now
+HasCauses text before now =
+    (faults : ℕ) × ReplyReportsFaults text faults × HaveFailed faults before now
 
--- so many faults of the store were counted since, up to the last value
+-- exactly this many store faults were counted since, up to the last value
 abbrev pub HaveCounted : ℕ → ℕ → ℕ → Type 0
 HaveCounted faults before now =
     (now ≡ before + faults) ⊎ ((now ≡ last_count) × (last_count ≤ before + faults))
 
--- a fault of the store was counted, and the text is that of `Store`; or none was, and it tells none
-abbrev pub TellsStoreFault : List ℕ → ℕ → ℕ → Type 0
-TellsStoreFault text before now =
+-- a store fault was counted and the text is that of `Store`; or none was counted, and the text
+-- reports none
+abbrev pub ReplyCountsStoreFault : List ℕ → ℕ → ℕ → Type 0
+ReplyCountsStoreFault text before now =
     ((text ≡ answer_text_of (answer.Fault Store)) × CountsStoreFault before now true)
-    ⊎ (TellsFault text 0 × (now ≡ before))
+    ⊎ (ReplyReportsFaults text 0 × (now ≡ before))

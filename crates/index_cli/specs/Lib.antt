@@ -1,12 +1,12 @@
--- Lines in and lines out.
+-- Lines in, lines out, and connections.
 pub mod Lines
 pub mod Telling
-pub mod TellsHistory
-pub mod TellsCalls
+pub mod LineHistories
+pub mod LineCalls
 pub mod Connections
 pub mod Steps
 pub mod Ends
-pub mod TellsFront
+pub mod LineFronts
 pub mod Replies
 pub mod Causes
 pub mod Serving

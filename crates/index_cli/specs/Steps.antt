@@ -1,7 +1,7 @@
--- A run over connections seen from outside: what gives them, before it and after it.
+-- A source of connections, before a run and after it.
 use Rattle.index_cli.specs.Connections.{KnownList}
 
--- what gives connections before a call and after it, and what is known of both
+-- a source of connections before a call and after it, and the facts about both
 pub record ConnectionsStep (C : Type 0) : Type 0 where
   pub coming : C → KnownList
   pub replies : C → KnownList

@@ -1,49 +1,49 @@
-//! What gives connections.
+//! Sources of connections.
 ghost use Rattle.std.specs.Prelude.{◌≡◌, IfNone, IfOk, IfSome, OnErr};
-ghost use Rattle.index_cli.specs.Connections.{AddsReply, IsUnsent, KnownList, Loses, TakesFirst};
+ghost use Rattle.index_cli.specs.Connections.{AddsReply, ClientTaken, IsUnsent, KnownList, Loses};
 
 use index_io::{Failed, Sink, Source};
 
-/// A connection: what its client sends, and what it is sent.
+/// A connection: what its client sends, and what is sent to it.
 #[derive(Debug, Drop)]
 pub struct Connection<S, K> {
     pub source: S,
     pub sink: K,
 }
 
-/// What gives connections, one after the other.
+/// A source of connections, one after the other.
 pub trait Connections {
-    /// What gives what a client sends.
+    /// The reader of what a client sends.
     type ReadHalf: Source + Drop;
 
-    /// What takes what a client is sent.
+    /// The writer of what a client is sent.
     type WriteHalf: Sink + Drop;
 
-    /// What the clients send whose connections are to come, in order, where that is known.
+    /// What the clients of the connections to come send, in order, if that is known.
     ghost coming: { Self → KnownList };
 
-    /// What went out on the connections that were closed, in order, where that is known.
+    /// What was sent on the connections that were closed, in order, if that is known.
     ghost replies: { Self → KnownList };
 
-    /// Whether there is one to be closed.
+    /// Whether a connection is open.
     ghost IsOpen: { Self → Type 0 };
 
-    /// Whether the next one could not be accepted.
+    /// Whether the next connection could not be accepted.
     ghost CannotAccept: { Self → Type 0 };
 
-    /// The next connection, on which nothing has gone out, or `None` where there is no memory for
-    /// it: it was closed then. So many are left to answer, and no more are accepted.
+    /// Returns the next connection, or `None` if memory ran out and it was closed. At most `left` connections are
+    /// accepted.
     ///
     /// # Errors
     ///
-    /// `Failed` where no connection can be accepted.
+    /// `Failed` if no connection can be accepted.
     fn accept(
         &mut self,
         rt: &HostRuntime,
         left: u64,
     ) -> Result<Option<Connection<Self::ReadHalf, Self::WriteHalf>>, Failed>
         ensures first { IfOk result (λ next. IfSome next (λ it.
-            TakesFirst (coming self.old) (coming self.new) (Self.ReadHalf.remaining it.source))) }
+            ClientTaken (coming self.old) (coming self.new) (Self.ReadHalf.remaining it.source))) }
         ensures unsent { IfOk result (λ next. IfSome next (λ it.
             IsUnsent (Self.WriteHalf.contents it.sink))) }
         ensures open { IfOk result (λ next. IfSome next (λ it.
@@ -54,11 +54,11 @@ pub trait Connections {
             × (replies self.new ≡ replies self.old)) }
         ensures failed { OnErr result (CannotAccept self.new) };
 
-    /// Sends what was gathered of a reply, and closes its connection.
+    /// Sends the buffered rest of a reply, and closes its connection.
     ///
     /// # Errors
     ///
-    /// `Failed` where that can't be sent.
+    /// `Failed` if that can't be sent.
     fn close(
         &mut self,
         connection: Connection<Self::ReadHalf, Self::WriteHalf>,

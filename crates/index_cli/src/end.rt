@@ -34,7 +34,7 @@ impl Error for LineEnd {}
 pub enum ServeEnd {
     /// A connection can't be accepted.
     ReadFault,
-    /// The clock can't be read, or stands before 1970.
+    /// The clock can't be read, or is set before 1970.
     Clock,
     /// A fault has shut the store.
     Store,

@@ -2,17 +2,17 @@
 ghost use Rattle.std.specs.Prelude.{◌≡◌, ◌≢◌, ◌+◌, ◌<◌, ◌≤◌, ◌⊎◌, [], ◌∷◌, ◌++◌};
 ghost use Rattle.std.specs.Prelude.{Err, IfErr, IfOk, IfSome, OnErr, OnOk};
 ghost use Rattle.index_io.specs.Counts.{HasFailed};
-ghost use Rattle.index_cli.specs.Lines.{Charges, TakesLine, TakesPart};
+ghost use Rattle.index_cli.specs.Lines.{Charges, PartIsTaken, TakesLine};
 
 use crate::end::LineEnd;
 use index_io::{Source, next_byte};
 
-/// The most bytes of a line that are kept: no longer line is read.
+/// The longest line that is read.
 pub const LONGEST_LINE: u64 = 65_536;
 
-/// Takes the next line from a source, with its line feed, and answers its size without it. `None`
-/// is the end of the input. Of a line longer than 65,536 bytes `line` has these first ones. It
-/// takes the bytes that it read from `left`, the most that may be read.
+/// Reads the next line of a source with its line feed, and returns its size without it, or `None` at the end of the
+/// input. `line` gets the first 65,536 bytes. The bytes that were read are subtracted from `left`, the most that may be
+/// read.
 pub fn next_line<S: Source>(
     source: &mut S,
     line: &mut Vec<u8>,
@@ -20,14 +20,14 @@ pub fn next_line<S: Source>(
 ) -> Result<Option<u64>, LineEnd>
     ensures line { IfOk result (λ size.
         TakesLine size line.new.items (S.remaining source.old) (S.remaining source.new)) }
-    ensures part { OnErr result (TakesPart (S.remaining source.old) (S.remaining source.new)) }
+    ensures part { OnErr result (PartIsTaken (S.remaining source.old) (S.remaining source.new)) }
 
-    // What was read was charged, and a line takes at least one byte.
+    // The bytes read are subtracted, and a line has at least one byte.
     ensures charged { Charges left.old left.new (S.remaining source.old) (S.remaining source.new) }
     ensures left { IfOk result (λ size. IfSome size (λ size.
         (size + left.new ≤ left.old) × (left.new < left.old))) }
 
-    // A fault of the source comes where a read failed, or where nothing may be read any more.
+    // `ReadFault` is returned if a read failed, or if no more may be read.
     ensures read_fault { result ≡ Err LineEnd.ReadFault
         → HasFailed (S.failures source.old) (S.failures source.new) ⊎ (left.new ≡ 0) }
     ensures kept { result ≢ Err LineEnd.ReadFault → S.failures source.new ≡ S.failures source.old }
@@ -54,7 +54,7 @@ pub fn next_line<S: Source>(
     Err(LineEnd::ReadFault)
 }
 
-/// Adds a byte to the front of a line, of which `size` bytes came before it.
+/// Adds a byte to the kept front of a line, of which `size` bytes came before it.
 fn keep_front(line: &mut Vec<u8>, byte: u8, size: u64) -> Result<(), LineEnd>
     ensures near { OnOk result (size < LONGEST_LINE
         → line.new.items ≡ line.old.items ++ byte ∷ []) }

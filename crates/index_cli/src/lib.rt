@@ -1,4 +1,4 @@
-//! The ways in: lines of requests and answers in JSON, and connections over HTTP.
+//! Answers lines of JSON, and connections over HTTP.
 #![tactic(auto)]
 
 mod apply;

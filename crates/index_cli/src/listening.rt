@@ -1,4 +1,4 @@
-//! Connections from a listener.
+//! Connections of a TCP listener.
 ghost use Rattle.std.specs.Prelude.{◌≡◌, ⊤, true, None};
 ghost use Rattle.index_cli.specs.Connections.{AddsReply, unknown};
 
@@ -12,30 +12,28 @@ use std::rc::Rc;
 use std::time::Duration;
 use std::{io, thread};
 
-/// How many bytes of a reply are gathered before they are sent: room for most pages.
+/// The size of a reply's buffer in bytes: room for most pages.
 const GATHERED_BYTES: usize = 65_536;
 
-/// How often it is tried to accept a connection.
+/// How many times the program tries to accept a connection.
 const ACCEPT_TRIES: u32 = 100;
 
-/// How many milliseconds are waited after each try.
+/// The pause after each try, in milliseconds.
 const ACCEPT_PAUSE: u64 = 10;
 
-/// The most connections that are accepted and wait: each takes a descriptor, and a process mostly
-/// has 1,024.
+/// The most connections that are accepted and wait. Each takes a descriptor, and most processes may have 1,024.
 const MOST_WAITING: usize = 512;
 
-/// The connections of a listener. Those that wait are accepted. Nothing is known of what clients
-/// send and are sent.
+/// The connections of a listener, accepted as they come. No clause says what clients send and are sent.
 pub struct Listening {
     listener: TcpListener,
     waiting: VecDeque<TcpStream>,
-    /// Whether the next one could not be accepted. Clauses alone read it.
+    /// Whether the next connection could not be accepted. Only clauses read it.
     has_failed: bool,
 }
 
 impl Listening {
-    /// Those of this listener.
+    /// The connections of this listener.
     pub fn new(alloc: Global, listener: TcpListener) -> Listening {
         Listening {
             listener,
@@ -120,8 +118,8 @@ impl Write for Half {
     }
 }
 
-/// A connection over a stream, where there is memory for it. The reply is gathered, so that a page
-/// does not go out row by row.
+/// A connection over a stream, or `None` if memory ran out. Its reply is buffered, so that a page is not sent row by
+/// row.
 fn connection_over(
     alloc: Global,
     stream: TcpStream,
@@ -141,9 +139,8 @@ fn connection_over(
     })
 }
 
-/// The next connection of those that wait. As many as can be accepted without a wait are, up to
-/// those that are left to answer: the system's queue has room for 128, and a client that finds it
-/// full tries again after a second.
+/// The next waiting connection. It first accepts all that wait, up to those left to answer: the system's queue has room
+/// for 128, and a client that finds it full tries again after a second.
 fn next_waiting(
     rt: &HostRuntime,
     listener: &TcpListener,
@@ -171,8 +168,8 @@ fn next_waiting(
     }
 }
 
-/// The next connection. Where none can be accepted it is tried again for a while, since the reason
-/// may pass: a client who is gone already, or as many open files as the system gives.
+/// Accepts the next connection. If that fails, it tries again for a while: the client may be gone, or the process may
+/// have too many open files.
 fn next_connection(rt: &HostRuntime, listener: &TcpListener) -> io::Result<TcpStream> {
     for _try in 1..ACCEPT_TRIES {
         if let Ok((stream, _)) = listener.accept() {

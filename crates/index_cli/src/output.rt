@@ -1,4 +1,4 @@
-//! Lines to any sink.
+//! Writes lines to any sink.
 ghost use Rattle.std.specs.Prelude.{◌≡◌, [], ◌∷◌, ◌++◌, OnOk};
 ghost use Rattle.index_cli.specs.Ends.{WritesText};
 ghost use Rattle.index_cli.specs.Lines.{line_feed};
@@ -8,8 +8,8 @@ use crate::reply::LineReply;
 use index_io::{Sink, write_bytes};
 use std::alloc::AllocError;
 
-/// Writes a reply and a line feed: in one write, where both go into `room`, whose bytes are not
-/// needed any more, or there is memory for more. An error tells how many bytes went out.
+/// Writes a reply and a line feed: in one write if both fit into `room`, whose old bytes are dropped, or there is
+/// memory for more. The error is the number of bytes that were written.
 pub fn write_line<K: Sink>(sink: &mut K, room: &mut Vec<u8>, reply: LineReply) -> Result<(), usize>
     ensures { WritesText K.Sink sink.old sink.new
         (line_reply_text reply ++ line_feed ∷ []) result }
@@ -20,7 +20,7 @@ pub fn write_line<K: Sink>(sink: &mut K, room: &mut Vec<u8>, reply: LineReply) -
     }
 }
 
-/// Puts a text and a line feed in place of what `room` has.
+/// Replaces the bytes of `room` by a text and a line feed.
 fn gather(room: &mut Vec<u8>, text: &[u8]) -> Result<(), AllocError>
     ensures { OnOk result (room.new.items ≡ text.now ++ line_feed ∷ []) }
 {

@@ -3,10 +3,10 @@ ghost use Rattle.std.specs.Prelude.{◌≡◌, Some};
 ghost use Rattle.index_names.specs.Project.{read_name};
 ghost use Rattle.index_desk.specs.Rules.{by_tables};
 ghost use Rattle.index_json.specs.Line.{line_of};
-ghost use Rattle.index_cli.specs.Replies.{RepliesStanding, RepliesToLine, TellsKept};
+ghost use Rattle.index_cli.specs.Replies.{KeptLineIsAnswered, RepliesStanding, RepliesToLine};
 ghost use Rattle.index_cli.specs.Replies.{line_reply_text};
-ghost use Rattle.index_cli.specs.Telling.{TellsAsked};
-ghost use Rattle.index_cli.specs.TellsCalls.{AsksKept, AsksOf};
+ghost use Rattle.index_cli.specs.Telling.{TextAnswersParsedLine};
+ghost use Rattle.index_cli.specs.LineCalls.{AsksKept, AsksOf};
 
 use crate::end::LineEnd;
 use crate::input::LONGEST_LINE;
@@ -16,8 +16,8 @@ use index_names::{NameFault, NormalName, normal};
 use index_rules::{Answer, Books, Refusal};
 use std::alloc::Global;
 
-/// The reply to a line, without a line feed. That to a call is fixed, so that it takes no memory
-/// once the call was applied.
+/// The reply to a line, without its line feed. The reply to a call is a constant, so it takes no memory once the call
+/// was applied.
 #[derive(Debug, Drop)]
 pub enum LineReply {
     Fixed(&'static str),
@@ -25,7 +25,7 @@ pub enum LineReply {
 }
 
 impl LineReply {
-    /// The reply's text.
+    /// The text of the reply.
     pub fn as_bytes(&self) -> &[u8]
         ensures { result.now ≡ line_reply_text self.now }
     {
@@ -36,8 +36,8 @@ impl LineReply {
     }
 }
 
-/// The reply to a line of this size, of which `front` has the first 65,536 bytes. A longer one asks
-/// nothing. After `OutOfMemory`, its one error, no call was taken.
+/// Replies to a line of this size, whose first 65,536 bytes are `front`. A longer line is malformed. It fails with
+/// `OutOfMemory` only, and then no call was taken.
 pub fn reply_to<B: Books>(
     alloc: Global,
     desk: &mut Desk<B>,
@@ -45,7 +45,7 @@ pub fn reply_to<B: Books>(
     size: u64,
 ) -> Result<LineReply, LineEnd>
     ensures { RepliesToLine B.Books desk.old desk.new result
-        (TellsKept size front.now) (AsksKept size front.now) }
+        (KeptLineIsAnswered size front.now) (AsksKept size front.now) }
 {
     if size > LONGEST_LINE {
         return Ok(LineReply::Fixed(bad_body()));
@@ -53,14 +53,14 @@ pub fn reply_to<B: Books>(
     reply_to_read(alloc, desk, front)
 }
 
-/// The reply to a line that is not too long.
+/// Replies to a line that is not too long.
 fn reply_to_read<B: Books>(
     alloc: Global,
     desk: &mut Desk<B>,
     line: &[u8],
 ) -> Result<LineReply, LineEnd>
     ensures { RepliesToLine B.Books desk.old desk.new result
-        (TellsAsked by_tables (line_of line.now)) (AsksOf (line_of line.now)) }
+        (TextAnswersParsedLine by_tables (line_of line.now)) (AsksOf (line_of line.now)) }
 {
     let Ok(asked) = read_line(alloc, line) else {
         return Err(LineEnd::OutOfMemory);
@@ -72,7 +72,7 @@ fn reply_to_read<B: Books>(
     }
 }
 
-/// The reply to the question for a standing. It changes no table.
+/// Replies to a line that asks for the standing of a name. It changes no table.
 fn standing_reply<B: Books>(
     alloc: Global,
     desk: &mut Desk<B>,
@@ -87,7 +87,7 @@ fn standing_reply<B: Books>(
     }
 }
 
-/// The same for a name that was read.
+/// Replies with the standing of a valid name. It changes no table.
 fn known_reply<B: Books>(
     alloc: Global,
     desk: &mut Desk<B>,

@@ -1,23 +1,23 @@
-//! Connections, one after the other.
+//! Answers connections, one after the other.
 ghost use Rattle.std.specs.Duration.{as_nanos};
 ghost use Rattle.std.specs.Prelude.{◌≡◌, ◌≢◌, ◌<◌, ◌/◌, true, ℕ, Err, None};
 ghost use Rattle.std.specs.Prelude.{IfErr, IfOk, IfSome, IsErrOf, OnErr, OnOk};
-ghost use Rattle.index_desk.specs.Crashes.{LeavesAll, LeavesAllOf};
+ghost use Rattle.index_desk.specs.Crashes.{CallsLeaveHistory, CallsLeaveTables};
 ghost use Rattle.index_desk.specs.Invariants.{KeepsInvariants};
 ghost use Rattle.index_desk.specs.Looks.{LeavesTables};
 ghost use Rattle.index_desk.specs.Rules.{by_history, by_tables};
 ghost use Rattle.index_desk.specs.Takes.{ByHistory, ByTables, CrashByHistory, CrashByTables};
 ghost use Rattle.index_cli.specs.Connections.{AddsReply, AreOn, IsRest};
 ghost use Rattle.index_http.specs.Steps.{at_desk};
-ghost use Rattle.index_cli.specs.ServesFront.{LeavingOn, ServesFrontOn};
-ghost use Rattle.index_cli.specs.Serving.{AnswersMessage, AnswersNext, IsCount};
-ghost use Rattle.index_cli.specs.Serving.{ServesHistoryOn, ServesOn};
+ghost use Rattle.index_cli.specs.ServesFront.{LeavingTables, ServesFirst};
+ghost use Rattle.index_cli.specs.Serving.{DeskAnswersExchange, IsCount, NextConnectionIsAnswered};
+ghost use Rattle.index_cli.specs.Serving.{ServesByHistory, Serves};
 ghost use Rattle.index_cli.specs.Steps.{on_connections};
-ghost use Rattle.index_cli.specs.TellsFront.{FrontByHistory, FrontByTables};
+ghost use Rattle.index_cli.specs.LineFronts.{FrontByHistory, FrontByTables};
 
 use crate::connections::{Connection, Connections};
 use crate::end::ServeEnd;
-use index_desk::{Desk, Keeper};
+use index_desk::{CachesAnswers, Desk};
 use index_http::{IoEnd, answer_one};
 use index_io::{Sink, Source};
 use index_message::Site;
@@ -27,16 +27,15 @@ use std::alloc::Global;
 use std::fmt::Display;
 use std::time::{Duration, SystemTime};
 
-/// Answers one message of each of so many connections, one connection after the other, at a moment
-/// in Unix seconds or at that of the clock. Why one of them ended early is named on standard error,
-/// and the next is served.
+/// Answers one message of each of `requests` connections, one after the other, at a moment in Unix seconds or by the
+/// clock. If a connection ends early, the reason is printed on standard error, and the next one is answered.
 ///
 /// # Errors
 ///
-/// `ReadFault` where no connection can be accepted, `Clock` where the clock can't be read or stands
-/// before 1970, and `Store` where a fault has shut the store and more connections are to come: no
-/// further request of them could be answered, and a new opening goes on from what was committed.
-pub fn answer_connections<C: Connections, B: Keeper>(
+/// `ReadFault` if no connection can be accepted, `Clock` if the clock can't be read or is set before 1970, and `Store`
+/// if a fault has shut the store and more connections are to come: no request could be answered until the database is
+/// opened again.
+pub fn answer_connections<C: Connections, B: CachesAnswers>(
     rt: &HostRuntime,
     connections: &mut C,
     requests: u64,
@@ -44,54 +43,51 @@ pub fn answer_connections<C: Connections, B: Keeper>(
     site: &Site,
     desk: &mut Desk<B>,
 ) -> Result<(), ServeEnd>
-    // By the tables: what was told of how many connections, and the tables after them. Where it is
-    // known what their clients send and what went out, these are the messages that were answered
-    // and the replies.
+    // By the tables: how many connections were answered, their replies, and the tables after them. If it is known what
+    // the clients send and are sent, these are the messages and the replies.
     ensures tables { ByTables B.Books desk.old desk.new (λ T T'. (count : ℕ)
         × IsCount requests result count
-        × ServesOn (AreOn C.coming C.replies connections.old connections.new)
+        × Serves (AreOn C.coming C.replies connections.old connections.new)
         by_tables at count T T') }
 
-    // By a legal history for which the tables stood: the same, and they stand for the history with
-    // what was accepted.
+    // By a legal history for which the tables stood: the replies are what this history says, and the tables stand for
+    // it with the accepted calls.
     ensures history { ByHistory B.Books desk.old desk.new (λ h T. (count : ℕ)
         × IsCount requests result count
-        × ServesHistoryOn (AreOn C.coming C.replies connections.old connections.new)
+        × ServesByHistory (AreOn C.coming C.replies connections.old connections.new)
         h at count T) }
 
-    // Also where a fault has shut the store: the same of the connections, or of those up to one that
-    // shows a failure, since which no call was accepted.
+    // Also if a fault has shut the store: all connections were answered so, or those up to one that shows a failure,
+    // after which no call was accepted.
     ensures told { FrontByTables B.Books desk.old desk.new (λ T. (count : ℕ)
         × IsCount requests result count
-        × ServesFrontOn (AreOn C.coming C.replies connections.old connections.new)
+        × ServesFirst (AreOn C.coming C.replies connections.old connections.new)
         by_tables at count T) }
 
-    // By a legal history for which the tables stood: that too.
+    // By a legal history for which the tables stood: the replies up to a fault are what this history says.
     ensures told_history { FrontByHistory B.Books desk.old desk.new (λ h T. (count : ℕ)
         × IsCount requests result count
-        × ServesFrontOn (AreOn C.coming C.replies connections.old connections.new)
+        × ServesFirst (AreOn C.coming C.replies connections.old connections.new)
         by_history at count h) }
 
-    // A crash leaves the tables after the accepted calls of connections that were answered so, or
-    // these with one call to which a fault was answered since the last of them; also if a fault has
-    // shut the store.
+    // A crash leaves the tables after the accepted calls of answered connections, or after these and one call that was
+    // answered with a fault after the last of them; also if a fault has shut the store.
     ensures crash { CrashByTables B.Books desk.old desk.new (λ T T'. (count : ℕ)
         × IsCount requests result count
-        × ServesFrontOn (LeavingOn (AreOn C.coming C.replies connections.old connections.new)
-        (LeavesAll T) T') by_tables at count T) }
+        × ServesFirst (LeavingTables (AreOn C.coming C.replies connections.old connections.new)
+        (CallsLeaveTables T) T') by_tables at count T) }
 
-    // The former stand for the legal history with these calls, for which the tables stood without
-    // them.
+    // The tables that a crash leaves stand for a legal history with the same calls.
     ensures crash_history { CrashByHistory B.Books desk.old desk.new (λ h T. (count : ℕ)
         × IsCount requests result count
-        × ServesFrontOn (LeavingOn (AreOn C.coming C.replies connections.old connections.new)
-        (LeavesAllOf h) T) by_history at count h) }
+        × ServesFirst (LeavingTables (AreOn C.coming C.replies connections.old connections.new)
+        (CallsLeaveHistory h) T) by_history at count h) }
 
-    // However it ends: one user at most bears a digest, and accounts that add up keep adding up.
+    // However it ends: at most one user has a token's digest, and charges that add up still add up.
     ensures keeps { KeepsInvariants B.Books desk.old desk.new }
 
-    // It ends as `ReadFault` only where the next connection could not be accepted, by the clock only
-    // where no moment is given, and as `Store` only where the store answered a fault.
+    // It returns `ReadFault` only if the next connection could not be accepted, `Clock` only if no moment is given, and
+    // `Store` only if the store failed.
     ensures read { result ≡ Err ServeEnd.ReadFault → C.CannotAccept connections.new }
     ensures clock { result ≡ Err ServeEnd.Clock → at ≡ None }
     ensures store { result ≡ Err ServeEnd.Store → 0 < B.failures desk.new }
@@ -108,9 +104,9 @@ pub fn answer_connections<C: Connections, B: Keeper>(
     Ok(())
 }
 
-/// Answers the message of the next connection, where so many are left. Why that ended early is
-/// named on standard error.
-fn answer_next<C: Connections, B: Keeper>(
+/// Answers the message of the next connection, if any are left. If it ends early, the reason is printed on standard
+/// error.
+fn answer_next<C: Connections, B: CachesAnswers>(
     rt: &HostRuntime,
     connections: &mut C,
     left: u64,
@@ -118,7 +114,7 @@ fn answer_next<C: Connections, B: Keeper>(
     site: &Site,
     desk: &mut Desk<B>,
 ) -> Result<(), ServeEnd>
-    ensures answers { OnOk result (AnswersNext at (at_desk B.Books desk.old desk.new)
+    ensures answers { OnOk result (NextConnectionIsAnswered at (at_desk B.Books desk.old desk.new)
         (on_connections C.coming C.replies connections.old connections.new)) }
     ensures unasked { OnErr result (desk.new ≡ desk.old) }
     ensures rest { OnErr result (IsRest (C.coming connections.old) (C.coming connections.new)) }
@@ -145,7 +141,7 @@ fn answer_next<C: Connections, B: Keeper>(
 }
 
 /// Answers the message of a connection, and closes it.
-fn answer_accepted<C: Connections, B: Keeper>(
+fn answer_accepted<C: Connections, B: CachesAnswers>(
     alloc: Global,
     connections: &mut C,
     mut connection: Connection<C::ReadHalf, C::WriteHalf>,
@@ -156,7 +152,7 @@ fn answer_accepted<C: Connections, B: Keeper>(
     requires open { C.IsOpen connections.old }
     ensures answered { (has : _)
         × AddsReply (C.replies connections.old) (C.replies connections.new) has
-        × AnswersMessage B.Books desk.old desk.new (record {
+        × DeskAnswersExchange B.Books desk.old desk.new (record {
           at = at;
           given = C.ReadHalf.remaining connection.source;
           had = C.WriteHalf.contents connection.sink;
@@ -180,10 +176,9 @@ fn answer_accepted<C: Connections, B: Keeper>(
     }
 }
 
-/// Whether a fault has shut the store: one was answered since there were so many, and looks at two
-/// names are answered by one too. A row that is no record, which another program wrote, shuts
-/// nothing. Where none was answered nothing is asked of the store.
-fn is_shut<B: Keeper>(alloc: Global, desk: &mut Desk<B>, failures: u64) -> bool
+/// Whether a fault has shut the store: a call failed since `failures`, and looking up two names fails too. An invalid
+/// row, which another program wrote, shuts nothing. If no call failed, the store is not asked.
+fn is_shut<B: CachesAnswers>(alloc: Global, desk: &mut Desk<B>, failures: u64) -> bool
     ensures leaves { LeavesTables B.Books desk.old desk.new }
     ensures idle { B.failures desk.old ≡ failures → desk.new ≡ desk.old }
     ensures store { result ≡ true → 0 < B.failures desk.new }
@@ -194,8 +189,8 @@ fn is_shut<B: Keeper>(alloc: Global, desk: &mut Desk<B>, failures: u64) -> bool
     fails_at(alloc, desk, b"x") && fails_at(alloc, desk, b"is-the-store-shut")
 }
 
-/// Whether a look at a name is answered by a fault of the store.
-fn fails_at<B: Keeper>(alloc: Global, desk: &mut Desk<B>, name: &[u8]) -> bool
+/// Whether looking up a name fails with `Store`.
+fn fails_at<B: CachesAnswers>(alloc: Global, desk: &mut Desk<B>, name: &[u8]) -> bool
     ensures leaves { LeavesTables B.Books desk.old desk.new }
     ensures store { result ≡ true → 0 < B.failures desk.new }
 {
@@ -205,7 +200,7 @@ fn fails_at<B: Keeper>(alloc: Global, desk: &mut Desk<B>, name: &[u8]) -> bool
     matches!(desk.is_held(alloc, &name), Err(Fault::Store))
 }
 
-/// The moment that is given, or else that of the clock.
+/// The given moment, or that of the clock.
 fn moment_of(rt: &HostRuntime, at: Option<u64>) -> Result<u64, ServeEnd>
     ensures given { IfOk result (λ moment. IfSome at (λ given. moment ≡ given)) }
     ensures clock { IfErr result (λ end. (end ≡ ServeEnd.Clock) × (at ≡ None)) }
@@ -216,7 +211,7 @@ fn moment_of(rt: &HostRuntime, at: Option<u64>) -> Result<u64, ServeEnd>
     }
 }
 
-/// How long it is since 1970 began, by the clock.
+/// The time since 1970 began, by the clock.
 fn since_1970(rt: &HostRuntime) -> Result<Duration, ServeEnd>
     ensures clock { IfErr result (λ end. end ≡ ServeEnd.Clock) }
 {
@@ -229,15 +224,15 @@ fn since_1970(rt: &HostRuntime) -> Result<Duration, ServeEnd>
     }
 }
 
-/// The moment so long after 1970 began, in whole Unix seconds.
+/// The Unix time in whole seconds.
 fn moment_in(since: Duration) -> u64
     ensures { result ≡ as_nanos since / 1_000_000_000 }
 {
     since.as_secs()
 }
 
-/// Answers the message of a source to a sink.
-fn answer_message<S: Source, K: Sink, B: Keeper>(
+/// Answers the message of a source on a sink.
+fn answer_message<S: Source, K: Sink, B: CachesAnswers>(
     alloc: Global,
     site: &Site,
     source: &mut S,
@@ -245,7 +240,7 @@ fn answer_message<S: Source, K: Sink, B: Keeper>(
     desk: &mut Desk<B>,
     at: u64,
 ) -> Result<(), IoEnd>
-    ensures { AnswersMessage B.Books desk.old desk.new (record {
+    ensures { DeskAnswersExchange B.Books desk.old desk.new (record {
       at = at;
       given = S.remaining source.old;
       had = K.contents sink.old;
@@ -255,7 +250,7 @@ fn answer_message<S: Source, K: Sink, B: Keeper>(
     answer_one(alloc, site, source, sink, desk, at)
 }
 
-/// Names the end of a connection on standard error, where that takes it.
+/// Prints the end of a connection on standard error, ignoring failures.
 fn tell(rt: &HostRuntime, end: impl Display + Drop) {
     let _ = eprintln!(rt; "index: connection: {end}");
 }

@@ -32,7 +32,7 @@ module _ (T : Tables) (n : Bytes) where
   pub sizes_are_charged : sum_by (λ file. file.size) (file_rows_in T n) ≡ charge_in T n
   sizes_are_charged = sizes_of (entries T.files)
 
--- where no row passes, none is counted
+-- if no row passes, none is counted
 count_by-none : {E R : Type 0} (row : E → R) (test : R → Bool) (es : List E) → AllByRecursion (λ e. test (row e) ≡ false) es → count_by test (map row es) ≡ 0
 count_by-none row test [] none = refl
 count_by-none row test (e ∷ es) none =

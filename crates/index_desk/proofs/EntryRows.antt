@@ -86,7 +86,7 @@ module _ {X : Type 0} (test : Bytes × X → Bool) where
         | false ↦ elim (same key e.0) as (λ c. list_any (same key) (keys_where es) ≡ is_some (cond (c && false) (Some e) (find (passes_at key) es))) [ true ↦ rest | false ↦ rest ]
       ]
 
-  -- a key is among them where what is found by it passes
+  -- a key is among them if what is found by it passes
   list_any-keys_where : (m : Map X) (key : Bytes) → list_any (same key) (keys_where (entries m)) ≡ option_map_or (λ v. test (key, v)) (get m key) false
   list_any-keys_where m key =
       list_any-found key (entries m)

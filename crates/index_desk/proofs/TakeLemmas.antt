@@ -21,11 +21,11 @@ use Rattle.index_rules.specs.Verdict.{Verdict, verdict_now}
 use Rattle.index_rules.proofs.StandsOn.{CarriesOn-answer, CarriesOnBy-Runs, sound_when_legal}
 use Rattle.index_rules.proofs.OneBearer.{HasOneBearer-Runs, HasOneBearer-tables_after}
 use Rattle.index_rules.proofs.SoundLemmas.{IsSound-Runs, IsSound-tables_after}
-use Rattle.index_desk.specs.Crashes.{IsWithCall, LastsAll, LeavesAll, LeavesByAnswer}
+use Rattle.index_desk.specs.Crashes.{AnswerLeavesTables, CallsLeaveTables, IsWithCall, LastsAll}
 use Rattle.index_desk.specs.Invariants.{KeepsInvariants}
 use Rattle.index_desk.specs.Looks.{LooksAt}
 use Rattle.index_desk.specs.Takes.{ByTables, CrashByTables, Settles, SettlesBy, Takes, TakesInTurn}
-use Rattle.index_desk.proofs.CrashLemmas.{Lasts-earlier, LastsAll-weaker, Leaves-weaker, LeavesAllOf-LeavesAll}
+use Rattle.index_desk.proofs.CrashLemmas.{Lasts-earlier, LastsAll-weaker, Leaves-weaker, CallsLeaveHistory-CallsLeaveTables}
 
 -- ---- one call
 
@@ -33,7 +33,7 @@ use Rattle.index_desk.proofs.CrashLemmas.{Lasts-earlier, LastsAll-weaker, Leaves
 module _ {S : Type 0} (g : Ghosts S) (old new : S) (call : Call) (answer : Answer)
     (verdict : ByTables g old new (λ T T'. Answers (verdict_now T call) answer))
     (next : ByTables g old new (λ T T'. T' ≡ tables_after T call answer))
-    (crash : CrashByTables g old new (λ T. LeavesByAnswer (g.may_leave old) (IsWithCall T call) answer))
+    (crash : CrashByTables g old new (λ T. AnswerLeavesTables (g.may_leave old) (IsWithCall T call) answer))
     (settles : Settles g old new answer) where
   takes_by_tables : Takes g old new call answer
   takes_by_tables = record {
@@ -113,7 +113,7 @@ stores_push answers (Refused refusal) first before after (inl none) next = inl (
 
 module _ {S : Type 0} (g : Ghosts S) (old new : S) (calls : List Call) (answers : List Answer)
     (runs : ByTables g old new (λ T. Runs T calls answers)) where
-  pub takes_in_turn : CrashByTables g old new (λ T. LeavesAll T calls answers)
+  pub takes_in_turn : CrashByTables g old new (λ T. CallsLeaveTables T calls answers)
       → (g.IsClean new → LastsAll answers (g.IsHonest old) (g.IsHonest new))
       → (g.IsHonest new → (T : Tables) → g.may_leave new T → T ≡ g.tables new)
       → (Contains answers (Fault Store) → HasFailed (g.failures old) (g.failures new))
@@ -125,7 +125,7 @@ module _ {S : Type 0} (g : Ghosts S) (old new : S) (calls : List Call) (answers 
         CarriesOnBy-Runs h legal _ stands calls answers _ (runs honest (sound_when_legal h legal _ stands).one_bearer);
     crash = crash;
     crash_history = λ honest clean h legal stands T left.
-        LeavesAllOf-LeavesAll h legal _ stands calls answers T
+        CallsLeaveHistory-CallsLeaveTables h legal _ stands calls answers T
         (crash honest clean (sound_when_legal h legal _ stands).one_bearer T left);
     lasts = lasts;
     alone = λ clean. LastsAll-weaker answers _ _ _ settled (lasts clean);

@@ -6,7 +6,7 @@ use Rattle.index_rules.specs.Maps.{Bytes}
 use Rattle.index_rules.specs.Sound.{IsBodyOf}
 use Rattle.index_rules.specs.Tables.{Tables}
 
--- bytes, if there are some, have the size and the digest that the file is bound to
+-- the bytes, if any, have the size and the digest that the file is bound to
 abbrev pub AreBytesOf : Tables → Bytes → Option Bytes → Type 0
 AreBytesOf T file None = ⊤
 AreBytesOf T file (Some body) =

@@ -4,7 +4,7 @@ use Rattle.std.specs.List.{list_any}
 use Rattle.std.specs.List.Sorted.{IsStrictlySortedBy}
 use Rattle.index_rules.specs.Maps.{Bytes, same, bytes_cmp}
 
--- these are the texts that pass, each once, in byte order
+-- the texts that pass a test, each once, in byte order
 abbrev pub AreThose : (Bytes → Bool) → List Bytes → Type 0
 AreThose test texts =
     IsStrictlySortedBy bytes_cmp texts

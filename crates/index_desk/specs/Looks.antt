@@ -1,4 +1,4 @@
--- What a look at the tables finds, and what it does beside.
+-- Looks at the tables: what they find, and that they change nothing.
 use Rattle.std.specs.Prelude.{◌≡◌, false, Result, Ok, IfErr, IfOk, OnOk}
 use Rattle.index_io.specs.Counts.{FailsAtMostOnce, HasFailed}
 use Rattle.index_rules.specs.declared.answer.Fault.{Fault}
@@ -12,7 +12,7 @@ use Rattle.index_rules.specs.Tables.{Tables}
 use Rattle.index_rules.specs.StoreFaults.{CountsStoreFault, fails_by_store, ends_by_store}
 use Rattle.index_rules.specs.Walks.{has_fault}
 
--- no table changed, the store is as honest and as clean as it was, and a crash leaves what it
+-- no table changed, the store is honest or clean only if it was before, and a crash leaves what it
 -- could have left before
 pub record LeavesTables {S : Type 0} (g : Ghosts S) (old new : S) : Type 0 where
   pub unchanged : g.IsHonest new → g.tables new ≡ g.tables old
@@ -20,25 +20,31 @@ pub record LeavesTables {S : Type 0} (g : Ghosts S) (old new : S) : Type 0 where
   pub clean : g.IsClean new → g.IsClean old
   pub crash : (T : Tables) → g.may_leave new T → g.may_leave old T
 
--- no table changes, only a failure of the books is told as one, a fault of their store as `Store`,
--- and a crash leaves what it could have left before
+-- a look at the tables
 pub record ReadsTables {S X : Type 0} (g : Ghosts S) (old new : S)
     (result : Result X Fault) : Type 0 where
+  -- no table changes
   pub unchanged : g.IsHonest new → g.tables new ≡ g.tables old
+  -- a look that succeeds had no failed call
   pub kept : OnOk result (g.failures new ≡ g.failures old)
+  -- `Store` is returned only if a call failed
   pub store : IfErr result (λ fault. fault ≡ Store → HasFailed (g.failures old) (g.failures new))
+  -- a failed store is always returned as `Store`
   pub stores : CountsStoreFault (g.stores old) (g.stores new) (fails_by_store result)
+  -- at most one call failed
   pub once : FailsAtMostOnce (g.failures old) (g.failures new)
   pub honest : g.IsHonest new → g.IsHonest old
   pub clean : g.IsClean new → g.IsClean old
+  -- a look that succeeds leaves an honest store honest, if its disk stays clean
   pub lasts : OnOk result (g.IsHonest old → g.IsClean new → g.IsHonest new)
+  -- a crash leaves only what it could have left before
   pub crash : (T : Tables) → g.may_leave new T → g.may_leave old T
 
--- what a look does that succeeds, and finds nothing
-abbrev pub ReadsNothing : {S : Type 0} → Ghosts S → S → S → Type 0
-ReadsNothing g old new = ReadsTables {X = Unit {0}} g old new (Ok tt)
+-- a look that succeeds, and finds nothing
+abbrev pub LookFindsNothing : {S : Type 0} → Ghosts S → S → S → Type 0
+LookFindsNothing g old new = ReadsTables {X = Unit {0}} g old new (Ok tt)
 
--- the same of a walk over rows: that its taker wants no more of them is no failure
+-- A walk over rows, as in `ReadsTables`. A taker that stops it is not a fault.
 pub record WalksTables {S X : Type 0} (g : Ghosts S) (old new : S)
     (result : Result X WalkEnd) : Type 0 where
   pub unchanged : g.IsHonest new → g.tables new ≡ g.tables old
@@ -52,15 +58,16 @@ pub record WalksTables {S X : Type 0} (g : Ghosts S) (old new : S)
   pub lasts : has_fault result ≡ false → g.IsHonest old → g.IsClean new → g.IsHonest new
   pub crash : (T : Tables) → g.may_leave new T → g.may_leave old T
 
--- ---- what is found, and that nothing is done beside
+-- ---- what a look finds
 
--- where it succeeds, this holds of the tables and of what it gives
+-- a look that succeeds finds what `Holds` says of the tables
 pub record LooksAt {S X : Type 0} (g : Ghosts S) (old new : S) (result : Result X Fault)
     (Holds : Tables → X → Type 0) : Type 0 where
   pub found : g.IsHonest new → IfOk result (Holds (g.tables old))
   pub look : ReadsTables g old new result
 
--- and of each history for which the tables stand, and what it gives
+-- a look that succeeds finds what `Holds` says of the tables, and `HoldsAfter` of each history for
+-- which they stand
 pub record LooksAtBoth {S X : Type 0} (g : Ghosts S) (old new : S) (result : Result X Fault)
     (Holds : Tables → X → Type 0) (HoldsAfter : History → X → Type 0) : Type 0 where
   pub found : g.IsHonest new → IfOk result (Holds (g.tables old))
@@ -68,8 +75,8 @@ pub record LooksAtBoth {S X : Type 0} (g : Ghosts S) (old new : S) (result : Res
       (λ found. (h : History) → StandsFor (g.tables old) h → HoldsAfter h found)
   pub look : ReadsTables g old new result
 
--- a walk that hands over the rows of the tables, which are those of each history for which they
--- stand; whatever the store did, it hands over some rows in this way
+-- A walk over the rows of the tables, which are those of each history for which they stand. Even if
+-- the store is not honest, the taker gets some rows in this way.
 pub record HandsOver {S X Rows : Type 0} (g : Ghosts S) (old new : S) (result : Result X WalkEnd)
     (rows_in : Tables → Rows) (AreRowsAfter : History → Rows → Type 0)
     (Hands : Rows → Type 0) : Type 0 where

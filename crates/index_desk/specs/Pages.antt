@@ -6,19 +6,19 @@ use Rattle.index_rules.specs.Tables.{Tables}
 use Rattle.index_pages.specs.Pages.{project_page_of, root_page_of}
 use Rattle.index_pages.specs.declared.served.Served.{Served}
 use Rattle.index_desk.specs.Projects.{project_rows_in}
-use Rattle.index_desk.specs.declared.keeper.PageKey.{PageKey}
-use Rattle.index_desk.specs.declared.keeper.PageKey.TheVariants.{Root, Project}
+use Rattle.index_desk.specs.declared.caching.PageKey.{PageKey}
+use Rattle.index_desk.specs.declared.caching.PageKey.TheVariants.{Root, Project}
 
--- the project that a page is of: the root page is of none
+-- the project whose page it is; none for the root page
 abbrev pub project_of_page : PageKey → Option Bytes
 project_of_page Root = None
 project_of_page (Project name) = Some name.now
 
--- the bytes of a page, where there is one: of a name that is not held there is none
+-- the bytes of a page, or none for a name that is not held
 abbrev pub text_in : Tables → Served → Option Bytes → Option Bytes
 text_in T served None = Some (root_page_of served (held_rows_in T))
 text_in T served (Some name) = option_map (project_page_of served name) (project_rows_in T name)
 
--- the same by the page
+-- `text_in` by the key of the page
 abbrev pub page_in : Tables → Served → PageKey → Option Bytes
 page_in T served page = text_in T served (project_of_page page)

@@ -1,4 +1,4 @@
--- The rows that a history makes: of the held names, and of the undeleted files of a held name.
+-- The rows that a history has: of the held names, and of the undeleted files of a held name.
 use Rattle.std.specs.Prelude.{◌≡◌, true, false, List, [], Option, Some, None, map}
 use Rattle.std.specs.Option.{option_map_or}
 use Rattle.index_names.specs.FileName.{project_of, release_of}
@@ -15,7 +15,7 @@ use Rattle.index_desk.specs.Lists.{AreThose}
 
 -- ---- names
 
--- a held name with its record
+-- the row of a held name
 abbrev pub held_row_after : History → Bytes → NameRow
 held_row_after h n = record { name = n; «record» = Held (project_after h n) }
 
@@ -27,12 +27,12 @@ AreHeldRowsAfter h rows =
 
 -- ---- files
 
--- a file has the digest of its first upload, which is the one that was declared (FIPS 180-4)
+-- the digest of a file's first upload, which is the one that was declared (FIPS 180-4)
 abbrev pub digest_after : History → Bytes → Bytes
 digest_after h f = option_map_or (λ digest_and_size. digest_and_size.0) (first_upload_after h f) []
 
--- a file with the digest and the size of its first upload, the text of its last, and the yank of
--- its release (PEP 592)
+-- the row of a file: the digest and size of its first upload, the `Requires-Python` of its last,
+-- and the yank of its release (PEP 592)
 abbrev pub file_row_after : History → Bytes → FileRow
 file_row_after h f = record {
   file = f;
@@ -49,7 +49,7 @@ AreFileRowsAfter h n rows =
     (files : List Bytes) × AreThose (is_charged_after h n) files
     × (rows ≡ map (file_row_after h) files)
 
--- the same of a name that is held; of any other there are none
+-- the rows of a held name's undeleted files, or none if the name is not held
 abbrev pub AreProjectRowsAfter : History → Bytes → Option (List FileRow) → Type 0
 AreProjectRowsAfter h n None = is_held_now (state_after h n) ≡ false
 AreProjectRowsAfter h n (Some rows) =

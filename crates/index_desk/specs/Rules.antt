@@ -1,4 +1,4 @@
--- What the tables and a history answer: the same questions, by rules over any state.
+-- The rules of the index over any state: the tables, or a history.
 use Rattle.std.specs.Prelude.{◌≡◌, List, Option}
 use Rattle.std.specs.FinMap.{get}
 use Rattle.index_rules.specs.declared.answer.Answer.{Answer}
@@ -18,17 +18,22 @@ use Rattle.index_desk.specs.Standings.{standing_in, IsStandingAfter}
 use Rattle.index_desk.specs.Projects.{project_rows_in}
 use Rattle.index_desk.specs.PastRows.{AreHeldRowsAfter, AreProjectRowsAfter}
 
--- the verdict on a call in a state and the state after its answer, what stands of a name, the rows
--- of the held names and of a project, where its name is held, and the bytes that are kept of a file
+-- rules over a state
 pub record Rules (S : Type 0) : Type 1 where
+  -- the verdict on a call
   pub verdict : S → Call → Verdict
+  -- the state after a call and its answer
   pub next : S → Call → Answer → S
+  -- the standing of a name
   pub Stands : S → Bytes → Standing → Type 0
+  -- the rows of the held names
   pub HeldRows : S → List NameRow → Type 0
+  -- the rows of a project, or none if its name is not held
   pub ProjectRows : S → Bytes → Option (List FileRow) → Type 0
+  -- the bytes of a file, or none
   pub Body : S → Bytes → Option Bytes → Type 0
 
--- the rules by the tables
+-- the rules over the tables
 abbrev pub by_tables : Rules Tables
 by_tables = record {
   verdict = verdict_now;
@@ -39,7 +44,7 @@ by_tables = record {
   Body = λ T file body. body ≡ get T.bodies file;
 }
 
--- the rules by a history
+-- the rules over a history
 abbrev pub by_history : Rules History
 by_history = record {
   verdict = verdict_after;

@@ -15,19 +15,19 @@ use Rattle.index_desk.specs.Lists.{AreThose}
 use Rattle.index_desk.specs.declared.standing.Standing.{Standing}
 use Rattle.index_desk.specs.declared.standing.Standing.TheVariants as standing
 
--- a held name with its record, its owners and its open case
+-- the standing of a held name, with its record, its owners and its open case
 abbrev pub held_with : Bytes → Project → List Bytes → Option CaseRecord → Standing
 held_with name project owners case =
     standing.Held (record { name = name; project = project; owners = owners; case = case })
 
--- what stands of a name with this record
+-- the standing of a name with this record
 abbrev pub standing_of_record : Tables → Bytes → Option NameRecord → Standing
 standing_of_record T name None = standing.Free name
 standing_of_record T name (Some Prohibited) = standing.Prohibited name
 standing_of_record T name (Some (Held project)) =
     held_with name project (owners_in T name) (get T.cases name)
 
--- what stands of a name in the tables
+-- the standing of a name in the tables
 abbrev pub standing_in : Tables → Bytes → Standing
 standing_in T name = standing_of_record T name (get T.names name)
 
@@ -37,7 +37,7 @@ standing_in T name = standing_of_record T name (get T.names name)
 abbrev pub AreOwnersAfter : History → Bytes → List Bytes → Type 0
 AreOwnersAfter h name users = AreThose (owns_after h name) users
 
--- what stands of a name after a history
+-- the standing of a name after a history
 abbrev pub IsStandingAfter : History → Bytes → Standing → Type 0
 IsStandingAfter h name (standing.Free of) = (of ≡ name) × (state_after h name ≡ past.Free)
 IsStandingAfter h name (standing.Prohibited of) =

@@ -1,4 +1,4 @@
--- What a desk does that takes calls.
+-- A desk that takes calls.
 use Rattle.std.specs.Prelude.{◌≡◌, ◌≢◌, ◌⊎◌, Bool, true, false, List, Contains}
 use Rattle.index_io.specs.Counts.{FailsAtMostOnce, HasFailed}
 use Rattle.index_rules.specs.declared.answer.Answer.{Answer}
@@ -16,29 +16,29 @@ use Rattle.index_rules.specs.StandsFor.{StandsFor}
 use Rattle.index_rules.specs.Tables.{Tables}
 use Rattle.index_rules.specs.StoreFaults.{CountsStoreFault, answers_store_fault}
 use Rattle.index_rules.specs.Verdict.{Accept, Verdict, verdict_now}
-use Rattle.index_desk.specs.Crashes.{IsWithCall, Lasts, LastsAll, LeavesByAnswer, LeavesAll}
-use Rattle.index_desk.specs.Crashes.{LeavesAllOf}
+use Rattle.index_desk.specs.Crashes.{AnswerLeavesTables, CallsLeaveTables, IsWithCall, Lasts}
+use Rattle.index_desk.specs.Crashes.{CallsLeaveHistory, LastsAll}
 
--- ---- where something is said of tables
+-- ---- what `Holds` of the tables, and when
 
--- of the tables before and after, where the store is honest at the end and no two users bore one
--- digest
+-- `Holds` of the tables before and after, if the store is honest at the end and at most one user
+-- had each token's digest
 abbrev pub ByTables : {S : Type 0} → Ghosts S → S → S → (Tables → Tables → Type 0) → Type 0
 ByTables g old new Holds =
     g.IsHonest new → HasOneBearer (g.tables old) → Holds (g.tables old) (g.tables new)
 
--- of each legal history for which they stood, and the tables after
+-- `Holds` of each legal history of the tables before, and of the tables after
 abbrev pub ByHistory : {S : Type 0} → Ghosts S → S → S → (History → Tables → Type 0) → Type 0
 ByHistory g old new Holds =
     g.IsHonest new → (h : History) → IsLegal h → StandsFor (g.tables old) h → Holds h (g.tables new)
 
--- of the tables before and what a crash may leave, where the store was honest and is clean at the
--- end, even if a fault has shut it
+-- `Holds` of the tables before and of those that a crash may leave, if the store was honest and is
+-- clean at the end, even if a fault has shut it
 abbrev pub CrashByTables : {S : Type 0} → Ghosts S → S → S → (Tables → Tables → Type 0) → Type 0
 CrashByTables g old new Holds = g.IsHonest old → g.IsClean new
     → HasOneBearer (g.tables old) → (T : Tables) → g.may_leave new T → Holds (g.tables old) T
 
--- of each legal history for which they stood, and what a crash may leave
+-- `Holds` of each legal history of the tables before, and of the tables that a crash may leave
 abbrev pub CrashByHistory : {S : Type 0} → Ghosts S → S → S → (History → Tables → Type 0) → Type 0
 CrashByHistory g old new Holds = g.IsHonest old → g.IsClean new
     → (h : History) → IsLegal h → StandsFor (g.tables old) h
@@ -46,65 +46,74 @@ CrashByHistory g old new Holds = g.IsHonest old → g.IsClean new
 
 -- ---- calls
 
--- an answer that is a fault
+-- the answer reports a fault
 abbrev pub answers_fault : Answer → Bool
 answers_fault Accepted = false
 answers_fault Already = false
 answers_fault (Refused refusal) = false
 answers_fault (Fault fault) = true
 
--- what an answer alone says: no table changed unless it is an acceptance; after that the store is
--- honest, where it is still clean, and after another answer but a fault if it was; of a store that
--- was not honest a crash leaves nothing new; a fault `Store` is a failure of the books, of which
--- there is one at most, and none after an answer that is no fault; a fault of their store is told
--- as `Store`
+-- what each answer says
 pub record Settles {S : Type 0} (g : Ghosts S) (old new : S) (answer : Answer) : Type 0 where
+  -- no table changed unless the call was accepted
   pub unchanged : g.IsHonest new → answer ≢ Accepted → g.tables new ≡ g.tables old
+  -- If the store is still clean, it is honest after an accepted call. It stays honest after another
+  -- answer, except a fault.
   pub lasts : g.IsClean new → Lasts answer (g.IsHonest old) (g.IsHonest new)
+  -- if the store was not honest, a crash leaves nothing new
   pub nothing_new : (T : Tables) → g.may_leave new T → g.may_leave old T ⊎ g.IsHonest old
+  -- `Store` is answered only if a call of the books failed
   pub store : answer ≡ Fault Store → HasFailed (g.failures old) (g.failures new)
+  -- no call of the books failed unless a fault is answered
   pub kept : answers_fault answer ≡ false → g.failures new ≡ g.failures old
+  -- a failed store is always answered as `Store`
   pub stores : CountsStoreFault (g.stores old) (g.stores new) (answers_store_fault answer)
+  -- at most one call of the books failed
   pub failures : FailsAtMostOnce (g.failures old) (g.failures new)
   pub honest : g.IsHonest new → g.IsHonest old
   pub clean : g.IsClean new → g.IsClean old
 
--- a decision was settled that says this verdict, and this change where it is to accept
+-- a decision was settled, with this verdict, and with this change if the verdict is to accept
 pub record SettlesBy {S : Type 0} (g : Ghosts S) (old new : S) (verdict : Verdict) (change : Change)
     (answer : Answer) : Type 0 where
   pub told : g.IsHonest new → Answers verdict answer
   pub next : g.IsHonest new → g.tables new ≡ tables_after_change (g.tables old) change answer
   pub crash : g.IsHonest old → (T : Tables) → g.may_leave new T
-      → LeavesByAnswer (g.may_leave old)
+      → AnswerLeavesTables (g.may_leave old)
       (λ T'. (verdict ≡ Accept) × (T' ≡ means change (g.tables old))) answer T
 
--- a call was taken: the answer is the verdict or a fault, the tables are those after it, and a
--- legal history for which they stood has the call once it was accepted; a crash leaves what stands
--- with the call after an acceptance, after a fault that or what it could leave before, and else
--- what it could leave before
+-- a call was taken
 pub record Takes {S : Type 0} (g : Ghosts S) (old new : S) (call : Call)
     (answer : Answer) : Type 0 where
+  -- the answer is the verdict or a fault
   pub verdict : ByTables g old new (λ T T'. Answers (verdict_now T call) answer)
+  -- the tables are those after the call and its answer
   pub next : ByTables g old new (λ T T'. T' ≡ tables_after T call answer)
+  -- each legal history of the tables goes on with the accepted call
   pub history : ByHistory g old new (λ h. CarriesOn h call answer)
+  -- a crash leaves the tables that `AnswerLeavesTables` says, with the call or without it
   pub crash : CrashByTables g old new
-      (λ T. LeavesByAnswer (g.may_leave old) (IsWithCall T call) answer)
+      (λ T. AnswerLeavesTables (g.may_leave old) (IsWithCall T call) answer)
   pub crash_history : CrashByHistory g old new
-      (λ h. LeavesByAnswer (g.may_leave old) (CarriesOn h call Accepted) answer)
+      (λ h. AnswerLeavesTables (g.may_leave old) (CarriesOn h call Accepted) answer)
   pub settles : Settles g old new answer
 
--- calls in a row were taken: each answer is the verdict at its point or a fault, the tables are
--- those after the accepted calls, and a legal history has exactly these more, in order; a crash
--- leaves what comes of them, or of these and one call to which a fault was answered since the last
--- of them. Where no fault was answered since the last acceptance, or since the first call of an
--- honest store, it is honest, and a crash leaves the tables as they stand
+-- calls in a row were taken
 pub record TakesInTurn {S : Type 0} (g : Ghosts S) (old new : S) (calls : List Call)
     (answers : List Answer) : Type 0 where
+  -- each answer is the verdict at its point or a fault, and the tables are those after the accepted
+  -- calls
   pub runs : ByTables g old new (λ T. Runs T calls answers)
+  -- each legal history of the tables goes on with exactly the accepted calls, in order
   pub history : ByHistory g old new (λ h. CarriesOnAll h calls answers)
-  pub crash : CrashByTables g old new (λ T. LeavesAll T calls answers)
-  pub crash_history : CrashByHistory g old new (λ h. LeavesAllOf h calls answers)
+  -- a crash leaves the tables after the accepted calls, or after these and one call that was
+  -- answered with a fault after the last of them
+  pub crash : CrashByTables g old new (λ T. CallsLeaveTables T calls answers)
+  pub crash_history : CrashByHistory g old new (λ h. CallsLeaveHistory h calls answers)
+  -- if the store is still clean, and no fault was answered since the last accepted call, or since
+  -- the first call of a store that was honest before, it is honest
   pub lasts : g.IsClean new → LastsAll answers (g.IsHonest old) (g.IsHonest new)
+  -- and then a crash leaves the tables as they are
   pub alone : g.IsClean new
       → LastsAll answers (g.IsHonest old) ((T : Tables) → g.may_leave new T → T ≡ g.tables new)
   pub store : Contains answers (Fault Store) → HasFailed (g.failures old) (g.failures new)

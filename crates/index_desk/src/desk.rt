@@ -25,14 +25,14 @@ use index_rules::{
 use std::alloc::Global;
 use std::marker::Model;
 
+mod cached;
 mod check;
-mod kept;
 mod report;
 mod rows;
 
 pub use report::ReportFault;
 
-/// A desk that takes calls over books. Contracts see the books.
+/// A desk takes calls over books. Contracts see the books.
 #[derive(Drop)]
 pub struct Desk<B> {
     books: B,
@@ -54,7 +54,7 @@ impl<B> Desk<B> {
         Desk { books }
     }
 
-    /// The books.
+    /// Returns the books.
     pub fn into_books(self) -> B
         ensures { result ≡ self }
     {
@@ -64,18 +64,18 @@ impl<B> Desk<B> {
 }
 
 impl<B: Books> Desk<B> {
-    /// How many calls of the books answered a fault, up to 18,446,744,073,709,551,615.
+    /// The number of failed calls of the books, up to 18,446,744,073,709,551,615.
     pub fn failure_count(&self) -> u64
         ensures { result ≡ B.failures self.now }
     {
         self.books.failure_count()
     }
 
-    /// Takes one call. After a refusal, an `Already` or a fault the tables are what they were.
+    /// Takes one call. Unless it answers `Accepted`, the tables are as before.
     pub fn apply(&mut self, alloc: Global, call: Call) -> Answer
         ensures takes { Takes B.Books self.old self.new call result }
 
-        // No two users come to bear one digest, and tables whose accounts add up keep adding up.
+        // At most one user still has each token's digest, and charges that add up still add up.
         ensures keeps { KeepsInvariants B.Books self.old self.new }
     {
         match consider(&mut self.books, alloc, call) {
@@ -84,7 +84,7 @@ impl<B: Books> Desk<B> {
         }
     }
 
-    /// Takes calls in order. Room for all answers is taken first.
+    /// Takes calls in order. Memory for all answers is taken first.
     ///
     /// # Errors
     ///
@@ -93,7 +93,7 @@ impl<B: Books> Desk<B> {
         ensures takes { IfOk result (λ answers.
             TakesInTurn B.Books self.old self.new calls.items answers.items) }
 
-        // No two users come to bear one digest, and the accounts add up as before.
+        // At most one user still has each token's digest, and charges that add up still add up.
         ensures keeps { KeepsInvariants B.Books self.old self.new }
         ensures none { OnErr result (self.new ≡ self.old) }
         ensures fault { IfErr result (λ fault. fault ≡ Fault.OutOfMemory) }
@@ -103,7 +103,7 @@ impl<B: Books> Desk<B> {
         Ok(answers)
     }
 
-    /// Takes calls in order, into answers that have room for theirs.
+    /// Takes calls in order. `answers` has room for their answers.
     fn apply_all(&mut self, alloc: Global, calls: Vec<Call>, answers: &mut Vec<Answer>)
         requires room { vec_capacity answers.old ≡ length calls.items }
         requires none { answers.old.items ≡ [] }
@@ -116,11 +116,11 @@ impl<B: Books> Desk<B> {
         }
     }
 
-    /// What stands of a name. It changes no table.
+    /// The standing of a name. It changes no table.
     ///
     /// # Errors
     ///
-    /// `OutOfMemory` for want of memory, and `Store` where the books fail.
+    /// `OutOfMemory` if memory runs out, and `Store` if the books fail.
     pub fn standing(&mut self, alloc: Global, name: &NormalName) -> Result<Standing, Fault>
         ensures { LooksAtBoth B.Books self.old self.new result
             (λ T standing. standing ≡ standing_in T name.now) (λ h. IsStandingAfter h name.now) }
@@ -137,15 +137,15 @@ impl<B: Books> Desk<B> {
         }
     }
 
-    /// The bytes that are kept of a file with their digest, or `None` where none are: in sound tables, where it is not
+    /// The bytes and the digest of a file, or `None` if the books have none: in sound tables, if the file is not
     /// undeleted. It changes no table.
     ///
     /// # Errors
     ///
-    /// `OutOfMemory` for want of memory, and `Store` where the books fail.
+    /// `OutOfMemory` if memory runs out, and `Store` if the books fail.
     pub fn body(&mut self, alloc: Global, file: &FileName) -> Result<Option<Sealed>, Fault>
-        // In sound tables they have the size and the digest that the file is bound to. After a history it is the body of
-        // the file's last upload, where the file is undeleted.
+        // In sound tables the bytes have the size and the digest that the file is bound to. By a history they are those
+        // of the file's last upload, if the file is undeleted.
         ensures { LooksAtBoth B.Books self.old self.new result
             (λ T body. (body ≡ get T.bodies file.now) × (IsSound T → AreBytesOf T file.now body))
             (λ h body. body ≡ body_after h file.now) }
@@ -176,7 +176,7 @@ fn consider<B: Books>(
     }
 }
 
-/// What a call's keys name. It changes no table.
+/// The view that the keys of a call read. It changes no table.
 fn view_of_call<B: Books>(books: &mut B, alloc: Global, call: &Call) -> Result<View, Fault>
     ensures { LooksAt B.Books books.old books.new result (λ T. Sees T (keys_of call.now)) }
 {
@@ -184,7 +184,7 @@ fn view_of_call<B: Books>(books: &mut B, alloc: Global, call: &Call) -> Result<V
     books.view(alloc, &keys)
 }
 
-/// The answer by a decision, whose change is written.
+/// Writes the change of a decision, and returns its answer.
 fn settle<B: Books>(books: &mut B, alloc: Global, decision: Result<Decision, Stop>) -> Answer
     ensures decided { (verdict : Verdict) (change : Change) → Decides decision verdict change →
         SettlesBy B.Books books.old books.new verdict change result }
@@ -210,7 +210,7 @@ fn seen_name<B: Books>(books: &mut B, alloc: Global, name: &NormalName) -> Resul
     Ok(view.into_name())
 }
 
-/// The standing of a name that nobody holds.
+/// The standing of a free name.
 fn free_name(name: &NormalName) -> Result<Standing, Fault>
     ensures free { IfOk result (λ standing. standing ≡ Standing.Free name.now) }
     ensures memory { IfErr result (λ fault. fault ≡ Fault.OutOfMemory) }

@@ -1,10 +1,10 @@
-//! The desk of the index: calls in order over any books, and what is told of the tables.
+//! The desk of the index: it takes calls in order over any books, and reads the tables.
 #![tactic(auto)]
 
+mod caching;
 mod desk;
-mod keeper;
 mod standing;
 
+pub use caching::{CachesAnswers, PageKey};
 pub use desk::{Desk, ReportFault};
-pub use keeper::{Keeper, PageKey};
 pub use standing::{HeldName, Standing};

@@ -23,7 +23,7 @@ impl Drop for HeldName {
     }
 }
 
-/// What stands of a name.
+/// The standing of a name.
 #[derive(Debug, Drop)]
 pub enum Standing {
     Free { name: NormalName },

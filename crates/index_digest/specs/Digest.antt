@@ -10,11 +10,11 @@ use Rattle.sha2.specs.Sha256 as standard
 unfoldable pub sha256 : List ℕ → List ℕ
 sha256 message = standard.sha256 message
 
--- the bytes of a digest
+-- how many bytes a digest has
 abbrev pub digest_length : ℕ
 digest_length = 32
 
--- the digits of its text
+-- how many digits a digest's text has
 abbrev pub digest_text_length : ℕ
 digest_text_length = 64
 
@@ -23,15 +23,15 @@ pub record IsDigest (digest : List ℕ) : Type 0 where
   pub size : length digest ≡ digest_length
   pub bytes : IsBytes digest
 
--- the sixteen digits of a digest's text, in the order of their values
+-- the sixteen digits of a digest's text, by their values
 abbrev pub text_digits : List ℕ
 text_digits = codes "0123456789abcdef"
 
--- a digit of `0-9`, or a letter of `a-f`
+-- whether a byte is a digit of `0-9`, or a letter of `a-f`
 unfoldable pub is_text_digit : ℕ → Bool
 is_text_digit c = list_any (λ digit. digit == c) text_digits
 
--- a digest's text is 64 of these digits
+-- whether a text is that of a digest: 64 digits
 abbrev pub is_digest_text : List ℕ → Bool
 is_digest_text text = (length text == digest_text_length) && list_all is_text_digit text
 
@@ -39,6 +39,6 @@ is_digest_text text = (length text == digest_text_length) && list_all is_text_di
 unfoldable pub text_of : List ℕ → List ℕ
 text_of digest = encode_lower digest
 
--- the digest that a text is of, if it is of one
+-- the digest that a text is of, or none of any other text
 unfoldable pub read_digest : List ℕ → Option (List ℕ)
 read_digest text = if is_digest_text text then result_ok (decode_of text) else None

@@ -76,8 +76,7 @@ impl Digest256 {
         self.bytes
     }
 
-    /// The digest that `text` is of: 64 digits of `0-9a-f`, two for each byte. An upper case digit
-    /// is refused.
+    /// The digest that `text` is of: 64 digits of `0-9a-f`, two for each byte. Upper case is refused.
     pub fn read_hex(text: &[u8]) -> Option<Digest256>
         ensures value { result ≡ read_digest text.now }
         ensures found { IsSome result ↔ IsTrue (is_digest_text text.now) }

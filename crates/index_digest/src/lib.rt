@@ -1,4 +1,4 @@
-//! SHA-256 digests (FIPS 180-4): their values, their texts, and bytes beside their digest.
+//! SHA-256 digests (FIPS 180-4): their values, their texts, and bytes with their digest.
 #![tactic(auto)]
 
 mod digest;

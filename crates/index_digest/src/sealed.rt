@@ -1,4 +1,4 @@
-//! Bytes that are known by their digest.
+//! Bytes with their digest.
 ghost use Rattle.std.specs.Prelude.{◌≡◌, ◌↔◌, IsOk, IfOk, IfErr};
 ghost use Rattle.index_digest.specs.Digest.{sha256};
 
@@ -6,14 +6,14 @@ use crate::digest::Digest256;
 use std::alloc::AllocError;
 use std::marker::Model;
 
-/// Bytes beside their SHA-256 digest. Contracts see the list of the bytes.
+/// Bytes with their SHA-256 digest. Contracts see the list of the bytes.
 #[derive(Debug)]
 pub struct Sealed {
     bytes: Vec<u8>,
     digest: Digest256,
 }
 
-// By hand: a drop is then one call at each exit of a function (docs/developers/PROOF-COSTS.md).
+// By hand: each exit of a function then makes one call to drop (docs/developers/PROOF-COSTS.md).
 impl Drop for Sealed {
     fn drop(self) {
         let Sealed {
@@ -35,11 +35,11 @@ impl Model for Sealed {
 }
 
 impl Sealed {
-    /// Keeps `bytes` where `declared` is their digest.
+    /// Seals `bytes` if `declared` is their digest.
     ///
     /// # Errors
     ///
-    /// The bytes themselves, where it is not.
+    /// The bytes themselves, if it is not.
     pub fn new(bytes: Vec<u8>, declared: Digest256) -> Result<Sealed, Vec<u8>>
         ensures matches { IsOk result ↔ (sha256 bytes.items ≡ declared) }
         ensures kept { IfOk result (λ sealed. sealed ≡ bytes.items) }

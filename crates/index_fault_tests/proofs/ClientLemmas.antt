@@ -1,7 +1,7 @@
 -- Connections of which it is known what came and went on them.
 use Rattle.std.proofs.Common.{◌≡◌, ℕ, List, [], ◌∷◌, ◌++◌, map, Some, refl, sym, ap, subst, ◌∙◌, append_assoc, append-nil, unwrap_or}
 use mathlib.Core.List.{map-append}
-use Rattle.index_cli.specs.Connections.{AddsReply, AreOn, Came, Closed, Exchange, KnownList, Loses, TakesFirst}
+use Rattle.index_cli.specs.Connections.{AddsReply, AreOn, Came, ClientTaken, Closed, Exchange, KnownList, Loses}
 use Rattle.index_fault_tests.specs.Clients.{AreNamed, messages_in, replies_in}
 
 -- the messages that came are the first of those that were to come
@@ -10,7 +10,7 @@ came_named : (messages : List (List ℕ)) (later : KnownList) (exchanges : List 
 came_named messages later [] came = (messages, came, refl)
 came_named messages later (exchange ∷ earlier) came =
     let before = came_named messages came.0 earlier came.1 in
-    let takes = subst (λ (it : KnownList). TakesFirst it later exchange.given) before.1 came.2 in
+    let takes = subst (λ (it : KnownList). ClientTaken it later exchange.given) before.1 came.2 in
     let first : exchange.given ∷ map (λ it. Some it) takes.1 ≡ map (λ it. Some it) before.0 =
     ap (λ it. it ∷ map (λ it. Some it) takes.1) takes.3 ∙ sym (ap (map (λ it. Some it)) takes.2) in (
       takes.1,

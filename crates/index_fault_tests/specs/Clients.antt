@@ -1,18 +1,18 @@
--- Connections in memory, of which it is known what their clients send and are sent.
+-- Connections in memory, whose inputs and replies are known.
 use Rattle.std.specs.Prelude.{◌≡◌, ℕ, List, [], ◌∷◌, ◌++◌, map, Option, Some}
 use Rattle.index_cli.specs.Connections.{Exchange}
 
--- what came on connections, of which the newest comes first; the oldest of the messages comes first
+-- the inputs of exchanges, which are listed newest first, in the order in which they came
 abbrev pub messages_in : List Exchange → List (Option (List ℕ))
 messages_in [] = []
 messages_in (exchange ∷ earlier) = messages_in earlier ++ exchange.given ∷ []
 
--- what went out on them
+-- the replies of exchanges, which are listed newest first, in the order in which they were sent
 abbrev pub replies_in : List Exchange → List (Option (List ℕ))
 replies_in [] = []
 replies_in (exchange ∷ earlier) = replies_in earlier ++ exchange.has ∷ []
 
--- the clients sent the first of these messages, and were sent these replies, each its own
+-- the clients sent the first of these messages, and each was sent its own reply
 pub record AreNamed (messages replies : List (List ℕ)) (exchanges : List Exchange) : Type 0 where
   pub rest : List (List ℕ)
   pub given : messages_in exchanges ++ map (λ it. Some it) rest ≡ map (λ it. Some it) messages

@@ -1,4 +1,4 @@
-//! The ends of a run over lines, and the texts of what comes in and goes out, where no clause tells them apart.
+//! How runs over lines end, and the exact texts of input and output, which no clause gives.
 #![tactic(auto)]
 
 #[cfg(test)]

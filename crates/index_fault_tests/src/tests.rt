@@ -31,7 +31,7 @@ const CLAIM: &str = r#"{"at":2,"token":"abc","do":"claim","name":"frob"}"#;
 
 const OTHER_CLAIM: &str = r#"{"at":2,"token":"hello","do":"claim","name":"nest"}"#;
 
-/// Both, of which the second has no line feed.
+/// Both claims, without a line feed after the second.
 const BOTH_CLAIMS: &str = r#"{"at":2,"token":"abc","do":"claim","name":"frob"}
 {"at":2,"token":"hello","do":"claim","name":"nest"}"#;
 
@@ -60,7 +60,7 @@ fn desk_with_users<B: Books>(rt: &(impl Abort + AllocGlobal), books: B) -> Desk<
     desk
 }
 
-/// How a run ends over what a reader gives, with its answers to a writer.
+/// How a run over a reader ends, with its answers to a writer.
 fn run<R: Read + Drop, W: Write, B: Books>(
     rt: &impl AllocGlobal,
     desk: &mut Desk<B>,
@@ -72,7 +72,7 @@ fn run<R: Read + Drop, W: Write, B: Books>(
     apply_lines(rt.alloc(), &mut input, &mut output, desk)
 }
 
-/// A run over what a reader gives ends so, and writes these answers.
+/// A run over a reader ends like this, and writes these answers.
 fn assert_run<R: Read + Drop, B: Books>(
     rt: &(impl Abort + AllocGlobal),
     desk: &mut Desk<B>,
@@ -86,13 +86,13 @@ fn assert_run<R: Read + Drop, B: Books>(
     assert!(rt; found == ended, "{answers}");
 }
 
-/// What is told are these answers.
+/// The output is these answers.
 fn assert_text(rt: &impl Abort, told: Vec<u8>, answers: &str) {
     let told = String::from_utf8(told).expect(rt, answers);
     assert_eq!(rt; told.as_str(), answers);
 }
 
-/// Asks these lines, which are answered so, each by one line.
+/// These lines get these answers, one line each.
 fn assert_answers<B: Books>(
     rt: &(impl Abort + AllocGlobal),
     desk: &mut Desk<B>,

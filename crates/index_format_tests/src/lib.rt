@@ -1,4 +1,4 @@
-//! What is read and written, by examples from outside: values, messages and pages; and retention cases.
+//! Parsing and printing, by examples from outside: values, messages and pages; and retention cases.
 #![tactic(auto)]
 
 #[cfg(test)]

@@ -1,6 +1,6 @@
-//! A module for each subject. The helpers of a subject stand in its module.
+//! A module for each subject, with its helpers.
+mod args;
 mod json;
 mod messages;
 mod pages;
 mod values;
-mod words;

@@ -7,20 +7,20 @@ use Rattle.index_message.specs.Requests.{HttpRequest}
 use Rattle.index_message.specs.Resources.{is_head, is_reading}
 use Rattle.index_message.specs.declared.message.Message.{Message}
 use Rattle.index_message.specs.declared.message.Message.TheVariants.{Whole}
-use Rattle.index_http.specs.Ends.{Ends}
-use Rattle.index_http.specs.Exchanges.{RepliesTo, Shows}
-use Rattle.index_http.specs.Shows.{EndsShown}
+use Rattle.index_http.specs.Ends.{ReplyEnds}
+use Rattle.index_http.specs.Exchanges.{MessageGetsText, ShowsResource}
+use Rattle.index_http.specs.Shows.{LookEnds}
 use Rattle.index_http.specs.declared.end.IoEnd.{IoEnd}
 use Rattle.index_http.proofs.EndLemmas.{ends_map}
 
 -- the reply to a message, and tables after it
 abbrev pub IsReplyTo : Type 0 → ℕ → Tables → (Tables → Type 0) → Message → Bytes → Type 0
-IsReplyTo Cause at T IsLater message text = (later : Tables) × RepliesTo by_tables Cause at T message text later × IsLater later
+IsReplyTo Cause at T IsLater message text = (later : Tables) × MessageGetsText by_tables Cause at T message text later × IsLater later
 
 module _ (Cause : Type 0) (at : ℕ) (T : Tables) (IsLater : Tables → Type 0) (request : HttpRequest) (body : Bytes)
     (before after : Option Bytes) (result : Result (Unit {0}) IoEnd) where
   pub look_ends : is_reading request.method ≡ true → IsLater T
-      → EndsShown (is_head request.method) (Shows by_tables T request.fields request.resource) Cause before after result
-      → Ends (IsReplyTo Cause at T IsLater (Whole request body)) (IsLater T) before after result
+      → LookEnds (is_head request.method) (ShowsResource by_tables T request.fields request.resource) Cause before after result
+      → ReplyEnds (IsReplyTo Cause at T IsLater (Whole request body)) (IsLater T) before after result
   look_ends reads same ends =
       ends_map _ _ _ _ before after result (λ text shown. (T, (shown.0, shown.1, rw reads (shown.2, refl)), same)) (λ _. same) ends

@@ -1,4 +1,4 @@
--- What a message asks, where what it asks for comes to something else.
+-- What a message asks, if what it asks for comes to something else.
 use Rattle.std.proofs.Common.{ℕ, inl, inr, Option, Some, None, Result}
 use Rattle.index_rules.specs.declared.answer.Answer.{Answer}
 use Rattle.index_rules.specs.declared.call.Call.{Call}

@@ -13,11 +13,11 @@ use Rattle.index_desk.specs.Takes.{answers_fault}
 use Rattle.index_message.specs.Requests.{HttpRequest}
 use Rattle.index_message.specs.Resources.{is_head, is_reading}
 use Rattle.index_message.specs.declared.message.Message.TheVariants.{Whole}
-use Rattle.index_http.specs.Ends.{Ends, ShowsFailure}
-use Rattle.index_http.specs.Exchanges.{RepliesTo, Shows, store_reply}
+use Rattle.index_http.specs.Ends.{ReplyEnds, SentBytesShowFailure}
+use Rattle.index_http.specs.Exchanges.{MessageGetsText, ShowsResource, store_reply}
 use Rattle.index_http.specs.Replies.{Reply, answer_reply, reply_text}
-use Rattle.index_http.specs.Sends.{SendsLess, SendsText}
-use Rattle.index_http.specs.Shows.{EndsFault, IsTextOfLook}
+use Rattle.index_http.specs.Sends.{SendsLessThanText, SendsText}
+use Rattle.index_http.specs.Shows.{LookFails, IsTextOfLook}
 use Rattle.index_http.specs.declared.end.IoEnd.{IoEnd}
 use Rattle.index_http.specs.declared.end.IoEnd.TheVariants.{ReadFault, OutOfMemory, WriteFault, Cut}
 
@@ -39,7 +39,7 @@ front_sent text before after (Err (WriteFault count)) sends = (count, sends.1)
 front_sent text before after (Err (Cut count)) sends = (count, sends.1)
 
 fault_sent : (IsReply : Bytes → Type 0) (is_head by_put : Bool) (fault : Fault) (before after : Option Bytes) (result : Result (Unit {0}) IoEnd)
-    → SendsText (reply_text is_head (answer_reply by_put (answer.Fault fault))) before after result → ShowsFailure IsReply before after
+    → SendsText (reply_text is_head (answer_reply by_put (answer.Fault fault))) before after result → SentBytesShowFailure IsReply before after
 fault_sent IsReply is_head by_put fault before after result sends =
     let text = reply_text is_head (answer_reply by_put (answer.Fault fault)) in
     let front = front_sent text before after result sends in
@@ -47,7 +47,7 @@ fault_sent IsReply is_head by_put fault before after result sends =
 
 -- a look that failed
 pub look_failed : (IsReply : Bytes → Type 0) (is_head : Bool) (fault : Fault) (before after : Option Bytes) (result : Result (Unit {0}) IoEnd)
-    → EndsFault is_head fault before after result → ShowsFailure IsReply before after
+    → LookFails is_head fault before after result → SentBytesShowFailure IsReply before after
 look_failed IsReply is_head Store before after result sends = fault_sent IsReply is_head false Store before after result sends
 look_failed IsReply is_head NoMemory before after result none =
     let text = reply_text is_head store_reply in
@@ -56,7 +56,7 @@ look_failed IsReply is_head NoMemory before after result none =
 -- an answer that was sent
 pub answer_lasts : (IsReply : Bytes → Type 0) (is_head by_put : Bool) (it : Answer) (Honest Honest' : Type 0) (old new : ℕ) (before after : Option Bytes) (result : Result (Unit {0}) IoEnd)
     → Lasts it Honest Honest' → Honest → (answers_fault it ≡ false → new ≡ old) → SendsText (reply_text is_head (answer_reply by_put it)) before after result
-    → (Honest' × (new ≡ old)) ⊎ ShowsFailure IsReply before after
+    → (Honest' × (new ≡ old)) ⊎ SentBytesShowFailure IsReply before after
 answer_lasts IsReply is_head by_put answer.Accepted Honest Honest' old new before after result lasts honest kept sends = inl (lasts, kept refl)
 answer_lasts IsReply is_head by_put answer.Already Honest Honest' old new before after result lasts honest kept sends = inl (lasts honest, kept refl)
 answer_lasts IsReply is_head by_put (answer.Refused refusal) Honest Honest' old new before after result lasts honest kept sends = inl (lasts honest, kept refl)
@@ -66,33 +66,33 @@ answer_lasts IsReply is_head by_put (answer.Fault fault) Honest Honest' old new 
 -- ---- a reply of one kind is one of another
 
 module _ (P Q : Bytes → Type 0) (before after : Option Bytes) (f : (text : Bytes) → P text → Q text) where
-  pub failure_map : ShowsFailure P before after → ShowsFailure Q before after
+  pub failure_map : SentBytesShowFailure P before after → SentBytesShowFailure Q before after
   failure_map (inl fault) = inl fault
   failure_map (inr less) = inr (less.0, f less.0 less.1, less.2)
 
-  pub lasts_map : (Stays : Type 0) → Stays ⊎ ShowsFailure P before after → Stays ⊎ ShowsFailure Q before after
+  pub lasts_map : (Stays : Type 0) → Stays ⊎ SentBytesShowFailure P before after → Stays ⊎ SentBytesShowFailure Q before after
   lasts_map Stays (inl stays) = inl stays
   lasts_map Stays (inr shows) = inr (failure_map shows)
 
 -- a reply of which not all was sent
 pub less_shows : (is_head : Bool) (IsReply : Reply → Type 0) (reply : Reply) (before after : Option Bytes) → IsReply reply
-    → SendsLess (reply_text is_head reply) before after → ShowsFailure (IsTextOfLook is_head IsReply ⊥) before after
+    → SendsLessThanText (reply_text is_head reply) before after → SentBytesShowFailure (IsTextOfLook is_head IsReply ⊥) before after
 less_shows is_head IsReply reply before after is less = inr (reply_text is_head reply, (reply, refl, inl is), less)
 
 -- what a look shows is the reply to its request
 pub look_lasts : (Stays : Type 0) (at : ℕ) (T : Tables) (request : HttpRequest) (body : Bytes) (before after : Option Bytes) → is_reading request.method ≡ true
-    → Stays ⊎ ShowsFailure (IsTextOfLook (is_head request.method) (Shows by_tables T request.fields request.resource) ⊥) before after
-    → Stays ⊎ ShowsFailure (λ text. (later : Tables) × RepliesTo by_tables ⊥ at T (Whole request body) text later) before after
+    → Stays ⊎ SentBytesShowFailure (IsTextOfLook (is_head request.method) (ShowsResource by_tables T request.fields request.resource) ⊥) before after
+    → Stays ⊎ SentBytesShowFailure (λ text. (later : Tables) × MessageGetsText by_tables ⊥ at T (Whole request body) text later) before after
 look_lasts Stays at T request body before after reads =
-    lasts_map _ (λ text. (later : Tables) × RepliesTo by_tables ⊥ at T (Whole request body) text later) before after
+    lasts_map _ (λ text. (later : Tables) × MessageGetsText by_tables ⊥ at T (Whole request body) text later) before after
     (λ text shown. (T, (shown.0, shown.1, rw reads (shown.2, refl)))) Stays
 
 -- ---- the tables after a reply
 
 -- some tables stand, however the reply ends
 pub one_later : (IsReply : Bytes → Tables → Type 0) (Is : Tables → Type 0) (T : Tables) (Unchanged : Type 0) (before after : Option Bytes) (result : Result (Unit {0}) IoEnd)
-    → Ends (λ text. (later : Tables) × IsReply text later × Is later) Unchanged before after result
-    → (later : Tables) × Ends (λ text. IsReply text later) (later ≡ T) before after result
+    → ReplyEnds (λ text. (later : Tables) × IsReply text later × Is later) Unchanged before after result
+    → (later : Tables) × ReplyEnds (λ text. IsReply text later) (later ≡ T) before after result
 one_later IsReply Is T Unchanged before after (Ok done) ends = (ends.1.0, (ends.0, ends.1.1, ends.2))
 one_later IsReply Is T Unchanged before after (Err (WriteFault count)) ends = (ends.1.0, (ends.0, ends.1.1, ends.2))
 one_later IsReply Is T Unchanged before after (Err (Cut count)) ends = (ends.1.0, (ends.0, ends.1.1, ends.2))

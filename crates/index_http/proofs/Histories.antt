@@ -20,8 +20,8 @@ use Rattle.index_message.specs.declared.message.Message.TheVariants.{Faulty, Who
 use Rattle.index_message.specs.declared.resource.Resource.{Resource}
 use Rattle.index_message.specs.declared.resource.Resource.TheVariants as resource
 use Rattle.index_pages.specs.declared.served.Served.{Served}
-use Rattle.index_http.specs.Ends.{Ends, EndsAfter}
-use Rattle.index_http.specs.Exchanges.{Acts, IsFaultless, Replies, RepliesTo, RepliesToInput, Shows, ShowsAt, ShowsFile, ShowsName, ShowsProject, ShowsRoot, ShowsSpelling, call_of}
+use Rattle.index_http.specs.Ends.{ReplyEnds, ReplyEndsByHistory}
+use Rattle.index_http.specs.Exchanges.{Acts, InputGetsText, IsFaultless, MessageGetsText, RequestGetsReply, ShowsFile, ShowsName, ShowsPath, ShowsProject, ShowsResource, ShowsRoot, ShowsSpelling, call_of}
 use Rattle.index_http.specs.Replies.{Reply}
 use Rattle.index_http.specs.declared.end.IoEnd.{IoEnd}
 use Rattle.index_http.specs.declared.end.IoEnd.TheVariants.{ReadFault, OutOfMemory, WriteFault, Cut}
@@ -40,7 +40,7 @@ module _ (h : History) (T : Tables) (stands : StandsFor T h) where
   spelling_after fields name true reply shows = (shows.0, shows.1, project_after name shows.0 reply shows.2)
   spelling_after fields name false reply shows = shows
 
-  at_after : (fields : List Field) (given : Bytes) (read : Option Bytes) (reply : Reply) → ShowsAt by_tables T fields given read reply → ShowsAt by_history h fields given read reply
+  at_after : (fields : List Field) (given : Bytes) (read : Option Bytes) (reply : Reply) → ShowsPath by_tables T fields given read reply → ShowsPath by_history h fields given read reply
   at_after fields given None reply shows = shows
   at_after fields given (Some name) reply shows = spelling_after fields name (bytes_eq name given) reply shows
 
@@ -52,7 +52,7 @@ module _ (h : History) (T : Tables) (stands : StandsFor T h) where
   name_after None reply shows = shows
   name_after (Some name) reply shows = (shows.0, standing_by_history h T stands name shows.0 shows.1, shows.2)
 
-  shows_after : (fields : List Field) (asked : Resource) (reply : Reply) → Shows by_tables T fields asked reply → Shows by_history h fields asked reply
+  shows_after : (fields : List Field) (asked : Resource) (reply : Reply) → ShowsResource by_tables T fields asked reply → ShowsResource by_history h fields asked reply
   shows_after fields resource.Simple reply shows = shows
   shows_after fields resource.Root reply shows = (shows.0, shows.1, root_after shows.0 reply shows.2)
   shows_after fields (resource.Project name) reply shows = shows
@@ -84,30 +84,30 @@ acts_after Cause h legal T T' stands by_put (Some call) reply (a, is, answers, n
     record { later = history_after h call a; is = (a, is, on.verdict, refl, cause); legal = on.legal; stands = on.stands }
 
 request_after : (Cause : Type 0) (at : ℕ) (h : History) → IsLegal h → (T T' : Tables) → StandsFor T h → (request : HttpRequest) (body : Bytes) (reads : Bool) (reply : Reply)
-    → Replies by_tables Cause at T request body reads reply T' → After (Replies by_history Cause at h request body reads reply) T'
+    → RequestGetsReply by_tables Cause at T request body reads reply T' → After (RequestGetsReply by_history Cause at h request body reads reply) T'
 request_after Cause at h legal T T' stands request body true reply (inl shows, same) =
-    same_after h legal T T' stands same (Replies by_history Cause at h request body true reply)
+    same_after h legal T T' stands same (RequestGetsReply by_history Cause at h request body true reply)
     (inl (shows_after h T stands request.fields request.resource reply shows), refl)
 request_after Cause at h legal T T' stands request body true reply (inr failed, same) =
-    same_after h legal T T' stands same (Replies by_history Cause at h request body true reply) (inr failed, refl)
+    same_after h legal T T' stands same (RequestGetsReply by_history Cause at h request body true reply) (inr failed, refl)
 request_after Cause at h legal T T' stands request body false reply acts =
     acts_after Cause h legal T T' stands (is_put request.method) (call_of at request body) reply acts
 
 message_after : (Cause : Type 0) (at : ℕ) (h : History) → IsLegal h → (T T' : Tables) → StandsFor T h → (message : Message) (text : Bytes)
-    → RepliesTo by_tables Cause at T message text T' → After (RepliesTo by_history Cause at h message text) T'
+    → MessageGetsText by_tables Cause at T message text T' → After (MessageGetsText by_history Cause at h message text) T'
 message_after Cause at h legal T T' stands (Faulty fault is_head) text (is, same) =
-    same_after h legal T T' stands same (RepliesTo by_history Cause at h (Faulty fault is_head) text) (is, refl)
+    same_after h legal T T' stands same (MessageGetsText by_history Cause at h (Faulty fault is_head) text) (is, refl)
 message_after Cause at h legal T T' stands (Whole request body) text (reply, is, replies) =
     let one = request_after Cause at h legal T T' stands request body (is_reading request.method) reply replies in
     record { later = one.later; is = (reply, is, one.is); legal = one.legal; stands = one.stands }
 
 input_after : (Cause : Type 0) (at : ℕ) (h : History) → IsLegal h → (T T' : Tables) → StandsFor T h → (given : Option Bytes) (text : Bytes)
-    → RepliesToInput by_tables Cause at T given text T' → After (RepliesToInput by_history Cause at h given text) T'
+    → InputGetsText by_tables Cause at T given text T' → After (InputGetsText by_history Cause at h given text) T'
 input_after Cause at h legal T T' stands given text (input, message, is_input, is_message, replies) =
     let one = message_after Cause at h legal T T' stands message text replies in
     record { later = one.later; is = (input, message, is_input, is_message, one.is); legal = one.legal; stands = one.stands }
 
--- where nothing fails
+-- if nothing fails
 pub faultless_after : (at : ℕ) (h : History) → IsLegal h → (T : Tables) → StandsFor T h → (given : Option Bytes) (text : Bytes)
     → IsFaultless by_tables at given T text → IsFaultless by_history at given h text
 faultless_after at h legal T stands given text reply =
@@ -115,18 +115,18 @@ faultless_after at h legal T stands given text reply =
 
 -- ---- the end of a connection by the tables is that by a history for which they stood
 
-pub EndsAfter-Ends : (Cause : Type 0) (at : ℕ) (h : History) → IsLegal h → (T T' : Tables) → StandsFor T h → (given before after : Option Bytes) (result : Result (Unit {0}) IoEnd)
-    → Ends (λ text. RepliesToInput by_tables Cause at T given text T') (T' ≡ T) before after result → EndsAfter Cause at h given before after result T'
-EndsAfter-Ends Cause at h legal T T' stands given before after (Ok done) (text, is, sends) =
+pub reply_ends_by_history : (Cause : Type 0) (at : ℕ) (h : History) → IsLegal h → (T T' : Tables) → StandsFor T h → (given before after : Option Bytes) (result : Result (Unit {0}) IoEnd)
+    → ReplyEnds (λ text. InputGetsText by_tables Cause at T given text T') (T' ≡ T) before after result → ReplyEndsByHistory Cause at h given before after result T'
+reply_ends_by_history Cause at h legal T T' stands given before after (Ok done) (text, is, sends) =
     let one = input_after Cause at h legal T T' stands given text is in
     record { later = one.later; ends = (text, one.is, sends); legal = one.legal; stands = one.stands }
-EndsAfter-Ends Cause at h legal T T' stands given before after (Err (WriteFault count)) (text, is, sends) =
+reply_ends_by_history Cause at h legal T T' stands given before after (Err (WriteFault count)) (text, is, sends) =
     let one = input_after Cause at h legal T T' stands given text is in
     record { later = one.later; ends = (text, one.is, sends); legal = one.legal; stands = one.stands }
-EndsAfter-Ends Cause at h legal T T' stands given before after (Err (Cut count)) (text, is, sends) =
+reply_ends_by_history Cause at h legal T T' stands given before after (Err (Cut count)) (text, is, sends) =
     let one = input_after Cause at h legal T T' stands given text is in
     record { later = one.later; ends = (text, one.is, sends); legal = one.legal; stands = one.stands }
-EndsAfter-Ends Cause at h legal T T' stands given before after (Err ReadFault) (same, kept) =
+reply_ends_by_history Cause at h legal T T' stands given before after (Err ReadFault) (same, kept) =
     record { later = h; ends = (refl, kept); legal = legal; stands = subst (λ x. StandsFor x h) (sym same) stands }
-EndsAfter-Ends Cause at h legal T T' stands given before after (Err OutOfMemory) (same, kept) =
+reply_ends_by_history Cause at h legal T T' stands given before after (Err OutOfMemory) (same, kept) =
     record { later = h; ends = (refl, kept); legal = legal; stands = subst (λ x. StandsFor x h) (sym same) stands }

@@ -11,9 +11,9 @@ use Rattle.index_pages.specs.Ends.{most_bytes}
 use Rattle.index_pages.specs.declared.served.Served.{Served}
 use Rattle.index_http.specs.Exchanges.{store_reply}
 use Rattle.index_http.specs.PagePasses.{IsMeasured, MeasuresProject}
-use Rattle.index_http.specs.PageShows.{ShowsWhole, after_head}
+use Rattle.index_http.specs.PageShows.{PageShown, after_head}
 use Rattle.index_http.specs.Replies.{page_reply}
-use Rattle.index_http.specs.Sends.{SendsFirst, SendsLess, SendsText}
+use Rattle.index_http.specs.Sends.{SendsFirstBytes, SendsLessThanText, SendsText}
 use Rattle.index_http.specs.declared.end.IoEnd.{IoEnd}
 use Rattle.index_http.specs.declared.end.IoEnd.TheVariants.{ReadFault, OutOfMemory, WriteFault, Cut}
 
@@ -26,8 +26,8 @@ measured None before after count is = absurd (some_is_none count is)
     some_is_none n e = cc
 measured (Some bytes) before after count (size, within) = record { bytes = bytes; is = refl; size = size; within = within }
 
-pub shows_measured : (served : Served) (page : Option Bytes) (count : ℕ) (there : IsMeasured page count) → ShowsWhole served page (page_reply served there.bytes)
-shows_measured served page count there = subst (λ o. ShowsWhole served o (page_reply served there.bytes)) (sym there.is) (inl refl)
+pub shows_measured : (served : Served) (page : Option Bytes) (count : ℕ) (there : IsMeasured page count) → PageShown served page (page_reply served there.bytes)
+shows_measured served page count there = subst (λ o. PageShown served o (page_reply served there.bytes)) (sym there.is) (inl refl)
 
 pub unmeasured : (page : Option Bytes) (before after : ℕ) → MeasuresProject page before after (Ok None) → page ≡ None
 unmeasured None before after is = refl
@@ -35,7 +35,7 @@ unmeasured (Some bytes) before after is = absurd is
 
 -- a page whose length could not be told is too long, or the books failed
 pub unmeasurable : (served : Served) (page : Option Bytes) (old new : ℕ) → MeasuresProject page old new (Err fault.Store)
-    → ShowsWhole served page store_reply ⊎ HasFailed old new
+    → PageShown served page store_reply ⊎ HasFailed old new
 unmeasurable served None old new failed = inr failed
 unmeasurable served (Some page) old new (inl failed) = inr failed
 unmeasurable served (Some page) old new (inr long) = inl (inr (refl, long))
@@ -43,7 +43,7 @@ unmeasurable served (Some page) old new (inr long) = inl (inr (refl, long))
 -- ---- the text behind the head
 
 first_behind : (head page : Bytes) (count n : ℕ) (before mid after : Option Bytes) → count ≡ length head → length page ≤ most_bytes → count ≤ 512
-    → Appends before mid head → SendsFirst page mid after n → SendsFirst (head ++ page) before after (min (count + n) last_count)
+    → Appends before mid head → SendsFirstBytes page mid after n → SendsFirstBytes (head ++ page) before after (min (count + n) last_count)
 first_behind head page count n before mid after is within short front (least, sent) =
     let sum : min (count + n) last_count ≡ length head + n = omega (arith, is, within, short, least) in
     rw (sum, take-append-add head page n) (rw length-append (omega (arith, least)), Appends-trans before mid after head (take n page) front sent)
@@ -57,7 +57,7 @@ sends_behind head page count before mid after (Err (WriteFault n)) is within sho
 sends_behind head page count before mid after (Err (Cut n)) is within short front sends = first_behind head page count n before mid after is within short front sends
 
 -- not all of the text behind the head is not all of the reply
-pub less_behind : (head page : Bytes) (before mid after : Option Bytes) → Appends before mid head → SendsLess page mid after → SendsLess (head ++ page) before after
+pub less_behind : (head page : Bytes) (before mid after : Option Bytes) → Appends before mid head → SendsLessThanText page mid after → SendsLessThanText (head ++ page) before after
 less_behind head page before mid after front less = (
   length head + less.0,
   rw length-append (omega (arith, less.1)),
@@ -67,5 +67,5 @@ less_behind head page before mid after front less = (
 -- ---- a text that was gathered
 
 -- a page that was gathered is shown
-pub shows_gathered : (served : Served) (page : Option Bytes) (bytes : Bytes) → page ≡ Some bytes → ShowsWhole served page (page_reply served bytes)
-shows_gathered served page bytes is = subst (λ o. ShowsWhole served o (page_reply served bytes)) (sym is) (inl refl)
+pub shows_gathered : (served : Served) (page : Option Bytes) (bytes : Bytes) → page ≡ Some bytes → PageShown served page (page_reply served bytes)
+shows_gathered served page bytes is = subst (λ o. PageShown served o (page_reply served bytes)) (sym is) (inl refl)

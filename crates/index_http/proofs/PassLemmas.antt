@@ -16,14 +16,14 @@ use Rattle.index_rules.specs.declared.rows.WalkEnd.TheVariants as walk
 use Rattle.index_desk.specs.Projects.{WalksProject}
 use Rattle.index_pages.specs.Rest.{Rest}
 use Rattle.index_pages.specs.Ends.{WritesPage, IsCaused, Measures, SinkState, count_of}
-use Rattle.index_pages.specs.States.{EndsPage, IsFresh, IsFront, IsSteady, IsWritten, StopsLength, StopsPage, StopsText, TakesText, TextState}
+use Rattle.index_pages.specs.States.{EndsPage, IsFresh, IsFront, IsSteady, IsWritten, RowTextIsTaken, StopsLength, StopsPage, StopsText, TextState}
 use Rattle.index_pages.specs.States.{MeasuresGivenRows as MeasuresRows}
 use Rattle.index_pages.specs.declared.end.PageEnd.{PageEnd}
 use Rattle.index_pages.specs.declared.end.PageEnd.TheVariants as page_end
 use Rattle.index_pages.proofs.TakerLemmas.{walks_by}
 use Rattle.index_pages.proofs.TextLemmas.{taken_of}
 use Rattle.index_http.specs.PagePasses.{MeasuresPage, MeasuresProject, io_end_of, sent_by, without_stop}
-use Rattle.index_http.specs.Sends.{SendsFirst, SendsLess, SendsText, is_write_fault}
+use Rattle.index_http.specs.Sends.{SendsFirstBytes, SendsLessThanText, SendsText, is_write_fault}
 use Rattle.index_http.specs.declared.end.IoEnd.{IoEnd}
 use Rattle.index_http.specs.declared.end.IoEnd.TheVariants.{Cut}
 use Rattle.index_http.proofs.RestLemmas.{IsOpen}
@@ -58,7 +58,7 @@ told page before after (Err fault.OutOfMemory) measures = tt
 
 -- a walk that is not ended by a fault counts the page of all rows
 pub counted : {R A : Type 0} (start now : TextState R) (rows : List R) (before after : ℕ) (walked : Result A WalkEnd) (result : Result ℕ Fault)
-    → IsFresh start → Walks TakesText StopsText rows start now walked → has_fault walked ≡ false
+    → IsFresh start → Walks RowTextIsTaken StopsText rows start now walked → has_fault walked ≡ false
     → MeasuresRows now result → StopsLength now result → MeasuresPage (start.rest rows) before after result
 counted start now rows before after (Ok done) result fresh took right page stops =
     told (start.rest rows) before after result (page start rows fresh (inl took))
@@ -77,7 +77,7 @@ pub record IsSent (page : Bytes) (before after : SinkState) (result : Result (Un
   pub steady : is_write_fault result ≡ false → after.failures ≡ before.failures
 
 first_sent : {R : Type 0} (rest : Rest R) (rows given left : List R) (before after : Option Bytes) (count : ℕ)
-    → rows ≡ given ++ left → IsFront rest given before after count → SendsFirst (rest rows) before after count
+    → rows ≡ given ++ left → IsFront rest given before after count → SendsFirstBytes (rest rows) before after count
 first_sent rest rows given left before after count split front =
     let more = front.begins left in
     let whole : rest rows ≡ front.bytes ++ more.0 = ap rest split ∙ more.1 in
@@ -85,7 +85,7 @@ first_sent rest rows given left before after count split front =
     let long = ap length whole ∙ length-append front.bytes more.0 in
     (omega (arith, long, front.size), rw sent front.wrote)
 
-ends : (page : Bytes) (before after : SinkState) (end : PageEnd) → SendsFirst page before.contents after.contents (count_of end)
+ends : (page : Bytes) (before after : SinkState) (end : PageEnd) → SendsFirstBytes page before.contents after.contents (count_of end)
     → IsCaused end before.failures after.failures → IsSent page before after (Err (io_end_of end))
 ends page before after (page_end.OutOfMemory count) sends caused = record { sends = sends; failed = λ no. cc no; steady = λ is. caused }
 ends page before after (page_end.Store count) sends caused = record { sends = sends; failed = λ no. cc no; steady = λ is. caused }
@@ -97,7 +97,7 @@ whole page before after (Err end) ended = ends page before after end (ended.with
 
 -- a walk that is not ended by a fault sends the page of all rows
 pub sent : {R A : Type 0} (start now : TextState R) (rows : List R) (after : SinkState) (walked : Result A WalkEnd) (result : Result ℕ PageEnd)
-    → IsFresh start → Walks TakesText StopsText rows start now walked → has_fault walked ≡ false
+    → IsFresh start → Walks RowTextIsTaken StopsText rows start now walked → has_fault walked ≡ false
     → EndsPage now after result → StopsPage now after result → IsSent (start.rest rows) start.sink after (sent_by result)
 sent start now rows after (Ok done) result fresh took right ended stops = whole (start.rest rows) start.sink after result (ended start rows fresh (inl took))
 sent start now rows after (Err walk.Stopped) result fresh among right ended stops =
@@ -108,7 +108,7 @@ sent start now rows after (Err walk.Stopped) result fresh among right ended stop
 sent start now rows after (Err walk.OutOfMemory) result fresh front right ended stops = cc right
 sent start now rows after (Err walk.Store) result fresh front right ended stops = cc right
 
-cut_off : {R : Type 0} (start now : TextState R) (rows given left : List R) → IsFresh start → rows ≡ given ++ left → Took TakesText given start now
+cut_off : {R : Type 0} (start now : TextState R) (rows given left : List R) → IsFresh start → rows ≡ given ++ left → Took RowTextIsTaken given start now
     → IsWritten now → IsSteady now → IsSent (start.rest rows) start.sink now.sink (Err (Cut now.written))
 cut_off start now rows given left fresh split took written steady =
     let taken = taken_of given start now fresh.ongoing took in
@@ -117,7 +117,7 @@ cut_off start now rows given left fresh split took written steady =
 
 -- a walk that a fault ends sends a front of it
 pub cut : {R A : Type 0} (start now : TextState R) (rows : List R) (walked : Result A WalkEnd)
-    → IsFresh start → Walks TakesText StopsText rows start now walked → has_fault walked ≡ true
+    → IsFresh start → Walks RowTextIsTaken StopsText rows start now walked → has_fault walked ≡ true
     → IsWritten now → IsSteady now → IsSent (start.rest rows) start.sink now.sink (Err (Cut now.written))
 cut start now rows (Ok done) fresh took faulty written steady = cc faulty
 cut start now rows (Err walk.Stopped) fresh among faulty written steady = cc faulty
@@ -132,7 +132,7 @@ some_left (byte ∷ text) none = omega arith
 
 -- what is a front of the page whatever rows follow is not all of it
 less_first : {R : Type 0} (rest : Rest R) (rows given left : List R) (before after : Option Bytes) (count : ℕ)
-    → IsOpen rest → rows ≡ given ++ left → IsFront rest given before after count → SendsLess (rest rows) before after
+    → IsOpen rest → rows ≡ given ++ left → IsFront rest given before after count → SendsLessThanText (rest rows) before after
 less_first rest rows given left before after count is_open split front =
     let last = is_open.row ∷ [] in
     let more = front.begins left in
@@ -148,8 +148,8 @@ less_first rest rows given left before after count is_open split front =
 
 -- a walk that a fault ends
 less_cut : {R A : Type 0} (start now : TextState R) (rows : List R) (walked : Result A WalkEnd) → IsOpen start.rest
-    → IsFresh start → Walks TakesText StopsText rows start now walked → has_fault walked ≡ true → IsWritten now
-    → SendsLess (start.rest rows) start.sink.contents now.sink.contents
+    → IsFresh start → Walks RowTextIsTaken StopsText rows start now walked → has_fault walked ≡ true → IsWritten now
+    → SendsLessThanText (start.rest rows) start.sink.contents now.sink.contents
 less_cut start now rows (Ok done) is_open fresh took faulty written = cc faulty
 less_cut start now rows (Err walk.Stopped) is_open fresh among faulty written = cc faulty
 less_cut start now rows (Err walk.OutOfMemory) is_open fresh front faulty written =
@@ -160,28 +160,28 @@ less_cut start now rows (Err walk.Store) is_open fresh front faulty written =
 -- ---- by the taker of the rows
 
 module _ {R K N A : Type 0} (takes stops : K → R → K → Type 0) (state : K → TextState R) (same : K → N)
-    (step : (before : K) (row : R) (after : K) → takes before row after → (same after ≡ same before) × TakesText (state before) row (state after))
+    (step : (before : K) (row : R) (after : K) → takes before row after → (same after ≡ same before) × RowTextIsTaken (state before) row (state after))
     (stop : (before : K) (row : R) (after : K) → stops before row after → (same after ≡ same before) × StopsText (state before) row (state after)) where
   -- the page was given its rows, and finished
   pub sent_page : (page now : K) (walked : Result A WalkEnd) (after : SinkState) (result : Result ℕ PageEnd)
       → IsFresh (state page) → has_fault walked ≡ false → EndsPage (state now) after result → StopsPage (state now) after result
       → (rows : List R) → Walks takes stops rows page now walked → (same now ≡ same page) × IsSent ((state page).rest rows) (state page).sink after (sent_by result)
   sent_page page now walked after result fresh right ended stopped rows walks =
-      let by = walks_by takes stops TakesText StopsText state same step stop rows page now walked walks in
+      let by = walks_by takes stops RowTextIsTaken StopsText state same step stop rows page now walked walks in
       (by.0, sent (state page) (state now) rows after walked result fresh by.1 right ended stopped)
 
   -- the page was given a front of its rows, and let go
   pub cut_page : (page now : K) (walked : Result A WalkEnd) → IsFresh (state page) → has_fault walked ≡ true → IsWritten (state now) → IsSteady (state now)
       → (rows : List R) → Walks takes stops rows page now walked → (same now ≡ same page) × IsSent ((state page).rest rows) (state page).sink (state now).sink (Err (Cut (state now).written))
   cut_page page now walked fresh fault written steady rows walks =
-      let by = walks_by takes stops TakesText StopsText state same step stop rows page now walked walks in
+      let by = walks_by takes stops RowTextIsTaken StopsText state same step stop rows page now walked walks in
       (by.0, cut (state page) (state now) rows walked fresh by.1 fault written steady)
 
   -- and then not all of the page was sent
   pub less_page : (page now : K) (walked : Result A WalkEnd) → IsOpen (state page).rest → IsFresh (state page) → has_fault walked ≡ true → IsWritten (state now)
-      → (rows : List R) → Walks takes stops rows page now walked → SendsLess ((state page).rest rows) (state page).sink.contents (state now).sink.contents
+      → (rows : List R) → Walks takes stops rows page now walked → SendsLessThanText ((state page).rest rows) (state page).sink.contents (state now).sink.contents
   less_page page now walked is_open fresh fault written rows walks =
-      let by = walks_by takes stops TakesText StopsText state same step stop rows page now walked walks in
+      let by = walks_by takes stops RowTextIsTaken StopsText state same step stop rows page now walked walks in
       less_cut (state page) (state now) rows walked is_open fresh by.1 fault written
 
 -- ---- a page that is gathered
@@ -201,7 +201,7 @@ caused at_stop told Cause (Err walk.Stopped) e causes is = cc e
 caused at_stop told Cause (Err walk.OutOfMemory) e causes is = cc (e, is)
 caused at_stop told Cause (Err walk.Store) e causes is = causes refl
 
--- ---- where a project may not be there
+-- ---- if a project may not be there
 
 -- the rows of a walk that handed them over
 pub rows_given : {K : Type 0} (takes stops : K → FileRow → K → Type 0) (rows : Option (List FileRow)) (before after : K) (walked : Result Bool WalkEnd)
@@ -217,7 +217,7 @@ rows_given takes stops (Some rows) before after (Err walk.OutOfMemory) h is = cc
 rows_given takes stops (Some rows) before after (Err walk.Store) h is = cc is
 
 module _ {K N : Type 0} (takes stops : K → FileRow → K → Type 0) (state : K → TextState FileRow) (same : K → N)
-    (step : (before : K) (row : FileRow) (after : K) → takes before row after → (same after ≡ same before) × TakesText (state before) row (state after))
+    (step : (before : K) (row : FileRow) (after : K) → takes before row after → (same after ≡ same before) × RowTextIsTaken (state before) row (state after))
     (stop : (before : K) (row : FileRow) (after : K) → stops before row after → (same after ≡ same before) × StopsText (state before) row (state after)) where
   cut_rows : (page now : K) (walked : Result Bool WalkEnd) → IsFresh (state page) → has_fault walked ≡ true → IsWritten (state now) → IsSteady (state now)
       → (rows : List FileRow) → Walks takes stops rows page now walked
@@ -227,7 +227,7 @@ module _ {K N : Type 0} (takes stops : K → FileRow → K → Type 0) (state : 
       let all = cut_page takes stops state same step stop page now walked fresh fault written steady rows walks in
       (all.0, all.1.steady refl, λ there held. let e : rows ≡ there = cc held in rw (← e) all.1.sends)
 
-  -- no page was finished: a front of it was sent, or nothing where there is no project
+  -- no page was finished: the start of it was sent, or nothing if there is no project
   pub cut_project : (page now : K) (walked : Result Bool WalkEnd) → IsFresh (state page) → result_unwrap_or (without_stop true walked) false ≡ false
       → IsWritten (state now) → IsSteady (state now) → (rows : Option (List FileRow)) → WalksProject takes stops rows page now walked
       → (same now ≡ same page) × ((state now).sink.failures ≡ (state page).sink.failures)
@@ -238,10 +238,10 @@ module _ {K N : Type 0} (takes stops : K → FileRow → K → Type 0) (state : 
   cut_project page now (Err walk.OutOfMemory) fresh is written steady (Some rows) h = cut_rows page now (Err walk.OutOfMemory) fresh refl written steady rows h.0
   cut_project page now (Err walk.Store) fresh is written steady (Some rows) h = cut_rows page now (Err walk.Store) fresh refl written steady rows h.0
 
-  -- where a fault ended the walk, not all of the page was sent
+  -- if a fault ended the walk, not all of the page was sent
   pub less_project : (page now : K) (walked : Result Bool WalkEnd) → IsOpen (state page).rest → IsFresh (state page) → IsWritten (state now)
       → (rows : Option (List FileRow)) → WalksProject takes stops rows page now walked → (has_fault walked ≡ false)
-      ⊎ ((there : List FileRow) → rows ≡ Some there → SendsLess ((state page).rest there) (state page).sink.contents (state now).sink.contents)
+      ⊎ ((there : List FileRow) → rows ≡ Some there → SendsLessThanText ((state page).rest there) (state page).sink.contents (state now).sink.contents)
   less_project page now walked is_open fresh written None h = inr (λ there held. cc held)
   less_project page now (Ok found) is_open fresh written (Some rows) h = inl refl
   less_project page now (Err walk.Stopped) is_open fresh written (Some rows) h = inl refl

@@ -57,7 +57,7 @@ html_grows project is_started rows left e =
     sym (append_assoc lines last bottom) ∙ ap (λ x. x ++ bottom) (sym all) ∙ behind top _ (lines ++ bottom) left e in
     anchor_is_no_bottom project bottom left (behind lines (last ++ bottom) bottom left text)
 
--- a comma, where something stands before
+-- a comma, if something stands before it
 abbrev comma : Bool → Bytes
 comma is_later = if is_later then 44 ∷ [] else []
 

@@ -12,10 +12,10 @@ use Rattle.index_desk.specs.Rules.{by_tables}
 use Rattle.index_pages.specs.Pages.{project_page_of}
 use Rattle.index_pages.specs.declared.served.Served.{Served}
 use Rattle.index_http.specs.Exchanges.{ShowsProject, ShowsRows}
-use Rattle.index_http.specs.PageShows.{ShowsWhole}
+use Rattle.index_http.specs.PageShows.{PageShown}
 use Rattle.index_http.specs.Replies.{Reply}
-use Rattle.index_http.specs.Shown.{LeadsTo, ShowsFound, is_page_to_show, look_for}
-use Rattle.index_http.specs.Shows.{ShowsBy}
+use Rattle.index_http.specs.Shown.{LeadsTo, ReplyShowsFound, is_page_to_show, look_for}
+use Rattle.index_http.specs.Shows.{LookShows}
 use Rattle.index_http.specs.Steps.{SinkStep, at_desk}
 use Rattle.index_http.specs.declared.end.IoEnd.{IoEnd}
 use Rattle.index_http.specs.declared.get.ToShow.{ToShow}
@@ -30,8 +30,8 @@ no_page true b is_head page none = rw (page refl) at none
 -- a look, and then the reply that it leads to
 pub found_and_sent : {S K : Type 0} (g : Ghosts S) (old mid new : S) (sink : SinkStep K) (is_head is_page : Bool) (what : ToShow) (IsReply : Tables → Reply → Type 0)
     (result : Result (Unit {0}) IoEnd) → LooksAt g old mid (Ok what) (λ T what. LeadsTo T what (IsReply T))
-    → ShowsBy (look_for is_head what) (λ T. ShowsFound T what) (at_desk g mid new) sink result → (is_page_to_show what ≡ true → is_page ≡ true)
-    → ShowsBy (record { is_page = is_page; is_head = is_head }) IsReply (at_desk g old new) sink result
+    → LookShows (look_for is_head what) (λ T. ReplyShowsFound T what) (at_desk g mid new) sink result → (is_page_to_show what ≡ true → is_page ≡ true)
+    → LookShows (record { is_page = is_page; is_head = is_head }) IsReply (at_desk g old new) sink result
 found_and_sent g old mid new sink is_head is_page what IsReply result looks shows page = record {
   shown = λ honest clean.
       let then = looks.look.lasts honest (shows.leaves.clean clean) in
@@ -55,10 +55,10 @@ found_and_sent g old mid new sink is_head is_page what IsReply result looks show
 }
 
 -- the page of a project, or that there is none
-pub project_shown : (served : Served) (T : Tables) (name : Bytes) (reply : Reply) → ShowsWhole served (text_in T served (Some name)) reply
+pub project_shown : (served : Served) (T : Tables) (name : Bytes) (reply : Reply) → PageShown served (text_in T served (Some name)) reply
     → ShowsProject by_tables T name (Some served) reply
 project_shown served T name reply shows = (project_rows_in T name, refl, which (project_rows_in T name) shows)
   where
-    which : (rows : Option (List FileRow)) → ShowsWhole served (option_map (project_page_of served name) rows) reply → ShowsRows name (Some served) rows reply
+    which : (rows : Option (List FileRow)) → PageShown served (option_map (project_page_of served name) rows) reply → ShowsRows name (Some served) rows reply
     which None shows = shows
     which (Some rows) shows = shows

@@ -1,6 +1,6 @@
--- The reply to a message, by rules over any state: the tables, or a history.
-use Rattle.std.specs.Prelude.{◌≡◌, ◌⊎◌, ℕ, ◌<◌, Bool, true, false, List, length, map, Option, Some}
-use Rattle.std.specs.Prelude.{None, is_some, option_map, bytes_eq, codes}
+-- The reply to a message, by rules over any state: the tables or a history.
+use Rattle.std.specs.Prelude.{Bool, List, None, Option, Some, bytes_eq, codes, false, is_some}
+use Rattle.std.specs.Prelude.{length, map, option_map, true, ℕ, ◌<◌, ◌≡◌, ◌⊎◌}
 use Rattle.std.specs.Borrow.{Bor}
 use Rattle.index_digest.specs.Digest.{sha256}
 use Rattle.index_names.specs.FileName.{read_file_name}
@@ -40,98 +40,101 @@ use Rattle.index_pages.specs.Ends.{most_bytes}
 use Rattle.index_pages.specs.Pages.{project_page_of, root_page_of}
 use Rattle.index_pages.specs.declared.served.Served.{Served}
 use Rattle.index_http.specs.Replies.{Reply, answer_reply, file_reply, json_reply, message_reply}
-use Rattle.index_http.specs.Replies.{page_reply, reply_text, redirect_to_project, redirect_to_root}
+use Rattle.index_http.specs.Replies.{page_reply, redirect_to_project, redirect_to_root, reply_text}
 
 -- ---- what is shown
 
--- the reply of a refusal
+-- the reply to a refused request
 abbrev pub refusal_reply : Refusal → Reply
 refusal_reply refusal = answer_reply false (answer.Refused refusal)
 
--- the reply where a look at the tables failed
+-- the reply to a request that only reads, if the tables could not be read
 abbrev pub store_reply : Reply
 store_reply = answer_reply false (answer.Fault Store)
 
--- the type that is chosen by the values of the `Accept` fields
+-- the type that the values of the `Accept` fields choose
 abbrev pub IsAccepted : List Field → Option Served → Type 0
 IsAccepted fields chosen =
     (values : List (Bor Bytes))
     × (map (λ value. value.now) values ≡ values_of (codes "accept") fields)
     × IsChosen values chosen
 
--- a page in a type, where it is not too long to be served
+-- the reply with a page in a type, if the page is not too long
 abbrev pub ShowsPage : Served → Bytes → Reply → Type 0
 ShowsPage served page reply =
     (reply ≡ page_reply served page) ⊎ ((reply ≡ store_reply) × (most_bytes < length page))
 
--- the root page, where a type can be chosen
+-- the reply with the root page, if a type can be chosen
 abbrev pub ShowsRoot : {S : Type 0} → Rules S → S → Option Served → Reply → Type 0
 ShowsRoot rules s None reply = reply ≡ message_reply NotAcceptable
 ShowsRoot rules s (Some served) reply =
     (rows : List NameRow) × rules.HeldRows s rows
     × ShowsPage served (root_page_of served rows) reply
 
--- the page of these rows of a project, where there is one and a type can be chosen
+-- the reply with a project's page of these rows, if the project is held and a type can be chosen
 abbrev pub ShowsRows : Bytes → Option Served → Option (List FileRow) → Reply → Type 0
 ShowsRows name chosen None reply = reply ≡ refusal_reply NoProject
 ShowsRows name None (Some rows) reply = reply ≡ message_reply NotAcceptable
 ShowsRows name (Some served) (Some rows) reply =
     ShowsPage served (project_page_of served name rows) reply
 
--- a project's page
+-- the reply with a project's page
 abbrev pub ShowsProject : {S : Type 0} → Rules S → S → Bytes → Option Served → Reply → Type 0
 ShowsProject rules s name chosen reply =
     (rows : Option (List FileRow)) × rules.ProjectRows s name rows
     × ShowsRows name chosen rows reply
 
--- a redirect to the page of a project name, by its normal form (PEP 503)
-abbrev pub ShowsRedirect : Option Bytes → Reply → Type 0
-ShowsRedirect None reply = reply ≡ refusal_reply NoProject
-ShowsRedirect (Some name) reply = reply ≡ redirect_to_project name
+-- a redirect to the page of a project's normal name (PEP 503)
+abbrev pub RedirectsToProject : Option Bytes → Reply → Type 0
+RedirectsToProject None reply = reply ≡ refusal_reply NoProject
+RedirectsToProject (Some name) reply = reply ≡ redirect_to_project name
 
--- the page of a project whose name is given in its normal form, or not: then it is the way there
--- (PEP 503)
+-- the reply with a project's page, or a redirect to it if the name is not in its normal form (PEP
+-- 503)
 abbrev pub ShowsSpelling : {S : Type 0} → Rules S → S → List Field → Bytes → Bool → Reply → Type 0
 ShowsSpelling rules s fields name true reply =
     (chosen : Option Served) × IsAccepted fields chosen × ShowsProject rules s name chosen reply
 ShowsSpelling rules s fields name false reply = reply ≡ redirect_to_project name
 
--- the page at what is given as a name
-abbrev pub ShowsAt : {S : Type 0} → Rules S → S → List Field → Bytes → Option Bytes → Reply → Type 0
-ShowsAt rules s fields given None reply = reply ≡ refusal_reply NoProject
-ShowsAt rules s fields given (Some name) reply =
+-- the reply at a path that may be a project's name
+abbrev pub ShowsPath : {S : Type 0} → Rules S → S → List Field → Bytes → Option Bytes → Reply
+    → Type 0
+ShowsPath rules s fields given None reply = reply ≡ refusal_reply NoProject
+ShowsPath rules s fields given (Some name) reply =
     ShowsSpelling rules s fields name (bytes_eq name given) reply
 
--- the bytes of a file
+-- the reply with the bytes of a file, or that there is none
 abbrev pub body_reply : Option Bytes → Reply
 body_reply None = refusal_reply NoFile
 body_reply (Some bytes) = file_reply bytes
 
--- a file, where this is the name of one
+-- the reply at a path that may be a file's name
 abbrev pub ShowsFile : {S : Type 0} → Rules S → S → Bytes → Bool → Reply → Type 0
 ShowsFile rules s file true reply =
     (body : Option Bytes) × rules.Body s file body × (reply ≡ body_reply body)
 ShowsFile rules s file false reply = reply ≡ refusal_reply NoFile
 
--- what stands of a name, where this can be read as one
+-- the reply with the standing of a name, if the name is valid
 abbrev pub ShowsName : {S : Type 0} → Rules S → S → Option Bytes → Reply → Type 0
 ShowsName rules s None reply = reply ≡ refusal_reply BadName
 ShowsName rules s (Some name) reply =
     (standing : Standing) × rules.Stands s name standing
     × (reply ≡ json_reply (standing_text_of standing))
 
--- what a resource shows
-abbrev pub Shows : {S : Type 0} → Rules S → S → List Field → Resource → Reply → Type 0
-Shows rules s fields resource.Simple reply = reply ≡ redirect_to_root
-Shows rules s fields resource.Root reply =
+-- the reply that a resource shows
+abbrev pub ShowsResource : {S : Type 0} → Rules S → S → List Field → Resource → Reply → Type 0
+ShowsResource rules s fields resource.Simple reply = reply ≡ redirect_to_root
+ShowsResource rules s fields resource.Root reply =
     (chosen : Option Served) × IsAccepted fields chosen × ShowsRoot rules s chosen reply
-Shows rules s fields (resource.Project name) reply = ShowsRedirect (read_name name) reply
-Shows rules s fields (resource.ProjectPage name) reply =
-    ShowsAt rules s fields name (read_name name) reply
-Shows rules s fields (resource.File file) reply =
+ShowsResource rules s fields (resource.Project name) reply =
+    RedirectsToProject (read_name name) reply
+ShowsResource rules s fields (resource.ProjectPage name) reply =
+    ShowsPath rules s fields name (read_name name) reply
+ShowsResource rules s fields (resource.File file) reply =
     ShowsFile rules s file (is_some (read_file_name file)) reply
-Shows rules s fields (resource.Name name) reply = ShowsName rules s (read_name name) reply
-Shows rules s fields resource.Requests reply = reply ≡ message_reply (BadMethod allowed.Requests)
+ShowsResource rules s fields (resource.Name name) reply = ShowsName rules s (read_name name) reply
+ShowsResource rules s fields resource.Requests reply =
+    reply ≡ message_reply (BadMethod allowed.Requests)
 
 -- ---- what is asked
 
@@ -160,7 +163,7 @@ abbrev pub call_at : ℕ → List Field → Request → Call
 call_at at fields asked =
     record { at = at; token = sha256 (value_of (codes "x-index-token") fields); request = asked }
 
--- the answer to a call, and the state after it
+-- The reply to a call, and the state after it. Without a call the body was malformed.
 abbrev pub Acts : {S : Type 0} → Rules S → Type 0 → Bool → S → Option Call → Reply → S → Type 0
 Acts rules Cause by_put s None reply s' = (reply ≡ message_reply BadBody) × (s' ≡ s)
 Acts rules Cause by_put s (Some call) reply s' =
@@ -174,44 +177,45 @@ call_of at request body =
     option_map (call_at at request.fields)
     (asked_by request.method request.resource request.fields body)
 
--- the reply to a request, and the state after it. It is shown what it asks for, unless a look at
--- the tables failed
-abbrev pub Replies : {S : Type 0} → Rules S → Type 0 → ℕ → S → HttpRequest → Bytes → Bool → Reply
+-- The reply to a request, and the state after it. A request that only reads is shown what it asks
+-- for, unless the tables could not be read.
+abbrev pub RequestGetsReply : {S : Type 0} → Rules S → Type 0 → ℕ → S → HttpRequest → Bytes → Bool
+    → Reply
     → S → Type 0
-Replies rules Cause at s request body true reply s' =
-    (Shows rules s request.fields request.resource reply ⊎ ((reply ≡ store_reply) × Cause))
+RequestGetsReply rules Cause at s request body true reply s' =
+    (ShowsResource rules s request.fields request.resource reply ⊎ ((reply ≡ store_reply) × Cause))
     × (s' ≡ s)
-Replies rules Cause at s request body false reply s' =
+RequestGetsReply rules Cause at s request body false reply s' =
     Acts rules Cause (is_put request.method) s (call_of at request body) reply s'
 
--- its text, by whether the request only reads
-abbrev pub RepliesToRequest : {S : Type 0} → Rules S → Type 0 → ℕ → S → HttpRequest → Bytes → Bool
+-- the text of `RequestGetsReply`, by whether the request only reads
+abbrev pub RequestGetsText : {S : Type 0} → Rules S → Type 0 → ℕ → S → HttpRequest → Bytes → Bool
     → Bytes → S → Type 0
-RepliesToRequest rules Cause at s request body reads text s' =
+RequestGetsText rules Cause at s request body reads text s' =
     (reply : Reply) × (text ≡ reply_text (is_head request.method) reply)
-    × Replies rules Cause at s request body reads reply s'
+    × RequestGetsReply rules Cause at s request body reads reply s'
 
 -- ---- messages
 
 -- the text of the reply to a message, and the state after it
-abbrev pub RepliesTo : {S : Type 0} → Rules S → Type 0 → ℕ → S → Message → Bytes → S → Type 0
-RepliesTo rules Cause at s (Faulty fault is_head) text s' =
+abbrev pub MessageGetsText : {S : Type 0} → Rules S → Type 0 → ℕ → S → Message → Bytes → S → Type 0
+MessageGetsText rules Cause at s (Faulty fault is_head) text s' =
     (text ≡ reply_text is_head (message_reply fault)) × (s' ≡ s)
-RepliesTo rules Cause at s (Whole request body) text s' =
-    RepliesToRequest rules Cause at s request body (is_reading request.method) text s'
+MessageGetsText rules Cause at s (Whole request body) text s' =
+    RequestGetsText rules Cause at s request body (is_reading request.method) text s'
 
 -- the text of the reply to the message that an input begins with, and the state after it
-abbrev pub RepliesToInput : {S : Type 0} → Rules S → Type 0 → ℕ → S → Option Bytes → Bytes → S
+abbrev pub InputGetsText : {S : Type 0} → Rules S → Type 0 → ℕ → S → Option Bytes → Bytes → S
     → Type 0
-RepliesToInput rules Cause at s given text s' =
+InputGetsText rules Cause at s given text s' =
     (input : Bytes) × (message : Message) × IsInput given input × IsMessage input message
-    × RepliesTo rules Cause at s message text s'
+    × MessageGetsText rules Cause at s message text s'
 
--- the text of the reply to the message that an input begins with, where nothing fails
+-- the text of the reply to the message that an input begins with, if nothing fails
 abbrev pub IsFaultless : {S : Type 0} → Rules S → ℕ → Option Bytes → S → Bytes → Type 0
-IsFaultless {S} rules at given s text = (s' : S) × RepliesToInput rules ⊥ at s given text s'
+IsFaultless {S} rules at given s text = (s' : S) × InputGetsText rules ⊥ at s given text s'
 
--- a whole message came
-abbrev pub HasMessage : Option Bytes → Type 0
-HasMessage given =
-    (input : Bytes) × (message : Message) × IsInput given input × IsMessage input message
+-- the input begins with a whole request, which has no fault
+abbrev pub HasRequest : Option Bytes → Type 0
+HasRequest given = (input : Bytes) × (request : HttpRequest) × (body : Bytes)
+    × IsInput given input × IsMessage input (Whole request body)

@@ -1,9 +1,9 @@
--- What the ends of a connection print.
+-- The text that each end of a connection prints.
 use Rattle.std.specs.Prelude.{ℕ, List, codes}
 use Rattle.index_http.specs.declared.end.IoEnd.{IoEnd}
 use Rattle.index_http.specs.declared.end.IoEnd.TheVariants.{ReadFault, OutOfMemory, WriteFault, Cut}
 
--- each end prints its name alone
+-- the name of an end, without its numbers
 abbrev pub io_end_text : IoEnd → List ℕ
 io_end_text ReadFault = codes "ReadFault"
 io_end_text OutOfMemory = codes "OutOfMemory"

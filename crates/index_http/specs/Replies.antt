@@ -29,17 +29,17 @@ pub record Reply : Type 0 where
 
 -- ---- the bytes of a reply
 
--- these bytes are this text, and are so many at most
+-- the bytes are this text, and at most this many
 pub record IsShortText (most : ℕ) (text bytes : Bytes) : Type 0 where
   pub is : bytes ≡ text
   pub short : length bytes ≤ most
 
--- the phrase of a status, or nothing where there is none (RFC 9112, section 4)
+-- the phrase of a status, or nothing if it has none (RFC 9112, section 4)
 unfoldable pub phrase_of : ℕ → Bytes
 phrase_of status = unwrap_or (reason_phrase status) []
 
--- the head of a reply, by the digits of its status, its phrase, its header lines and the digits of
--- its length (RFC 9112, sections 2.1 and 4)
+-- the head of a reply, from the digits of its status, its phrase, its header lines and the digits
+-- of its length (RFC 9112, sections 2.1 and 4)
 unfoldable pub head_text : Bytes → Bytes → Bytes → Bytes → Bytes
 head_text code phrase fields digits = concat (
     codes "HTTP/1.1 " ∷ code ∷ codes " " ∷ phrase ∷ codes "\r\n"
@@ -51,8 +51,8 @@ unfoldable pub reply_head : ℕ → Bytes → ℕ → Bytes
 reply_head status fields size =
     head_text (code_digits status) (phrase_of status) fields (decimal size)
 
--- the bytes of a reply: that to `HEAD` has the length of the body, and no body (RFC 9110, section
--- 9.3.2)
+-- The bytes of a reply. A reply to `HEAD` has the length of the body, and no body (RFC 9110,
+-- section 9.3.2).
 abbrev pub reply_text : Bool → Reply → Bytes
 reply_text is_head reply =
     reply_head reply.status reply.fields (length reply.body) ++ (if is_head then [] else reply.body)
@@ -63,32 +63,32 @@ reply_text is_head reply =
 abbrev pub field_line : Bytes → Bytes → Bytes
 field_line name value = name ++ (codes ": " ++ (value ++ codes "\r\n"))
 
--- the line of a body's type (RFC 9110, section 8.3)
+-- the header line with the type of a body (RFC 9110, section 8.3)
 abbrev pub type_text : Bytes → Bytes
 type_text value = field_line (codes "Content-Type") value
 
--- the line of a page's type (PEP 691, "Content-Types")
+-- the header line with the type of a page (PEP 691, "Content-Types")
 abbrev pub page_text : Served → Bytes
 page_text served.PlainHtml = type_text (codes "text/html")
 page_text served.Html = type_text (codes "application/vnd.pypi.simple.v1+html")
 page_text served.Json = type_text (codes "application/vnd.pypi.simple.v1+json")
 
--- the line of a path's methods (RFC 9110, section 10.2.1)
+-- the header line with the methods that a path allows (RFC 9110, section 10.2.1)
 abbrev pub allow_text : Allowed → Bytes
 allow_text allowed.Reading = field_line (codes "Allow") (codes "GET, HEAD")
 allow_text allowed.Files = field_line (codes "Allow") (codes "DELETE, GET, HEAD, PUT")
 allow_text allowed.Requests = field_line (codes "Allow") (codes "POST")
 
--- the line of the page that a redirect leads to (RFC 9110, section 10.2.2)
+-- the header line with the page that a redirect leads to (RFC 9110, section 10.2.2)
 abbrev pub location_text : Bytes → Bytes
 location_text path = field_line (codes "Location") path
 
--- the line of a redirect to a project's page (PEP 503)
+-- the header line of a redirect to a project's page (PEP 503)
 abbrev pub project_location : Bytes → Bytes
 project_location name = location_text (codes "/simple/" ++ (name ++ codes "/"))
 
--- the header lines of a reply; a challenge names the scheme of tokens (RFC 9110, section 11.6.1),
--- and a redirect has no type
+-- The header lines of a reply. A challenge names the scheme of tokens (RFC 9110, section 11.6.1),
+-- and a redirect has no type.
 unfoldable pub fields_text : Fields → Bytes
 fields_text (Page served) = page_text served
 fields_text File = type_text (codes "application/octet-stream")
@@ -100,7 +100,7 @@ fields_text (Allow allowed) = type_text (codes "application/json") ++ allow_text
 fields_text ToRoot = location_text (codes "/simple/")
 fields_text (ToProject name) = project_location name.now
 
--- no name stands in the header lines
+-- the header lines contain no name
 abbrev pub IsFixed : Fields → Type 0
 IsFixed (ToProject name) = ⊥
 IsFixed (Page served) = ⊤
@@ -129,8 +129,8 @@ message_fault_name ShortBody = codes "ShortBody"
 message_fault_name BadBody = codes "BadBody"
 message_fault_name NotAcceptable = codes "NotAcceptable"
 
--- the header lines of the reply to a message with this fault: where the method is bad they list the
--- others (RFC 9110, section 15.5.6)
+-- the header lines of the reply to a malformed message: for a bad method they list the others (RFC
+-- 9110, section 15.5.6)
 abbrev pub fields_of_fault : MessageFault → Fields
 fields_of_fault BadHead = Json
 fields_of_fault NoRoute = Json
@@ -142,7 +142,7 @@ fields_of_fault ShortBody = Json
 fields_of_fault BadBody = Json
 fields_of_fault NotAcceptable = Json
 
--- the reply to a message that is none which the index serves
+-- the reply to a message that the index does not serve
 unfoldable pub message_reply : MessageFault → Reply
 message_reply fault = record {
   status = status_of_fault fault;
@@ -150,11 +150,11 @@ message_reply fault = record {
   body = message_text_of (message_fault_name fault);
 }
 
--- the header lines of the reply to a call: 401 alone has a challenge (RFC 9110, section 15.5.2)
+-- the header lines of the reply to a call: only 401 has a challenge (RFC 9110, section 15.5.2)
 abbrev pub answer_fields : ℕ → Fields
 answer_fields status = if status == 401 then Challenge else Json
 
--- the reply to a call that was answered so, by whether it came by `PUT`
+-- the reply to a call with this answer, by whether its method is `PUT`
 unfoldable pub answer_reply : Bool → Answer → Reply
 answer_reply is_put answer =
     let status = status_of_answer is_put answer in
@@ -166,15 +166,15 @@ answer_reply is_put answer =
 
 -- ---- the replies to looks
 
--- a page in its type
+-- the reply with a page in a type
 abbrev pub page_reply : Served → Bytes → Reply
 page_reply served page = record { status = 200; fields = fields_text (Page served); body = page }
 
--- the bytes of a file
+-- the reply with the bytes of a file
 abbrev pub file_reply : Bytes → Reply
 file_reply bytes = record { status = 200; fields = fields_text File; body = bytes }
 
--- a text in JSON
+-- the reply with JSON
 abbrev pub json_reply : Bytes → Reply
 json_reply text = record { status = 200; fields = fields_text Json; body = text }
 

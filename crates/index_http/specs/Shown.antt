@@ -1,4 +1,4 @@
--- What a look is to show, before it is sent.
+-- What is to be shown, before it is sent.
 use Rattle.std.specs.Prelude.{◌≡◌, Bool, true, false, Some, is_some, string_bytes}
 use Rattle.index_names.specs.FileName.{read_file_name}
 use Rattle.index_names.specs.Project.{read_name}
@@ -7,12 +7,12 @@ use Rattle.index_desk.specs.Rules.{by_tables}
 use Rattle.index_message.specs.declared.resource.Resource.{Resource}
 use Rattle.index_message.specs.declared.resource.Resource.TheVariants as resource
 use Rattle.index_http.specs.Exchanges.{ShowsFile, ShowsProject, ShowsRoot, refusal_reply}
-use Rattle.index_http.specs.Replies.{Reply, json_reply, message_reply}
-use Rattle.index_http.specs.Replies.{redirect_to_project, redirect_to_root}
+use Rattle.index_http.specs.Replies.{Reply, json_reply, message_reply, redirect_to_project}
+use Rattle.index_http.specs.Replies.{redirect_to_root}
 use Rattle.index_http.specs.Shows.{Look}
 use Rattle.index_http.specs.declared.get.Shown.{Shown}
-use Rattle.index_http.specs.declared.get.Shown.TheVariants.{Faulty, Refused, Standing}
-use Rattle.index_http.specs.declared.get.Shown.TheVariants.{ToProject, ToRoot}
+use Rattle.index_http.specs.declared.get.Shown.TheVariants.{Faulty, Refused, Standing, ToProject}
+use Rattle.index_http.specs.declared.get.Shown.TheVariants.{ToRoot}
 use Rattle.index_http.specs.declared.get.ToShow.{ToShow}
 use Rattle.index_http.specs.declared.get.ToShow.TheVariants.{File, Found, Project, Root}
 
@@ -24,36 +24,36 @@ reply_of_shown ToRoot = redirect_to_root
 reply_of_shown (ToProject name) = redirect_to_project name
 reply_of_shown (Standing text) = json_reply (string_bytes text)
 
--- what is to be shown is shown by this reply
-abbrev pub ShowsFound : Tables → ToShow → Reply → Type 0
-ShowsFound T (Root served) reply = ShowsRoot by_tables T (Some served) reply
-ShowsFound T (Project name served) reply = ShowsProject by_tables T name (Some served) reply
-ShowsFound T (File file) reply = ShowsFile by_tables T file true reply
-ShowsFound T (Found shown) reply = reply ≡ reply_of_shown shown
+-- this reply shows what is to be shown
+abbrev pub ReplyShowsFound : Tables → ToShow → Reply → Type 0
+ReplyShowsFound T (Root served) reply = ShowsRoot by_tables T (Some served) reply
+ReplyShowsFound T (Project name served) reply = ShowsProject by_tables T name (Some served) reply
+ReplyShowsFound T (File file) reply = ShowsFile by_tables T file true reply
+ReplyShowsFound T (Found shown) reply = reply ≡ reply_of_shown shown
 
--- each reply that shows it is one of these
+-- each reply that shows what is to be shown is of this kind
 abbrev pub LeadsTo : Tables → ToShow → (Reply → Type 0) → Type 0
-LeadsTo T what IsReply = (reply : Reply) → ShowsFound T what reply → IsReply reply
+LeadsTo T what IsReply = (reply : Reply) → ReplyShowsFound T what reply → IsReply reply
 
--- it is a page
+-- a page is to be shown
 abbrev pub is_page_to_show : ToShow → Bool
 is_page_to_show (Root served) = true
 is_page_to_show (Project name served) = true
 is_page_to_show (File file) = false
 is_page_to_show (Found shown) = false
 
--- the reply is there
+-- the reply was found already
 abbrev pub is_reply : ToShow → Bool
 is_reply (Found shown) = true
 is_reply (Root served) = false
 is_reply (Project name served) = false
 is_reply (File file) = false
 
--- the look that sends it
+-- the look that sends what is to be shown
 abbrev pub look_for : Bool → ToShow → Look
 look_for is_head what = record { is_page = is_page_to_show what; is_head = is_head }
 
--- a resource that can be looked for: where it has a name this can be read
+-- a resource without a name, or with a valid one
 abbrev pub can_be_read : Resource → Bool
 can_be_read resource.Simple = false
 can_be_read resource.Root = true

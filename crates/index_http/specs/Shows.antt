@@ -9,35 +9,35 @@ use Rattle.index_message.specs.Resources.{is_head, is_reading}
 use Rattle.index_message.specs.declared.message.Message.{Message}
 use Rattle.index_message.specs.declared.message.Message.TheVariants.{Faulty, Whole}
 use Rattle.index_message.specs.declared.resource.Resource.{Resource}
-use Rattle.index_message.specs.declared.resource.Resource.TheVariants.{Simple, Root, Project}
-use Rattle.index_message.specs.declared.resource.Resource.TheVariants.{ProjectPage, File, Name}
-use Rattle.index_message.specs.declared.resource.Resource.TheVariants.{Requests}
+use Rattle.index_message.specs.declared.resource.Resource.TheVariants.{File, Name, Project}
+use Rattle.index_message.specs.declared.resource.Resource.TheVariants.{ProjectPage, Requests, Root}
+use Rattle.index_message.specs.declared.resource.Resource.TheVariants.{Simple}
 use Rattle.index_rules.specs.Maps.{Bytes}
 use Rattle.index_rules.specs.Tables.{Tables}
 use Rattle.index_rules.specs.declared.answer.Fault.{Fault}
 use Rattle.index_rules.specs.declared.answer.Fault.TheVariants.{Store, OutOfMemory as NoMemory}
 use Rattle.index_desk.specs.Looks.{LeavesTables}
-use Rattle.index_http.specs.Ends.{Ends, LastsOrShows}
+use Rattle.index_http.specs.Ends.{ReplyEnds, LastsOrShows}
 use Rattle.index_http.specs.Exchanges.{store_reply}
 use Rattle.index_http.specs.Replies.{Reply, reply_text}
-use Rattle.index_http.specs.Sends.{SendsOnly, SendsText}
+use Rattle.index_http.specs.Sends.{ReplyFailsOnly, SendsText}
 use Rattle.index_http.specs.Steps.{DeskStep, SinkStep}
 use Rattle.index_http.specs.declared.end.IoEnd.{IoEnd}
 use Rattle.index_http.specs.declared.end.IoEnd.TheVariants.{OutOfMemory}
 
--- the text of a reply of this kind, or of the one where a look failed for this cause
+-- the text of a reply of this kind, or of the one to a look that failed for this cause
 abbrev pub IsTextOfLook : Bool → (Reply → Type 0) → Type 0 → Bytes → Type 0
 IsTextOfLook is_head IsReply Cause text =
     (reply : Reply) × (text ≡ reply_text is_head reply)
     × (IsReply reply ⊎ ((reply ≡ store_reply) × Cause))
 
--- a look ended so
-abbrev pub EndsShown : Bool → (Reply → Type 0) → Type 0 → Option Bytes → Option Bytes
+-- a look ended with a reply as in `IsTextOfLook`, a first part of it, or nothing
+abbrev pub LookEnds : Bool → (Reply → Type 0) → Type 0 → Option Bytes → Option Bytes
     → Result (Unit {0}) IoEnd → Type 0
-EndsShown is_head IsReply Cause before after result =
-    Ends (IsTextOfLook is_head IsReply Cause) (Unit {0}) before after result
+LookEnds is_head IsReply Cause before after result =
+    ReplyEnds (IsTextOfLook is_head IsReply Cause) (Unit {0}) before after result
 
--- a page
+-- the resource is a page
 abbrev pub is_page : Resource → Bool
 is_page Root = true
 is_page (ProjectPage name) = true
@@ -47,7 +47,7 @@ is_page (File file) = false
 is_page (Name name) = false
 is_page Requests = false
 
--- whether a look is at a page, and whether it replies to `HEAD`, which sends a head alone
+-- a look: whether it is at a page, and whether its method is `HEAD`, whose reply has no body
 pub record Look : Type 0 where
   pub is_page : Bool
   pub is_head : Bool
@@ -56,51 +56,53 @@ pub record Look : Type 0 where
 abbrev pub look_at_page : Bool → Look
 look_at_page is_head = record { is_page = true; is_head = is_head }
 
--- a look at what is no page
+-- a look at a resource that is not a page
 abbrev pub look_at_no_page : Bool → Look
 look_at_no_page is_head = record { is_page = false; is_head = is_head }
 
--- what a request asks to look at
+-- the look that a request makes
 abbrev pub look_of : HttpRequest → Look
 look_of request = record { is_page = is_page request.resource; is_head = is_head request.method }
 
--- a look at the desk, and the reply that went to the sink: of a store that was honest, and is clean
--- after it, the reply is of this kind by the tables; no table changed; only a page can be cut
--- short, which no reply to `HEAD` has; a fault of the store of the books is not told as want of
--- memory; and a failure shows
-pub record ShowsBy {S K : Type 0} (look : Look) (IsReply : Tables → Reply → Type 0)
+-- a look at the desk, and the reply that went to the sink
+pub record LookShows {S K : Type 0} (look : Look) (IsReply : Tables → Reply → Type 0)
     (desk : DeskStep S) (sink : SinkStep K) (result : Result (Unit {0}) IoEnd) : Type 0 where
+  -- for a store that was honest before and is clean after, the reply is of this kind by the tables
   pub shown : desk.books.IsHonest desk.old → desk.books.IsClean desk.new
-      → EndsShown look.is_head (IsReply (desk.books.tables desk.old))
+      → LookEnds look.is_head (IsReply (desk.books.tables desk.old))
       (HasFailed (desk.books.failures desk.old) (desk.books.failures desk.new))
       (sink.out.contents sink.old) (sink.out.contents sink.new) result
+  -- no table changed
   pub leaves : LeavesTables desk.books desk.old desk.new
-  pub sends : SendsOnly sink.out sink.old sink.new (look.is_page && not look.is_head) result
+  -- only a page can be cut short, and never in a reply to `HEAD`
+  pub sends : ReplyFailsOnly sink.out sink.old sink.new (look.is_page && not look.is_head) result
+  -- a failed store is not reported as out of memory
   pub stores : result ≡ Err OutOfMemory → desk.books.stores desk.new ≡ desk.books.stores desk.old
+  -- if the store failed, the bytes that were sent show it
   pub lasts : LastsOrShows (λ T. IsTextOfLook look.is_head (IsReply T) ⊥) desk sink
 
--- a look that failed: a fault of the store is replied, and where memory ran out nothing went out
-abbrev pub EndsFault : Bool → Fault → Option Bytes → Option Bytes → Result (Unit {0}) IoEnd → Type 0
-EndsFault is_head Store before after result =
+-- a failed look: a failed store is replied, and if memory ran out nothing is sent
+abbrev pub LookFails : Bool → Fault → Option Bytes → Option Bytes → Result (Unit {0}) IoEnd → Type 0
+LookFails is_head Store before after result =
     SendsText (reply_text is_head store_reply) before after result
-EndsFault is_head NoMemory before after result = (result ≡ Err OutOfMemory) × Keeps before after
+LookFails is_head NoMemory before after result = (result ≡ Err OutOfMemory) × Keeps before after
 
--- a look whose reply has a page in it: to `HEAD` none has
+-- a request whose reply has a page in it; one with `HEAD` has none
 abbrev pub shows_page : HttpRequest → Bool
 shows_page request =
     is_reading request.method && (is_page request.resource && not (is_head request.method))
 
--- a message whose reply has a page in it, where it is no request that changes something
+-- a message whose reply has a page in it
 abbrev pub asks_page : Message → Bool
 asks_page (Faulty fault is_head) = false
 asks_page (Whole request body) = shows_page request
 
--- a request that changes nothing
+-- a message that only reads
 abbrev pub is_look : Message → Bool
 is_look (Faulty fault is_head) = false
 is_look (Whole request body) = is_reading request.method
 
--- the message that is given passes a test
+-- the input begins with a message that passes a test
 abbrev pub GivesMessage : (Message → Bool) → Option Bytes → Type 0
 GivesMessage passes given =
     (input : Bytes) × (message : Message) × IsInput given input × IsMessage input message

@@ -25,7 +25,7 @@ use Rattle.index_message.specs.declared.fault.MessageFault.TheVariants.{BadLengt
 use Rattle.index_message.specs.declared.fault.MessageFault.TheVariants.{BodyTooLarge, ShortBody}
 use Rattle.index_message.specs.declared.fault.MessageFault.TheVariants.{BadBody, NotAcceptable}
 
--- the status of a refusal, in the order of the refusals' numbers
+-- the status of each refusal, in the order of the refusals' numbers
 abbrev pub status_of_refusal : Refusal → ℕ
 status_of_refusal BadMoment = 400
 status_of_refusal BadToken = 401
@@ -63,8 +63,8 @@ status_of_refusal TooEarly = 409
 status_of_refusal RecentRelease = 409
 status_of_refusal HomePageActive = 409
 
--- the status of the answer to a call, by whether it came by `PUT`: what that makes is created (RFC
--- 9110, section 9.3.4)
+-- the status of the answer to a call, by whether its method is `PUT`: a `PUT` creates (RFC 9110,
+-- section 9.3.4)
 abbrev pub status_of_answer : Bool → Answer → ℕ
 status_of_answer true answer.Accepted = 201
 status_of_answer false answer.Accepted = 200
@@ -73,7 +73,7 @@ status_of_answer is_put (answer.Refused refusal) = status_of_refusal refusal
 status_of_answer is_put (answer.Fault OutOfMemory) = 503
 status_of_answer is_put (answer.Fault Store) = 500
 
--- the status of a message that is none which the index serves
+-- the status of a message that the index does not serve
 abbrev pub status_of_fault : MessageFault → ℕ
 status_of_fault BadHead = 400
 status_of_fault NoRoute = 404

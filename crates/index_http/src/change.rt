@@ -3,7 +3,7 @@ ghost use Rattle.std.specs.Prelude.{◌≡◌, Some, IfOk, false};
 ghost use Rattle.index_json.specs.Requests.{request_of};
 ghost use Rattle.index_message.specs.Resources.{is_reading};
 ghost use Rattle.index_message.specs.declared.message.Message.TheVariants.{Whole};
-ghost use Rattle.index_http.specs.Asks.{AnswersBy};
+ghost use Rattle.index_http.specs.Asks.{MessageIsAnswered};
 ghost use Rattle.index_http.specs.Steps.{at_desk, to_sink};
 ghost use Rattle.index_http.specs.Exchanges.{asked_by as asked_by_lem, asked_of_file as asked_of_file_lem, call_of as call_of_lem};
 
@@ -18,7 +18,7 @@ use index_message::{HttpRequest, MessageFault, Method, Resource};
 use index_rules::{Books, Bytes, Call, Request};
 use std::alloc::{AllocError, Global};
 
-/// Applies a request that is no look, and writes the reply, for which no memory is taken then.
+/// Applies a request that changes something and writes the reply. Writing the reply takes no memory.
 pub fn act<K: Sink, B: Books>(
     alloc: Global,
     sink: &mut K,
@@ -28,7 +28,7 @@ pub fn act<K: Sink, B: Books>(
     body: Bytes,
 ) -> Result<(), IoEnd>
     requires { is_reading request.now.method ≡ false }
-    ensures { AnswersBy at (Whole request.now body)
+    ensures { MessageIsAnswered at (Whole request.now body)
         (at_desk B.Books desk.old desk.new) (to_sink K.Sink sink.old sink.new) result }
 {
     let method = request.method();
@@ -43,7 +43,7 @@ pub fn act<K: Sink, B: Books>(
     )
 }
 
-/// The call that a request makes at a moment, or `None` where its body is no request.
+/// The call that a request makes at a moment, or `None` if its body is not a valid request.
 fn call_of(
     alloc: Global,
     at: u64,
@@ -63,7 +63,7 @@ fn call_of(
     }))
 }
 
-/// What a request asks for.
+/// The change that a request asks for.
 fn asked_by(
     alloc: Global,
     request: &HttpRequest,
@@ -79,7 +79,7 @@ fn asked_by(
     }
 }
 
-/// What a request asks of a file.
+/// The change that a request asks of a file.
 fn asked_of_file(
     alloc: Global,
     request: &HttpRequest,
@@ -121,7 +121,7 @@ fn upload_of(
     })
 }
 
-/// The request that bytes of JSON are.
+/// The request that a JSON body describes.
 fn asked_in(alloc: Global, bytes: &[u8]) -> Result<Option<Request>, AllocError>
     ensures { IfOk result (λ asked. asked ≡ request_of bytes.now) }
 {

@@ -6,11 +6,11 @@ ghost use Rattle.index_desk.specs.Rules.{by_tables};
 ghost use Rattle.index_message.specs.Heads.{longest_head};
 ghost use Rattle.index_message.specs.Lengths.{longest_upload};
 ghost use Rattle.index_message.specs.Messages.{EndsUnfinished, MayHaveHead};
-ghost use Rattle.index_message.specs.Reads.{TakesAtMost};
-ghost use Rattle.index_http.specs.Asks.{AnswersBy, AsksDesk};
-ghost use Rattle.index_http.specs.Ends.{LastsOrFails, RepliesBy, RepliesByHistory};
-ghost use Rattle.index_http.specs.Exchanges.{RepliesToInput};
-ghost use Rattle.index_http.specs.Sends.{FailsOnly, is_cut};
+ghost use Rattle.index_message.specs.Reads.{BytesTakenAtMost};
+ghost use Rattle.index_http.specs.Asks.{AsksDesk, MessageIsAnswered};
+ghost use Rattle.index_http.specs.Ends.{DeskRepliesByHistory, DeskRepliesByTables, LastsOrFails};
+ghost use Rattle.index_http.specs.Exchanges.{InputGetsText};
+ghost use Rattle.index_http.specs.Sends.{StreamFailsOnly, is_cut};
 ghost use Rattle.index_http.specs.Shows.{GivesMessage, asks_page, is_look};
 ghost use Rattle.index_http.specs.Steps.{at_desk, to_sink};
 
@@ -19,21 +19,21 @@ use crate::end::IoEnd;
 use crate::get::show;
 use crate::reply::message_reply;
 use crate::send::send_reply;
-use index_desk::{Desk, Keeper};
+use index_desk::{CachesAnswers, Desk};
 use index_io::{Sink, Source};
 use index_message::{Message, Site, read_message};
 use index_rules::Bytes;
 use std::alloc::Global;
 
-/// Reads one message, at a moment in Unix seconds, applies it or looks up what it asks for, and writes the reply. Once
-/// a request was applied no memory is taken for its reply.
+/// Reads one message, applies it or looks up what it asks for, and writes the reply. `at` is in Unix seconds. A reply
+/// to an applied request takes no memory.
 ///
 /// # Errors
 ///
-/// The end tells why no whole reply was written. After `ReadFault` and `OutOfMemory` nothing was applied or written.
-/// After `WriteFault` the first so many bytes of the reply went out, and what the message changed stands. After `Cut`
-/// the first so many bytes of a page's reply went out, and no table was changed.
-pub fn answer_one<S: Source, K: Sink, B: Keeper>(
+/// The end says why the reply is not whole. After `ReadFault` and `OutOfMemory` nothing was applied or written. After
+/// `WriteFault` that many bytes of the reply were sent, and the message's change stands. After `Cut` that many bytes of
+/// a page's reply were sent, and no table was changed.
+pub fn answer_one<S: Source, K: Sink, B: CachesAnswers>(
     alloc: Global,
     site: &Site,
     source: &mut S,
@@ -41,51 +41,55 @@ pub fn answer_one<S: Source, K: Sink, B: Keeper>(
     desk: &mut Desk<B>,
     at: u64,
 ) -> Result<(), IoEnd>
-    // By the tables: the reply to the message that the input begins with, or that of a fault, and the tables after it.
-    ensures tables { RepliesBy
-        (λ cause T. RepliesToInput by_tables cause at T (S.remaining source.old))
+    // By the tables: the reply is that to the message that the input begins with, or a fault, and these tables follow.
+    ensures tables { DeskRepliesByTables
+        (λ cause T. InputGetsText by_tables cause at T (S.remaining source.old))
         (at_desk B.Books desk.old desk.new) (to_sink K.Sink sink.old sink.new) result }
 
-    // By a legal history for which the tables stood: the same, and they stand for the history with what was accepted.
-    ensures history { RepliesByHistory at (S.remaining source.old)
+    // By a legal history for which the tables stood: the reply is that to the message, and the history with the
+    // accepted call has the new tables.
+    ensures history { DeskRepliesByHistory at (S.remaining source.old)
         (at_desk B.Books desk.old desk.new) (to_sink K.Sink sink.old sink.new) result }
 
-    // The desk takes one call at most, that of the message, and the reply is that to its answer. Else no table changes, and
-    // a crash leaves nothing new.
+    // The desk takes at most one call, the message's, and the reply has its answer. Otherwise no table changes, and a
+    // crash leaves nothing new.
     ensures asks { AsksDesk at (S.remaining source.old)
         (at_desk B.Books desk.old desk.new) (to_sink K.Sink sink.old sink.new) result }
 
-    // Where memory ran out nothing was asked of the desk, or it was a look: an answer to a call is always replied.
+    // If memory ran out, nothing was asked of the desk or the message only reads: the answer to a call is always
+    // replied.
     ensures memory { result ≡ Err IoEnd.OutOfMemory → (desk.new ≡ desk.old)
         ⊎ GivesMessage is_look (S.remaining source.old) }
 
-    // No message whose head can't be read, or whose path has no route, is told as want of memory.
+    // A message whose head can't be read, or whose path has no route, never ends as out of memory.
     ensures readable { result ≡ Err IoEnd.OutOfMemory
         → MayHaveHead (S.remaining source.old) (S.remaining source.new) }
 
-    // Where a fault shuts the store or a call of the books fails, a whole message came, and what went out shows it.
+    // If a fault shuts the store or a call of the books fails, a whole request came, and the bytes that were sent show
+    // it.
     ensures lasts { LastsOrFails at (S.remaining source.old)
         (at_desk B.Books desk.old desk.new) (to_sink K.Sink sink.old sink.new) }
 
-    // A fault of the store is no want of memory.
+    // A failed store is never reported as out of memory.
     ensures stores { result ≡ Err IoEnd.OutOfMemory → B.stores desk.new ≡ B.stores desk.old }
 
-    // Each fault has its cause, and else nothing failed.
-    ensures fails { FailsOnly S.Source K.Sink source.old source.new sink.old sink.new result }
+    // A fault is returned only for its cause, and nothing else failed.
+    ensures fails { StreamFailsOnly S.Source K.Sink source.old source.new sink.old sink.new result }
 
-    // A read fails only where what came so far is no message yet: so no read is made behind a message.
-    ensures prompt { result ≡ Err IoEnd.ReadFault
-        → EndsUnfinished (S.remaining source.old) (S.remaining source.new) }
+    // A read fails only if the message is not whole yet, and then the desk was not asked: nothing is read beyond a
+    // message.
+    ensures prompt { result ≡ Err IoEnd.ReadFault → (desk.new ≡ desk.old)
+        × EndsUnfinished (S.remaining source.old) (S.remaining source.new) }
 
     // Only a page is cut short, and no table changes then.
     ensures cut { is_cut result ≡ true → LeavesTables B.Books desk.old desk.new
         × GivesMessage asks_page (S.remaining source.old) }
 
-    // No more is read than may be.
-    ensures limit { TakesAtMost (longest_head + longest_upload)
+    // No more is read than the longest head and the longest upload.
+    ensures limit { BytesTakenAtMost (longest_head + longest_upload)
         (S.remaining source.old) (S.remaining source.new) }
 
-    // However it ends: one user at most bears a digest, and accounts that add up keep adding up.
+    // However it ends: at most one user has a token's digest, and charges that add up still add up.
     ensures keeps { KeepsInvariants B.Books desk.old desk.new }
 {
     let message = read_message(alloc, site, source)?;
@@ -93,14 +97,14 @@ pub fn answer_one<S: Source, K: Sink, B: Keeper>(
 }
 
 /// Answers a message.
-fn answer<K: Sink, B: Keeper>(
+fn answer<K: Sink, B: CachesAnswers>(
     alloc: Global,
     sink: &mut K,
     desk: &mut Desk<B>,
     at: u64,
     message: Message,
 ) -> Result<(), IoEnd>
-    ensures { AnswersBy at message
+    ensures { MessageIsAnswered at message
         (at_desk B.Books desk.old desk.new) (to_sink K.Sink sink.old sink.new) result }
 {
     match message {

@@ -9,11 +9,12 @@ use std::fmt;
 pub enum IoEnd {
     /// A read failed. Nothing was applied or written.
     ReadFault,
-    /// Memory ran out before anything was written. Nothing was applied, or the message was a look.
+    /// Memory ran out before anything was written. Nothing was applied, or the message only reads.
     OutOfMemory,
-    /// A write failed or took no byte, after so many bytes of the reply. What the message changed stands.
+    /// A write failed or took no byte, after this many bytes of the reply. What the message changed stands.
     WriteFault(u64),
-    /// The store or memory failed, or the page was too long, after so many bytes of its reply. No table was changed.
+    /// The store failed, memory ran out or the page was too long, after this many bytes of the reply. No table was
+    /// changed.
     Cut(u64),
 }
 

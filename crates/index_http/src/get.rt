@@ -1,14 +1,14 @@
-//! Looks at pages, files and standings: what is to be shown is found first, and then sent. None changes a table.
+//! GET and HEAD: the reply is found first, and then sent. Neither changes a table.
 ghost use Rattle.std.specs.Prelude.{◌≡◌, ◌≢◌, Err, Ok, IfErr, IfOk, IfSome, IsSome, true, false, bytes_eq, is_some};
 ghost use Rattle.index_names.specs.FileName.{read_file_name};
 ghost use Rattle.index_names.specs.Project.{read_name};
 ghost use Rattle.index_rules.specs.Tables.{Tables};
 ghost use Rattle.index_desk.specs.Looks.{LooksAt};
 ghost use Rattle.index_desk.specs.Rules.{by_tables};
-ghost use Rattle.index_http.specs.Exchanges.{IsAccepted, Shows, ShowsAt, ShowsFile, ShowsName, ShowsProject, ShowsRedirect, ShowsRoot, ShowsSpelling};
+ghost use Rattle.index_http.specs.Exchanges.{IsAccepted, RedirectsToProject, ShowsFile, ShowsName, ShowsPath, ShowsProject, ShowsResource, ShowsSpelling};
 ghost use Rattle.index_http.specs.Replies.{reply_of};
-ghost use Rattle.index_http.specs.Shown.{LeadsTo, ShowsFound, can_be_read, is_page_to_show, is_reply, look_for, reply_of_shown};
-ghost use Rattle.index_http.specs.Shows.{ShowsBy, is_page, look_at_no_page, look_of};
+ghost use Rattle.index_http.specs.Shown.{LeadsTo, ReplyShowsFound, can_be_read, is_page_to_show, is_reply, look_for, reply_of_shown};
+ghost use Rattle.index_http.specs.Shows.{LookShows, is_page, look_at_no_page, look_of};
 ghost use Rattle.index_http.specs.Steps.{at_desk, to_sink};
 
 use crate::end::IoEnd;
@@ -18,7 +18,7 @@ use crate::reply::{
     refusal_reply,
 };
 use crate::send::{send_fault, send_reply};
-use index_desk::{Desk, Keeper, PageKey};
+use index_desk::{CachesAnswers, Desk, PageKey};
 use index_io::Sink;
 use index_json::standing_text;
 use index_message::{Allowed, HttpRequest, MessageFault, Resource};
@@ -27,32 +27,32 @@ use index_pages::Served;
 use index_rules::{Books, Bytes, Fault, Refusal};
 use std::alloc::{AllocError, Global};
 
-/// What is to be shown. A page and a file are looked for when they are sent: the books lend those that they keep, and a
-/// long page is never there as a whole, so neither is a value.
+/// What a request is to be shown. Pages and files are fetched only when they are sent: the books lend cached ones, and
+/// a long page is never in memory as a whole.
 #[derive(Drop)]
 pub enum ToShow {
-    /// The page of the names, in a type.
+    /// The root page, in a type.
     Root(Served),
     /// The page of a project, in a type.
     Project(NormalName, Served),
     /// A file.
     File(FileName),
-    /// What is there.
+    /// A reply that was found.
     Found(Shown),
 }
 
-/// The reply to a look, as a value that owns its text.
+/// A reply that owns its text.
 #[derive(Drop)]
 pub enum Shown {
-    /// The fault of a message.
+    /// The reply to a malformed message.
     Faulty(MessageFault),
-    /// A refusal.
+    /// The reply to a refused request.
     Refused(Refusal),
-    /// The way to the page of the names.
+    /// A redirect to the root page.
     ToRoot,
-    /// The way to the page of a project.
+    /// A redirect to a project's page.
     ToProject(NormalName),
-    /// The text of a standing.
+    /// The standing of a name, as JSON.
     Standing(String),
 }
 
@@ -71,17 +71,17 @@ impl Shown {
     }
 }
 
-/// Shows what a request asks for.
-pub fn show<K: Sink, B: Keeper>(
+/// Replies to a request that only reads.
+pub fn show<K: Sink, B: CachesAnswers>(
     alloc: Global,
     sink: &mut K,
     desk: &mut Desk<B>,
     request: &HttpRequest,
 ) -> Result<(), IoEnd>
-    ensures shown { ShowsBy (look_of request.now)
-        (λ T. Shows by_tables T request.now.fields request.now.resource)
+    ensures shown { LookShows (look_of request.now)
+        (λ T. ShowsResource by_tables T request.now.fields request.now.resource)
         (at_desk B.Books desk.old desk.new) (to_sink K.Sink sink.old sink.new) result }
-    // What is no name is replied as such, and is never a want of memory.
+    // A resource whose name is not valid gets its reply, and never ends as out of memory.
     ensures readable { result ≡ Err IoEnd.OutOfMemory → can_be_read request.now.resource ≡ true }
 {
     let is_head = request.method().is_head();
@@ -92,14 +92,14 @@ pub fn show<K: Sink, B: Keeper>(
 }
 
 /// Sends what is to be shown.
-fn send_shown<K: Sink, B: Keeper>(
+fn send_shown<K: Sink, B: CachesAnswers>(
     alloc: Global,
     sink: &mut K,
     desk: &mut Desk<B>,
     is_head: bool,
     what: ToShow,
 ) -> Result<(), IoEnd>
-    ensures shown { ShowsBy (look_for is_head what) (λ T. ShowsFound T what)
+    ensures shown { LookShows (look_for is_head what) (λ T. ReplyShowsFound T what)
         (at_desk B.Books desk.old desk.new) (to_sink K.Sink sink.old sink.new) result }
     ensures memory { result ≡ Err IoEnd.OutOfMemory → is_reply what ≡ false }
 {
@@ -113,24 +113,24 @@ fn send_shown<K: Sink, B: Keeper>(
     }
 }
 
-/// Shows the bytes of a file.
-fn show_file<K: Sink, B: Keeper>(
+/// Sends the bytes of a file.
+fn show_file<K: Sink, B: CachesAnswers>(
     alloc: Global,
     sink: &mut K,
     desk: &mut Desk<B>,
     is_head: bool,
     file: FileName,
 ) -> Result<(), IoEnd>
-    ensures { ShowsBy (look_at_no_page is_head) (λ T. ShowsFile by_tables T file true)
+    ensures { LookShows (look_at_no_page is_head) (λ T. ShowsFile by_tables T file true)
         (at_desk B.Books desk.old desk.new) (to_sink K.Sink sink.old sink.new) result }
 {
-    if let Some(body) = desk.kept_body(&file) {
+    if let Some(body) = desk.cached_body(&file) {
         return send_reply(sink, is_head, file_reply(body.bytes()));
     }
     match desk.body(alloc, &file) {
         Ok(Some(body)) => {
             let sent = send_reply(sink, is_head, file_reply(body.bytes()));
-            desk.keep_body(file, body);
+            desk.cache_body(file, body);
             sent
         }
         Ok(None) => send_reply(sink, is_head, refusal_reply(Refusal::NoFile)),
@@ -138,7 +138,7 @@ fn show_file<K: Sink, B: Keeper>(
     }
 }
 
-/// What is to be shown of a resource.
+/// What a resource shows.
 fn to_show<B: Books>(
     alloc: Global,
     desk: &mut Desk<B>,
@@ -146,11 +146,9 @@ fn to_show<B: Books>(
     resource: &Resource,
 ) -> Result<ToShow, Fault>
     ensures shows { LooksAt B.Books desk.old desk.new result
-        (λ T what. LeadsTo T what (Shows by_tables T request.now.fields resource.now)) }
-    ensures page { IfOk result (λ what.
-        is_page_to_show what ≡ true → is_page resource.now ≡ true) }
-    ensures found { IfOk result (λ what.
-        can_be_read resource.now ≡ false → is_reply what ≡ true) }
+        (λ T what. LeadsTo T what (ShowsResource by_tables T request.now.fields resource.now)) }
+    ensures page { IfOk result (λ what. is_page_to_show what ≡ true → is_page resource.now ≡ true) }
+    ensures found { IfOk result (λ what. can_be_read resource.now ≡ false → is_reply what ≡ true) }
     ensures readable { IfErr result (λ _. can_be_read resource.now ≡ true) }
 {
     match resource {
@@ -166,10 +164,10 @@ fn to_show<B: Books>(
     }
 }
 
-/// The page of the names, or that it has no type which can be chosen.
+/// The root page, or `NotAcceptable` if none of its types can be chosen.
 fn root_to_show(alloc: Global, request: &HttpRequest) -> Result<ToShow, AllocError>
     ensures { IfOk result (λ what. (T : Tables) →
-        LeadsTo T what (Shows by_tables T request.now.fields Resource.Root)) }
+        LeadsTo T what (ShowsResource by_tables T request.now.fields Resource.Root)) }
 {
     match accepted_type(alloc, request)? {
         Some(served) => Ok(ToShow::Root(served)),
@@ -185,10 +183,10 @@ fn accepted_type(alloc: Global, request: &HttpRequest) -> Result<Option<Served>,
     Ok(Served::choose(values.as_slice()))
 }
 
-/// The way to a project's page, or that this is no name of one.
+/// A redirect to a project's page, or the reply to a name that is not valid.
 fn redirect_of(alloc: Global, given: &Bytes) -> Result<Shown, AllocError>
     ensures shown { IfOk result (λ shown.
-        ShowsRedirect (read_name given.now) (reply_of_shown shown)) }
+        RedirectsToProject (read_name given.now) (reply_of_shown shown)) }
     ensures readable { IfErr result (λ _. IsSome (read_name given.now)) }
 {
     match name_of(alloc, given)? {
@@ -197,7 +195,7 @@ fn redirect_of(alloc: Global, given: &Bytes) -> Result<Shown, AllocError>
     }
 }
 
-/// The page of a project, or the way there where its name is given in another spelling.
+/// A project's page, or a redirect to it if the name is given in another spelling.
 fn page_at<B: Books>(
     alloc: Global,
     desk: &mut Desk<B>,
@@ -205,7 +203,7 @@ fn page_at<B: Books>(
     given: &Bytes,
 ) -> Result<ToShow, Fault>
     ensures shows { LooksAt B.Books desk.old desk.new result (λ T what.
-        LeadsTo T what (ShowsAt by_tables T request.now.fields given.now (read_name given.now))) }
+        LeadsTo T what (ShowsPath by_tables T request.now.fields given.now (read_name given.now))) }
     ensures found { IfOk result (λ what.
         is_some (read_name given.now) ≡ false → is_reply what ≡ true) }
     ensures readable { IfErr result (λ _. IsSome (read_name given.now)) }
@@ -220,7 +218,7 @@ fn page_at<B: Books>(
     }
 }
 
-/// The page of a project whose name is given in its normal form.
+/// A project's page, whose name is given in its normal form.
 fn page_of<B: Books>(
     alloc: Global,
     desk: &mut Desk<B>,
@@ -236,7 +234,7 @@ fn page_of<B: Books>(
     }
 }
 
-/// That there is no page of a project, or none of a type that can be chosen.
+/// The reply if there is no page of a project, or none in a type that can be chosen.
 fn no_page_of<B: Books>(
     alloc: Global,
     desk: &mut Desk<B>,
@@ -252,7 +250,7 @@ fn no_page_of<B: Books>(
     }
 }
 
-/// A file, or that these bytes are no file name.
+/// A file, or the reply to a file name that is not valid.
 fn file_to_show(alloc: Global, given: &Bytes) -> Result<ToShow, AllocError>
     ensures shows { IfOk result (λ what. (T : Tables) → LeadsTo T what
         (ShowsFile by_tables T given.now (is_some (read_file_name given.now)))) }
@@ -268,7 +266,7 @@ fn file_to_show(alloc: Global, given: &Bytes) -> Result<ToShow, AllocError>
     }
 }
 
-/// What stands of a name, or that it is none.
+/// The standing of a name, or the reply to a name that is not valid.
 fn standing_of<B: Books>(alloc: Global, desk: &mut Desk<B>, given: &Bytes) -> Result<Shown, Fault>
     ensures shows { LooksAt B.Books desk.old desk.new result
         (λ T shown. ShowsName by_tables T (read_name given.now) (reply_of_shown shown)) }
@@ -281,7 +279,7 @@ fn standing_of<B: Books>(alloc: Global, desk: &mut Desk<B>, given: &Bytes) -> Re
     Ok(Shown::Standing(standing_text(alloc, &standing)?))
 }
 
-/// The normal form of a name, or `None` where these bytes are no project name.
+/// The normal form of a name, or `None` if these bytes are not a valid project name.
 fn name_of(alloc: Global, given: &Bytes) -> Result<Option<NormalName>, AllocError>
     ensures name { IfOk result (λ name. name ≡ read_name given.now) }
     ensures readable { IfErr result (λ _. IsSome (read_name given.now)) }

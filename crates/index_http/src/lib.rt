@@ -1,4 +1,4 @@
-//! One connection over HTTP: a message is read, applied or looked up, and answered.
+//! One connection over HTTP: its message is read, applied or looked up, and answered.
 #![tactic(auto)]
 
 mod change;

@@ -1,4 +1,4 @@
-//! The two passes over the rows of a page: the first counts its bytes, the second sends them. No head is written here.
+//! The two passes over the rows of a page: the first counts its bytes, the second sends them. Neither writes a head.
 ghost use Rattle.std.specs.Prelude.{◌≡◌, ◌≢◌, Some, None, Err, false};
 ghost use Rattle.index_rules.specs.TableRows.{held_rows_in};
 ghost use Rattle.index_desk.specs.Pages.{text_in};
@@ -15,8 +15,8 @@ use index_pages::{PageEnd, PageLength, PageText, Served};
 use index_rules::{Books, Fault, WalkEnd};
 use std::alloc::Global;
 
-/// The length of the page of the names. `Store` also where it has more than 9,223,372,036,854,775,807 bytes. It changes
-/// no table.
+/// The length of the root page. `Store` if the store fails or the page has more than 9,223,372,036,854,775,807 bytes.
+/// It changes no table.
 pub fn root_length<B: Books>(
     alloc: Global,
     desk: &mut Desk<B>,
@@ -31,7 +31,7 @@ pub fn root_length<B: Books>(
     page.finish()
 }
 
-/// Sends the page of the names. Its ends are `WriteFault` and `Cut`. It changes no table.
+/// Sends the text of the root page. It fails with `WriteFault` or `Cut`. It changes no table.
 pub fn root_text<K: Sink, B: Books>(
     alloc: Global,
     desk: &mut Desk<B>,
@@ -49,8 +49,8 @@ pub fn root_text<K: Sink, B: Books>(
     }
 }
 
-/// The length of the page of a project, or `None` where the name is not held. `Store` also where the page has more than
-/// 9,223,372,036,854,775,807 bytes. It changes no table.
+/// The length of a project's page, or `None` if the name is not held. `Store` if the store fails or the page has more
+/// than 9,223,372,036,854,775,807 bytes. It changes no table.
 pub fn project_length<B: Books>(
     alloc: Global,
     desk: &mut Desk<B>,
@@ -68,7 +68,7 @@ pub fn project_length<B: Books>(
     page.finish().map(Some)
 }
 
-/// Sends the page of a project. Its ends are `WriteFault` and `Cut`, which is also told where the name is not held. It
+/// Sends the text of a project's page. It fails with `WriteFault`, or with `Cut`, also if the name is not held. It
 /// changes no table.
 pub fn project_text<K: Sink, B: Books>(
     alloc: Global,
@@ -89,7 +89,7 @@ pub fn project_text<K: Sink, B: Books>(
     }
 }
 
-/// The end of a walk, where a taker that wanted no more rows is no fault: its page tells why.
+/// The end of a walk over rows. A taker that stopped it is not an error here: its page says why it stopped.
 pub fn without_stop<A: Copy>(walked: Result<A, WalkEnd>, at_stop: A) -> Result<A, Fault>
     ensures { result ≡ without_stop_lem at_stop walked }
 {
@@ -101,7 +101,7 @@ pub fn without_stop<A: Copy>(walked: Result<A, WalkEnd>, at_stop: A) -> Result<A
     }
 }
 
-/// The end of a connection by that of its page.
+/// The end of a connection, from the end of its page.
 fn io_end_of_page(page_end: Result<u64, PageEnd>) -> Result<(), IoEnd>
     ensures end { result ≡ sent_by page_end }
     ensures no_read_fault { result ≢ Err IoEnd.ReadFault }

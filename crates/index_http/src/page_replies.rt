@@ -1,12 +1,12 @@
-//! Pages, whose head tells their length before their text is sent.
+//! Replies with a page. Their head has the page's length, so that is known before the text is sent.
 ghost use Rattle.std.specs.Prelude.{◌≡◌, ◌⊎◌, None, true, false, not};
 ghost use Rattle.index_desk.specs.Looks.{LeavesTables};
 ghost use Rattle.index_desk.specs.Pages.{page_in};
 ghost use Rattle.index_http.specs.PagePasses.{Gathers, IsMeasured, MeasuresText, SendsPage};
-ghost use Rattle.index_http.specs.PageShows.{ShowsWhole, after_head};
+ghost use Rattle.index_http.specs.PageShows.{PageShown, after_head};
 ghost use Rattle.index_http.specs.Replies.{page_reply, reply_text};
-ghost use Rattle.index_http.specs.Sends.{SendsBytes, SendsLess, SendsOnly, is_cut, is_silent, is_write_fault};
-ghost use Rattle.index_http.specs.Shows.{ShowsBy, look_at_page};
+ghost use Rattle.index_http.specs.Sends.{ReplyFailsOnly, SendsBytes, SendsLessThanText, is_cut, is_silent, is_write_fault};
+ghost use Rattle.index_http.specs.Shows.{LookShows, look_at_page};
 ghost use Rattle.index_http.specs.Steps.{StaysHonest, at_desk, to_sink};
 
 use crate::end::IoEnd;
@@ -15,15 +15,15 @@ use crate::page_passes::{project_length, project_text, root_length, root_text};
 use crate::reply::{Fields, page_reply, refusal_reply};
 use crate::send::{send_fault, send_head, send_reply};
 use http::StatusCode;
-use index_desk::{Desk, Keeper, PageKey};
+use index_desk::{CachesAnswers, Desk, PageKey};
 use index_io::Sink;
 use index_names::NormalName;
 use index_pages::Served;
 use index_rules::{Books, Fault, Refusal};
 use std::alloc::Global;
 
-/// Shows a page in a type, where there is one.
-pub fn show_page<K: Sink, B: Keeper>(
+/// Replies with a page in a type, if it exists.
+pub fn show_page<K: Sink, B: CachesAnswers>(
     alloc: Global,
     sink: &mut K,
     desk: &mut Desk<B>,
@@ -31,16 +31,17 @@ pub fn show_page<K: Sink, B: Keeper>(
     page: PageKey<'_>,
     served: Served,
 ) -> Result<(), IoEnd>
-    ensures { ShowsBy (look_at_page is_head) (λ T. ShowsWhole served (page_in T served page.entry))
+    ensures { LookShows (look_at_page is_head) (λ T. PageShown served (page_in T served page.entry))
         (at_desk B.Books desk.old desk.new) (to_sink K.Sink sink.old sink.new) result }
 {
-    if let Some(text) = desk.kept_page(page, served) {
+    if let Some(text) = desk.cached_page(page, served) {
         return send_reply(sink, is_head, page_reply(served, text));
     }
-    match gathered_text(alloc, desk, page, served) {
+    let cache_size = desk.cache_size();
+    match gathered_text(alloc, desk, page, served, cache_size) {
         Ok(Some(text)) => {
             let sent = send_reply(sink, is_head, page_reply(served, text.as_slice()));
-            desk.keep_page(page, served, text);
+            desk.cache_page(page, served, text);
             sent
         }
         Ok(None) => show_in_passes(alloc, sink, desk, is_head, page, served),
@@ -48,23 +49,24 @@ pub fn show_page<K: Sink, B: Keeper>(
     }
 }
 
-/// The text of a page, or `None` where there is none, or it is too long to be gathered or no memory is there for it. It
-/// changes no table.
+/// The text of a page, or `None` if it does not exist, is too long to be gathered, or memory ran out. It changes no
+/// table.
 fn gathered_text<B: Books>(
     alloc: Global,
     desk: &mut Desk<B>,
     page: PageKey<'_>,
     served: Served,
+    cache_size: usize,
 ) -> Result<Option<Vec<u8>>, Fault>
     ensures { Gathers B.Books desk.old desk.new result (λ T. page_in T served page.entry) }
 {
     match page {
-        PageKey::Root => gathered_root(alloc, desk, served),
-        PageKey::Project(name) => gathered_project(alloc, desk, name, served),
+        PageKey::Root => gathered_root(alloc, desk, served, cache_size),
+        PageKey::Project(name) => gathered_project(alloc, desk, name, served, cache_size),
     }
 }
 
-/// Shows a page in a type, where there is one: a first pass over its rows counts its bytes, and a second sends them.
+/// Replies with a page in a type, if it exists: a first pass over its rows counts its bytes, and a second sends them.
 fn show_in_passes<K: Sink, B: Books>(
     alloc: Global,
     sink: &mut K,
@@ -73,7 +75,7 @@ fn show_in_passes<K: Sink, B: Books>(
     page: PageKey<'_>,
     served: Served,
 ) -> Result<(), IoEnd>
-    ensures { ShowsBy (look_at_page is_head) (λ T. ShowsWhole served (page_in T served page.entry))
+    ensures { LookShows (look_at_page is_head) (λ T. PageShown served (page_in T served page.entry))
         (at_desk B.Books desk.old desk.new) (to_sink K.Sink sink.old sink.new) result }
 {
     match length_of(alloc, desk, page, served) {
@@ -83,7 +85,7 @@ fn show_in_passes<K: Sink, B: Books>(
     }
 }
 
-/// The length of a page, or `None` where there is none. It changes no table.
+/// The length of a page, or `None` if it does not exist. It changes no table.
 fn length_of<B: Books>(
     alloc: Global,
     desk: &mut Desk<B>,
@@ -98,7 +100,7 @@ fn length_of<B: Books>(
     }
 }
 
-/// Sends a page of this length: its head, and its text unless it replies to `HEAD`. It changes no table.
+/// Sends the head of a page of this length, and the text unless it replies to `HEAD`. It changes no table.
 fn send_page<K: Sink, B: Books>(
     alloc: Global,
     sink: &mut K,
@@ -114,11 +116,11 @@ fn send_page<K: Sink, B: Books>(
         (reply_text is_head (page_reply served there.bytes)) result }
     ensures lasts { B.IsHonest desk.old → B.IsClean desk.new →
         (there : IsMeasured (page_in (B.tables desk.old) served page.entry) size) →
-        StaysHonest (at_desk B.Books desk.old desk.new) ⊎ SendsLess
+        StaysHonest (at_desk B.Books desk.old desk.new) ⊎ SendsLessThanText
         (reply_text is_head (page_reply served there.bytes))
         (K.contents sink.old) (K.contents sink.new) }
     ensures leaves { LeavesTables B.Books desk.old desk.new }
-    ensures sends { SendsOnly K.Sink sink.old sink.new (not is_head) result }
+    ensures sends { ReplyFailsOnly K.Sink sink.old sink.new (not is_head) result }
     ensures told { is_silent result ≡ false }
 {
     let head = match send_head(sink, StatusCode::OK, Fields::Page(served), size) {
@@ -131,7 +133,7 @@ fn send_page<K: Sink, B: Books>(
     after_head(head, send_text(alloc, sink, desk, page, served))
 }
 
-/// Sends the text of a page. Its ends are `WriteFault` and `Cut`. It changes no table.
+/// Sends the text of a page. It fails with `WriteFault` or `Cut`. It changes no table.
 fn send_text<K: Sink, B: Books>(
     alloc: Global,
     sink: &mut K,
@@ -148,7 +150,7 @@ fn send_text<K: Sink, B: Books>(
     }
 }
 
-/// The end of a reply by that of its body, before which this many bytes went out.
+/// The end of a reply, from the end of its body. `head` is the number of bytes that were sent before the body.
 fn after_head(head: u64, end: Result<(), IoEnd>) -> Result<(), IoEnd>
     ensures end { result ≡ after_head head end }
     ensures kind { is_write_fault result ≡ is_write_fault end }

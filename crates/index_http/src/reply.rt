@@ -12,22 +12,22 @@ use index_names::NormalName;
 use index_pages::Served;
 use index_rules::{Answer, Fault, Refusal};
 
-/// The header lines of a reply that not every reply has.
+/// The header lines that differ from reply to reply.
 #[derive(Clone, Copy)]
 pub enum Fields<'a> {
-    /// The type of a page.
+    /// The content type of a page.
     Page(Served),
-    /// The type of a file.
+    /// The content type of a file.
     File,
-    /// The type of JSON.
+    /// JSON.
     Json,
-    /// The type of JSON, and that a token is wanted.
+    /// JSON, and a challenge that asks for a token.
     Challenge,
-    /// The type of JSON, and the methods that the path has.
+    /// JSON, and the methods that the path allows.
     Allow(Allowed),
-    /// The location of the page of the names, for a redirect.
+    /// The location of the root page, for a redirect.
     ToRoot,
-    /// The location of the page of a project, for a redirect.
+    /// The location of a project's page, for a redirect.
     ToProject(&'a NormalName),
 }
 
@@ -39,7 +39,7 @@ pub struct Reply<'a> {
     pub body: &'a [u8],
 }
 
-/// The reply to a message that the index doesn't serve.
+/// The reply to a message that the index does not serve.
 #[tactic(auto, unfolding(crate::specs::Replies::message_reply))]
 pub fn message_reply(fault: MessageFault) -> Reply<'static>
     ensures { reply_of result ≡ message_reply fault }
@@ -51,7 +51,7 @@ pub fn message_reply(fault: MessageFault) -> Reply<'static>
     }
 }
 
-/// The reply to a call that was answered so, by whether it came by `PUT`.
+/// The reply to a call with this answer, by whether its method is `PUT`.
 #[tactic(auto, unfolding(crate::specs::Replies::answer_reply))]
 pub fn answer_reply(is_put: bool, answer: &Answer) -> Reply<'static>
     ensures { reply_of result ≡ answer_reply is_put answer.now }
@@ -64,14 +64,14 @@ pub fn answer_reply(is_put: bool, answer: &Answer) -> Reply<'static>
     }
 }
 
-/// The reply of a refusal.
+/// The reply to a refused request.
 pub fn refusal_reply(refusal: Refusal) -> Reply<'static>
     ensures { reply_of result ≡ refusal_reply refusal }
 {
     answer_reply(false, &Answer::Refused(refusal))
 }
 
-/// The reply where a look at the tables failed.
+/// The reply to a request that only reads, if the tables could not be read.
 pub fn store_reply() -> Reply<'static>
     ensures { reply_of result ≡ store_reply }
 {
@@ -100,7 +100,7 @@ pub fn page_reply(served: Served, text: &[u8]) -> Reply<'_>
     }
 }
 
-/// The reply with a text in JSON.
+/// The reply with JSON.
 pub fn json_reply(text: &[u8]) -> Reply<'_>
     ensures { reply_of result ≡ json_reply text.now }
 {
@@ -111,7 +111,7 @@ pub fn json_reply(text: &[u8]) -> Reply<'_>
     }
 }
 
-/// Redirects to the root page.
+/// A redirect to the root page.
 pub fn redirect_to_root() -> Reply<'static>
     ensures { reply_of result ≡ redirect_to_root }
 {
@@ -122,7 +122,7 @@ pub fn redirect_to_root() -> Reply<'static>
     }
 }
 
-/// Redirects to a project's page.
+/// A redirect to a project's page.
 #[tactic(auto, unfolding(crate::specs::Replies::fields_text))]
 pub fn redirect_to_project(name: &NormalName) -> Reply<'_>
     ensures { reply_of result ≡ redirect_to_project name.now }
@@ -134,7 +134,7 @@ pub fn redirect_to_project(name: &NormalName) -> Reply<'_>
     }
 }
 
-/// The header lines of the reply to a message with a fault.
+/// The header lines of the reply to a malformed message.
 fn fields_of_fault(fault: MessageFault) -> Fields<'static>
     ensures { result ≡ fields_of_fault fault }
 {
@@ -144,7 +144,7 @@ fn fields_of_fault(fault: MessageFault) -> Fields<'static>
     }
 }
 
-/// The header lines of the reply to a call: a refused token is told which scheme is wanted.
+/// The header lines of the reply to a call: status 401 adds a challenge that names the scheme of tokens.
 fn answer_fields(status: StatusCode) -> Fields<'static>
     ensures { result ≡ answer_fields status }
 {
@@ -155,7 +155,7 @@ fn answer_fields(status: StatusCode) -> Fields<'static>
     }
 }
 
-/// The text of the answer to a message that the index doesn't serve.
+/// The body of the reply to a message that the index does not serve.
 #[tactic(auto, unfolding(index_json::proofs::OnLiterals::answers_on_literals))]
 fn message_text(fault: MessageFault) -> &'static str
     ensures { result.now ≡ message_text_of (message_fault_name fault) }
@@ -173,7 +173,7 @@ fn message_text(fault: MessageFault) -> &'static str
     }
 }
 
-/// The status of the reply to a call, by whether it came by `PUT`.
+/// The status of the reply to a call, by whether its method is `PUT`.
 fn status_of_answer(is_put: bool, answer: &Answer) -> StatusCode
     ensures { result ≡ status_of_answer is_put answer.now }
 {
@@ -186,7 +186,7 @@ fn status_of_answer(is_put: bool, answer: &Answer) -> StatusCode
     }
 }
 
-/// The status of the reply to a call that was accepted: an upload makes a file.
+/// The status of the reply to an accepted call: `PUT` creates a file.
 fn status_of_accepted(is_put: bool) -> StatusCode
     ensures { result ≡ status_of_answer is_put Answer.Accepted }
 {
@@ -197,7 +197,7 @@ fn status_of_accepted(is_put: bool) -> StatusCode
     }
 }
 
-/// The status of the reply of a refusal.
+/// The status of the reply to a refused request.
 fn status_of_refusal(refusal: Refusal) -> StatusCode
     ensures { result ≡ status_of_refusal refusal }
 {
@@ -239,7 +239,7 @@ fn status_of_refusal(refusal: Refusal) -> StatusCode
     }
 }
 
-/// The status of the reply to a message that the index doesn't serve.
+/// The status of the reply to a message that the index does not serve.
 fn status_of_fault(fault: MessageFault) -> StatusCode
     ensures { result ≡ status_of_fault fault }
 {

@@ -1,10 +1,10 @@
-//! Sending replies, and the pieces that they are sent in. Nothing here takes memory.
+//! Sends replies in pieces. It takes no memory.
 ghost use Rattle.std.specs.Prelude.{◌≡◌, ◌<◌, ◌≤◌, ◌^◌, ◌++◌, false, length};
 ghost use Rattle.http.specs.StatusCode.{code_digits};
 ghost use Rattle.index_io.specs.Bytes.{joined};
 ghost use Rattle.index_http.specs.Replies.{IsFixed, IsShortText, fields_text, head_text, phrase_of, reply_head, reply_of, reply_text};
-ghost use Rattle.index_http.specs.Sends.{SendsBytes, SendsHead, SendsOnly};
-ghost use Rattle.index_http.specs.Shows.{EndsFault};
+ghost use Rattle.index_http.specs.Sends.{ReplyFailsOnly, SendsBytes, SendsHead};
+ghost use Rattle.index_http.specs.Shows.{LookFails};
 
 use crate::end::IoEnd;
 use crate::reply::{Fields, Reply, store_reply};
@@ -16,8 +16,8 @@ use index_pages::Served;
 use index_rules::Fault;
 use itoa::Buffer;
 
-/// Writes the head of a reply whose body has so many bytes, and answers the length of the head. An error tells how many
-/// of its bytes went out, before a write failed or took no byte.
+/// Writes the head of a reply whose body has this many bytes, and returns the length of the head. If a write fails or
+/// takes no byte, the error is the number of bytes that were sent.
 pub fn send_head<K: Sink>(
     sink: &mut K,
     status: StatusCode,
@@ -30,11 +30,11 @@ pub fn send_head<K: Sink>(
     send_parts(sink, status, fields, size, b"")
 }
 
-/// Writes a reply; one to `HEAD` without its body. Its one end is `WriteFault`.
+/// Writes a reply, without its body if it replies to `HEAD`. It fails with `WriteFault` only.
 pub fn send_reply<K: Sink>(sink: &mut K, is_head: bool, reply: Reply<'_>) -> Result<(), IoEnd>
     ensures sent { SendsBytes K.Sink sink.old sink.new
         (reply_text is_head (reply_of reply.entry)) result }
-    ensures sends { SendsOnly K.Sink sink.old sink.new false result }
+    ensures sends { ReplyFailsOnly K.Sink sink.old sink.new false result }
 {
     let size = reply.body.len() as u64;
     let behind = if is_head { b"".as_slice() } else { reply.body };
@@ -44,10 +44,10 @@ pub fn send_reply<K: Sink>(sink: &mut K, is_head: bool, reply: Reply<'_>) -> Res
     }
 }
 
-/// Ends a look that failed: a fault of the store is replied, and want of memory ends the connection before its reply.
+/// Ends a request that only reads and failed: it replies to a failed store, and returns `OutOfMemory` without a reply.
 pub fn send_fault<K: Sink>(sink: &mut K, is_head: bool, fault: Fault) -> Result<(), IoEnd>
-    ensures told { EndsFault is_head fault (K.contents sink.old) (K.contents sink.new) result }
-    ensures sends { SendsOnly K.Sink sink.old sink.new false result }
+    ensures told { LookFails is_head fault (K.contents sink.old) (K.contents sink.new) result }
+    ensures sends { ReplyFailsOnly K.Sink sink.old sink.new false result }
 {
     match fault {
         Fault::OutOfMemory => Err(IoEnd::OutOfMemory),
@@ -55,7 +55,7 @@ pub fn send_fault<K: Sink>(sink: &mut K, is_head: bool, fault: Fault) -> Result<
     }
 }
 
-/// Writes a head that tells this size, and what stands behind it. Answers the length of the head.
+/// Writes a head with this content length, and the body. It returns the length of the head.
 fn send_parts<K: Sink>(
     sink: &mut K,
     status: StatusCode,
@@ -91,7 +91,7 @@ fn code(status: StatusCode) -> &'static [u8]
     status.as_str().as_bytes()
 }
 
-/// The pieces of a reply in one lifetime.
+/// The pieces of a reply, in one lifetime.
 #[tactic(auto, unfolding(crate::specs::Replies::head_text))]
 fn reply_pieces<'x>(
     code: &'x [u8],
@@ -121,7 +121,7 @@ fn reply_pieces<'x>(
     ]
 }
 
-/// How many bytes the pieces have.
+/// The length of the pieces together.
 fn length_of(pieces: &[&[u8]]) -> u64
     requires { length (joined pieces.now) < 2 ^ 64 }
     ensures { result ≡ length (joined pieces.now) }
@@ -139,7 +139,7 @@ fn phrase(status: StatusCode) -> &'static [u8]
     ensures text { result.now ≡ phrase_of status }
     ensures short { length result.now ≤ 64 }
 {
-    // Read for its range alone, in which each phrase is short.
+    // Read for its range only, in which each phrase is short.
     let _code = status.as_u16();
     match status.canonical_reason() {
         Some(phrase) => phrase.as_bytes(),
@@ -159,7 +159,7 @@ fn field_pieces<'a>(fields: Fields<'a>) -> (&'a [u8], &'a [u8], &'a [u8])
     (fixed_lines(fields), b"", b"")
 }
 
-/// The header lines, where no name stands in them.
+/// The header lines that have no name in them.
 #[tactic(auto, unfolding(crate::specs::Replies::fields_text))]
 fn fixed_lines(fields: Fields<'_>) -> &'static [u8]
     ensures text { IsFixed fields.entry → result.now ≡ fields_text fields.entry }
@@ -176,7 +176,7 @@ fn fixed_lines(fields: Fields<'_>) -> &'static [u8]
     }
 }
 
-/// The header lines of a page: its type.
+/// The header line with the type of a page.
 #[tactic(auto, unfolding(crate::specs::Replies::fields_text))]
 fn page_lines(served: Served) -> &'static [u8]
     ensures { IsShortText 256 (fields_text (Fields.Page served)) result.now }
@@ -188,7 +188,7 @@ fn page_lines(served: Served) -> &'static [u8]
     }
 }
 
-/// The header lines of the reply to a method that the path has not.
+/// The header lines of the reply to a method that the path does not have.
 #[tactic(auto, unfolding(crate::specs::Replies::fields_text))]
 fn allow_lines(allowed: Allowed) -> &'static [u8]
     ensures { IsShortText 256 (fields_text (Fields.Allow allowed)) result.now }
@@ -200,7 +200,7 @@ fn allow_lines(allowed: Allowed) -> &'static [u8]
     }
 }
 
-/// The bytes of a name, which has at most 128 of them.
+/// The bytes of a name: at most 128.
 fn name_bytes(name: &NormalName) -> &[u8]
     ensures text { result.now ≡ name.now }
     ensures short { length name.now ≤ 128 }

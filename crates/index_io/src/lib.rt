@@ -1,4 +1,4 @@
-//! Bytes in and bytes out, with a count of what failed.
+//! Input and output of bytes, with a count of failures.
 #![tactic(auto)]
 
 mod sink;

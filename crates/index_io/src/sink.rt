@@ -1,4 +1,4 @@
-//! What takes bytes.
+//! Sinks of bytes.
 ghost use Rattle.std.specs.Prelude.{◌≡◌, ◌<◌, ◌^◌, ℕ, List, Option, length, is_ok, OnErr, OnOk};
 ghost use Rattle.std.specs.Io.KnownBytes.{Keeps};
 ghost use Rattle.index_io.specs.Bytes.{WritesAll, WritesFront, WritesUpTo, joined};
@@ -7,15 +7,15 @@ ghost use Rattle.index_io.specs.Counts.{next_count, HasFailed};
 use crate::source::Failed;
 use std::io::{ErrorKind, Write};
 
-/// What takes bytes, and counts the writes that failed or took no byte.
+/// A sink of bytes, which counts the writes that failed or took no byte.
 pub trait Sink {
-    /// The bytes that it has, where they are known.
+    /// The bytes that the sink has taken, if they are known.
     ghost contents: { Self → Option (List ℕ) };
 
     /// How many writes failed or took no byte.
     ghost failures: { Self → ℕ };
 
-    /// Takes a front of the bytes and answers its length, at least 1.
+    /// Takes a prefix of the bytes and returns its length, at least 1.
     fn take(&mut self, bytes: &[u8]) -> Result<usize, Failed>
         ensures front { WritesFront contents self.old self.new bytes.now result }
         ensures kept { OnErr result (Keeps (contents self.old) (contents self.new)) }
@@ -30,7 +30,7 @@ pub struct Output<W> {
 }
 
 impl<W> Output<W> {
-    /// What a writer takes of which no write failed yet.
+    /// The output to a writer, before any write has failed.
     pub fn new(writer: W) -> Output<W>
         ensures { result ≡ record { writer = writer; failures = 0 } }
     {
@@ -57,12 +57,12 @@ impl<W: Write> Sink for Output<W> {
     }
 }
 
-/// Writes a front of the bytes, again where that was interrupted.
+/// Writes a prefix of the bytes, and tries again after an interrupt.
 fn write_again<W: Write>(writer: &mut W, bytes: &[u8]) -> Result<usize, Failed>
     ensures front { WritesFront W.contents writer.old writer.new bytes.now result }
     ensures kept { OnErr result (Keeps (W.contents writer.old) (W.contents writer.new)) }
 {
-    // The bound is there because a proof needs an end: no run lives long enough to be interrupted as often.
+    // A proof needs a bound, and no run lives long enough to be interrupted as often.
     for _ in 0..u64::MAX {
         match writer.write(bytes) {
             Ok(0) => return Err(Failed),

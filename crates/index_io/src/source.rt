@@ -1,4 +1,4 @@
-//! What gives bytes.
+//! Sources of bytes.
 ghost use Rattle.std.specs.Prelude.{◌≡◌, ℕ, List, Option, is_ok, IfOk, OnErr};
 ghost use Rattle.std.specs.Io.{ReadsAtMost};
 ghost use Rattle.std.specs.Io.KnownBytes.{Keeps, ReadConsumes};
@@ -11,15 +11,15 @@ use std::io::{ErrorKind, Read};
 #[derive(Clone, Copy, Debug, PartialEq, Eq)]
 pub struct Failed;
 
-/// What gives bytes, and counts the reads that failed.
+/// A source of bytes, which counts the reads that failed.
 pub trait Source {
-    /// The bytes that are left, where they are known.
+    /// The bytes that are left, if they are known.
     ghost remaining: { Self → Option (List ℕ) };
 
     /// How many reads failed.
     ghost failures: { Self → ℕ };
 
-    /// Fills a front of the room and answers its length: 0 is the end of the input, or no room.
+    /// Fills a prefix of the room and returns its length: 0 is the end of the input, or no room.
     fn give(&mut self, room: &mut [u8]) -> Result<usize, Failed>
         ensures bound { ReadsAtMost result room.new }
         ensures bytes { ReadConsumes (remaining self.old) (remaining self.new) result room.new }
@@ -34,7 +34,7 @@ pub struct Input<R> {
 }
 
 impl<R> Input<R> {
-    /// The bytes of a reader of which no read failed yet.
+    /// The input from a reader, before any read has failed.
     pub fn new(reader: R) -> Input<R>
         ensures { result ≡ record { reader = reader; failures = 0 } }
     {
@@ -61,12 +61,12 @@ impl<R: Read> Source for Input<R> {
     }
 }
 
-/// Reads, again where that was interrupted.
+/// Reads, and tries again after an interrupt.
 fn read_again<R: Read>(reader: &mut R, room: &mut [u8]) -> Result<usize, Failed>
     ensures bound { ReadsAtMost result room.new }
     ensures bytes { ReadConsumes (R.remaining reader.old) (R.remaining reader.new) result room.new }
 {
-    // The bound is there because a proof needs an end: no run lives long enough to be interrupted as often.
+    // A proof needs a bound, and no run lives long enough to be interrupted as often.
     for _ in 0..u64::MAX {
         match reader.read(room) {
             Ok(count) => return Ok(count),
@@ -81,7 +81,7 @@ fn read_again<R: Read>(reader: &mut R, room: &mut [u8]) -> Result<usize, Failed>
 ///
 /// # Errors
 ///
-/// `Failed` where a read fails.
+/// `Failed` if a read fails.
 pub fn next_byte<S: Source>(source: &mut S) -> Result<Option<u8>, Failed>
     ensures byte { IfOk result (λ byte.
         TakesByte byte (S.remaining source.old) (S.remaining source.new)) }

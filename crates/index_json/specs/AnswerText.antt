@@ -25,7 +25,7 @@ use Rattle.index_rules.specs.declared.answer.Refusal.TheVariants.{TooEarly, Rece
 use Rattle.index_rules.specs.declared.answer.Refusal.TheVariants.{HomePageActive}
 use Rattle.index_rules.specs.Refusals.{number_of}
 
--- the name that stands in the text of an answer
+-- the name of a refusal in the text of an answer
 abbrev pub refusal_name : Refusal → List ℕ
 refusal_name BadMoment = codes "BadMoment"
 refusal_name BadToken = codes "BadToken"
@@ -63,16 +63,16 @@ refusal_name TooEarly = codes "TooEarly"
 refusal_name RecentRelease = codes "RecentRelease"
 refusal_name HomePageActive = codes "HomePageActive"
 
--- each fault by its name
+-- the name of a fault in the text of an answer
 abbrev pub fault_name : Fault → List ℕ
 fault_name OutOfMemory = codes "OutOfMemory"
 fault_name Store = codes "Store"
 
--- an answer of this kind, with more members
+-- an answer of this kind, with further members
 abbrev pub kind_value : List ℕ → Members → Data
 kind_value kind more = object (member (codes "answer") (string kind) more)
 
--- the member that names a refusal or a fault
+-- the member with the name of a refusal or a fault
 abbrev pub name_member : List ℕ → Members
 name_member name = member (codes "name") (string name) no_members
 
@@ -85,14 +85,14 @@ answer_value (answer.Refused refusal) = kind_value (codes "refused")
     (name_member (refusal_name refusal)))
 answer_value (answer.Fault fault) = kind_value (codes "fault") (name_member (fault_name fault))
 
--- the text of an answer: the compact print of its object
+-- the text of an answer: its object, printed compactly
 unfoldable pub answer_text_of : Answer → List ℕ
 answer_text_of answer = compact_text (answer_value answer)
 
--- the answer to a message that is none, by the name of its fault
+-- the answer to a malformed message, with the name of its fault
 unfoldable pub message_text_of : List ℕ → List ℕ
 message_text_of name = compact_text (kind_value (codes "message") (name_member name))
 
--- the answer to what asks nothing
+-- the answer to a malformed line or body
 unfoldable pub bad_body_text : List ℕ
 bad_body_text = message_text_of (codes "BadBody")

@@ -1,4 +1,4 @@
--- The JSON value that bytes are, and what its members say.
+-- The JSON value of some bytes, and its members.
 use Rattle.std.specs.Prelude.{ℕ, Bool, List, if◌then◌else◌, Option, None, option_map}
 use Rattle.std.specs.Prelude.{option_and_then, unwrap_or}
 use Rattle.std.specs.Str.{is_utf8}
@@ -9,15 +9,15 @@ use Rattle.serde_json.specs.Events.{members_len}
 use Rattle.serde_json.specs.Read.{read}
 use Rattle.serde_json.specs.Find.{get, as_object, as_str, as_bool, as_number, as_u64}
 
--- the value of a JSON text, which has to be UTF-8 (RFC 8259, sections 2 and 8.1)
+-- the value of a JSON text, which must be UTF-8 (RFC 8259, sections 2 and 8.1)
 abbrev pub json_of : List ℕ → Option Data
 json_of bytes = if is_utf8 bytes then read bytes else None
 
--- how many keys an object has, each of which stands once; no other value has one
+-- the number of an object's keys, which all differ; 0 for any other value
 abbrev pub key_count : Data → ℕ
 key_count value = unwrap_or (option_map members_len (as_object value)) 0
 
--- the text at a key, as its UTF-8 bytes
+-- the text at a key, as UTF-8
 abbrev pub text_at : List ℕ → Data → Option (List ℕ)
 text_at key value = option_and_then as_str (get key value)
 

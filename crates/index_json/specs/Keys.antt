@@ -1,4 +1,4 @@
--- Requests and lines as JSON objects: their keys, and what stands at each.
+-- The keys of requests and lines as JSON objects, and the value at each.
 use Rattle.std.specs.Prelude.{◌≡◌, ◌↔◌, ℕ, ◌≤◌, Bool, List, [], ◌∷◌, map, Option, Some, bytes_eq}
 use Rattle.std.specs.Prelude.{codes, ⊤}
 use Rattle.std.specs.Set.{distinct_count}
@@ -18,34 +18,34 @@ use Rattle.index_json.specs.StandingText.{kind_text}
 use Rattle.index_json.specs.declared.line.Line.{Line}
 use Rattle.index_json.specs.declared.line.Line.TheVariants as line
 
--- what stands at a key: a text, true or false, a whole number of 64 bits, or bytes in hex digits
+-- the value at a key: a text, true or false, a whole number of 64 bits, or bytes in hex digits
 pub data MemberValue : Type 0 where
   text : List ℕ → MemberValue
   flag : Bool → MemberValue
   number : ℕ → MemberValue
   hex : List ℕ → MemberValue
 
--- a key, and what stands at it
+-- a key and its value
 abbrev pub Member : Type 0
 Member = List ℕ × MemberValue
 
 -- ---- the rows
 
--- the word of a means
+-- the word for a means
 abbrev pub means_text : Means → List ℕ
 means_text Profile = codes "profile"
 means_text Author = codes "author"
 means_text Pages = codes "pages"
 
--- the key of a row's word
+-- the member `do`, with the word of a row
 abbrev pub does : List ℕ → Member
 does word = (codes "do", text word)
 
--- the key of a project's name
+-- the member with the name of a project
 abbrev pub named : List ℕ → Member
 named name = (codes "name", text name)
 
--- the keys of a request with what stands at them
+-- the members of a request
 abbrev pub members_of : Request → List Member
 members_of (AddUser user office token) =
     does (codes "add_user") ∷ (codes "user", text user) ∷ (codes "office", flag office)
@@ -83,18 +83,18 @@ members_of (Transfer name quiet) =
 members_of (CloseCase name) = does (codes "close_case") ∷ named name ∷ []
 members_of (AnswerCase name) = does (codes "answer_case") ∷ named name ∷ []
 
--- the keys of a call, by the bearer of this token
+-- the members of a call by the bearer of this token
 abbrev pub members_at : ℕ → List ℕ → Request → List Member
 members_at at token request =
     (codes "at", number at) ∷ (codes "token", text token) ∷ members_of request
 
--- the keys of a question for a standing
+-- the members of a line that asks for a standing
 abbrev pub members_of_standing : List ℕ → List Member
 members_of_standing name = does (codes "standing") ∷ named name ∷ []
 
 -- ---- objects
 
--- this stands at the key of an object
+-- the object has this value at a key
 abbrev pub Says : Data → List ℕ → MemberValue → Type 0
 Says value key (text bytes) = text_at key value ≡ Some bytes
 Says value key (flag is) = flag_at key value ≡ Some is
@@ -102,41 +102,40 @@ Says value key (number n) = number_at key value ≡ Some n
 Says value key (hex bytes) =
     (digits : List ℕ) × (text_at key value ≡ Some digits) × (hex_bytes digits ≡ Some bytes)
 
--- each of these stands at its key
+-- the object has each of these members
 abbrev pub SaysEach : Data → List Member → Type 0
 SaysEach value [] = ⊤
 SaysEach value ((key, field) ∷ more) = Says value key field × SaysEach value more
 
--- how many keys these are; one that is listed twice is one
+-- the number of different keys
 abbrev pub distinct_key_count : List Member → ℕ
 distinct_key_count keys = distinct_count bytes_eq (map (λ one. one.0) keys)
 
--- an object with just these keys, in any order: each is there, and no more are than these
+-- an object with exactly these keys, in any order
 pub record HasKeys (value : Data) (keys : List Member) : Type 0 where
   pub each : SaysEach value keys
   pub no_more : key_count value ≤ distinct_key_count keys
 
--- an object with the keys of a line: of a call, of whose token the digest is kept, or
--- of a question for a standing
+-- an object with the keys of a line: of a call, whose token is kept as its digest, or of a standing
 abbrev pub IsLine : Data → Line → Type 0
 IsLine value (line.Call call) =
     (token : List ℕ) × (call.token ≡ sha256 token)
     × HasKeys value (members_at call.at token call.request)
 IsLine value (line.Standing name) = HasKeys value (members_of_standing name)
 
--- ---- what bytes ask
+-- ---- what bytes ask for
 
--- bytes of JSON whose value is one of these
+-- JSON whose value passes a test
 abbrev pub IsJson : List ℕ → (Data → Type 0) → Type 0
 IsJson bytes IsOne = (value : Data) × (json_of bytes ≡ Some value) × IsOne value
 
--- the request whose keys they have, or nothing where they have those of no request
+-- the request that has the keys of the bytes, or nothing if none has
 abbrev pub SaysRequest : List ℕ → Option Request → Type 0
 SaysRequest bytes read =
     (request : Request) → (read ≡ Some request)
     ↔ IsJson bytes (λ value. HasKeys value (members_of request))
 
--- the line whose keys they have, or nothing where they have those of no line
+-- the line that has the keys of the bytes, or nothing if none has
 abbrev pub SaysLine : List ℕ → Option Line → Type 0
 SaysLine bytes read =
     (asked : Line) → (read ≡ Some asked) ↔ IsJson bytes (λ value. IsLine value asked)

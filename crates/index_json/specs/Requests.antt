@@ -1,4 +1,4 @@
--- The rows of requests: a key `do` with the row's name, and the row's own keys.
+-- The rows of requests: a key `do` with the row's word, and the row's own keys.
 use Rattle.std.specs.Prelude.{ℕ, List, if◌then◌else◌, Option, Some, None, bytes_eq, codes}
 use Rattle.std.specs.Prelude.{option_and_then}
 use Rattle.index_retention.specs.declared.attempts.CaseKind.{CaseKind}
@@ -18,7 +18,7 @@ use Rattle.index_json.specs.Reading.{texts}
 
 -- ---- rows on users
 
--- a row for each request: its keys, as docs/reference/FORMATS.md lists them
+-- the row of each request, with the keys that docs/reference/FORMATS.md lists
 abbrev pub add_user_row : Reading Request
 add_user_row = do
   office ← flag (codes "office")
@@ -32,13 +32,13 @@ set_token_row = do
 
 -- ---- rows on names
 
--- a row of a name alone
+-- the row of a request on a name
 abbrev pub name_request : (List ℕ → Request) → Reading Request
 name_request request = do
   name ← text (codes "name")
   always (request name)
 
--- a row of a name and a user
+-- the row of a request on a name and a user
 abbrev pub owner_request : (List ℕ → List ℕ → Request) → Reading Request
 owner_request request = do
   found ← texts (codes "name") (codes "user")
@@ -52,7 +52,7 @@ set_quota_row = do
 
 -- ---- rows on files
 
--- the bytes at a key, in hex digits
+-- reads the bytes at a key, in hex digits
 abbrev pub body : Reading (List ℕ)
 body = do
   digits ← text (codes "hex")
@@ -88,14 +88,14 @@ unyank_row = do
 
 -- ---- rows on retention cases
 
--- the kind of a case, by its word
+-- the kind of a case with this word
 abbrev pub case_kind_of : List ℕ → Option CaseKind
 case_kind_of word =
     if bytes_eq word (codes "continue") then Some Continue
     else if bytes_eq word (codes "reuse") then Some Reuse
     else None
 
--- the means of an attempt, by its word
+-- the means of an attempt with this word
 abbrev pub means_of : List ℕ → Option Means
 means_of word =
     if bytes_eq word (codes "profile") then Some Profile
@@ -103,13 +103,13 @@ means_of word =
     else if bytes_eq word (codes "pages") then Some Pages
     else None
 
--- the kind of a case at its key
+-- reads the kind of a case
 abbrev pub case_kind : Reading CaseKind
 case_kind = do
   word ← text (codes "kind")
   maybe (case_kind_of word)
 
--- the means of an attempt at its key
+-- reads the means of an attempt
 abbrev pub attempt_means : Reading Means
 attempt_means = do
   word ← text (codes "means")
@@ -135,7 +135,7 @@ transfer_row = do
   name ← text (codes "name")
   always (Transfer name quiet)
 
--- ---- the row that a word names
+-- ---- the row of a word
 
 -- the row of a request on cases, by the word at `do`
 abbrev pub request_on_case : List ℕ → Reading Request
@@ -147,7 +147,7 @@ request_on_case word = λ object.
     else if bytes_eq word (codes "answer_case") then name_request AnswerCase object
     else None
 
--- the same of requests on files and releases
+-- the row of a request on files or releases, or as in `request_on_case`, by the word at `do`
 abbrev pub request_on_file : List ℕ → Reading Request
 request_on_file word = λ object.
     if bytes_eq word (codes "upload") then upload_row object
@@ -157,7 +157,7 @@ request_on_file word = λ object.
     else if bytes_eq word (codes "unyank") then unyank_row object
     else request_on_case word object
 
--- the same of requests on owners
+-- the row of a request on owners, or as in `request_on_file`, by the word at `do`
 abbrev pub request_on_owner : List ℕ → Reading Request
 request_on_owner word = λ object.
     if bytes_eq word (codes "claim") then name_request Claim object
@@ -166,7 +166,7 @@ request_on_owner word = λ object.
     else if bytes_eq word (codes "remove_owner") then owner_request RemoveOwner object
     else request_on_file word object
 
--- the same of requests on names
+-- the row of a request on names, or as in `request_on_owner`, by the word at `do`
 abbrev pub request_on_name : List ℕ → Reading Request
 request_on_name word = λ object.
     if bytes_eq word (codes "set_quota") then set_quota_row object
@@ -174,19 +174,19 @@ request_on_name word = λ object.
     else if bytes_eq word (codes "allow") then name_request Allow object
     else request_on_owner word object
 
--- the same of requests on users
+-- the row of a request on users, or as in `request_on_name`, by the word at `do`
 abbrev pub request_on_user : List ℕ → Reading Request
 request_on_user word = λ object.
     if bytes_eq word (codes "add_user") then add_user_row object
     else if bytes_eq word (codes "set_token") then set_token_row object
     else request_on_name word object
 
--- the request that a word at `do` says, with the keys of its row
+-- reads the request of the word at `do`, with the keys of its row
 abbrev pub request_row : Reading Request
 request_row = do
   word ← text (codes "do")
   request_on_user word
 
--- the request that bytes of JSON are, with the keys of its row alone
+-- the request that a JSON text describes, with only the keys of its row
 unfoldable pub request_of : List ℕ → Option Request
 request_of bytes = option_and_then (read_whole request_row) (json_of bytes)

@@ -31,12 +31,12 @@ unheld_value name state = object
     (member (codes "state") (string state)
     no_members))
 
--- a moment, or that there is none
+-- a moment, or `null`
 abbrev pub moment_value : Option ℕ → Data
 moment_value None = null
 moment_value (Some at) = whole at
 
--- the word of a kind of case
+-- the word for a kind of case
 abbrev pub kind_text : CaseKind → List ℕ
 kind_text Continue = codes "continue"
 kind_text Reuse = codes "reuse"
@@ -58,7 +58,7 @@ open_case_value opened = object
     (member (codes "work") (string opened.work)
     no_members))))))))))))
 
--- the case of a name, or that there is none
+-- the case of a name, or `null`
 abbrev pub case_value : Option CaseRecord → Data
 case_value None = null
 case_value (Some opened) = open_case_value opened
@@ -81,19 +81,19 @@ standing_value (standing.Free name) = unheld_value name (codes "free")
 standing_value (standing.Prohibited name) = unheld_value name (codes "prohibited")
 standing_value (standing.Held held) = held_value held
 
--- the text of a standing: the compact print of its object
+-- the text of a standing: its object, printed compactly
 unfoldable pub standing_text_of : Standing → List ℕ
 standing_text_of standing = compact_text (standing_value standing)
 
--- ---- the same by what is put into an object, whatever the order
+-- ---- the members that are put into an object, in any order
 
--- where nothing failed, this was put into the members of an object
+-- the members were put into an object, unless memory ran out
 abbrev pub PutsMembers : {A E : Type 0} → BTreeMap (String Global) Value
     → BTreeMap (String Global) Value → Result A E → (Members → Members) → Type 0
 PutsMembers old new result change =
     OnOk result (members_view new.entries ≡ change (members_view old.entries))
 
--- the words below put members before members, as the code does
+-- puts members before other members, as the code does
 abbrev pub name_put : List ℕ → List ℕ → Members → Members
 name_put name state members =
     put (codes "state") (string state)

@@ -73,7 +73,7 @@ fn refusal_text(refusal: Refusal) -> &'static str
     }
 }
 
-/// The answer to what asks nothing. It takes no memory.
+/// The answer to a malformed line or body. It takes no memory.
 #[tactic(auto, unfolding(crate::proofs::OnLiterals::answers_on_literals))]
 pub fn bad_body() -> &'static str
     ensures { result.now ≡ bad_body_text }

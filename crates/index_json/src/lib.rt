@@ -1,4 +1,4 @@
-//! Requests, answers and standings as JSON texts.
+//! Requests, answers and standings as JSON.
 #![tactic(auto)]
 
 mod answer;

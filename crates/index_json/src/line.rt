@@ -1,11 +1,11 @@
-//! Lines of input, and requests alone.
+//! Parses lines of input, and request bodies.
 ghost use Rattle.std.specs.Prelude.{◌≡◌, IfOk};
 ghost use Rattle.serde_json.specs.View.{view};
 ghost use Rattle.index_rules.specs.Memory.{OkOrNoMemory};
 ghost use Rattle.index_json.specs.Json.{json_of};
 ghost use Rattle.index_json.specs.Keys.{SaysLine, SaysRequest};
 ghost use Rattle.index_json.specs.Line.{call_row, line_of, line_row, row_of_word};
-ghost use Rattle.index_json.specs.Reading.{Reads, ReadsAs, ReadsTo, read_whole};
+ghost use Rattle.index_json.specs.Reading.{ObjectIsReadTo, ResultIsRead, ResultIsReadAs, read_whole};
 ghost use Rattle.index_json.specs.Requests.{request_of, request_row};
 
 use crate::object_reader::{ObjectReader, Unread};
@@ -15,24 +15,24 @@ use index_rules::{Bytes, Call, Fault, Request};
 use serde_json::Value;
 use std::alloc::Global;
 
-/// What a line of input asks.
+/// What a line of input asks for.
 #[derive(Drop)]
 pub enum Line {
     /// A request at a moment, by the bearer of a token.
     Call(Call),
-    /// The standing of the name that these bytes are.
+    /// The standing of the name with these bytes.
     Standing(Bytes),
 }
 
-/// What a line asks, without its line feed: a JSON object (RFC 8259) of one of the rows in `FORMATS.md`. `None` is
-/// a line that asks nothing.
+/// Parses a line without its line feed: a JSON object (RFC 8259) of one of the rows in `FORMATS.md`. Returns `None` if
+/// the line is malformed.
 ///
 /// # Errors
 ///
 /// `OutOfMemory`.
 #[tactic(auto, unfolding(crate::specs::Line::line_of))]
 pub fn read_line(alloc: Global, line: &[u8]) -> Result<Option<Line>, Fault>
-    // Just the line whose keys the object has, or nothing where it has those of no line.
+    // Exactly the line that has the keys of the object, or nothing if none has.
     ensures keys { IfOk result (SaysLine line.now) }
     ensures line { OkOrNoMemory result (λ read. read ≡ line_of line.now) }
 {
@@ -43,14 +43,14 @@ pub fn read_line(alloc: Global, line: &[u8]) -> Result<Option<Line>, Fault>
     }
 }
 
-/// The request that bytes of JSON are, with the keys of its row alone. `None` where they are none.
+/// Parses a request, with only the keys of its row. Returns `None` if it is malformed.
 ///
 /// # Errors
 ///
 /// `OutOfMemory`.
 #[tactic(auto, unfolding(crate::specs::Requests::request_of))]
 pub fn read_request(alloc: Global, bytes: &[u8]) -> Result<Option<Request>, Fault>
-    // Just the request whose keys the object has, or nothing where it has those of no request.
+    // Exactly the request that has the keys of the object, or nothing if none has.
     ensures keys { IfOk result (SaysRequest bytes.now) }
     ensures request { OkOrNoMemory result (λ read. read ≡ request_of bytes.now) }
 {
@@ -61,27 +61,27 @@ pub fn read_request(alloc: Global, bytes: &[u8]) -> Result<Option<Request>, Faul
     }
 }
 
-/// Reads a line, or says why it cannot be read.
+/// ResultIsRead a line, or returns why it can't be read.
 #[tactic(auto, unfolding(crate::specs::Line::line_of))]
 fn line_read(alloc: Global, line: &[u8]) -> Result<Line, Unread>
-    ensures { Reads result (line_of line.now) }
+    ensures { ResultIsRead result (line_of line.now) }
 {
     let value = parse(alloc, line)?;
     line_in(alloc, &value)
 }
 
-/// Reads a request, or says why it cannot be read.
+/// ResultIsRead a request, or returns why it can't be read.
 #[tactic(auto, unfolding(crate::specs::Requests::request_of))]
 fn request_read(alloc: Global, bytes: &[u8]) -> Result<Request, Unread>
-    ensures { Reads result (request_of bytes.now) }
+    ensures { ResultIsRead result (request_of bytes.now) }
 {
     let value = parse(alloc, bytes)?;
     request_in(alloc, &value)
 }
 
-/// The value that bytes of JSON are. Bytes that are none are of no row.
+/// Parses a JSON value. Malformed bytes are of no row.
 fn parse(alloc: Global, bytes: &[u8]) -> Result<Value, Unread>
-    ensures { ReadsAs view result (json_of bytes.now) }
+    ensures { ResultIsReadAs view result (json_of bytes.now) }
 {
     match Value::from_slice(alloc, bytes) {
         Ok(value) => Ok(value),
@@ -90,9 +90,9 @@ fn parse(alloc: Global, bytes: &[u8]) -> Result<Value, Unread>
     }
 }
 
-/// The line that an object is, if it has no other key.
+/// The line of an object, if it has no further key.
 fn line_in(alloc: Global, value: &Value) -> Result<Line, Unread>
-    ensures { Reads result (read_whole line_row (view value.now)) }
+    ensures { ResultIsRead result (read_whole line_row (view value.now)) }
 {
     let mut object = ObjectReader::of(value);
     let word = object.text("do")?;
@@ -100,9 +100,9 @@ fn line_in(alloc: Global, value: &Value) -> Result<Line, Unread>
     object.finish(line)
 }
 
-/// The request that an object is, if it has no other key.
+/// The request of an object, if it has no further key.
 fn request_in(alloc: Global, value: &Value) -> Result<Request, Unread>
-    ensures { Reads result (read_whole request_row (view value.now)) }
+    ensures { ResultIsRead result (read_whole request_row (view value.now)) }
 {
     let mut object = ObjectReader::of(value);
     let word = object.text("do")?;
@@ -110,9 +110,9 @@ fn request_in(alloc: Global, value: &Value) -> Result<Request, Unread>
     object.finish(request)
 }
 
-/// What an object asks whose `do` is this word.
+/// What an object asks for, whose `do` is this word.
 fn line_named(alloc: Global, word: &str, object: &mut ObjectReader<'_>) -> Result<Line, Unread>
-    ensures { ReadsTo object.old object.new result (row_of_word word.now) }
+    ensures { ObjectIsReadTo object.old object.new result (row_of_word word.now) }
 {
     match word {
         "standing" => object.bytes(alloc, "name").map(Line::Standing),
@@ -120,9 +120,9 @@ fn line_named(alloc: Global, word: &str, object: &mut ObjectReader<'_>) -> Resul
     }
 }
 
-/// The call of an object whose `do` is this word. Of its token the digest is kept.
+/// The call of an object, whose `do` is this word. Its token is kept as its digest.
 fn call_in(alloc: Global, word: &str, object: &mut ObjectReader<'_>) -> Result<Line, Unread>
-    ensures { ReadsTo object.old object.new result (call_row word.now) }
+    ensures { ObjectIsReadTo object.old object.new result (call_row word.now) }
 {
     let at = object.number("at")?;
     let token = object.text("token")?;

@@ -1,10 +1,10 @@
-//! The keys of a JSON object.
+//! ResultIsRead the keys of a JSON object.
 ghost use Rattle.std.specs.Prelude.{◌≡◌, option_map};
 ghost use Rattle.serde_json.specs.Find.{get};
 ghost use Rattle.serde_json.specs.View.{view};
 ghost use Rattle.index_json.specs.Json.{key_count};
 ghost use Rattle.index_json.specs.Object.{object_of, whole_object, with_key_read};
-ghost use Rattle.index_json.specs.Reading.{FindsAs, Reads, ReadsTo, flag as flag_lem, if_whole, number as number_lem, text, texts};
+ghost use Rattle.index_json.specs.Reading.{FindsAs, ObjectIsReadTo, ResultIsRead, flag as flag_lem, if_whole, number as number_lem, text, texts};
 
 use index_rules::Bytes;
 use serde_json::Value;
@@ -13,7 +13,7 @@ use std::alloc::{AllocError, Global};
 /// Why nothing was read.
 #[derive(Clone, Copy, Debug, PartialEq, Eq)]
 pub enum Unread {
-    /// It has not the keys of a request.
+    /// The object does not have the keys of a request.
     NotARequest,
     OutOfMemory,
 }
@@ -28,7 +28,7 @@ impl From<AllocError> for Unread {
     }
 }
 
-/// Reads the keys of a JSON object, and counts those that are left.
+/// ResultIsRead the keys of a JSON object, and counts those that are left.
 #[derive(Drop)]
 pub struct ObjectReader<'v> {
     value: &'v Value,
@@ -36,7 +36,7 @@ pub struct ObjectReader<'v> {
 }
 
 impl<'v> ObjectReader<'v> {
-    /// A reader of this value, of which nothing was read.
+    /// A reader of this value.
     pub fn of(value: &'v Value) -> ObjectReader<'v>
         ensures { object_of result ≡ whole_object (view value.now) }
     {
@@ -78,7 +78,7 @@ impl<'v> ObjectReader<'v> {
 
     /// A copy of the text at a key.
     pub fn bytes(&mut self, alloc: Global, key: &str) -> Result<Bytes, Unread>
-        ensures { ReadsTo self.old self.new result (text key.now) }
+        ensures { ObjectIsReadTo self.old self.new result (text key.now) }
     {
         let text = self.text(key)?;
         Ok(Bytes::copy_of(alloc, text.as_bytes())?)
@@ -91,14 +91,14 @@ impl<'v> ObjectReader<'v> {
         first: &str,
         second: &str,
     ) -> Result<(Bytes, Bytes), Unread>
-        ensures { ReadsTo self.old self.new result (texts first.now second.now) }
+        ensures { ObjectIsReadTo self.old self.new result (texts first.now second.now) }
     {
         let first = self.bytes(alloc, first)?;
         let second = self.bytes(alloc, second)?;
         Ok((first, second))
     }
 
-    /// The value at a key, which is read by that.
+    /// The value at a key, which is counted as read.
     fn value_at(&mut self, key: &str) -> Option<&'v Value>
         ensures value { option_map (λ found. view found.now) result
             ≡ get key.now (view self.old.value.now) }
@@ -108,9 +108,9 @@ impl<'v> ObjectReader<'v> {
         self.value.get(key)
     }
 
-    /// What was read of it, where each of its keys was.
+    /// Returns what was read, if no key of the object is left.
     pub fn finish<T: Drop>(&self, read: T) -> Result<T, Unread>
-        ensures { Reads result (if_whole (read, object_of self.now)) }
+        ensures { ResultIsRead result (if_whole (read, object_of self.now)) }
     {
         if self.left == 0 {
             return Ok(read);
@@ -119,7 +119,7 @@ impl<'v> ObjectReader<'v> {
     }
 }
 
-/// How many keys an object has. Any other value has none.
+/// The number of an object's keys; 0 for any other value.
 fn count(value: &Value) -> usize
     ensures { result ≡ key_count (view value.now) }
 {

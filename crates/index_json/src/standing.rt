@@ -1,7 +1,7 @@
 //! The text of a standing.
 //!
-//! The members of an object are put into a map by functions that own nothing, and an object is made of it
-//! at one place: so no exit has a map to drop.
+//! Functions that own nothing put the members of an object into a map, and one place makes the object of it: so no exit
+//! has a map to drop.
 ghost use Rattle.std.specs.Prelude.{◌≡◌, IfOk, Ok, string_bytes};
 ghost use Rattle.serde_json.specs.Data.{object, put as put_lem, string};
 ghost use Rattle.serde_json.specs.View.{members_view, view};
@@ -39,7 +39,7 @@ fn standing_value(alloc: Global, standing: &Standing) -> Result<Value, AllocErro
     object_of(members, done)
 }
 
-/// The object of these members, where putting them was done.
+/// The object of these members, if all were put.
 fn object_of(members: Map<String, Value>, done: Result<(), AllocError>) -> Result<Value, AllocError>
     ensures { IfOk result (λ value. (done ≡ Ok tt)
         × (view value ≡ object (members_view members.entries))) }
@@ -100,7 +100,7 @@ fn put_held(
     put_name(members, alloc, &held.name, "held")
 }
 
-/// Puts the charge and the quota of a held name, and how it is shown.
+/// Puts the charge, the quota and the display name of a held name.
 fn put_project(
     members: &mut Map<String, Value>,
     alloc: Global,
@@ -168,7 +168,7 @@ fn put_case(
     put_case_texts(members, alloc, case)
 }
 
-/// Which means had an attempt.
+/// Puts the means that had an attempt.
 fn put_means(
     members: &mut Map<String, Value>,
     alloc: Global,
@@ -181,7 +181,7 @@ fn put_means(
     put(members, alloc, "profile", Value::Bool(state.profile()))
 }
 
-/// How many attempts a case has, and its moments.
+/// Puts the number of attempts of a case, and its moments.
 fn put_times(
     members: &mut Map<String, Value>,
     alloc: Global,
@@ -200,7 +200,7 @@ fn put_times(
     put(members, alloc, "sent", Value::from(case.state.sent()))
 }
 
-/// Puts the kind of a case, its candidate and his three texts.
+/// Puts the kind of a case, the candidate and the case's three texts.
 fn put_case_texts(
     members: &mut Map<String, Value>,
     alloc: Global,

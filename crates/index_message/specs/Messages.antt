@@ -1,7 +1,7 @@
--- The message that a connection begins with.
-use Rattle.std.specs.Prelude.{◌≡◌, ◌⊎◌, ℕ, ◌<◌, ◌≤◌, Bool, true, false, List, ◌++◌, drop, take}
-use Rattle.std.specs.Prelude.{if◌then◌else◌, nat_eq, nat_le, bytes_eq, codes, Option, Some, None}
-use Rattle.std.specs.Prelude.{length, ◌+◌, Result, Ok, Err, IfOk}
+-- The message at the front of a connection's input.
+use Rattle.std.specs.Prelude.{Bool, List, None, Option, Some, bytes_eq, codes, drop, false}
+use Rattle.std.specs.Prelude.{Err, IfOk, Ok, Result, if◌then◌else◌, length, nat_eq, nat_le, take}
+use Rattle.std.specs.Prelude.{true, ℕ, ◌++◌, ◌+◌, ◌<◌, ◌≡◌, ◌≤◌, ◌⊎◌}
 use Rattle.std.specs.List.{starts_with}
 use Rattle.std.specs.Global.{Vec}
 use Rattle.std.specs.Io.KnownBytes.{Consumes, IsAtEnd}
@@ -14,7 +14,7 @@ use Rattle.index_rules.specs.Maps.{Bytes}
 use Rattle.index_message.specs.Heads.{AwaitsHead, HasHead, HasNoHead, IsHeadAt, longest_head}
 use Rattle.index_message.specs.Fields.{Field, fields_of}
 use Rattle.index_message.specs.Lengths.{body_length, longest_upload}
-use Rattle.index_message.specs.Reads.{GivesBytes, ReadsWithin, SourceStep, and_left}
+use Rattle.index_message.specs.Reads.{GivesBytes, SourceReadsWithin, SourceStep, and_left}
 use Rattle.index_message.specs.Requests.{HeadParts, HttpRequest}
 use Rattle.index_message.specs.Resources.{allowed_of, allows, has_route, method_of, resource_of}
 use Rattle.index_message.specs.declared.fault.MessageFault.{MessageFault}
@@ -28,16 +28,16 @@ use Rattle.index_message.specs.declared.message.Message.TheVariants.{Faulty, Who
 use Rattle.index_message.specs.declared.resource.Method.{Method}
 use Rattle.index_message.specs.declared.resource.Resource.{Resource}
 
--- a resource and a method that it has
+-- a resource and one of its methods
 abbrev pub Target : Type 0
 Target = Resource × Method
 
--- a resource with a method, or why it has none
+-- a resource with a method, or why there is none
 abbrev pub to_resource : Resource → Result Method MessageFault → Result Target MessageFault
 to_resource resource (Err fault) = Err fault
 to_resource resource (Ok method) = Ok (resource, method)
 
--- a resource with the method of this name, where it has that
+-- a resource with the method of this name, if it has that
 abbrev pub with_method : Resource → Option Method → Result Target MessageFault
 with_method resource None = Err (BadMethod (allowed_of resource))
 with_method resource (Some method) =
@@ -45,7 +45,7 @@ with_method resource (Some method) =
     then Ok (resource, method)
     else Err (BadMethod (allowed_of resource))
 
--- what a resource and the name of a method are together
+-- the target of a resource and the name of a method
 abbrev pub target_by : Bytes → Option Resource → Result Target MessageFault
 target_by name None = Err NoRoute
 target_by name (Some resource) = with_method resource (method_of name)
@@ -55,17 +55,16 @@ abbrev pub with_length : Target → Result ℕ MessageFault → Result Asked Mes
 with_length target (Err fault) = Err fault
 with_length target (Ok n) = Ok (record { resource = target.0; method = target.1; length = n })
 
--- the same, with the length that the fields say
+-- a target with the length of its body, as the fields give it
 abbrev pub with_fields : List Field → Result Target MessageFault → Result Asked MessageFault
 with_fields fields (Err fault) = Err fault
 with_fields fields (Ok target) = with_length target (body_length target.1 fields)
 
--- what the name of a method, a target and fields ask for together: the first fault in this order,
--- or a request
+-- what the name of a method, a target and fields ask for, or their first fault in this order
 abbrev pub asked_by_head : Bytes → Bytes → List Field → Result Asked MessageFault
 asked_by_head name target fields = with_fields fields (target_by name (resource_of target))
 
--- what a head as it came asks for
+-- what the parts of a head ask for
 abbrev pub asked_in : HeadParts → Result Asked MessageFault
 asked_in head = asked_by_head head.method head.target head.fields
 
@@ -77,12 +76,12 @@ asked_of head = asked_by_head head.method head.target (fields_of head)
 abbrev pub is_head_name : Bytes → Bool
 is_head_name name = bytes_eq name (codes "HEAD")
 
--- the head of a request, by what it asks for and its fields
+-- the head of a request, from what it asks for and its fields
 abbrev pub request_asked : Asked → List Field → HttpRequest
 request_asked asked fields =
     record { method = asked.method; resource = asked.resource; fields = fields }
 
--- so it has none where these bytes begin with the method `HEAD`, whatever follows them
+-- the bytes begin with the method `HEAD`, whatever follows it
 abbrev pub begins_with_head : Bytes → Bool
 begins_with_head bytes = starts_with nat_eq bytes (codes "HEAD ")
 
@@ -90,14 +89,14 @@ begins_with_head bytes = starts_with nat_eq bytes (codes "HEAD ")
 abbrev pub whole_of : Asked → List Field → Bytes → Message
 whole_of asked fields body = Whole (request_asked asked fields) body
 
--- the message that a head and the bytes behind it are, by what the head asks for
+-- the message of a head and the bytes behind it, from what the head asks for
 abbrev pub message_by : RequestHead → Bytes → Result Asked MessageFault → Message
 message_by head rest (Err fault) = Faulty fault (is_head_name head.method)
 message_by head rest (Ok asked) =
     if nat_le asked.length (length rest) then whole_of asked (fields_of head)
     (take asked.length rest) else Faulty ShortBody (is_head_name head.method)
 
--- the message that a head and the bytes behind it are
+-- the message of a head and the bytes behind it
 abbrev pub message_of : RequestHead → Bytes → Message
 message_of head rest = message_by head rest (asked_of head)
 
@@ -105,78 +104,80 @@ message_of head rest = message_by head rest (asked_of head)
 abbrev pub longest_message : ℕ
 longest_message = longest_head + longest_upload
 
--- the message that an input begins with; bytes behind it are none of it
+-- The message at the front of an input. Bytes behind it do not matter.
 abbrev pub IsMessage : Bytes → Message → Type 0
 IsMessage input message =
     (HasNoHead input × (message ≡ Faulty BadHead (begins_with_head input)))
     ⊎ ((head : RequestHead) × (rest : Bytes) × HasHead input head rest
     × (message ≡ message_of head rest))
 
--- a message with a fault
+-- the message has a fault
 abbrev pub is_faulty : Message → Bool
 is_faulty (Faulty fault is_head) = true
 is_faulty (Whole request body) = false
 
--- the message of the bytes that are left, where they are known
+-- the message at the front of the bytes that are left, if they are known
 abbrev pub BeginsWith : Option Bytes → Message → Type 0
 BeginsWith left message = (input : Bytes) × IsInput left input × IsMessage input message
 
--- a head asks for a body of which these bytes are a part
+-- the head asks for a body, and the bytes are only a part of it
 abbrev pub AwaitsBody : RequestHead → Bytes → Type 0
 AwaitsBody head front = (asked : Asked) × (asked_of head ≡ Ok asked) × (length front < asked.length)
 
--- these bytes are no message yet: their head may come, or it has come and awaits its body
+-- the bytes are not a whole message yet: their head or its body is not whole
 abbrev pub IsUnfinished : Bytes → Type 0
 IsUnfinished taken = AwaitsHead taken
     ⊎ ((head : RequestHead) × (front : Bytes) × HasHead taken head front × AwaitsBody head front)
 
--- what was taken is no message yet
+-- the bytes that were taken are not a whole message yet
 abbrev pub EndsUnfinished : Option Bytes → Option Bytes → Type 0
 EndsUnfinished old new = (taken : Bytes) × Consumes old new taken × IsUnfinished taken
 
--- where a read failed, what a source gave is no message yet
-abbrev pub FailsUnfinished : {S A : Type 0} → Ghosts S → S → S → Result A ReadEnd → Type 0
-FailsUnfinished g old new result =
+-- if a read failed, the bytes that the source gave are not a whole message yet
+abbrev pub ReadFailsInMessage : {S A : Type 0} → Ghosts S → S → S → Result A ReadEnd → Type 0
+ReadFailsInMessage g old new result =
     result ≡ Err ReadFault → EndsUnfinished (g.remaining old) (g.remaining new)
 
--- an input begins with a head whose path has a route, or what was taken of it is none yet and may
--- become one
+-- the input begins with a head whose path has a route, or the bytes that were taken are not a head
+-- yet and may become one
 abbrev pub MayHaveHead : Option Bytes → Option Bytes → Type 0
 MayHaveHead old new = ((taken : Bytes) × Consumes old new taken × AwaitsHead taken)
     ⊎ ((input : Bytes) × (head : RequestHead) × (rest : Bytes)
     × IsInput old input × HasHead input head rest × (has_route head.target ≡ true))
 
--- ---- as it is read
+-- ---- how a message is read
 
--- a body of this length, of the front that was there and more that came; or the input ended before
--- it
-abbrev pub TakesBody : ℕ → Bytes → Bytes → Option Bytes → Option Bytes → Type 0
-TakesBody n front more left (Some body) =
+-- a body of this length, from the front that was there and the bytes that came; or the input ended
+-- before it was whole
+abbrev pub BodyIsTaken : ℕ → Bytes → Bytes → Option Bytes → Option Bytes → Type 0
+BodyIsTaken n front more left (Some body) =
     (n ≤ length (front ++ more)) × (body ≡ take n (front ++ more))
-TakesBody n front more left None = (length (front ++ more) < n) × IsAtEnd left
+BodyIsTaken n front more left None = (length (front ++ more) < n) × IsAtEnd left
 
--- the message of a head, behind which the front was there, more came and the rest is left
+-- the message of a head, from the front behind it, the bytes that came and those that are left
 abbrev pub FollowsHead : RequestHead → Bytes → Option Bytes → Option Bytes → Message → Type 0
 FollowsHead head front old new message =
     (more : Bytes) × Consumes old new more
     × (message ≡ message_of head (and_left (front ++ more) new))
 
--- what was read behind the head that these bytes begin with: with that they are the message, or a
--- read failed, and what a source gave is no body yet; or memory ran out, and its path has a route
+-- the rest of a message was read, behind the head that these bytes begin with
 pub record ReadsRest {S : Type 0} (source : SourceStep S) (bytes : Vec ℕ)
     (fields : List HeaderSpan) (spans : RequestSpans)
     (result : Result Message ReadEnd) : Type 0 where
+  -- the bytes are this message
   pub message : IfOk result (λ message. (found : IsHeadAt bytes.items fields spans)
       → FollowsHead found.head (drop spans.len bytes.items) (source.input.remaining source.old)
       (source.input.remaining source.new) message)
+  -- if a read failed, the body is not whole yet
   pub prompt : result ≡ Err ReadFault → (found : IsHeadAt bytes.items fields spans)
       → (more : Bytes) × AwaitsBody found.head (drop spans.len bytes.items ++ more)
       × GivesBytes source.input source.old source.new more
+  -- if memory ran out, the path has a route
   pub memory : result ≡ Err OutOfMemory → (found : IsHeadAt bytes.items fields spans)
       → has_route found.head.target ≡ true
-  pub reads : ReadsWithin source.input source.old source.new longest_upload result
+  pub reads : SourceReadsWithin source.input source.old source.new longest_upload result
 
--- a body of this length, of the front that was there and what a source gave
+-- a body of this length, from the front that was there and the bytes that a source gave
 abbrev pub GivesBody : {S : Type 0} → Ghosts S → S → S → ℕ → Bytes → Option Bytes → Type 0
 GivesBody g old new n front body =
-    (more : Bytes) × GivesBytes g old new more × TakesBody n front more (g.remaining new) body
+    (more : Bytes) × GivesBytes g old new more × BodyIsTaken n front more (g.remaining new) body

@@ -1,4 +1,4 @@
--- What a request is about, and what it does there.
+-- The resource and the method of a request.
 use Rattle.std.specs.Prelude.{◌==◌, Bool, true, false, not, Option, Some, None, is_some}
 use Rattle.std.specs.Prelude.{option_and_then}
 use Rattle.std.specs.Prelude.{if◌then◌else◌, bytes_eq, codes}
@@ -20,7 +20,7 @@ use Rattle.index_message.specs.declared.resource.Route.TheVariants as route
 
 -- ---- methods
 
--- the method that a name is, in upper case (RFC 9110, section 9.1)
+-- the method of a name in upper case (RFC 9110, section 9.1)
 abbrev pub method_of : Bytes → Option Method
 method_of name =
     if bytes_eq name (codes "DELETE") then Some Delete
@@ -40,7 +40,7 @@ allowed_of (resource.Project name) = allowed.Reading
 allowed_of (resource.ProjectPage name) = allowed.Reading
 allowed_of (resource.Name name) = allowed.Reading
 
--- `GET` and `HEAD` read
+-- `GET` and `HEAD` only read
 abbrev pub is_reading : Method → Bool
 is_reading Get = true
 is_reading Head = true
@@ -48,7 +48,7 @@ is_reading Delete = false
 is_reading Post = false
 is_reading Put = false
 
--- the method of a look whose reply has no body (RFC 9110, section 9.3.2)
+-- `HEAD`, whose reply has no body (RFC 9110, section 9.3.2)
 abbrev pub is_head : Method → Bool
 is_head Head = true
 is_head Get = false
@@ -56,7 +56,7 @@ is_head Delete = false
 is_head Post = false
 is_head Put = false
 
--- `PUT` uploads: it makes a file where it is accepted (RFC 9110, section 9.3.4)
+-- `PUT`, which creates a file if it is accepted (RFC 9110, section 9.3.4)
 abbrev pub is_put : Method → Bool
 is_put Put = true
 is_put Get = false
@@ -64,7 +64,7 @@ is_put Head = false
 is_put Delete = false
 is_put Post = false
 
--- `POST` alone takes requests
+-- `POST`, which takes requests
 abbrev pub is_post : Method → Bool
 is_post Post = true
 is_post Get = false
@@ -72,7 +72,7 @@ is_post Head = false
 is_post Delete = false
 is_post Put = false
 
--- whether a method is one of these
+-- the method is one of these
 abbrev pub allows : Allowed → Method → Bool
 allows allowed.Reading method = is_reading method
 allows allowed.Files method = not (is_post method)
@@ -84,19 +84,19 @@ allows allowed.Requests method = is_post method
 abbrev pub path_of : Bytes → Bytes
 path_of target = before_first (λ b. b == byte "?") target
 
--- what stands before a slash, and behind it
+-- the text before a slash, and the text behind it
 abbrev pub before_slash : Bytes → Bytes
 before_slash text = before_first (λ b. b == byte "/") text
 
--- what stands behind the first slash
+-- the text behind the first slash
 abbrev pub after_slash : Bytes → Bytes
 after_slash text = after_first (λ b. b == byte "/") text
 
--- what stands behind the first word of a path, which begins with a slash
+-- the text behind the first word of a path, which begins with a slash
 abbrev pub tail_of : Bytes → Bytes
 tail_of path = after_slash (after_slash path)
 
--- the first segment of it, decoded (RFC 3986, section 2.1)
+-- the first segment of a path, decoded (RFC 3986, section 2.1)
 abbrev pub first_segment : Bytes → Bytes
 first_segment tail = percent_decode (before_slash tail)
 
@@ -105,16 +105,16 @@ abbrev pub is_file_of_other : Bytes → Bytes → Bool
 is_file_of_other project file =
     option_map_or (λ spelled. not (bytes_eq spelled.project project)) (read_file_name file) false
 
--- a file of this project: one of another project is not found there
+-- A file of this project. A file of another project is not found there.
 abbrev pub file_of_project : Bytes → Bytes → Option Resource
 file_of_project project file =
     if is_file_of_other project file then None else Some (resource.File file)
 
--- the same, by the segments of both
+-- a file of a project, from the segments of both
 abbrev pub file_at : Bytes → Bytes → Option Resource
 file_at project file = file_of_project (percent_decode project) (percent_decode file)
 
--- what a route leads to, with the segments behind the path's first word
+-- the resource of a route, with the segments behind the path's first word
 abbrev pub resource_on : Route → Bytes → Option Resource
 resource_on route.Simple tail = Some resource.Simple
 resource_on route.Root tail = Some resource.Root
@@ -124,7 +124,7 @@ resource_on route.File tail = file_at (before_slash tail) (after_slash tail)
 resource_on route.Name tail = Some (resource.Name (first_segment tail))
 resource_on route.Requests tail = Some resource.Requests
 
--- what a path leads to
+-- the resource of a path
 abbrev pub resource_at : Bytes → Option Resource
 resource_at path = option_and_then (λ route. resource_on route (tail_of path)) (route_of path)
 
@@ -132,6 +132,6 @@ resource_at path = option_and_then (λ route. resource_on route (tail_of path)) 
 abbrev pub has_route : Bytes → Bool
 has_route target = is_some (route_of (path_of target))
 
--- what a target leads to, if it is UTF-8
+-- the resource of a target, if that is UTF-8
 unfoldable pub resource_of : Bytes → Option Resource
 resource_of target = if is_utf8 target then resource_at (path_of target) else None

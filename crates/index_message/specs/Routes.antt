@@ -24,13 +24,13 @@ patterns =
     ∷ (codes "/requests", Requests)
     ∷ []
 
--- the rows of a router with one pattern more
+-- the rows of a router with one more pattern
 abbrev pub with_pattern : Result Scan InsertError → Route
     → RowsOf (RouteOf Route) → RowsOf (RouteOf Route)
 with_pattern (Ok read) route rows = placed (read.pattern, route_from read route) rows
 with_pattern (Err error) route rows = rows
 
--- the rows of a router with these patterns more
+-- the rows of a router with these patterns added
 abbrev pub with_patterns : RowsOf (RouteOf Route) → List (Bytes × Route) → RowsOf (RouteOf Route)
 with_patterns rows [] = rows
 with_patterns rows ((pattern, route) ∷ more) =
@@ -40,6 +40,6 @@ with_patterns rows ((pattern, route) ∷ more) =
 unfoldable pub site_rows : RowsOf (RouteOf Route)
 site_rows = with_patterns [] patterns
 
--- the route that a router with these patterns finds for a path
+-- the route that such a router finds for a path
 abbrev pub route_of : Bytes → Option Route
 route_of path = option_map (λ found. found.value) (first site_rows path)

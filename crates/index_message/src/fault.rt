@@ -1,4 +1,4 @@
-//! Why a message has no reply of its own.
+//! Why the index does not serve a message.
 
 /// The methods of a resource, as an `Allow` header lists them (RFC 9110, section 10.2.1).
 #[derive(Clone, Copy, Debug, PartialEq, Eq, Hash)]
@@ -11,25 +11,25 @@ pub enum Allowed {
     Requests,
 }
 
-/// Why a message is none that the index serves, in the order in which these are looked for.
+/// Why the index does not serve a message, in the order of the checks.
 #[derive(Clone, Copy, Debug, PartialEq, Eq, Hash)]
 pub enum MessageFault {
     /// There is no request head in the first 16,384 bytes, or it has more than 64 header fields.
     BadHead,
     /// The path leads to nothing.
     NoRoute,
-    /// The path has not this method, but these.
+    /// The path has other methods, but not this one.
     BadMethod(Allowed),
-    /// A body's length that is none, or is said twice, or in another way than by `Content-Length`.
+    /// The length of the body is malformed, is given twice, or in another way than by `Content-Length`.
     BadLength,
-    /// A body without its length.
+    /// The length of the body is missing.
     NoLength,
-    /// A body with more bytes than are read.
+    /// The body has too many bytes.
     BodyTooLarge,
     /// The input ended within the body.
     ShortBody,
-    /// The body is no request.
+    /// The body is not a valid request.
     BadBody,
-    /// No type can be served that the `Accept` headers allow.
+    /// The `Accept` headers allow no type that can be served.
     NotAcceptable,
 }

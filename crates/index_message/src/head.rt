@@ -1,8 +1,8 @@
-//! The head of a request, read in whatever pieces it comes.
+//! The head of a request, read in pieces of any size.
 ghost use Rattle.std.specs.Prelude.{◌≡◌, ◌≤◌, ◌<◌, [], length, vec_len, None, Ok, IfOk, IfSome, OnOk};
-ghost use Rattle.index_message.specs.Heads.{FailsInHead, HasNoHead, IsHeadAt, Tries, longest_head, most_fields};
+ghost use Rattle.index_message.specs.Heads.{HasNoHead, IsHeadAt, ReadFailsInHead, Tries, longest_head, most_fields};
 ghost use Rattle.index_message.specs.Messages.{begins_with_head};
-ghost use Rattle.index_message.specs.Reads.{GivesBytes, ReadsOnce, FillsTo, ReadsWithin, and_left, from_source};
+ghost use Rattle.index_message.specs.Reads.{FillsTo, GivesBytes, ReadsOnce, SourceReadsWithin, and_left, from_source};
 
 use httparse::Status;
 use httparse::spans::{HeaderSpan, RequestSpans, parse_request};
@@ -15,7 +15,7 @@ const LONGEST_HEAD: usize = 16_384;
 /// The most header fields of a head.
 pub const MOST_FIELDS: usize = 64;
 
-/// The most bytes that are asked for at once.
+/// The most bytes that are asked for in one read.
 const PIECE: usize = 4096;
 
 /// Why nothing was read.
@@ -26,17 +26,17 @@ pub enum ReadEnd {
     OutOfMemory,
 }
 
-/// What the bytes so far are.
+/// The result of parsing the bytes so far.
 pub enum Tried {
     /// They begin with a head.
     Whole(RequestSpans),
-    /// They begin with none, whatever follows.
+    /// They do not begin with a head, whatever follows.
     Never,
-    /// They begin with none yet.
+    /// They are not a whole head yet.
     Unfinished,
 }
 
-/// Reads a head, and maybe bytes behind it. `None` where the input begins with none.
+/// Reads a head, and possibly bytes behind it. Returns `None` if the input does not begin with a head.
 pub fn read_head<S: Source>(
     source: &mut S,
     held: &mut Vec<u8>,
@@ -52,8 +52,8 @@ pub fn read_head<S: Source>(
     ensures method { result ≡ Ok None →
         begins_with_head (and_left held.new.items (S.remaining source.new))
         ≡ begins_with_head held.new.items }
-    ensures prompt { FailsInHead S.Source source.old source.new held.new.items result }
-    ensures reads { ReadsWithin S.Source source.old source.new longest_head result }
+    ensures prompt { ReadFailsInHead S.Source source.old source.new held.new.items result }
+    ensures reads { SourceReadsWithin S.Source source.old source.new longest_head result }
 {
     while held.len() < LONGEST_HEAD {
         if read_more(source, held, LONGEST_HEAD)? == 0 {
@@ -68,7 +68,7 @@ pub fn read_head<S: Source>(
     Ok(None)
 }
 
-/// Tries the bytes that came so far.
+/// Parses the bytes that came so far.
 fn try_head(bytes: &[u8], fields: &mut [HeaderSpan]) -> Tried
     requires room { length fields.old ≡ most_fields }
     ensures tries { Tries result bytes.now fields.new }
@@ -80,7 +80,7 @@ fn try_head(bytes: &[u8], fields: &mut [HeaderSpan]) -> Tried
     }
 }
 
-/// Reads until so many bytes are held, or the input ends. Tells whether they are.
+/// Reads until `held` has this many bytes or the input ends, and returns whether it has them.
 pub fn read_up_to<S: Source>(
     source: &mut S,
     held: &mut Vec<u8>,
@@ -96,14 +96,15 @@ pub fn read_up_to<S: Source>(
     Ok(true)
 }
 
-/// Reads once, up to so many bytes in all, and adds what came. None came only at the end of the input.
+/// Reads once, up to this many bytes in all, appends them, and returns their number. It is 0 only at the end of the
+/// input.
 fn read_more<S: Source>(source: &mut S, held: &mut Vec<u8>, most: usize) -> Result<usize, ReadEnd>
     requires room { vec_len held.old < most }
     ensures { ReadsOnce (from_source S.Source source.old source.new) held.old held.new most result }
 {
     let mut piece = [0u8; PIECE];
     let room = PIECE.min(most - held.len());
-    // Memory is taken before the read, so that no byte that came is lost for want of it.
+    // Memory is taken before the read: if it runs out, no byte that came is lost.
     held.reserve(room)?;
     let Ok(came) = source.give(&mut piece[..room]) else {
         return Err(ReadEnd::ReadFault);

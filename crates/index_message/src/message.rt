@@ -3,8 +3,8 @@ ghost use Rattle.std.specs.Prelude.{◌≡◌, ◌≤◌, ◌-◌, true, length,
 ghost use Rattle.httparse.specs.Spans.{IsHeaderWithin, IsRequestWithin};
 ghost use Rattle.index_message.specs.Fields.{fields_at};
 ghost use Rattle.index_message.specs.Lengths.{longest_upload};
-ghost use Rattle.index_message.specs.Messages.{BeginsWith, FailsUnfinished, GivesBody, MayHaveHead, ReadsRest, asked_in, is_head_name, longest_message, whole_of};
-ghost use Rattle.index_message.specs.Reads.{FailsBelow, ReadsWithin, from_source};
+ghost use Rattle.index_message.specs.Messages.{BeginsWith, GivesBody, MayHaveHead, ReadFailsInMessage, ReadsRest, asked_in, is_head_name, longest_message, whole_of};
+ghost use Rattle.index_message.specs.Reads.{ReadEndsEarly, SourceReadsWithin, from_source};
 ghost use Rattle.index_message.specs.Resources.{has_route};
 ghost use Rattle.index_message.specs.declared.message.Message.TheVariants.{Faulty};
 
@@ -17,30 +17,30 @@ use index_io::Source;
 use index_rules::Bytes;
 use std::alloc::{AllocError, Global};
 
-/// What a connection brought.
+/// The message of a connection.
 #[derive(Drop)]
 pub enum Message {
-    /// A fault, and whether the method is `HEAD`: then the reply has no body.
+    /// A fault, and whether the method is `HEAD`, whose reply has no body.
     Faulty { fault: MessageFault, is_head: bool },
     /// A request, and its body.
     Whole { request: HttpRequest, body: Bytes },
 }
 
-/// Reads the message that an input begins with, and at most 16,384 bytes for its head and 16,777,216 for its body.
+/// Reads the message at the front of the input: at most 16,384 bytes of head and 16,777,216 of body.
 ///
 /// # Errors
 ///
-/// `ReadFault` where a read fails, and `OutOfMemory` for want of memory.
+/// `ReadFault` if a read fails, and `OutOfMemory` if memory runs out.
 pub fn read_message<S: Source>(
     alloc: Global,
     site: &Site,
     source: &mut S,
 ) -> Result<Message, ReadEnd>
     ensures message { IfOk result (BeginsWith (S.remaining source.old)) }
-    ensures prompt { FailsUnfinished S.Source source.old source.new result }
+    ensures prompt { ReadFailsInMessage S.Source source.old source.new result }
     ensures memory { result ≡ Err ReadEnd.OutOfMemory
         → MayHaveHead (S.remaining source.old) (S.remaining source.new) }
-    ensures reads { ReadsWithin S.Source source.old source.new longest_message result }
+    ensures reads { SourceReadsWithin S.Source source.old source.new longest_message result }
 {
     let mut bytes = Vec::new(alloc);
     let mut fields = [EMPTY_HEADER_SPAN; MOST_FIELDS];
@@ -53,7 +53,7 @@ pub fn read_message<S: Source>(
     read_rest(alloc, site, source, bytes, &fields, spans)
 }
 
-/// Reads what follows a head.
+/// Reads the rest of a message, behind its head.
 fn read_rest<S: Source>(
     alloc: Global,
     site: &Site,
@@ -82,7 +82,7 @@ fn read_rest<S: Source>(
     }
 }
 
-/// The message of a head with a fault, by the first of its faults.
+/// The message of a head with a fault.
 fn faulty_message(head: &Head<'_>, fault: MessageFault) -> Message
     ensures { result ≡ Faulty fault (is_head_name head.now.method) }
 {
@@ -121,7 +121,7 @@ fn what_is_asked(
     }
 }
 
-/// Reads a body of this length, of which the front came behind the head. `None` where the input ends before it.
+/// Reads a body of this length, whose front came with the head. Returns `None` if the input ends before it is whole.
 fn read_body<S: Source>(
     alloc: Global,
     source: &mut S,
@@ -129,8 +129,8 @@ fn read_body<S: Source>(
     size: u64,
 ) -> Result<Option<Bytes>, ReadEnd>
     ensures body { IfOk result (GivesBody S.Source source.old source.new size front.now) }
-    ensures prompt { FailsBelow S.Source source.old source.new (size - length front.now) result }
-    ensures reads { ReadsWithin S.Source source.old source.new size result }
+    ensures prompt { ReadEndsEarly S.Source source.old source.new (size - length front.now) result }
+    ensures reads { SourceReadsWithin S.Source source.old source.new size result }
 {
     let size = size as usize;
     let mut body = Vec::from_slice(alloc, front)?;

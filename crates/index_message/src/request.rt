@@ -1,4 +1,4 @@
-//! The head of a request: its header fields, where they lie in its bytes, and the length of the body that they say.
+//! The head of a request: its header fields, as spans of its bytes, and the length of its body.
 ghost use Rattle.std.specs.Prelude.{◌≡◌, ◌≤◌, length, All, IfOk};
 ghost use Rattle.httparse.specs.Spans.{IsHeaderWithin, header_bytes};
 ghost use Rattle.index_message.specs.Fields.{AreFound, AreValues, fields_at, is_named as is_named_lem, value_of, values_of};
@@ -11,7 +11,7 @@ use httparse::spans::{HeaderSpan, RequestSpans};
 use std::alloc::{AllocError, Global};
 use std::marker::Model;
 
-/// The most bytes of a file that is uploaded.
+/// The most bytes of an uploaded file.
 const LONGEST_UPLOAD: u64 = 16_777_216;
 
 /// The most bytes of a request in JSON.
@@ -21,7 +21,7 @@ const LONGEST_REQUEST: u64 = 65_536;
 pub struct Asked {
     pub resource: Resource,
     pub method: Method,
-    /// How many bytes the body has.
+    /// The length of the body in bytes.
     pub length: u64,
 }
 
@@ -36,7 +36,7 @@ impl Drop for Asked {
     }
 }
 
-/// The head of a request whose resource has its method. Contracts see it by its parts.
+/// The head of a request with one of the resource's methods. Contracts see its parts.
 pub struct HttpRequest {
     asked: Asked,
     bytes: Vec<u8>,
@@ -71,22 +71,22 @@ impl Model for HttpRequest {
 }
 
 impl HttpRequest {
-    /// The method, which is one of those that the resource has.
+    /// The method, which is one of the resource's.
     pub fn method(&self) -> Method
         ensures { result ≡ self.now.method }
     {
         self.asked.method
     }
 
-    /// What the target leads to.
+    /// The resource of the target.
     pub fn resource(&self) -> &Resource
         ensures { result.now ≡ self.now.resource }
     {
         &self.asked.resource
     }
 
-    /// The value of the first field with this name, in whatever case, without the white space around it (RFC 9110,
-    /// sections 5.1 and 5.5). One that is missing counts as empty.
+    /// The value of the first field with this name, in any case, without the white space around it (RFC 9110, sections
+    /// 5.1 and 5.5), or nothing if there is none.
     pub fn value(&self, name: &[u8]) -> &[u8]
         ensures { result.now ≡ value_of name.now self.now.fields }
     {
@@ -115,7 +115,7 @@ impl HttpRequest {
         Ok(values)
     }
 
-    /// The request that asks for this, with fields that lie in the bytes.
+    /// The request that asks for this, with the fields in its bytes.
     pub(crate) fn new(asked: Asked, bytes: Vec<u8>, fields: Vec<HeaderSpan>) -> HttpRequest
         requires { All (IsHeaderWithin (length bytes.items)) fields.items }
         ensures { result ≡ request_asked asked (fields_at bytes.items fields.items) }
@@ -128,7 +128,7 @@ impl HttpRequest {
     }
 }
 
-/// How often a field with some name stands in a head.
+/// How often a field occurs in a head.
 #[derive(Clone, Copy)]
 pub enum Found<'a> {
     Missing,
@@ -136,7 +136,7 @@ pub enum Found<'a> {
     Again,
 }
 
-/// Whether a field has this name, in whatever case.
+/// Whether a field has this name, in any case.
 fn is_named(bytes: &[u8], field: &HeaderSpan, name: &[u8]) -> bool
     requires { IsHeaderWithin (length bytes.now) field.now }
     ensures { result ≡ is_named_lem name.now (header_bytes bytes.now field.now) }
@@ -144,7 +144,7 @@ fn is_named(bytes: &[u8], field: &HeaderSpan, name: &[u8]) -> bool
     field.name.of(bytes).eq_ignore_ascii_case(name)
 }
 
-/// A head, where its parts lie in the bytes that came. Contracts see it by these parts.
+/// A head, as spans of the bytes that came. Contracts see its parts.
 #[derive(Drop)]
 pub struct Head<'a> {
     pub bytes: &'a [u8],
@@ -171,7 +171,7 @@ impl<'a> Model for Head<'a> {
 }
 
 impl<'a> Head<'a> {
-    /// The length of the body that is read, in bytes: `PUT` and `POST` have one.
+    /// The length in bytes of the body that is read. Only `PUT` and `POST` have one.
     #[tactic(auto, unfolding(crate::specs::Lengths::body_length))]
     pub fn body_length(&self, method: Method) -> Result<u64, MessageFault>
         ensures length { result ≡ body_length_lem method self.now.fields }
@@ -184,7 +184,7 @@ impl<'a> Head<'a> {
         }
     }
 
-    /// The length that the fields say, up to a limit.
+    /// The length in the fields, up to a limit.
     fn length_in(&self, limit: u64) -> Result<u64, MessageFault>
         ensures length { result ≡ length_in_lem limit self.now.fields }
         ensures bound { IfOk result (λ number. number ≤ limit) }
@@ -200,7 +200,7 @@ impl<'a> Head<'a> {
         }
     }
 
-    /// How often a field with this name stands in the head.
+    /// How often a field with this name occurs in the head.
     fn find(&self, name: &[u8]) -> Found<'a>
         ensures { AreFound result (values_of name.now self.now.fields) }
     {
@@ -222,7 +222,7 @@ impl<'a> Head<'a> {
     }
 }
 
-/// A number that was read, unless it is above the limit; where none was, the length is none.
+/// A number up to the limit. `BadLength` if the value was not a number, `BodyTooLarge` above the limit.
 fn at_most(limit: u64, number: Option<u64>) -> Result<u64, MessageFault>
     ensures length { result ≡ at_most_lem limit number }
     ensures bound { IfOk result (λ number. number ≤ limit) }
@@ -239,7 +239,7 @@ fn at_most(limit: u64, number: Option<u64>) -> Result<u64, MessageFault>
     }
 }
 
-/// The number that 1 to 18 digits are.
+/// The number of a text of 1 to 18 digits.
 fn number_of(value: &[u8]) -> Option<u64>
     ensures { result ≡ length_value value.now }
 {

@@ -1,5 +1,4 @@
-//! What a request is about, and what it does there: the resource of its target, by the routes of the index, and its
-//! method.
+//! The resource and the method of a request: its target by the routes of the index.
 ghost use Rattle.std.specs.Prelude.{◌≡◌, ◌<◌, ◌==◌, [], true, Some, IfErr, IfOk, OnOk, IsSome};
 ghost use Rattle.std.specs.List.{after_first, before_first};
 ghost use Rattle.percent_encoding.specs.Percent.{percent_decode};
@@ -14,14 +13,14 @@ use index_rules::{Bytes, Fault};
 use matchit::{InsertError, Router};
 use std::alloc::{AllocError, Global};
 
-/// What a path leads to. Segments are percent-decoded (RFC 3986, section 2.1), and nothing else is read of them.
+/// The resource of a path. Segments are percent-decoded (RFC 3986, section 2.1) and otherwise unchanged.
 #[derive(Debug, Drop)]
 pub enum Resource {
-    /// `/simple`, which leads on to the root page.
+    /// `/simple`, which redirects to the root page.
     Simple,
     /// `/simple/`, the root page.
     Root,
-    /// `/simple/{project}`, which leads on to the project's page.
+    /// `/simple/{project}`, which redirects to the project's page.
     Project(Bytes),
     /// `/simple/{project}/`, a project's page.
     ProjectPage(Bytes),
@@ -29,12 +28,12 @@ pub enum Resource {
     File(Bytes),
     /// `/names/{name}`, the standing of a name.
     Name(Bytes),
-    /// `/requests`, where requests are taken.
+    /// `/requests`, which takes requests in JSON.
     Requests,
 }
 
 impl Resource {
-    /// The methods that it has.
+    /// The methods of the resource.
     pub fn allowed_methods(&self) -> Allowed
         ensures { result ≡ allowed_of self.now }
     {
@@ -57,7 +56,7 @@ pub enum Method {
 }
 
 impl Method {
-    /// The method of a request line, if it is one of these. Their names are upper case (RFC 9110, section 9.1).
+    /// The method of a request line, if it is one of these. The names are in upper case (RFC 9110, section 9.1).
     pub fn from_name(name: &[u8]) -> Option<Method>
         ensures { result ≡ method_of name.now }
     {
@@ -76,7 +75,7 @@ impl Method {
         }
     }
 
-    /// Whether it asks for a look: `GET` and `HEAD` do.
+    /// Whether the method only reads: `GET` or `HEAD`.
     pub fn is_reading(self) -> bool
         ensures { result ≡ is_reading self }
     {
@@ -90,14 +89,14 @@ impl Method {
         matches!(self, Method::Head)
     }
 
-    /// Whether it uploads.
+    /// Whether the method is `PUT`, which uploads.
     pub fn is_put(self) -> bool
         ensures { result ≡ is_put self }
     {
         matches!(self, Method::Put)
     }
 
-    /// Whether it is one of these methods.
+    /// Whether the method is one of these.
     pub fn is_in(self, allowed: Allowed) -> bool
         ensures { result ≡ allows allowed self }
     {
@@ -109,7 +108,7 @@ impl Method {
     }
 }
 
-/// What a path matches.
+/// The route of a path.
 #[derive(Clone, Copy, Debug, PartialEq, Eq)]
 pub enum Route {
     Simple,
@@ -121,7 +120,7 @@ pub enum Route {
     Requests,
 }
 
-/// The routes of the index, which are built once.
+/// The routes of the index, built once.
 #[derive(Drop)]
 pub struct Site {
     router: Router<Route>,
@@ -129,7 +128,7 @@ pub struct Site {
 }
 
 impl Site {
-    /// The routes.
+    /// Builds the routes.
     ///
     /// # Errors
     ///
@@ -163,7 +162,7 @@ fn router(alloc: Global) -> Result<Router<Route>, InsertError>
     Ok(router)
 }
 
-/// Adds the patterns of the index.
+/// Adds the patterns of the index to a router.
 fn add_patterns(router: &mut Router<Route>) -> Result<(), InsertError>
     requires empty { router.old ≡ [] }
     ensures { OnOk result (router.new ≡ site_rows) }
@@ -178,7 +177,7 @@ fn add_patterns(router: &mut Router<Route>) -> Result<(), InsertError>
     Ok(())
 }
 
-/// The resource of a target, with the method of this name: each error has its place in the order of the faults.
+/// The resource of a target, with the method of this name. The errors keep the order of the faults.
 pub fn resolve_target(
     alloc: Global,
     site: &Site,
@@ -201,7 +200,7 @@ pub fn resolve_target(
     }
 }
 
-/// The method of this name, where the resource has it.
+/// The method of this name, if the resource has it.
 fn allowed_method(resource: &Resource, name: &[u8]) -> Result<Method, MessageFault>
     ensures { target_by name.now (Some resource.now) ≡ to_resource resource.now result }
 {
@@ -212,7 +211,7 @@ fn allowed_method(resource: &Resource, name: &[u8]) -> Result<Method, MessageFau
     }
 }
 
-/// What a target leads to.
+/// The resource of a target.
 #[tactic(auto, unfolding(crate::specs::Resources::resource_of))]
 fn resource_of(alloc: Global, site: &Site, target: &[u8]) -> Result<Option<Resource>, AllocError>
     ensures found { IfOk result (λ found. found ≡ resource_of_lem target.now) }
@@ -224,7 +223,7 @@ fn resource_of(alloc: Global, site: &Site, target: &[u8]) -> Result<Option<Resou
     resource_at(alloc, site, cut_at(target, '?').0)
 }
 
-/// What a path leads to.
+/// The resource of a path.
 fn resource_at(alloc: Global, site: &Site, path: &str) -> Result<Option<Resource>, AllocError>
     ensures found { IfOk result (λ found. found ≡ resource_at_lem path.now) }
     ensures routed { IfErr result (λ _. IsSome (route_of path.now)) }
@@ -235,7 +234,7 @@ fn resource_at(alloc: Global, site: &Site, path: &str) -> Result<Option<Resource
     }
 }
 
-/// What a route leads to, with the segments behind the path's first word.
+/// The resource of a route, with the segments behind the path's first word.
 fn resource_on(alloc: Global, route: Route, tail: &str) -> Result<Option<Resource>, AllocError>
     ensures { IfOk result (λ found. found ≡ resource_on_lem route tail.now) }
 {
@@ -251,7 +250,7 @@ fn resource_on(alloc: Global, route: Route, tail: &str) -> Result<Option<Resourc
     }))
 }
 
-/// A file of a project, by the segments of both.
+/// A file of a project, from the segments of both.
 fn file_of_project(alloc: Global, project: &str, file: &str) -> Result<Option<Resource>, AllocError>
     ensures { IfOk result (λ found. found ≡ file_at project.now file.now) }
 {
@@ -276,7 +275,7 @@ fn is_file_of_other(alloc: Global, project: &[u8], file: &[u8]) -> Result<bool, 
     }
 }
 
-/// A segment with its escapes read (RFC 3986, section 2.1).
+/// A segment with its escapes decoded (RFC 3986, section 2.1).
 fn percent_decoded(alloc: Global, segment: &str) -> Result<Bytes, AllocError>
     ensures { IfOk result (λ bytes. bytes ≡ percent_decode segment.now) }
 {
@@ -285,14 +284,14 @@ fn percent_decoded(alloc: Global, segment: &str) -> Result<Bytes, AllocError>
     Ok(Bytes::new(bytes))
 }
 
-/// What stands behind the first word of a path.
+/// The text behind the first word of a path.
 fn tail_of(path: &str) -> &str
     ensures { result.now ≡ tail_of_lem path.now }
 {
     cut_at(cut_at(path, '/').1, '/').1
 }
 
-/// The text before the first such mark and the text behind it: all of it and nothing where there is none.
+/// The text before the first such mark and the text behind it, or all of it and nothing if there is no mark.
 fn cut_at(text: &str, mark: char) -> (&str, &str)
     requires { mark < 128 }
     ensures before { result.0.now ≡ before_first (λ b. b == mark) text.now }

@@ -92,7 +92,7 @@ last_hyphen (c ∷ x) = elim (last_hyphen x) [
   | inr cut ↦ inr (record { front = c ∷ cut.front; back = cut.back; is = ap (λ y. c ∷ y) cut.is; lacks = cut.lacks })
 ]
 
--- where something stands before the last hyphen, the text is that, the hyphen and what stands after it
+-- if something stands before the last hyphen, the text is that, the hyphen and what stands after it
 pub join-last : (x : List ℕ) → before_last is_hyphen x ≢ [] → x ≡ before_last is_hyphen x ++ 45 ∷ after_last is_hyphen x
 join-last x something = elim (last_hyphen x) [
   | inl lacks ↦ absurd (something (before_last_without x (list_any_none is_hyphen x lacks)))

@@ -13,12 +13,12 @@ rest is_apart (c ∷ x) = added is_apart c ++ rest (not (is_ascii_alphanumeric c
 abbrev form_of : List (List ℕ) → List ℕ
 form_of runs = join_with_byte 45 (map (map to_ascii_lowercase) runs)
 
--- the runs' form behind a hyphen, where there are any
+-- the runs' form behind a hyphen, if there are any
 abbrev hyphened : List (List ℕ) → List ℕ
 hyphened [] = []
 hyphened (run ∷ runs) = 45 ∷ form_of (run ∷ runs)
 
--- the runs' form, where the first of them was begun or was not
+-- the runs' form, whether or not the first of them was begun
 abbrev continued : Bool → List (List ℕ) → List ℕ
 continued true runs = form_of runs
 continued false runs = hyphened runs

@@ -87,7 +87,7 @@ name_bytes-rest is_apart (c ∷ x) =
       begun true passes = passes
       begun false passes = passes
 
--- the last byte, or d where there is none
+-- the last byte, or d if there is none
 abbrev last_or : ℕ → List ℕ → ℕ
 last_or d [] = d
 last_or d (c ∷ x) = last_or c x
@@ -100,7 +100,7 @@ last_or-begun : (b : Bool) (c d : ℕ) (y : List ℕ) → is_ascii_alphanumeric 
 last_or-begun true c d y is_inner = is_inner
 last_or-begun false c d y is_inner = is_inner
 
--- where a text ends with a letter or digit, so does what is still to be written of its normal form
+-- if a text ends with a letter or digit, so does what is still to be written of its normal form
 last_or-rest : (c : ℕ) (x : List ℕ) (is_apart : Bool) (d : ℕ) → is_ascii_alphanumeric (last_or c x) ≡ true → is_ascii_alphanumeric (last_or d (rest is_apart (c ∷ x))) ≡ true
 last_or-rest c [] is_apart d is_inner =
     ap (λ y. is_ascii_alphanumeric (last_or d y)) (added-inner is_apart c is_inner [])

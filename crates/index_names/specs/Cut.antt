@@ -1,4 +1,4 @@
--- What the code's cut of a file name says of what is read.
+-- How the code cuts a file name.
 use Rattle.std.specs.Prelude.{◌≡◌, ℕ, false, List, [], ◌∷◌, Option, Some, None, MatchOption}
 use Rattle.std.specs.Prelude.{option_copied, IsTrue}
 use Rattle.std.specs.Borrow.{Bor}
@@ -10,8 +10,8 @@ use Rattle.index_names.specs.Release.{is_version_text, named_release}
 use Rattle.index_names.specs.FileName.{Spelled}
 use Rattle.index_names.specs.Spelling.{WheelCut, is_hyphen}
 
--- the name and the version of a cut are such, and what is read are their
--- project, their release and the kind
+-- the name and the version of a cut are valid, and their project, their release and the kind are
+-- what is read
 pub record IsCutReadAs (cut : Cut) (spelled : Option Spelled) : Type 0 where
   pub value : spelled ≡ Some (record {
     project = normal_form cut.name.now;
@@ -21,19 +21,19 @@ pub record IsCutReadAs (cut : Cut) (spelled : Option Spelled) : Type 0 where
   pub name : IsTrue (is_project_name cut.name.now)
   pub version : IsTrue (is_version_text cut.version.now)
 
--- nothing is read where there is no cut
+-- the cut of what a file name is read as; nothing is read if there is no cut
 abbrev pub IsCutOf : Option Cut → Option Spelled → Type 0
 IsCutOf None spelled = spelled ≡ None
 IsCutOf (Some cut) spelled = IsCutReadAs cut spelled
 
--- the parts before and after the first hyphen of a text, where it has one: it is parted there, and
--- the second part at its hyphens
+-- the parts before and after the first hyphen of a text, if it has one: a cut at each hyphen cuts
+-- the text there, and the second part at its hyphens
 abbrev pub CutsAtFirstHyphen : List ℕ → Option (Bor (List ℕ) × Bor (List ℕ)) → Type 0
 CutsAtFirstHyphen text cut =
     MatchOption cut (slice_split is_hyphen text ≡ text ∷ [])
     (λ parts. slice_split is_hyphen text ≡ parts.0.now ∷ slice_split is_hyphen parts.1.now)
 
--- the parts before and after its last hyphen
+-- the parts before and after the last hyphen of a text, if it has one
 abbrev pub CutsAtLastHyphen : List ℕ → Option (Bor (List ℕ) × Bor (List ℕ)) → Type 0
 CutsAtLastHyphen text cut =
     MatchOption cut (list_any is_hyphen text ≡ false) (λ parts.

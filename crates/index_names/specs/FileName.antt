@@ -1,4 +1,4 @@
--- What file names are read as: what they spell.
+-- How file names are read: as what they spell.
 use Rattle.std.specs.Prelude.{◌≡◌, ◌↔◌, ℕ, ◌-◌, bytes_eq, nat_le, if◌then◌else◌, List, [], ◌∷◌}
 use Rattle.std.specs.Prelude.{Option, Some, None, option_map, option_and_then, length, take, drop}
 use Rattle.std.specs.Prelude.{codes}
@@ -39,7 +39,7 @@ wheel_cut_of (distribution ∷ version ∷ build ∷ python ∷ abi ∷ platform
     })
 wheel_cut_of _ = None
 
--- what the name of a wheel spells, where its name and version are in order
+-- what the name of a wheel spells, if its parts are valid
 abbrev pub spelled_by_wheel : WheelCut → Option Spelled
 spelled_by_wheel cut =
     if is_wheel_cut cut
@@ -50,7 +50,7 @@ spelled_by_wheel cut =
     })
     else None
 
--- the same of a source archive
+-- what the name of a source archive spells, if its parts are valid
 abbrev pub spelled_by_source : SourceCut → Option Spelled
 spelled_by_source cut =
     if is_source_cut cut
@@ -61,11 +61,11 @@ spelled_by_source cut =
     })
     else None
 
--- a wheel's name without its end, cut at each hyphen
+-- what the stem of a wheel's name spells, cut at each hyphen
 abbrev pub read_wheel : List ℕ → Option Spelled
 read_wheel stem = option_and_then spelled_by_wheel (wheel_cut_of (slice_split is_hyphen stem))
 
--- a source archive's name without its end, cut at its last hyphen
+-- what the stem of a source archive's name spells, cut at its last hyphen
 abbrev pub read_source : List ℕ → Option Spelled
 read_source stem =
     spelled_by_source (record {
@@ -73,7 +73,7 @@ read_source stem =
       version = after_last is_hyphen stem;
     })
 
--- what stands before this end, where the text has it
+-- the text before this ending, if the text has it
 abbrev pub strip_suffix : List ℕ → List ℕ → Option (List ℕ)
 strip_suffix suffix f =
     if bytes_eq (drop (length f - length suffix) f) suffix
@@ -86,7 +86,7 @@ read_stem (Some wheel) _ = read_wheel wheel
 read_stem None (Some source) = read_source source
 read_stem None None = None
 
--- what a text is read as: what it spells, and nothing of a text that is no file name
+-- what a text is read as: what it spells, or nothing if it is not a file name
 unfoldable pub read_file_name : List ℕ → Option Spelled
 read_file_name f =
     if nat_le (length f) longest_file_name
@@ -98,7 +98,7 @@ abbrev pub IsReadAs : List ℕ → List ℕ → List ℕ → FileKind → Type 0
 IsReadAs f project release kind =
     read_file_name f ≡ Some (record { project = project; release = release; kind = kind })
 
--- of what a file name is read as; of no other text do these say anything
+-- the project that a file name spells; these three have no meaning for any other text
 abbrev pub project_of : List ℕ → List ℕ
 project_of f = option_map_or (λ spelled. spelled.project) (read_file_name f) []
 
@@ -110,11 +110,11 @@ release_of f = option_map_or (λ spelled. spelled.release) (read_file_name f) []
 abbrev pub kind_of : List ℕ → FileKind
 kind_of f = option_map_or (λ spelled. spelled.kind) (read_file_name f) Source
 
--- it spells what these say
+-- a file name spells the project, the release and the kind that it is read as
 abbrev pub SpellsAsRead : List ℕ → Type 0
 SpellsAsRead f = Spells f (project_of f) (release_of f) (kind_of f)
 
--- this is a part of what it is read as
+-- a file name is read as something with this part
 abbrev pub SpellsPart : {A : Type 0} → (Spelled → A) → List ℕ → A → Type 0
 SpellsPart part f value = option_map part (read_file_name f) ≡ Some value
 
@@ -131,7 +131,7 @@ IsReadAsSpelled f =
     (spelled : Spelled)
     → (read_file_name f ≡ Some spelled) ↔ Spells f spelled.project spelled.release spelled.kind
 
--- a text is read as nothing exactly where it spells nothing
+-- a text is read as nothing exactly if it spells nothing
 abbrev pub IsUnreadWhereUnspelled : List ℕ → Type 0
 IsUnreadWhereUnspelled f =
     (read_file_name f ≡ None)

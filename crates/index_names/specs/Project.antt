@@ -6,7 +6,7 @@ use Rattle.std.specs.List.{list_all, join_with_byte}
 use Rattle.std.specs.Str.{byte}
 use Rattle.std.specs.Char.{is_ascii_alphanumeric, to_ascii_lowercase}
 
--- a hyphen, an underscore or a dot (PEP 503)
+-- whether a byte is a separator: a hyphen, an underscore or a dot (PEP 503)
 abbrev pub is_separator : ℕ → Bool
 is_separator c = (c == byte "-") || (c == byte "_") || (c == byte ".")
 
@@ -14,7 +14,8 @@ is_separator c = (c == byte "-") || (c == byte "_") || (c == byte ".")
 abbrev pub longest_project_name : ℕ
 longest_project_name = 128
 
--- 1 to 128 letters, digits and separators, of which the first and the last are letters or digits
+-- whether a text is a project name: 1 to 128 letters, digits and separators, beginning and ending
+-- with a letter or digit
 abbrev pub is_project_name : List ℕ → Bool
 is_project_name x =
     nat_le 1 (length x) && nat_le (length x) longest_project_name
@@ -22,13 +23,13 @@ is_project_name x =
     && is_ascii_alphanumeric (slice_index x 0)
     && is_ascii_alphanumeric (slice_index x (length x - 1))
 
--- a text that begins with a letter or a digit, and so with a run of them
+-- whether a text begins with a letter or digit, and thus with a run of them
 abbrev pub begins_run : List ℕ → Bool
 begins_run [] = false
 begins_run (c ∷ x) = is_ascii_alphanumeric c
 
--- with a letter or digit before what follows: it lengthens the run that begins
--- there, or is a run of its own
+-- the runs with a letter or digit in front: it lengthens the run that begins there, or is a run of
+-- its own
 abbrev pub with_before : ℕ → Bool → List (List ℕ) → List (List ℕ)
 with_before c true (run ∷ runs) = (c ∷ run) ∷ runs
 with_before c true [] = (c ∷ []) ∷ []
@@ -44,10 +45,10 @@ runs_of (c ∷ x) =
 abbrev pub normal_form : List ℕ → List ℕ
 normal_form x = join_with_byte (byte "-") (map (map to_ascii_lowercase) (runs_of x))
 
--- what a text is read as: the normal form of a project name, and nothing of any other text
+-- what a text is read as: the normal form of a project name, or nothing of any other text
 unfoldable pub read_name : List ℕ → Option (List ℕ)
 read_name x = if is_project_name x then Some (normal_form x) else None
 
--- a normal form: it is read as itself
+-- a normal form: a text that is read as itself
 abbrev pub IsNormalName : List ℕ → Type 0
 IsNormalName name = read_name name ≡ Some name

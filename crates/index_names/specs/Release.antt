@@ -6,7 +6,7 @@ use Rattle.std.specs.List.{list_all}
 use Rattle.std.specs.Str.{byte}
 use Rattle.std.specs.Char.{is_ascii_alphanumeric, to_ascii_lowercase}
 
--- a byte that version texts may have
+-- whether version texts may have a byte
 abbrev pub is_version_byte : ℕ → Bool
 is_version_byte c =
     is_ascii_alphanumeric c || (c == byte ".") || (c == byte "_") || (c == byte "+")
@@ -16,7 +16,8 @@ is_version_byte c =
 abbrev pub longest_version : ℕ
 longest_version = 64
 
--- 1 to 64 of these bytes, of which the first and the last are letters or digits
+-- whether a text is a version text: 1 to 64 version bytes, beginning and ending with a letter or
+-- digit
 abbrev pub is_version_text : List ℕ → Bool
 is_version_text x =
     nat_le 1 (length x) && nat_le (length x) longest_version && list_all is_version_byte x
@@ -27,10 +28,10 @@ is_version_text x =
 abbrev pub named_release : List ℕ → List ℕ
 named_release version = map to_ascii_lowercase version
 
--- what a text is read as: the release of a version text, and nothing of any other text
+-- what a text is read as: the release of a version text, or nothing of any other text
 unfoldable pub read_release : List ℕ → Option (List ℕ)
 read_release x = if is_version_text x then Some (named_release x) else None
 
--- a release: it is read as itself
+-- a release: a text that is read as itself
 abbrev pub IsRelease : List ℕ → Type 0
 IsRelease release = read_release release ≡ Some release

@@ -25,34 +25,34 @@ pub record SourceCut : Type 0 where
   pub name : List ℕ
   pub version : List ℕ
 
--- the hyphen, which parts a file name
+-- whether a byte is the hyphen, which parts a file name
 abbrev pub is_hyphen : ℕ → Bool
 is_hyphen c = c == byte "-"
 
--- a project name without a hyphen
+-- whether a text is a project name without a hyphen
 abbrev pub is_distribution : List ℕ → Bool
 is_distribution x = is_project_name x && list_all (λ c. not (is_hyphen c)) x
 
--- a byte that a tag may have (PEP 425)
+-- whether tags may have a byte (PEP 425)
 abbrev pub is_tag_byte : ℕ → Bool
 is_tag_byte c = is_ascii_alphanumeric c || (c == byte ".") || (c == byte "_")
 
--- one tag byte or more
+-- whether a text is a tag: one tag byte or more
 abbrev pub is_tag : List ℕ → Bool
 is_tag x = nat_le 1 (length x) && list_all is_tag_byte x
 
--- a build tag begins with a digit (PEP 427)
+-- whether a text is a build tag: a tag that begins with a digit (PEP 427)
 abbrev pub is_build_tag : List ℕ → Bool
 is_build_tag x = is_tag x && is_ascii_digit (slice_index x 0)
 
--- the parts of a wheel name are in order (PEP 427)
+-- whether the parts of a wheel name are valid (PEP 427)
 abbrev pub is_wheel_cut : WheelCut → Bool
 is_wheel_cut cut =
     is_distribution cut.distribution && is_version_text cut.version
     && option_map_or is_build_tag cut.build true && is_tag cut.python && is_tag cut.abi
     && is_tag cut.platform
 
--- the parts of the name of a source archive are in order (PEP 625)
+-- whether the parts of the name of a source archive are valid (PEP 625)
 abbrev pub is_source_cut : SourceCut → Bool
 is_source_cut cut = is_project_name cut.name && is_version_text cut.version
 
@@ -66,11 +66,11 @@ abbrev pub parts_of : WheelCut → List (List ℕ)
 parts_of cut =
     cut.distribution ∷ cut.version ∷ with_build cut.build (cut.python ∷ cut.abi ∷ cut.platform ∷ [])
 
--- distribution-version(-build)?-python-abi-platform.whl
+-- a wheel name: distribution-version(-build)?-python-abi-platform.whl
 abbrev pub wheel_name : WheelCut → List ℕ
 wheel_name cut = join_with_byte (byte "-") (parts_of cut) ++ codes ".whl"
 
--- name-version.tar.gz
+-- the name of a source archive: name-version.tar.gz
 abbrev pub source_name : SourceCut → List ℕ
 source_name cut = cut.name ++ codes "-" ++ cut.version ++ codes ".tar.gz"
 

@@ -1,4 +1,4 @@
-//! Why bytes were not read.
+//! Why bytes are not a valid name.
 ghost use Rattle.std.specs.Prelude.{◌≡◌};
 ghost use Rattle.index_names.specs.declared.fault.NameFault.TheVariants.{OutOfMemory};
 
@@ -6,16 +6,16 @@ use std::alloc::AllocError;
 use std::error::Error;
 use std::fmt;
 
-/// Why bytes were not read.
+/// Why bytes are not a valid name.
 #[derive(Clone, Copy, Debug, PartialEq, Eq)]
 pub enum NameFault {
-    /// The bytes are no project name.
+    /// The bytes are not a project name.
     BadName,
-    /// The bytes are no file name of a wheel or a source archive.
+    /// The bytes are not a file name of a wheel or a source archive.
     BadFileName,
-    /// The bytes are no version text.
+    /// The bytes are not a version text.
     BadRelease,
-    /// There was no memory for the value.
+    /// Memory ran out.
     OutOfMemory,
 }
 

@@ -26,7 +26,7 @@ pub fn is_file_name(bytes: &[u8]) -> bool
     cut_of(bytes).is_some()
 }
 
-/// What a file is.
+/// The kind of a file.
 #[derive(Clone, Copy, Debug, PartialEq, Eq)]
 pub enum FileKind {
     /// A built distribution (PEP 427).
@@ -36,10 +36,9 @@ pub enum FileKind {
 }
 
 /// The name of a wheel (PEP 427, "File name convention") or of a source archive (PEP 625, "Specification"), with the
-/// project, the release and the kind that it decides by itself.
+/// project, the release and the kind that it spells.
 ///
-/// Contracts see its bytes. Two names that differ, in letter case alone too, are two file names; they compare in byte
-/// order.
+/// Contracts see its bytes. Names that differ only in letter case are two file names; they compare in byte order.
 #[derive(Debug)]
 pub struct FileName {
     text: Text,
@@ -48,7 +47,7 @@ pub struct FileName {
     kind: FileKind,
 }
 
-// By hand: a drop is then one call at each exit of a function (docs/developers/PROOF-COSTS.md).
+// By hand: each exit of a function then makes one call to drop (docs/developers/PROOF-COSTS.md).
 impl Drop for FileName {
     fn drop(self) {
         let FileName {
@@ -75,12 +74,12 @@ impl FileName {
     /// Reads the name of a wheel or a source archive, of 1 to 255 bytes.
     ///
     /// A wheel's name ends with `.whl`. Before that it has five or six parts joined by `-`: the distribution (a project
-    /// name without `-`), a version text, where there are six a build tag, then the python, abi and platform tags. A
-    /// source archive's name ends with `.tar.gz`. Before that stand a project name, a `-` and a version text.
+    /// name without `-`), a version text, a build tag if there are six, then the python, abi and platform tags. A
+    /// source archive's name ends with `.tar.gz`. Before that it has a project name, a `-` and a version text.
     ///
     /// # Errors
     ///
-    /// `BadFileName` exactly where the bytes are no such name, else `OutOfMemory`.
+    /// `BadFileName` exactly if the bytes are not such a name, else `OutOfMemory`.
     pub fn read(alloc: Global, bytes: &[u8]) -> Result<FileName, NameFault>
         ensures text { IfOk result (λ name. name ≡ bytes.now) }
         ensures read { OnOk result (IsSome (read_file_name bytes.now)) }
@@ -184,7 +183,7 @@ impl Ord for FileName {
     }
 }
 
-/// A file name's parts that name its project and its release.
+/// The parts of a file name that name its project and its release.
 #[derive(Clone, Copy)]
 pub struct Cut<'a> {
     pub name: &'a [u8],
@@ -192,7 +191,7 @@ pub struct Cut<'a> {
     pub kind: FileKind,
 }
 
-/// The cut of a file name, and `None` of bytes that are none.
+/// The parts of a file name, or `None` if the bytes are not a valid one.
 #[tactic(auto, unfolding(crate::specs::FileName::read_file_name))]
 pub fn cut_of(bytes: &[u8]) -> Option<Cut<'_>>
     ensures { IsCutOf result (read_file_name bytes.now) }
@@ -209,7 +208,7 @@ pub fn cut_of(bytes: &[u8]) -> Option<Cut<'_>>
     None
 }
 
-/// The name and the version of a source archive's stem, which are valid and parted by its last hyphen.
+/// The name and the version of a source archive's stem, parted by its last hyphen, if both are valid.
 #[tactic(auto, using(crate::proofs::HyphenLemmas::before_last_without))]
 fn cut_source(stem: &[u8]) -> Option<Cut<'_>>
     ensures { IsCutOf result (read_source stem.now) }
@@ -226,7 +225,7 @@ fn cut_source(stem: &[u8]) -> Option<Cut<'_>>
     }
 }
 
-/// What stands before the first hyphen of a text and after it.
+/// The parts before and after the first hyphen of a text.
 pub fn split_at_first_hyphen(text: &[u8]) -> Option<(&[u8], &[u8])>
     ensures { CutsAtFirstHyphen text.now result }
 {
@@ -234,7 +233,7 @@ pub fn split_at_first_hyphen(text: &[u8]) -> Option<(&[u8], &[u8])>
     Some((&text[..hyphen], &text[hyphen + 1..]))
 }
 
-/// What stands before the last hyphen of a text and after it.
+/// The parts before and after the last hyphen of a text.
 pub fn split_at_last_hyphen(text: &[u8]) -> Option<(&[u8], &[u8])>
     ensures { CutsAtLastHyphen text.now result }
 {

@@ -1,7 +1,7 @@
 //! Project names, releases and file names of a Python package index, read from bytes.
 //!
-//! Each is read exactly where its grammar has it (`NAMES.md`): a project name to its normal form (PEP 503), a
-//! version text to its release, and the name of a wheel (PEP 427) or a source archive (PEP 625) to the one project,
+//! Bytes are read exactly if the grammar has them (`NAMES.md`). A project name is read as its normal form (PEP 503), a
+//! version text as its release. The name of a wheel (PEP 427) or a source archive (PEP 625) is read as the one project,
 //! release and kind that it spells.
 #![tactic(auto)]
 

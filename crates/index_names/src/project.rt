@@ -14,7 +14,7 @@ use std::marker::Model;
 /// The most bytes of a project name.
 const LONGEST_NAME: usize = 128;
 
-/// The normal form of a project's name (PEP 503, "Normalized Names"), by which two spellings are one name.
+/// The normal form of a project's name (PEP 503, "Normalized Names"); spellings with one normal form are one name.
 ///
 /// Contracts see its bytes, and it compares in byte order.
 #[derive(Clone, Debug, PartialEq, Eq, PartialOrd, Ord)]
@@ -22,7 +22,7 @@ pub struct NormalName {
     text: Text,
 }
 
-// By hand: a drop is then one call at each exit of a function (docs/developers/PROOF-COSTS.md).
+// By hand: each exit of a function then makes one call to drop (docs/developers/PROOF-COSTS.md).
 impl Drop for NormalName {
     fn drop(self) {
         let NormalName { text: _text } = self;
@@ -63,8 +63,8 @@ impl NormalName {
     }
 }
 
-/// Whether these bytes are a project name: 1 to 128 ASCII letters, digits, `.`, `_` and `-`, of which the first and
-/// the last are letters or digits (PEP 508, "Names"; the limit of 128 is this index's own).
+/// Whether these bytes are a project name: 1 to 128 ASCII letters, digits, `.`, `_` and `-`, beginning and ending with
+/// a letter or digit (PEP 508, "Names"; the limit of 128 is this index's own).
 #[tactic(auto, unfolding(crate::specs::Project::read_name))]
 pub fn is_name(bytes: &[u8]) -> bool
     ensures name { result ≡ is_project_name bytes.now }
@@ -82,7 +82,7 @@ pub fn is_name(bytes: &[u8]) -> bool
 ///
 /// # Errors
 ///
-/// `BadName` exactly where the bytes are no project name, else `OutOfMemory`.
+/// `BadName` exactly if the bytes are not a project name, else `OutOfMemory`.
 #[tactic(auto, unfolding(crate::specs::Project::read_name))]
 pub fn normal(alloc: Global, bytes: &[u8]) -> Result<NormalName, NameFault>
     ensures normal { IfOk result (λ name. read_name bytes.now ≡ Some name) }
@@ -125,7 +125,7 @@ fn normalize(alloc: Global, bytes: &[u8]) -> Result<String, AllocError>
     Ok(normal)
 }
 
-// Adds a letter or digit, behind a hyphen where separators stand before it.
+// Adds a letter or digit, behind a hyphen if there are separators before it.
 fn push(normal: &mut String, is_apart: bool, byte: u8) -> Result<(), AllocError>
     ensures { OnOk result
         (string_bytes normal.new ≡ string_bytes normal.old ++ added is_apart byte) }

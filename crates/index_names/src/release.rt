@@ -21,7 +21,7 @@ pub struct Release {
     text: Text,
 }
 
-// By hand: a drop is then one call at each exit of a function (docs/developers/PROOF-COSTS.md).
+// By hand: each exit of a function then makes one call to drop (docs/developers/PROOF-COSTS.md).
 impl Drop for Release {
     fn drop(self) {
         let Release { text: _text } = self;
@@ -65,12 +65,12 @@ impl Release {
 }
 
 /// The release that a version text names: the text in lower case. A version text is 1 to 64 ASCII letters, digits, `.`,
-/// `_`, `+` and `!`, of which the first and the last are letters or digits (this index's own rule; it holds the
-/// versions of PEP 440 with `-` written as `_`, as PEP 427, "Escaping and Unicode", writes them).
+/// `_`, `+` and `!`, beginning and ending with a letter or digit. That is this index's own rule; it allows the versions
+/// of PEP 440 with `-` written as `_`, as in PEP 427, "Escaping and Unicode".
 ///
 /// # Errors
 ///
-/// `BadRelease` exactly where the bytes are no version text, else `OutOfMemory`.
+/// `BadRelease` exactly if the bytes are not a version text, else `OutOfMemory`.
 #[tactic(auto, unfolding(crate::specs::Release::read_release))]
 pub fn release_key(alloc: Global, bytes: &[u8]) -> Result<Release, NameFault>
     ensures release { IfOk result (λ release. read_release bytes.now ≡ Some release) }
@@ -83,8 +83,8 @@ pub fn release_key(alloc: Global, bytes: &[u8]) -> Result<Release, NameFault>
     Ok(Release::of(alloc, bytes)?)
 }
 
-/// Whether these bytes are a version text: 1 to 64 ASCII letters, digits, `.`, `_`, `+` and `!`, of which the first and
-/// the last are letters or digits (this index's own rule).
+/// Whether these bytes are a version text: 1 to 64 ASCII letters, digits, `.`, `_`, `+` and `!`, beginning and ending
+/// with a letter or digit (this index's own rule).
 #[tactic(auto, unfolding(crate::specs::Release::read_release))]
 pub fn is_version(bytes: &[u8]) -> bool
     ensures version { result ≡ is_version_text bytes.now }
@@ -103,7 +103,7 @@ fn is_version_byte(byte: u8) -> bool
     byte.is_ascii_alphanumeric() || matches!(byte, b'.' | b'_' | b'+' | b'!')
 }
 
-/// Whether each byte may stand in a version.
+/// Whether each byte is one that versions may have.
 fn has_version_bytes(bytes: &[u8]) -> bool
     ensures { result ≡ list_all is_version_byte bytes.now }
 {

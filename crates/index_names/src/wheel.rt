@@ -1,4 +1,4 @@
-//! The cut of the name of a wheel (PEP 427, "File name convention").
+//! The parts of the name of a wheel (PEP 427, "File name convention").
 ghost use Rattle.std.specs.Prelude.{◌≡◌, not, option_map};
 ghost use Rattle.std.specs.List.{list_all, slice_split};
 ghost use Rattle.index_names.specs.FileName.{wheel_cut_of, read_wheel};
@@ -20,7 +20,7 @@ pub struct WheelParts<'a> {
     platform: &'a [u8],
 }
 
-/// The cut of a wheel's name without its end.
+/// The parts of a wheel's name that name its project and its release, by its stem.
 pub fn cut_wheel(stem: &[u8]) -> Option<Cut<'_>>
     ensures { IsCutOf result (read_wheel stem.now) }
 {
@@ -67,7 +67,7 @@ fn wheel_parts(stem: &[u8]) -> Option<WheelParts<'_>>
     })
 }
 
-/// Whether each part is valid where it stands in a wheel's name.
+/// Whether each part is valid in its place in a wheel's name.
 fn is_wheel(parts: &WheelParts<'_>) -> bool
     ensures { result ≡ is_wheel_cut (wheel_cut parts.now) }
 {
@@ -79,7 +79,7 @@ fn is_wheel(parts: &WheelParts<'_>) -> bool
         && is_tag(parts.platform)
 }
 
-/// Whether the bytes are a project name with no hyphen, which would part it.
+/// Whether the bytes are a project name without a hyphen.
 fn is_distribution(bytes: &[u8]) -> bool
     ensures { result ≡ is_distribution bytes.now }
 {
@@ -106,7 +106,7 @@ fn is_tag(bytes: &[u8]) -> bool
     !bytes.is_empty() && has_tag_bytes(bytes)
 }
 
-/// Whether each byte may stand in a tag.
+/// Whether each byte is one that tags may have.
 fn has_tag_bytes(bytes: &[u8]) -> bool
     ensures { result ≡ list_all is_tag_byte bytes.now }
 {

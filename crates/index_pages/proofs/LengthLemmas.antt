@@ -4,19 +4,19 @@ use Rattle.std.specs.Prelude.{Result, option_map}
 use Rattle.index_rules.specs.Maps.{Bytes}
 use Rattle.index_rules.specs.declared.answer.Fault.{Fault}
 use Rattle.index_pages.specs.Rest.{Rest, IsNext}
-use Rattle.index_pages.specs.Ends.{Closes, WritesPage, Measures, SendsRow, SendsRowFront, SinkState}
+use Rattle.index_pages.specs.Ends.{Closes, Measures, SinkGetsRow, SinkGetsRowFront, SinkState, WritesPage}
 use Rattle.index_pages.specs.States.{MeasuresGivenRows, StopsLength, end_at, ended_at, length_state, no_sink}
 use Rattle.index_pages.specs.declared.end.PageEnd.{PageEnd}
 use Rattle.index_pages.proofs.TextLemmas.{broken_of, front_of_row, page_ends, sends_row}
 
 -- a row was counted
 pub counts_row : {R : Type 0} (rest : Rest R) (row : R) (later : Rest R) (text : Bytes) (old : ℕ) (result : Result ℕ Fault)
-    → IsNext rest row text later → Closes text no_sink no_sink old (ended_at old result) → IfOk result (λ length. SendsRow rest row later no_sink no_sink old length)
+    → IsNext rest row text later → Closes text no_sink no_sink old (ended_at old result) → IfOk result (λ length. SinkGetsRow rest row later no_sink no_sink old length)
 counts_row rest row later text old (Ok n) next h = sends_row rest row later text no_sink no_sink old (Ok n) next h
 counts_row rest row later text old (Err end) next h = tt
 
 pub counts_front : {R : Type 0} (rest : Rest R) (row : R) (later : Rest R) (text : Bytes) (old : ℕ) (result : Result ℕ Fault)
-    → IsNext rest row text later → Closes text no_sink no_sink old (ended_at old result) → IfErr result (λ end. SendsRowFront rest row no_sink no_sink old (end_at old end))
+    → IsNext rest row text later → Closes text no_sink no_sink old (ended_at old result) → IfErr result (λ end. SinkGetsRowFront rest row no_sink no_sink old (end_at old end))
 counts_front rest row later text old (Ok n) next h = tt
 counts_front rest row later text old (Err end) next h = front_of_row rest row later text no_sink no_sink old (Err (end_at old end)) next h
 
@@ -42,7 +42,7 @@ measures rest length end result ended closed start rows fresh given =
     measured length (start.rest rows) start.sink no_sink result
     (page_ends (length_state rest length end) no_sink (ended_at length result) (told length end result ended) (λ is. closed (ongoing_of length end is)) start rows fresh given)
 
--- where a row was not taken the fault at that row is told
+-- if a row was not taken, the fault at that row is told
 pub stops : {R : Type 0} (rest : Rest R) (length : ℕ) (end : Option Fault) (result : Result ℕ Fault)
     → ((fault : Fault) → end ≡ Some fault → result ≡ Err fault)
     → StopsLength (length_state rest length end) result

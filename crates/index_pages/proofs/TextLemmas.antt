@@ -8,11 +8,11 @@ use Rattle.std.proofs.KnownBytes.{Appends-nil, Appends-trans}
 use Rattle.index_rules.specs.Maps.{Bytes}
 use Rattle.index_rules.specs.Rows.{Took, StoppedAt, WasGiven}
 use Rattle.index_pages.specs.Rest.{Rest, IsNext}
-use Rattle.index_pages.specs.Ends.{Closes, WritesPage, IsCaused, StoreOnlyIfTooLong, Sends, SendsRow, SendsRowFront, SinkState, count_of, most_bytes}
-use Rattle.index_pages.specs.States.{TextState, TakesText, StopsText, IsFresh, IsFront}
+use Rattle.index_pages.specs.Ends.{Closes, IsCaused, SinkGetsRow, SinkGetsRowFront, SinkGetsText, SinkState, StoreOnlyIfTooLong, WritesPage, count_of, most_bytes}
+use Rattle.index_pages.specs.States.{IsFresh, IsFront, RowTextIsTaken, StopsText, TextState}
 use Rattle.index_pages.specs.declared.end.PageEnd.{PageEnd}
 
-both_sent : (a b c : SinkState) (i j k : ℕ) (xs ys : Bytes) → Sends a b i j xs → Sends b c j k ys → Sends a c i k (xs ++ ys)
+both_sent : (a b c : SinkState) (i j k : ℕ) (xs ys : Bytes) → SinkGetsText a b i j xs → SinkGetsText b c j k ys → SinkGetsText a c i k (xs ++ ys)
 both_sent a b c i j k xs ys x y =
     let e = length-append xs ys in
     record { wrote = Appends-trans a.contents b.contents c.contents xs ys x.wrote y.wrote; count = omega (arith, x.count, y.count, e) }
@@ -22,13 +22,13 @@ longer whole front later n e past = let sum = ap length e ∙ length-append fron
 
 -- a row's text went out
 pub sends_row : {R : Type 0} (rest : Rest R) (row : R) (later : Rest R) (text : Bytes) (before after : SinkState) (old : ℕ) (result : Result ℕ PageEnd)
-    → IsNext rest row text later → Closes text before after old result → IfOk result (λ written. SendsRow rest row later before after old written)
+    → IsNext rest row text later → Closes text before after old result → IfOk result (λ written. SinkGetsRow rest row later before after old written)
 sends_row rest row later text before after old (Ok n) next h = record { text = text; next = next; sends = h.sends; steady = h.steady }
 sends_row rest row later text before after old (Err end) next h = tt
 
 -- a front of a row's text is a front of the page
 pub front_of_row : {R : Type 0} (rest : Rest R) (row : R) (later : Rest R) (text : Bytes) (before after : SinkState) (old : ℕ) (result : Result ℕ PageEnd)
-    → IsNext rest row text later → Closes text before after old result → IfErr result (λ end. SendsRowFront rest row before after old end)
+    → IsNext rest row text later → Closes text before after old result → IfErr result (λ end. SinkGetsRowFront rest row before after old end)
 front_of_row rest row later text before after old (Ok n) next h = tt
 front_of_row rest row later text before after old (Err end) next h =
     let sent = take h.size text in
@@ -47,11 +47,11 @@ front_of_row rest row later text before after old (Err end) next h =
 pub record Taken {R : Type 0} (start : TextState R) (rows : List R) (now : TextState R) : Type 0 where
   pub ongoing : now.end ≡ None
   pub text : Bytes
-  pub sends : Sends start.sink now.sink start.written now.written text
+  pub sends : SinkGetsText start.sink now.sink start.written now.written text
   pub next : (more : List R) → start.rest (rows ++ more) ≡ text ++ now.rest more
   pub steady : now.sink.failures ≡ start.sink.failures
 
-pub taken_of : {R : Type 0} (rows : List R) (start now : TextState R) → start.end ≡ None → Took TakesText rows start now → Taken start rows now
+pub taken_of : {R : Type 0} (rows : List R) (start now : TextState R) → start.end ≡ None → Took RowTextIsTaken rows start now → Taken start rows now
 taken_of {R} [] start now ongoing e = record {
   ongoing = rw e ongoing;
   text = [];
@@ -74,12 +74,12 @@ taken_of {R} (row ∷ rows) start now ongoing h =
 
 -- ---- the end of a page
 
-all_given : {R : Type 0} (rows : List R) (start now : TextState R) (bytes : Bytes) (count : ℕ) (after : SinkState) → IsFresh start → (taken : Taken start rows now) → Sends now.sink after now.written count bytes
-    → Sends start.sink after 0 count (taken.text ++ bytes)
+all_given : {R : Type 0} (rows : List R) (start now : TextState R) (bytes : Bytes) (count : ℕ) (after : SinkState) → IsFresh start → (taken : Taken start rows now) → SinkGetsText now.sink after now.written count bytes
+    → SinkGetsText start.sink after 0 count (taken.text ++ bytes)
 all_given rows start now bytes count after fresh taken sends =
     rw (← fresh.none) (both_sent start.sink now.sink after _ _ _ taken.text bytes taken.sends sends)
 
-front_ends : (page bytes left : Bytes) (before after : SinkState) (count : ℕ) → Sends before after 0 count bytes → page ≡ bytes ++ left
+front_ends : (page bytes left : Bytes) (before after : SinkState) (count : ℕ) → SinkGetsText before after 0 count bytes → page ≡ bytes ++ left
     → Appends before.contents after.contents (take count page) × (count ≤ length page)
 front_ends page bytes left before after count sends e =
     let n : count ≡ length bytes = sends.count ∙ zero-add (length bytes) in
@@ -132,7 +132,7 @@ pub record Broken {R : Type 0} (start : TextState R) (rows : List R) (now : Text
   pub past : (more : List R) → StoreOnlyIfTooLong end (length (start.rest (rows ++ more)))
   pub caused : IsCaused end start.sink.failures now.sink.failures
 
-pub broken_of : {R : Type 0} (rows : List R) (start now : TextState R) → IsFresh start → StoppedAt TakesText StopsText rows start now → Broken start rows now
+pub broken_of : {R : Type 0} (rows : List R) (start now : TextState R) → IsFresh start → StoppedAt RowTextIsTaken StopsText rows start now → Broken start rows now
 broken_of {R} rows start now fresh h =
     let taken = taken_of h.taken start h.between fresh.ongoing h.took in
     let stop = h.stopped.stopped taken.ongoing in
@@ -159,7 +159,7 @@ broken_of {R} rows start now fresh h =
     }
 
 -- what was written is a front of the page
-pub front_of : {R : Type 0} (now start : TextState R) (rows : List R) → IsFresh start → WasGiven TakesText StopsText rows start now
+pub front_of : {R : Type 0} (now start : TextState R) (rows : List R) → IsFresh start → WasGiven RowTextIsTaken StopsText rows start now
     → IsFront start.rest rows start.sink.contents now.sink.contents now.written
 front_of now start rows fresh (inl h) =
     let taken = taken_of rows start now fresh.ongoing h in
@@ -171,8 +171,8 @@ front_of now start rows fresh (inl h) =
     }
 front_of now start rows fresh (inr h) = (broken_of rows start now fresh h).front
 
--- no write failed where the page has not ended
-pub steady_of : {R : Type 0} (now start : TextState R) (rows : List R) → IsFresh start → WasGiven TakesText StopsText rows start now
+-- no write failed if the page has not ended
+pub steady_of : {R : Type 0} (now start : TextState R) (rows : List R) → IsFresh start → WasGiven RowTextIsTaken StopsText rows start now
     → now.end ≡ None → now.sink.failures ≡ start.sink.failures
 steady_of now start rows fresh (inl h) ongoing = (taken_of rows start now fresh.ongoing h).steady
 steady_of now start rows fresh (inr h) ongoing = let broken = broken_of rows start now fresh h in cc (ongoing, broken.is)
@@ -183,14 +183,14 @@ ends_broken rows start now after result broken e same =
     let front = broken.front in
     let left = front.begins [] in
     let page = ap start.rest (sym (append-nil rows)) ∙ left.1 in
-    let sends : Sends start.sink now.sink 0 (count_of broken.end) front.bytes = record { wrote = front.wrote; count = broken.count ∙ front.size ∙ sym (zero-add (length front.bytes)) } in
+    let sends : SinkGetsText start.sink now.sink 0 (count_of broken.end) front.bytes = record { wrote = front.wrote; count = broken.count ∙ front.size ∙ sym (zero-add (length front.bytes)) } in
     let ends = front_ends (start.rest rows) front.bytes left.0 start.sink now.sink (count_of broken.end) sends page in
     rw (e, same) (record { wrote = ends.0; within = ends.1; past = rw append-nil at (broken.past []); caused = broken.caused })
 
 -- the page is finished
 pub page_ends : {R : Type 0} (now : TextState R) (after : SinkState) (result : Result ℕ PageEnd)
     → ((end : PageEnd) → now.end ≡ Some end → (result ≡ Err end) × (after ≡ now.sink)) → (now.end ≡ None → Closes (now.rest []) now.sink after now.written result)
-    → (start : TextState R) (rows : List R) → IsFresh start → WasGiven TakesText StopsText rows start now → WritesPage (start.rest rows) start.sink after result
+    → (start : TextState R) (rows : List R) → IsFresh start → WasGiven RowTextIsTaken StopsText rows start now → WritesPage (start.rest rows) start.sink after result
 page_ends now after result ended closed start rows fresh (inl h) =
     let taken = taken_of rows start now fresh.ongoing h in
     ends_closed rows start now after result fresh taken (closed taken.ongoing)
@@ -202,7 +202,7 @@ page_ends now after result ended closed start rows fresh (inr h) =
 -- the page had ended at a row
 pub page_stops : {R : Type 0} (now : TextState R) (after : SinkState) (result : Result ℕ PageEnd)
     → ((end : PageEnd) → now.end ≡ Some end → (result ≡ Err end) × (after ≡ now.sink))
-    → (start : TextState R) (rows : List R) → IsFresh start → StoppedAt TakesText StopsText rows start now
+    → (start : TextState R) (rows : List R) → IsFresh start → StoppedAt RowTextIsTaken StopsText rows start now
     → (end : PageEnd) × (result ≡ Err end) × IsFront start.rest rows start.sink.contents after.contents (count_of end)
 page_stops now after result ended start rows fresh h =
     let broken = broken_of rows start now fresh h in

@@ -32,17 +32,18 @@ escape text = flat_map escape_byte text
 abbrev pub attribute : Bytes → Bytes → Bytes
 attribute name value = concat (codes " " ∷ name ∷ codes "=\"" ∷ escape value ∷ codes "\"" ∷ [])
 
--- the Python versions that a file is for (PEP 503), left out where nothing was declared
+-- the Python versions of a file (PEP 503), or nothing if none were declared
 abbrev pub requires_attribute : Bytes → Bytes
 requires_attribute requires =
     if length requires == 0 then [] else attribute (codes "data-requires-python") requires
 
--- why a file is yanked, where it is; the reason may be empty (PEP 592, "Specification")
+-- the reason for which a file is yanked, which may be empty, or nothing if it is not yanked (PEP
+-- 592, "Specification")
 abbrev pub yanked_attribute : Option Bytes → Bytes
 yanked_attribute None = []
 yanked_attribute (Some reason) = attribute (codes "data-yanked") reason
 
--- the begin of an anchor, with the reference to a file and its digest (PEP 503)
+-- the beginning of an anchor, with the reference to a file and its digest (PEP 503)
 abbrev pub reference : Bytes → Bytes → Bytes → Bytes
 reference project file digest =
     concat (codes "<a href=\"/files/" ∷ project ∷ codes "/" ∷ file ∷ codes "#sha256="
@@ -55,19 +56,19 @@ file_anchor project row = concat (
     ∷ requires_attribute row.requires_python ∷ yanked_attribute row.yanked
     ∷ codes ">" ∷ row.file ∷ codes "</a><br>\n" ∷ [])
 
--- what stands before a page's title
+-- the text before a page's title
 unfoldable pub head : Bytes
 head =
     codes "<!DOCTYPE html>\n<html>\n<head>\n<meta charset=\"utf-8\">\n"
     ++ codes "<meta name=\"pypi:repository-version\" content=\"1.0\">\n<title>"
 
--- what stands before the files
+-- the text before the files
 unfoldable pub project_top : Bytes → Bytes
 project_top project =
     concat (head ∷ codes "Links for " ∷ project
     ∷ codes "</title>\n</head>\n<body>\n<h1>Links for " ∷ project ∷ codes "</h1>\n" ∷ [])
 
--- what stands behind the rows
+-- the text behind the rows
 abbrev pub bottom : Bytes
 bottom = codes "</body>\n</html>\n"
 
@@ -81,15 +82,15 @@ name_anchor name shown =
     concat (codes "<a href=\"/simple/" ∷ name ∷ codes "/\">" ∷ escape shown
     ∷ codes "</a><br>\n" ∷ [])
 
--- the line of a name that is held, and nothing for a prohibited one
+-- the line of a held name, or nothing for a prohibited one
 abbrev pub anchor_of_name : Bytes → NameRecord → Bytes
 anchor_of_name name (Held project) = name_anchor name project.shown
 anchor_of_name name Prohibited = []
 
--- what stands before the names
+-- the text before the names
 unfoldable pub root_top : Bytes
 root_top = concat (head ∷ codes "Simple index</title>\n</head>\n<body>\n" ∷ [])
 
--- the page of the names
+-- the root page
 unfoldable pub root_html : List NameRow → Bytes
 root_html rows = root_top ++ (flat_map (λ row. anchor_of_name row.name row.record) rows ++ bottom)

@@ -19,25 +19,25 @@ use Rattle.index_pages.specs.Versions.{versions_of}
 abbrev pub meta : Data
 meta = object (member (codes "api-version") (string (codes "1.1")) no_members)
 
--- the digest of a file, under the name of its algorithm
+-- the digest of a file, at the name of its algorithm
 abbrev pub hashes : Bytes → Data
 hashes digest = object (member (codes "sha256") (string (text_of digest)) no_members)
 
--- the Python versions that a file is for, left out where nothing was declared
+-- the member with the Python versions of a file, or nothing if none were declared
 abbrev pub requires_member : Bytes → Members → Members
 requires_member requires later =
     if length requires == 0 then later else member (codes "requires-python") (string requires) later
 
--- why a file is yanked: the reason as a text, or true where it is empty
+-- the reason for which a file is yanked, or true if the reason is empty
 abbrev pub reason_data : Bytes → Data
 reason_data reason = if length reason == 0 then boolean true else string reason
 
--- left out where the file is not yanked
+-- the member with that reason, or nothing if the file is not yanked
 abbrev pub yanked_member : Option Bytes → Members
 yanked_member None = no_members
 yanked_member (Some reason) = member (codes "yanked") (reason_data reason) no_members
 
--- where a file is served
+-- the URL of a file
 abbrev pub url_of : Bytes → Bytes → Bytes
 url_of project file = concat (codes "/files/" ∷ project ∷ codes "/" ∷ file ∷ [])
 
@@ -64,12 +64,12 @@ project_json project rows = compact_text (object
 abbrev pub name_data : Bytes → Data
 name_data shown = object (member (codes "name") (string shown) no_members)
 
--- a name that is held, and nothing for a prohibited one
+-- a held name, or nothing for a prohibited one
 abbrev pub names_of : NameRecord → List Data
 names_of (Held project) = name_data project.shown ∷ []
 names_of Prohibited = []
 
--- the page of the names
+-- the root page
 unfoldable pub root_json : List NameRow → Bytes
 root_json rows = compact_text (object
     (member (codes "meta") meta

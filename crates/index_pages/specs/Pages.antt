@@ -14,11 +14,11 @@ is_json PlainHtml = false
 is_json Html = false
 is_json Json = true
 
--- the page that lists the held names among these
+-- the root page, with the held names among these
 abbrev pub root_page_of : Served → List NameRow → Bytes
 root_page_of served rows = if is_json served then root_json rows else root_html rows
 
--- the page of a project, which lists these files
+-- the page of a project, with these files
 abbrev pub project_page_of : Served → Bytes → List FileRow → Bytes
 project_page_of served project rows =
     if is_json served then project_json project rows else project_html project rows

@@ -1,4 +1,4 @@
--- How the choice is made: the best claim on each type so far, item by item.
+-- How a type is chosen: the best claim on each type so far, item by item.
 use Rattle.std.specs.Prelude.{ℕ, Bool, false, ◌||◌, ◌&&◌, List, [], ◌∷◌, map, if◌then◌else◌, ◌==◌}
 use Rattle.std.specs.Prelude.{nat_lt, Option}
 use Rattle.std.specs.Option.{option_map_or}
@@ -17,7 +17,7 @@ is_above a b =
     nat_lt b.specificity a.specificity
     || ((a.specificity == b.specificity) && nat_lt b.quality a.quality)
 
--- the second claim where it is above the first
+-- the second claim if it is above the first
 abbrev pub better : Claim → Claim → Claim
 better a b = if is_above b a then b else a
 
@@ -26,27 +26,27 @@ abbrev pub best_from : Served → Claim → List Item → Claim
 best_from served best [] = best
 best_from served best (item ∷ items) = best_from served (better best (claim served item)) items
 
--- an item that holds its range by reference, as the definitions see it
+-- an item as the definitions see it: the code's has a reference to its range
 abbrev pub shown : code.Item → Item
 shown item = record { range = item.range.now; quality = item.quality }
 
--- the pieces of what stands behind a separator, where there is one
+-- the pieces behind a separator, if there is one
 abbrev pub rest_cut_at : ℕ → Option (Bor (List ℕ)) → List (List ℕ)
 rest_cut_at separator left = option_map_or (λ rest. cut_at separator rest.now) left []
 
--- the pieces that are left of an item
+-- the pieces of an item that are left
 abbrev pub pieces_left : Option (Bor (List ℕ)) → List (List ℕ)
 pieces_left left = option_map_or (λ rest. map trim (cut_at (byte ";") rest.now)) left []
 
--- the items that are left of a value
+-- the items of a value that are left
 abbrev pub items_left : Option (Bor (List ℕ)) → List Item
 items_left left = option_map_or (λ rest. map item_of (cut_at (byte ",") rest.now)) left []
 
--- what no items say
+-- the tally of no items
 abbrev pub no_tally : Tally
 no_tally = record { is_readable = false; plain = no_claim; html = no_claim; json = no_claim }
 
--- with one item more
+-- a tally with one more item
 abbrev pub after : Tally → Item → Tally
 after tally item = record {
   is_readable = tally.is_readable || is_readable item;
@@ -55,7 +55,7 @@ after tally item = record {
   json = better tally.json (claim Json item);
 }
 
--- with these items more
+-- a tally with these items added
 unfoldable pub after_all : Tally → List Item → Tally
 after_all tally [] = tally
 after_all tally (item ∷ items) = after_all (after tally item) items

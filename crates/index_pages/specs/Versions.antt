@@ -6,11 +6,11 @@ use Rattle.std.specs.List.Sorted.{IsStrictlySortedBy}
 use Rattle.index_rules.specs.Maps.{Bytes, bytes_cmp, same}
 use Rattle.index_rules.specs.declared.rows.FileRow.{FileRow}
 
--- a release at its place in byte order, unless it is there
+-- the releases with this one, at its place in byte order
 abbrev pub with_release : List Bytes → Bytes → List Bytes
 with_release held release = insert_key bytes_cmp held release
 
--- the releases of files, each at its place among those that were there
+-- the releases with those of these files
 abbrev pub with_releases : List Bytes → List FileRow → List Bytes
 with_releases held [] = held
 with_releases held (row ∷ rows) = with_releases (with_release held row.release) rows
@@ -19,8 +19,7 @@ with_releases held (row ∷ rows) = with_releases (with_release held row.release
 abbrev pub versions_of : List FileRow → List Bytes
 versions_of rows = with_releases [] rows
 
--- they rise strictly in byte order, so each stands once, and they are
--- exactly the releases of the files
+-- the versions are exactly the releases of the files, each once and in byte order
 pub record ListsReleases (rows : List FileRow) : Type 0 where
   pub rising : IsStrictlySortedBy bytes_cmp (versions_of rows)
   pub exact : (release : Bytes)

@@ -1,11 +1,11 @@
-//! Pieces at the end of a text.
+//! Appends pieces to a text.
 ghost use Rattle.index_pages.specs.Html.{escape, escape_byte, text_of_pieces};
 ghost use Rattle.index_pages.specs.Pieces.{Adds};
 
 use crate::pieces::Pieces;
 use std::alloc::AllocError;
 
-/// Adds the pieces in turn.
+/// Appends the pieces in turn.
 pub fn append<O: Pieces>(out: &mut O, pieces: &[&[u8]]) -> Result<(), AllocError>
     ensures { Adds O.holds out.old out.new result (text_of_pieces pieces.now) }
 {
@@ -15,7 +15,7 @@ pub fn append<O: Pieces>(out: &mut O, pieces: &[&[u8]]) -> Result<(), AllocError
     Ok(())
 }
 
-/// Adds a text or an attribute's value, with `&`, `<`, `>` and `"` escaped.
+/// Appends a text or an attribute's value, with `&`, `<`, `>` and `"` escaped.
 #[tactic(auto, unfolding(crate::specs::Html::escape))]
 pub fn append_escaped<O: Pieces>(out: &mut O, text: &[u8]) -> Result<(), AllocError>
     ensures { Adds O.holds out.old out.new result (escape text.now) }
@@ -26,7 +26,7 @@ pub fn append_escaped<O: Pieces>(out: &mut O, text: &[u8]) -> Result<(), AllocEr
     Ok(())
 }
 
-/// Appends a byte, or what HTML has in its place.
+/// Appends a byte, or its escape in HTML.
 fn append_escaped_byte<O: Pieces>(out: &mut O, byte: u8) -> Result<(), AllocError>
     ensures { Adds O.holds out.old out.new result (escape_byte byte) }
 {

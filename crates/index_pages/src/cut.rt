@@ -1,9 +1,9 @@
-//! Bytes cut at a separator, and without blanks.
+//! Cuts bytes at a separator, and trims blanks.
 ghost use Rattle.std.specs.Prelude.{◌≡◌, ◌<◌, ◌∷◌, length, reverse, IfSome};
 ghost use Rattle.index_pages.specs.Accept.{cut_at, is_blank as is_blank_lem, skip_blanks, trim as trim_lem};
 ghost use Rattle.index_pages.specs.Tally.{rest_cut_at};
 
-/// What stands before the first separator, and what stands after it if there is one.
+/// The bytes before the first separator, and those after it if there is one.
 pub fn cut(bytes: &[u8], separator: u8) -> (&[u8], Option<&[u8]>)
     ensures cut { cut_at separator bytes.now ≡ result.0.now ∷ rest_cut_at separator result.1 }
     ensures shorter { IfSome result.1 (λ rest. length rest.now < length bytes.now) }

@@ -1,8 +1,8 @@
-//! The early ends of a page.
+//! Why a page ended early.
 ghost use Rattle.std.specs.Prelude.{◌≡◌};
 ghost use Rattle.index_pages.specs.Ends.{count_of};
 
-/// Why a page was not finished, and how many of its bytes went out.
+/// Why a page was not finished, and how many of its bytes were written.
 #[derive(Clone, Copy, Debug, PartialEq, Eq, Hash)]
 pub enum PageEnd {
     OutOfMemory(u64),
@@ -13,7 +13,7 @@ pub enum PageEnd {
 }
 
 impl PageEnd {
-    /// How many bytes of the page went out.
+    /// The number of bytes that were written.
     pub fn count(self) -> u64
         ensures { result ≡ count_of self }
     {

@@ -1,4 +1,4 @@
-//! The texts of HTML pages.
+//! The parts of HTML pages.
 ghost use Rattle.index_pages.specs.Html.{attribute, bottom, file_anchor, name_anchor, project_top, reference, requires_attribute, root_top, yanked_attribute};
 ghost use Rattle.index_pages.specs.Pieces.{Adds};
 
@@ -9,11 +9,11 @@ use index_rules::FileRow;
 use index_text::Text;
 use std::alloc::AllocError;
 
-/// What stands before a page's title.
+/// The text before a page's title.
 const HEAD: &[u8] =
     b"<!DOCTYPE html>\n<html>\n<head>\n<meta charset=\"utf-8\">\n<meta name=\"pypi:repository-version\" content=\"1.0\">\n<title>";
 
-/// What stands before the files of a project.
+/// Appends the text before the files of a project.
 #[tactic(auto, unfolding(crate::specs::Html::project_top, crate::specs::Html::head))]
 pub fn append_project_top<O: Pieces>(out: &mut O, project: &[u8]) -> Result<(), AllocError>
     ensures { Adds O.holds out.old out.new result (project_top project.now) }
@@ -31,7 +31,7 @@ pub fn append_project_top<O: Pieces>(out: &mut O, project: &[u8]) -> Result<(), 
     )
 }
 
-/// What stands before the names.
+/// Appends the text before the names.
 #[tactic(auto, unfolding(crate::specs::Html::root_top, crate::specs::Html::head))]
 pub fn append_root_top<O: Pieces>(out: &mut O) -> Result<(), AllocError>
     ensures { Adds O.holds out.old out.new result root_top }
@@ -39,14 +39,14 @@ pub fn append_root_top<O: Pieces>(out: &mut O) -> Result<(), AllocError>
     append(out, &[HEAD, b"Simple index</title>\n</head>\n<body>\n"])
 }
 
-/// What stands behind the rows.
+/// Appends the text behind the rows.
 pub fn append_bottom<O: Pieces>(out: &mut O) -> Result<(), AllocError>
     ensures { Adds O.holds out.old out.new result bottom }
 {
     append(out, &[b"</body>\n</html>\n"])
 }
 
-/// The line of a held name.
+/// Appends the line of a held name.
 pub fn append_name<O: Pieces>(out: &mut O, name: &[u8], shown: &[u8]) -> Result<(), AllocError>
     ensures { Adds O.holds out.old out.new result (name_anchor name.now shown.now) }
 {
@@ -56,7 +56,7 @@ pub fn append_name<O: Pieces>(out: &mut O, name: &[u8], shown: &[u8]) -> Result<
     Ok(())
 }
 
-/// The line of a file.
+/// Appends the line of a file.
 pub fn append_file<O: Pieces>(out: &mut O, project: &[u8], row: &FileRow) -> Result<(), AllocError>
     ensures { Adds O.holds out.old out.new result (file_anchor project.now row.now) }
 {
@@ -67,7 +67,7 @@ pub fn append_file<O: Pieces>(out: &mut O, project: &[u8], row: &FileRow) -> Res
     Ok(())
 }
 
-/// An anchor's begin, up to the reference to a file with its digest.
+/// Appends the beginning of an anchor, up to the reference to a file with its digest.
 fn append_reference<O: Pieces>(
     out: &mut O,
     project: &[u8],

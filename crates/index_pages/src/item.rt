@@ -6,12 +6,12 @@ ghost use Rattle.index_pages.specs.Tally.{pieces_left, shown};
 
 use crate::cut::{cut, trim};
 
-/// What stands between two commas of an `Accept` header.
+/// An item: the text between two commas of an `Accept` header.
 #[derive(Drop)]
 pub struct Item<'a> {
     /// The media range.
     pub range: &'a [u8],
-    /// In thousandths, or `None` where it is malformed.
+    /// The quality in thousandths, or `None` if it is malformed.
     pub quality: Option<u16>,
 }
 
@@ -35,7 +35,7 @@ impl<'a> Item<'a> {
     }
 }
 
-/// Whether these are two pieces with a slash between them, none of them empty.
+/// Whether the range is two texts with a slash between them, both not empty.
 fn is_media_range(range: &[u8]) -> bool
     ensures { result ≡ are_two (cut_at (byte "/") range.now) }
 {
@@ -48,7 +48,7 @@ fn is_media_range(range: &[u8]) -> bool
     }
 }
 
-/// The quality that the first piece with `q=` gives, and 1,000 thousandths without one.
+/// The quality of the first piece with `q=`, or 1,000 thousandths if there is none.
 fn quality_among(pieces: Option<&[u8]>) -> Option<u16>
     ensures { result ≡ first_quality (pieces_left pieces.entry) }
 {
@@ -63,7 +63,7 @@ fn quality_among(pieces: Option<&[u8]>) -> Option<u16>
     Some(1000)
 }
 
-/// What stands behind `q=`.
+/// The text behind `q=`.
 fn quality_text(piece: &[u8]) -> Option<&[u8]>
     ensures is { is_some result ≡ is_quality piece.now }
     ensures text { IfSome result (λ text. text.now ≡ drop 2 piece.now) }

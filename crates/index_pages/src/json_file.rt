@@ -1,4 +1,4 @@
-//! A file of a project in JSON, member by member. The keys stand in byte order, and each has its comma before it.
+//! A file of a project in JSON, member by member. The keys are in byte order, and each has its comma before it.
 ghost use Rattle.serde_json.specs.Written.{comma_if, compact_text};
 ghost use Rattle.index_pages.specs.Json.{reason_data};
 ghost use Rattle.index_pages.specs.Parts.{file_front, file_text, hashes_text, requires_text, size_text, url_text, yanked_text};
@@ -13,7 +13,7 @@ use index_text::Text;
 use itoa::Buffer;
 use std::alloc::AllocError;
 
-/// A comma, where something stands before it.
+/// Appends a comma, if something stands before it.
 pub fn append_comma<O: Pieces>(out: &mut O, is_later: bool) -> Result<(), AllocError>
     ensures { Adds O.holds out.old out.new result (comma_if is_later) }
 {
@@ -23,7 +23,7 @@ pub fn append_comma<O: Pieces>(out: &mut O, is_later: bool) -> Result<(), AllocE
     out.put(b",")
 }
 
-/// A file of a project.
+/// Appends a file of a project.
 pub fn append_json_file<O: Pieces>(
     out: &mut O,
     project: &str,
@@ -39,7 +39,7 @@ pub fn append_json_file<O: Pieces>(
     Ok(())
 }
 
-/// A file up to its size.
+/// Appends a file up to its size.
 fn append_front<O: Pieces>(out: &mut O, row: &FileRow) -> Result<(), AllocError>
     ensures { Adds O.holds out.old out.new result (file_front row.now) }
 {
@@ -106,7 +106,7 @@ fn append_yanked<O: Pieces>(out: &mut O, yanked: &Option<Text>) -> Result<(), Al
     Ok(())
 }
 
-/// The reason as a text, or true where it is empty.
+/// Appends the reason as a text, or true if it is empty.
 fn append_reason<O: Pieces>(out: &mut O, reason: &str) -> Result<(), AllocError>
     ensures { Adds O.holds out.old out.new result (compact_text (reason_data reason.now)) }
 {

@@ -1,4 +1,4 @@
-//! Laws of pages. Each function does nothing, and its contract is the law.
+//! Laws of pages. Each function does nothing: its contract is the law.
 ghost use Rattle.std.specs.Prelude.{List};
 ghost use Rattle.index_rules.specs.declared.rows.FileRow.{FileRow};
 ghost use Rattle.index_pages.specs.Versions.{ListsReleases};

@@ -1,4 +1,4 @@
-//! The length of a page, row by row.
+//! Counts the length of a page, row by row.
 ghost use Rattle.std.specs.Prelude.{◌≡◌, [], false, Err, Some, IfErr, IfOk, IsTrue, length as text_length};
 ghost use Rattle.index_rules.specs.Maps.{Bytes};
 ghost use Rattle.index_pages.specs.Left.{files_left, names_left};
@@ -15,7 +15,7 @@ use index_names::NormalName;
 use index_rules::{Fault, FileRow, FileTaker, NameRow, NameTaker};
 use std::alloc::Global;
 
-/// The length of a page, as far as its rows came. After a row that it could not count it takes no more.
+/// The length of a page so far. After a row that it could not count it takes no more.
 #[derive(Drop)]
 pub struct PageLength<'p, P> {
     name: &'p str,
@@ -25,8 +25,7 @@ pub struct PageLength<'p, P> {
 }
 
 impl PageLength<'static, RootPage> {
-    /// The length of the page of the names, of which nothing was counted. It takes rows of names. It takes no memory
-    /// itself.
+    /// A count of the root page, which takes rows of names. It takes no memory itself.
     pub fn root(served: Served) -> PageLength<'static, RootPage>
         ensures { BeginsCount names_left result (root_page_of served) }
     {
@@ -35,8 +34,7 @@ impl PageLength<'static, RootPage> {
 }
 
 impl<'p> PageLength<'p, ProjectPage> {
-    /// The length of the page of a project, of which nothing was counted. It takes rows of files. It takes no memory
-    /// itself.
+    /// A count of a project's page, which takes rows of files. It takes no memory itself.
     pub fn project(
         alloc: Global,
         name: &'p NormalName,
@@ -49,7 +47,7 @@ impl<'p> PageLength<'p, ProjectPage> {
 }
 
 impl<'p, P: Page> PageLength<'p, P> {
-    /// A page of which nothing was counted.
+    /// A count of a page without rows.
     fn new(name: &'p str, page: P) -> PageLength<'p, P>
         ensures { BeginsCount P.rest result (P.rest page name.now) }
     {
@@ -61,12 +59,12 @@ impl<'p, P: Page> PageLength<'p, P> {
         }
     }
 
-    /// How many bytes the page of the rows that were given has.
+    /// Returns the length of the page of the given rows, in bytes.
     ///
     /// # Errors
     ///
-    /// `Store` where they are more than 9,223,372,036,854,775,807, else `OutOfMemory`. Where a row was not taken it is
-    /// the fault at that row.
+    /// `Store` if it is more than 9,223,372,036,854,775,807, or `OutOfMemory`. If a row was not taken, the error is
+    /// that of the row.
     pub fn finish(self) -> Result<u64, Fault>
         ensures page { MeasuresGivenRows (count_state P.rest self.entry) result }
         ensures stopped { StopsLength (count_state P.rest self.entry) result }
@@ -84,7 +82,7 @@ impl<'p, P: Page> PageLength<'p, P> {
         }
     }
 
-    /// Counts the text of a row, or answers `false` where there is no count.
+    /// Counts the text of a row. Returns `false` if that failed.
     fn take_row(&mut self, row: &P::Row) -> bool
         ensures taken { IsTrue result → CountTakes P.rest self.old row.now self.new }
         ensures stopped { result ≡ false → CountStops P.rest self.old row.now self.new }
@@ -142,7 +140,7 @@ impl FileTaker for PageLength<'_, ProjectPage> {
     }
 }
 
-/// The length with one text more, by the count of its bytes.
+/// The length with one more text, whose bytes are counted.
 fn add(length: u64, count: Count) -> Result<u64, Fault>
     ensures { (text : Bytes) → count.bytes ≡ text_length text → Counts text length result }
 {
@@ -152,7 +150,7 @@ fn add(length: u64, count: Count) -> Result<u64, Fault>
     }
 }
 
-/// The length with what stands behind the rows.
+/// The length with the text behind the rows.
 fn add_last<P: Page>(name: &str, page: &P, length: u64) -> Result<u64, Fault>
     ensures { Counts (P.rest page.now name.now []) length result }
 {

@@ -1,16 +1,16 @@
-//! What a text is put into, piece by piece: a buffer, or a count of its bytes.
+//! What a text is appended to, piece by piece: a buffer, or a count of its bytes.
 ghost use Rattle.std.specs.Prelude.{◌≡◌};
 ghost use Rattle.index_rules.specs.Maps.{Bytes};
 ghost use Rattle.index_pages.specs.Pieces.{Adds};
 
 use std::alloc::AllocError;
 
-/// What takes the pieces of a text.
+/// What pieces of a text are appended to.
 pub trait Pieces {
-    /// Whether it has this text.
+    /// Whether this is the text so far.
     ghost holds: { Self → Bytes → Type 0 };
 
-    /// Puts a piece behind the text.
+    /// Appends a piece.
     fn put(&mut self, piece: &[u8]) -> Result<(), AllocError>
         ensures { Adds holds self.old self.new result piece.now };
 }
@@ -23,7 +23,7 @@ impl Pieces for Vec<u8> {
     }
 }
 
-/// How many bytes a text has. Of a text that no memory could hold there is no count.
+/// The number of a text's bytes. There is none for a text that no memory could hold.
 #[derive(Clone, Copy)]
 pub struct Count {
     pub(crate) bytes: usize,

@@ -19,11 +19,11 @@ use index_rules::FileRow;
 use std::alloc::{AllocError, Global};
 use std::collections::BTreeSet;
 
-/// The page of a project, as far as its files came.
+/// The page of a project so far.
 pub struct ProjectPage {
     as_json: bool,
     is_started: bool,
-    /// The releases of the files that came. A page in HTML does not list them, and keeps none.
+    /// The releases of the files so far. A page in HTML does not list them, and keeps none.
     releases: BTreeSet<Release>,
 }
 
@@ -39,7 +39,7 @@ impl Drop for ProjectPage {
 }
 
 impl ProjectPage {
-    /// A page of which no file came. It takes no memory.
+    /// A page without files. It takes no memory.
     pub(crate) fn new(alloc: Global, served: Served) -> ProjectPage
         ensures { (name : _) → IsWholeOf (files_left result name) (project_page_of served name) }
     {
@@ -132,7 +132,7 @@ impl Page for ProjectPage {
     }
 }
 
-/// Nothing, or what stands before the files.
+/// Appends the text before the files, unless it was written.
 fn append_html_start<O: Pieces>(
     out: &mut O,
     project: &str,
@@ -146,7 +146,7 @@ fn append_html_start<O: Pieces>(
     append_project_top(out, project.as_bytes())
 }
 
-/// Nothing, or what stands before the files.
+/// Appends the text before the files, unless it was written.
 #[tactic(auto, unfolding(crate::specs::Parts::files_top))]
 fn append_json_start<O: Pieces>(out: &mut O, is_started: bool) -> Result<(), AllocError>
     ensures { Adds O.holds out.old out.new result (once is_started files_top) }
@@ -157,7 +157,7 @@ fn append_json_start<O: Pieces>(out: &mut O, is_started: bool) -> Result<(), All
     out.put(b"{\"files\":[")
 }
 
-/// The text of a file, behind what stands before it.
+/// Appends the text of a file, behind the text before it.
 fn append_file_line<O: Pieces>(
     out: &mut O,
     project: &str,
@@ -172,7 +172,7 @@ fn append_file_line<O: Pieces>(
     Ok(())
 }
 
-/// What stands behind the files and their bracket.
+/// Appends the text behind the files and their bracket.
 fn append_files_bottom<O: Pieces>(
     out: &mut O,
     project: &str,
@@ -188,7 +188,7 @@ fn append_files_bottom<O: Pieces>(
     Ok(())
 }
 
-/// The releases, and the bracket behind them.
+/// Appends the releases, and the bracket behind them.
 fn append_releases<O: Pieces>(out: &mut O, releases: &BTreeSet<Release>) -> Result<(), AllocError>
     ensures { Adds O.holds out.old out.new result (releases_text false releases.now.keys) }
 {

@@ -10,7 +10,7 @@ ghost use Rattle.index_pages.specs.Pieces.{Adds};
 use crate::pieces::Pieces;
 use std::alloc::AllocError;
 
-/// Adds a text in quotes.
+/// Appends a text in quotes.
 pub fn append_json_text<O: Pieces>(out: &mut O, text: &str) -> Result<(), AllocError>
     ensures { Adds O.holds out.old out.new result (json_text text.now) }
 {
@@ -20,7 +20,7 @@ pub fn append_json_text<O: Pieces>(out: &mut O, text: &str) -> Result<(), AllocE
     Ok(())
 }
 
-/// Adds what stands between the quotes. Most texts need no escape and go out as they are.
+/// Appends the text between the quotes. Most texts need no escape, and are appended as they are.
 pub fn append_json_escaped<O: Pieces>(out: &mut O, text: &[u8]) -> Result<(), AllocError>
     ensures { Adds O.holds out.old out.new result (escape text.now) }
 {
@@ -33,7 +33,7 @@ pub fn append_json_escaped<O: Pieces>(out: &mut O, text: &[u8]) -> Result<(), Al
     Ok(())
 }
 
-/// Whether a text needs no escape. It looks at each byte, so that several can be tested at once.
+/// Whether a text needs no escape. It reads every byte, so that several can be tested at once.
 fn is_plain(text: &[u8]) -> bool
     ensures { result ≡ list_all is_plain_byte text.now }
 {

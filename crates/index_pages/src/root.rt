@@ -1,4 +1,4 @@
-//! The page of the names.
+//! The root page.
 ghost use Rattle.std.specs.Prelude.{◌≡◌, ◌++◌, [], true, OnOk};
 ghost use Rattle.serde_json.specs.Written.{comma_if};
 ghost use Rattle.index_pages.specs.Left.{held_line, held_text, names_left};
@@ -16,7 +16,7 @@ use crate::served::Served;
 use index_rules::{NameRecord, NameRow};
 use std::alloc::AllocError;
 
-/// The page of the names, as far as they came. Of these it lists the ones that are held.
+/// The root page so far. It lists the held names among its rows.
 #[derive(Drop)]
 pub struct RootPage {
     as_json: bool,
@@ -24,7 +24,7 @@ pub struct RootPage {
 }
 
 impl RootPage {
-    /// A page of which no name came. It takes no memory.
+    /// A page without names. It takes no memory.
     pub(crate) fn new(served: Served) -> RootPage
         ensures { IsWholeOf (names_left result []) (root_page_of served) }
     {
@@ -34,7 +34,7 @@ impl RootPage {
         }
     }
 
-    /// The text of a held name.
+    /// Appends the text of a held name.
     fn append_held<O: Pieces>(
         &mut self,
         name: &str,
@@ -78,7 +78,7 @@ impl Page for RootPage {
     }
 }
 
-/// Nothing, or what stands before the names.
+/// Appends the text before the names, unless it was written.
 #[tactic(auto, unfolding(crate::specs::Parts::names_top))]
 fn append_start<O: Pieces>(out: &mut O, as_json: bool, is_started: bool) -> Result<(), AllocError>
     ensures { Adds O.holds out.old out.new result (root_start as_json is_started) }
@@ -92,7 +92,7 @@ fn append_start<O: Pieces>(out: &mut O, as_json: bool, is_started: bool) -> Resu
     }
 }
 
-/// Appends what the page has of a held name, in the page's format.
+/// Appends the line of a held name, in the page's format.
 fn append_line<O: Pieces>(
     out: &mut O,
     page: &RootPage,
@@ -108,7 +108,7 @@ fn append_line<O: Pieces>(
     }
 }
 
-/// Appends a name as it is shown, after a comma if it is not the first.
+/// Appends a name in its display spelling, after a comma if it is not the first.
 fn append_json_name<O: Pieces>(out: &mut O, shown: &str, is_later: bool) -> Result<(), AllocError>
     ensures { Adds O.holds out.old out.new result (comma_if is_later ++ name_text shown.now) }
 {
@@ -119,7 +119,7 @@ fn append_json_name<O: Pieces>(out: &mut O, shown: &str, is_later: bool) -> Resu
     Ok(())
 }
 
-/// What stands behind the names.
+/// Appends the text behind the names.
 fn append_root_bottom<O: Pieces>(out: &mut O, as_json: bool) -> Result<(), AllocError>
     ensures { Adds O.holds out.old out.new result (root_bottom as_json) }
 {

@@ -17,9 +17,9 @@ pub enum Served {
 }
 
 impl Served {
-    /// The type to serve by the values of all `Accept` headers, or `None` where they allow none (RFC 9110, section
-    /// 12.5.1). No header, or none with a readable item, counts as `*/*`. Of equally acceptable types the first of
-    /// those above is chosen. It takes no memory.
+    /// The type that the values of all `Accept` headers choose, or `None` if they allow none (RFC 9110, section
+    /// 12.5.1). No header, or none with a readable item, counts as `*/*`. Of equally acceptable types the first in the
+    /// order above is chosen. It takes no memory.
     pub fn choose(accept: &[&[u8]]) -> Option<Served>
         ensures { IsChosen accept.now result }
     {
@@ -34,7 +34,7 @@ impl Served {
         }
     }
 
-    /// Whether it is JSON.
+    /// Whether the type is JSON.
     pub(crate) fn is_json(self) -> bool
         ensures { result ≡ is_json self }
     {

@@ -1,4 +1,4 @@
-//! What the items of `Accept` headers say of each type, item by item.
+//! What the items of `Accept` headers claim for each type, item by item.
 ghost use Rattle.std.specs.Prelude.{◌≡◌, map};
 ghost use Rattle.std.specs.Char.{to_ascii_lowercase};
 ghost use Rattle.std.specs.Str.{byte};
@@ -9,19 +9,19 @@ use crate::cut::cut;
 use crate::item::Item;
 use crate::served::Served;
 
-/// How closely an item names a type, and the quality that it gives it.
+/// How specifically an item names a type, and the quality that it gives it.
 #[derive(Clone, Copy)]
 pub struct Claim {
     /// 3 for the type itself, 2 for all types beside it, 1 for any type, and 0 for none.
     pub specificity: u8,
-    /// In thousandths.
+    /// The quality in thousandths.
     pub quality: u16,
 }
 
-/// What the items so far say.
+/// The claims of the items so far.
 #[derive(Clone, Copy)]
 pub struct Tally {
-    /// Whether one of them was readable.
+    /// Whether an item was readable.
     pub is_readable: bool,
     /// The best claim on each type.
     pub plain: Claim,
@@ -35,7 +35,7 @@ const NO_CLAIM: Claim = Claim {
 };
 
 impl Tally {
-    /// What no items say.
+    /// The tally of no items.
     pub fn new() -> Tally
         ensures { result ≡ no_tally }
     {
@@ -47,7 +47,7 @@ impl Tally {
         }
     }
 
-    /// With the items of one value more.
+    /// A tally with the items of one more value.
     pub fn with_value(self, value: &[u8]) -> Tally
         ensures { result ≡ after_all self (map item_of (cut_at (byte ",") value.now)) }
     {
@@ -61,7 +61,7 @@ impl Tally {
         tally
     }
 
-    /// With one item more.
+    /// A tally with one more item.
     fn with(self, item: &Item<'_>) -> Tally
         ensures { result ≡ after self (shown item.now) }
     {
@@ -90,7 +90,7 @@ impl Tally {
     }
 }
 
-/// The second claim where it is above the first.
+/// The second claim if it is above the first.
 fn better(a: Claim, b: Claim) -> Claim
     ensures { result ≡ better_lem a b }
 {
@@ -115,7 +115,7 @@ fn claim_of(served: Served, item: &Item<'_>) -> Claim
     }
 }
 
-/// How closely a range names a type: 0 where it does not cover it.
+/// How specifically a range names a type; 0 if it does not cover it.
 #[tactic(auto, unfolding(crate::specs::Accept::specificity))]
 fn specificity(served: Served, range: &[u8]) -> u8
     ensures { result ≡ specificity_lem served (map to_ascii_lowercase range.now) }

@@ -1,4 +1,4 @@
-//! A page that is written row by row.
+//! Writes a page row by row.
 ghost use Rattle.std.specs.Prelude.{◌≡◌, ◌+◌, ◌<◌, ◌≤◌, [], false, None, IfErr, IfOk, IfSome, IsTrue};
 ghost use Rattle.index_pages.specs.Ends.{Closes, most_bytes};
 ghost use Rattle.index_pages.specs.Left.{files_left, names_left};
@@ -18,22 +18,23 @@ use std::alloc::Global;
 /// The most bytes of a page.
 const MOST_BYTES: u64 = 9_223_372_036_854_775_807;
 
-/// A page that is written to a sink as its rows come. After a row that it could not write whole it takes no more, and
-/// writes nothing more.
+/// A page that is written to a sink as its rows come. After a row that could not be written whole it takes and writes
+/// nothing more.
 #[derive(Drop)]
 pub struct PageText<'a, 'p, K, P, R> {
     sink: &'a mut K,
     name: &'p str,
     page: P,
-    /// Room for the text of a row. Where its type stands here itself, no contract sees what a page leaves of its sink.
+    /// Memory for the text of a row. Its type is a parameter: else no contract would see what a page leaves of its
+    /// sink.
     room: R,
     written: u64,
     end: Option<PageEnd>,
 }
 
 impl<'a, K: Sink> PageText<'a, 'static, K, RootPage, Vec<u8>> {
-    /// The page of the names, of which nothing was written. It takes rows of names and lists those that are held. It
-    /// takes no memory itself.
+    /// The root page, which is not begun yet. It takes rows of names, and lists those that are held. It takes no memory
+    /// itself.
     pub fn root(
         alloc: Global,
         served: Served,
@@ -46,7 +47,7 @@ impl<'a, K: Sink> PageText<'a, 'static, K, RootPage, Vec<u8>> {
 }
 
 impl<'a, 'p, K: Sink> PageText<'a, 'p, K, ProjectPage, Vec<u8>> {
-    /// The page of a project, of which nothing was written. It takes rows of files. It takes no memory itself.
+    /// A project's page, which is not begun yet. It takes rows of files. It takes no memory itself.
     pub fn project(
         alloc: Global,
         name: &'p NormalName,
@@ -60,7 +61,7 @@ impl<'a, 'p, K: Sink> PageText<'a, 'p, K, ProjectPage, Vec<u8>> {
 }
 
 impl<'a, 'p, K: Sink, P: Page> PageText<'a, 'p, K, P, Vec<u8>> {
-    /// A page of which nothing was written.
+    /// A page that is not begun yet.
     fn new(
         alloc: Global,
         name: &'p str,
@@ -79,15 +80,15 @@ impl<'a, 'p, K: Sink, P: Page> PageText<'a, 'p, K, P, Vec<u8>> {
         }
     }
 
-    /// How many bytes were written: a front of the page of all rows that begin with those that were given. It takes no
-    /// memory.
+    /// The number of bytes that were written. They begin every page whose rows begin with those that were given. It
+    /// takes no memory.
     pub fn written(&self) -> u64
         ensures written { CountsWritten (page_state K.Sink P.rest self.now) result }
     {
         self.written
     }
 
-    /// Lets the page go before it is finished, and tells how many bytes were written, as `written` does. Nothing more is
+    /// Drops the page before it is finished, and returns the number of bytes that were written. Nothing more is
     /// written.
     pub fn abandon(self) -> u64
         ensures kept { self.exit.0.now ≡ sink_of self.entry }
@@ -104,13 +105,13 @@ impl<'a, 'p, K: Sink, P: Page> PageText<'a, 'p, K, P, Vec<u8>> {
         written
     }
 
-    /// Writes what stands behind the rows, and tells how many bytes the page has.
+    /// Writes the text behind the rows, and returns the number of bytes of the page.
     ///
     /// # Errors
     ///
-    /// The end tells why the page was not finished and how many of its bytes went out: `OutOfMemory`; `Store` where it
-    /// would have more than 9,223,372,036,854,775,807 bytes; `WriteFault` where a write failed or took no byte. Where a
-    /// row was not taken it is the end of that row, and nothing more is written.
+    /// The end says why the page was not finished and how many of its bytes were written: `OutOfMemory`; `Store` if it
+    /// would have more than 9,223,372,036,854,775,807 bytes; `WriteFault` if a write failed or took no byte. If a row
+    /// was not taken, the error is that of the row, and nothing more is written.
     pub fn finish(self) -> Result<u64, PageEnd>
         ensures page { PageEnds K.Sink P.rest self.entry self.exit.0.now result }
         ensures stopped { PageEndsStopped K.Sink P.rest self.entry self.exit.0.now result }
@@ -130,7 +131,7 @@ impl<'a, 'p, K: Sink, P: Page> PageText<'a, 'p, K, P, Vec<u8>> {
         }
     }
 
-    /// Writes the text of a row, or answers `false` where it could not be written whole.
+    /// Writes the text of a row. Returns `false` if it could not be written whole.
     fn take_row(&mut self, row: &P::Row) -> bool
         ensures taken { IsTrue result → PageTakes K.Sink P.rest self.old row.now self.new }
         ensures stopped { result ≡ false → PageStops K.Sink P.rest self.old row.now self.new }
@@ -192,7 +193,7 @@ impl<K: Sink> FileTaker for PageText<'_, '_, K, ProjectPage, Vec<u8>> {
     }
 }
 
-/// The sum, where a page may have so many bytes.
+/// The sum, or `None` if no page may have this many bytes.
 pub(crate) fn total(length: u64, more: usize) -> Option<u64>
     ensures sum { IfSome result (λ sum. (sum ≡ length + more) × (sum ≤ most_bytes)) }
     ensures past { result ≡ None → most_bytes < length + more }
@@ -201,7 +202,7 @@ pub(crate) fn total(length: u64, more: usize) -> Option<u64>
     if sum > MOST_BYTES { None } else { Some(sum) }
 }
 
-/// Writes a text that follows the first bytes of a page, of which so many were written.
+/// Writes a text that follows the first `written` bytes of a page.
 fn send<K: Sink>(sink: &mut K, written: u64, text: &[u8]) -> Result<u64, PageEnd>
     ensures { Closes text.now (state_of K.Sink sink.old) (state_of K.Sink sink.new) written result }
 {
@@ -214,7 +215,7 @@ fn send<K: Sink>(sink: &mut K, written: u64, text: &[u8]) -> Result<u64, PageEnd
     }
 }
 
-/// Writes what stands behind the rows.
+/// Writes the text behind the rows.
 fn send_last<K: Sink, P: Page>(
     sink: &mut K,
     name: &str,

@@ -11,7 +11,7 @@ use index_names::NormalName;
 use index_rules::{Fault, FileRow, NameRow};
 use std::alloc::{AllocError, Global};
 
-/// The page of the held names among these, which stand in the order of the rows.
+/// The root page, with the held names among these, in the order of the rows.
 ///
 /// # Errors
 ///
@@ -25,7 +25,7 @@ pub fn root_page(alloc: Global, rows: &[NameRow], served: Served) -> Result<Vec<
     Ok(text)
 }
 
-/// The page of a project with these files, which stand in the order of the rows.
+/// The page of a project with these files, in the order of the rows.
 ///
 /// # Errors
 ///
@@ -45,7 +45,7 @@ pub fn project_page(
     Ok(text)
 }
 
-/// The text that a page still has before it, by these rows.
+/// Appends the text that is still to be written of a page, by these rows.
 fn append_page<P: Page>(
     out: &mut Vec<u8>,
     name: &str,
@@ -60,7 +60,7 @@ fn append_page<P: Page>(
     page.append_last(name, out)
 }
 
-/// The text of a row.
+/// Appends the text of a row.
 fn append_row<P: Page>(
     out: &mut Vec<u8>,
     name: &str,

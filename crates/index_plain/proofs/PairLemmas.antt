@@ -16,7 +16,7 @@ abbrev or_else : {X : Type 0} → Option X → Option X → Option X
 or_else None y = y
 or_else (Some x) y = Some x
 
--- what the inner map at a first key is, where there is one
+-- what the inner map at a first key is, if there is one
 abbrev pub inner_of : {B X : Type 0} (Q : B → B → Ordering) → Option (BTreeMap B X) → FinMap Q X
 inner_of Q None = empty
 inner_of Q (Some t) = map_of Q t
@@ -92,7 +92,7 @@ module _ {A B : Type 0} {P : A → A → Ordering} {Q : B → B → Ordering} (o
           ∙ elim (eq_by_cmp P q.0 a) as (λ b. get (inner_of Q (cond b (Some t) (get m q.0))) q.1 ≡ cond b (get (map_of Q t) q.1) (get (inner_of Q (get m q.0)) q.1)) [ true ↦ refl | false ↦ refl ]
           ∙ ap (cond (eq_by_cmp P q.0 a) (get (map_of Q t) q.1)) (sym (get_pairs m q.0 q.1))
 
-      -- where this changes what a test of the second key picks
+      -- if this changes what a test of the second key picks
       get_changed : (test : B → Bool) (w : Option X) → ((q : B) → get (map_of Q t) q ≡ cond (test q) w (get (inner_of Q (get m a)) q))
           → (q : A × B) → get (pairs_of P Q n) q ≡ cond (eq_by_cmp P q.0 a) (cond (test q.1) w (get (pairs_of P Q m) q)) (get (pairs_of P Q m) q)
       get_changed test w is q = get_there q
@@ -132,7 +132,7 @@ module _ {A B : Type 0} {P : A → A → Ordering} {Q : B → B → Ordering} (o
           ∙ ap (cond (eq_by_cmp (by_both P Q) q (a, b)) (Some v)) (sym (get_without (pairs_of P Q m) a q.0 q.1))
           ∙ sym (get-insert total (without_first P Q a (pairs_of P Q m)) (a, b) v q))
 
-    -- nothing goes where nothing stands at a first key
+    -- nothing goes if nothing stands at a first key
     pub without_nothing : (m : FinMap (by_both P Q) X) (a : A) → ((b : B) → get m (a, b) ≡ None) → without_first P Q a m ≡ m
     without_nothing m a none = same_map total exact_both _ _ (λ q.
         get_without m a q.0 q.1 ∙ elim (eq_by_cmp P q.0 a) as (λ t. eq_by_cmp P q.0 a ≡ t → cond t None (get m q) ≡ get m q) [
@@ -144,7 +144,7 @@ module _ {A B : Type 0} {P : A → A → Ordering} {Q : B → B → Ordering} (o
     pub some_at : (m : FinMap P (BTreeMap B X)) (a : A) (inner : BTreeMap B X) → get m a ≡ Some inner → (b : B) → get (pairs_of P Q m) (a, b) ≡ get (map_of Q inner) b
     some_at m a inner there b = get_pairs m a b ∙ ap (λ at. get (inner_of Q at) b) there
 
-    -- nothing stands where a first key has no inner map
+    -- nothing is there if a first key has no inner map
     pub nothing_at : (m : FinMap P (BTreeMap B X)) (a : A) → get m a ≡ None → (b : B) → get (pairs_of P Q m) (a, b) ≡ None
     nothing_at m a none b = get_pairs m a b ∙ ap (λ at. get (inner_of Q at) b) none ∙ get-empty Q b
 

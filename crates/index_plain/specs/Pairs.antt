@@ -8,12 +8,12 @@ use Rattle.std.specs.FinMap.Entries.{where_key}
 use Rattle.index_plain.specs.Trees.{Puts, TurnsTo, map_of}
 
 module _ {A B : Type 0} (P : A → A → Ordering) (Q : B → B → Ordering) where
-  -- by the first, and then by the second
+  -- the order of pairs: by the first key, and then by the second
   abbrev pub by_both : A × B → A × B → Ordering
   by_both p q = ordering_then (P p.0 q.0) (Q p.1 q.1)
 
   module _ {X : Type 0} where
-    -- the entries of an inner map, each with the key at which that map stands before its own
+    -- the entries of an inner map, each with the first key at which that map is stored
     abbrev pub entries_at : A → List (B × X) → List ((A × B) × X)
     entries_at a inner = map (λ e. ((a, e.0), e.1)) inner
 
@@ -28,7 +28,7 @@ module _ {A B : Type 0} (P : A → A → Ordering) (Q : B → B → Ordering) wh
     abbrev pub pairs_of : FinMap P (BTreeMap B X) → FinMap by_both X
     pairs_of m = from_entries (entries_of_all (entries m))
 
-    -- the map without what stands at this first key
+    -- the map without the entries at this first key
     abbrev pub without_first : A → FinMap by_both X → FinMap by_both X
     without_first a m = retain_keys m (λ p. not (eq_by_cmp P a p.0))
 
@@ -36,7 +36,7 @@ module _ {A B : Type 0} (P : A → A → Ordering) (Q : B → B → Ordering) wh
     abbrev pub pairs_in : BTreeMap A (BTreeMap B X) → FinMap by_both X
     pairs_in m = pairs_of (map_of P m)
 
-    -- the map from pairs has become what this makes of it
+    -- the map from pairs has changed in this way
     abbrev pub TurnsBy : BTreeMap A (BTreeMap B X) → BTreeMap A (BTreeMap B X)
         → (FinMap by_both X → FinMap by_both X) → Type 0
     TurnsBy old new change = pairs_in new ≡ change (pairs_in old)
@@ -47,17 +47,18 @@ pub record PairsStep {A B : Type 0} (P : A → A → Ordering) (Q : B → B → 
   pub old : FinMap (by_both P Q) X
   pub new : FinMap (by_both P Q) X
 
--- the one that an ordered map of ordered maps is
+-- the map from pairs that an ordered map of ordered maps is, before a call and after it
 abbrev pub as_pairs : {A B X : Type 0} (P : A → A → Ordering) (Q : B → B → Ordering)
     → BTreeMap A (BTreeMap B X) → BTreeMap A (BTreeMap B X) → PairsStep P Q X
 as_pairs P Q old new = record { old = pairs_in P Q old; new = pairs_in P Q new }
 
--- it has this value at the pair, or stays as it was where memory ran out
+-- the map has this value at the pair, or, if memory ran out, is as it was
 abbrev pub PutsPair : {A B X T E : Type 0} {P : A → A → Ordering} {Q : B → B → Ordering}
     → PairsStep P Q X → A × B → X → Result T E → Type 0
 PutsPair pairs pair value result = Puts pairs.old pairs.new pair value result
 
--- so it has, and nothing else at the first key of the pair
+-- the map has this value at the pair and nothing else at its first key, or, if memory ran out, is
+-- as it was
 abbrev pub PutsPairAlone : {A B X T E : Type 0} {P : A → A → Ordering} {Q : B → B → Ordering}
     → PairsStep P Q X → A × B → X → Result T E → Type 0
 PutsPairAlone {A} {B} {X} {T} {E} {P} {Q} pairs pair value result =

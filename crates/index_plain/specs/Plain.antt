@@ -1,18 +1,18 @@
 -- The tables that the ordered maps hold.
-use Rattle.std.specs.Prelude.{◌≡◌, ◌≢◌, ℕ, Bool, true, false, List, Result, IfOk, IfErr, OnOk}
-use Rattle.std.specs.Prelude.{OnErr, is_ok, ⊤}
+use Rattle.std.specs.Prelude.{Bool, IfErr, IfOk, List, OnErr, OnOk, Result, false, is_ok, true, ℕ}
+use Rattle.std.specs.Prelude.{⊤, ◌≡◌, ◌≢◌}
 use Rattle.std.specs.FinMap.{remove}
 use Rattle.index_io.specs.Counts.{next_count}
 use Rattle.index_names.specs.Faults.{FailsByEither}
 use Rattle.index_rules.specs.declared.answer.Fault.{Fault}
 use Rattle.index_rules.specs.declared.answer.Fault.TheVariants as fault
 use Rattle.index_rules.specs.declared.change.Change.{Change}
-use Rattle.index_rules.specs.declared.change.Change.TheVariants.{SetQuota, Claim, AddOwner}
-use Rattle.index_rules.specs.declared.change.Change.TheVariants.{RemoveOwner, Upload, Delete}
-use Rattle.index_rules.specs.declared.change.Change.TheVariants.{BanFile, Yank, Unyank, Relinquish}
-use Rattle.index_rules.specs.declared.change.Change.TheVariants.{Prohibit, Allow, OpenCase}
-use Rattle.index_rules.specs.declared.change.Change.TheVariants.{RecordAttempt, Transfer, CloseCase}
-use Rattle.index_rules.specs.declared.change.Change.TheVariants.{AnswerCase}
+use Rattle.index_rules.specs.declared.change.Change.TheVariants.{AddOwner, Claim, Delete}
+use Rattle.index_rules.specs.declared.change.Change.TheVariants.{BanFile, Relinquish, RemoveOwner}
+use Rattle.index_rules.specs.declared.change.Change.TheVariants.{Allow, OpenCase, Prohibit}
+use Rattle.index_rules.specs.declared.change.Change.TheVariants.{CloseCase, RecordAttempt, SetQuota}
+use Rattle.index_rules.specs.declared.change.Change.TheVariants.{AnswerCase, Transfer, Unyank}
+use Rattle.index_rules.specs.declared.change.Change.TheVariants.{Upload, Yank}
 use Rattle.index_rules.specs.declared.open.OpenFault.{OpenFault}
 use Rattle.index_rules.specs.declared.open.OpenFault.TheVariants as open_fault
 use Rattle.index_rules.specs.declared.rows.FileRow.{FileRow}
@@ -30,7 +30,7 @@ use Rattle.index_plain.specs.declared.plain.PlainBooks.{PlainBooks}
 use Rattle.index_plain.specs.Trees.{table_of}
 use Rattle.index_plain.specs.Pairs.{pairs_in}
 
--- the tables that are kept here
+-- the tables that these books hold
 abbrev pub plain_tables : PlainBooks → Tables
 plain_tables b = record {
   users = table_of b.accounts.users;
@@ -43,7 +43,7 @@ plain_tables b = record {
   bans = table_of b.bans;
 }
 
--- how many calls answered a fault
+-- how many calls failed
 abbrev pub failures_of : PlainBooks → ℕ
 failures_of b = b.failures
 
@@ -52,42 +52,42 @@ pub record Becomes (T : Tables) (old new : PlainBooks) : Type 0 where
   pub tables : plain_tables new ≡ T
   pub failures : failures_of new ≡ failures_of old
 
--- they have become what this makes of them
+-- the tables have changed in this way, and no failure is counted
 abbrev pub BecomesBy : (Tables → Tables) → PlainBooks → PlainBooks → Type 0
 BecomesBy change old new = Becomes (change (plain_tables old)) old new
 
--- so a change is made
+-- the change is made, and no failure is counted
 abbrev pub Writes : Change → PlainBooks → PlainBooks → Type 0
 Writes change = BecomesBy (means change)
 
--- a change was made, or where memory ran out no table was changed; it is not counted here
+-- the change is made, or, if memory ran out, no table has changed; the failure is not counted here
 pub record Makes {E : Type 0} (change : Change) (old new : PlainBooks)
     (result : Result (Unit {0}) E) : Type 0 where
   pub written : OnOk result (plain_tables new ≡ means change (plain_tables old))
   pub unchanged : OnErr result (plain_tables new ≡ plain_tables old)
   pub failures : failures_of new ≡ failures_of old
 
--- a change was made, or where memory ran out no table was changed, and the failure is counted
-pub record MakesOrCounts (change : Change) (old new : PlainBooks)
+-- the change is made, or, if memory ran out, no table has changed and the failure is counted
+pub record PlainMakesOrCounts (change : Change) (old new : PlainBooks)
     (result : Result (Unit {0}) Fault) : Type 0 where
   pub written : OnOk result (plain_tables new ≡ means change (plain_tables old))
   pub unchanged : OnErr result (plain_tables new ≡ plain_tables old)
   pub failures : failures_of new ≡ next_count (failures_of old) (is_ok result)
   pub memory : IfErr result (λ error. error ≡ fault.OutOfMemory)
 
--- what the trait says of a look, of these books: they are always honest, a crash leaves nothing of
--- them, and none answers `Store`
-abbrev pub LooksUp : (old new : PlainBooks) (succeeds : Bool) → Type 0
-LooksUp old new succeeds =
+-- the facts of the trait on a look, for books that are always honest, of which a crash leaves
+-- nothing, and which never return `Store`
+abbrev pub PlainLooksUp : (old new : PlainBooks) (succeeds : Bool) → Type 0
+PlainLooksUp old new succeeds =
     let plain = calls.model plain_tables (λ books. ⊤) (λ books. ⊤) (λ books T. ⊥)
     (calls.counts failures_of (λ books. 0)) in
     calls.LooksUp plain old new succeeds false
 
--- a look that finds this in the tables, and fails for want of memory alone
+-- a look that finds this in the tables, and fails only if memory runs out
 pub record LooksInMemory {A : Type 0} (old new : PlainBooks) (result : Result A Fault)
     (Found : Tables → Type 0) : Type 0 where
   pub found : Found (plain_tables old)
-  pub look : LooksUp old new (is_ok result)
+  pub look : PlainLooksUp old new (is_ok result)
   pub memory : IfErr result (λ error. error ≡ fault.OutOfMemory)
 
 -- a walk over these rows, which no fault of a store ends
@@ -117,12 +117,12 @@ pub record Opens (user token : Bytes) (result : Result PlainBooks OpenFault) : T
 abbrev pub without_case : Bytes → Tables → Tables
 without_case name T = record T { cases = remove T.cases name }
 
--- without its yanks and its case
+-- the tables without the yanks and the case of a name
 abbrev pub without_yanks_and_case : Bytes → Tables → Tables
 without_yanks_and_case name T =
     record T { yanks = without_name name T.yanks; cases = remove T.cases name }
 
--- without its owners, its yanks and its case
+-- the tables without the owners, the yanks and the case of a name
 abbrev pub without_all_but_record : Bytes → Tables → Tables
 without_all_but_record name T = record T {
   owners = without_name name T.owners;
@@ -130,7 +130,7 @@ without_all_but_record name T = record T {
   cases = remove T.cases name;
 }
 
--- a change of a release: of its files, or of its yank
+-- whether a change is of a release: of its files, or of its yank
 abbrev pub is_of_release : Change → Bool
 is_of_release (Upload name project file known body ends_case) = true
 is_of_release (Delete name project file known) = true
@@ -139,7 +139,7 @@ is_of_release (Yank name release reason) = true
 is_of_release (Unyank name release) = true
 is_of_release change = false
 
--- a change of the state of a name
+-- whether a change is of the state of a name
 abbrev pub is_of_name : Change → Bool
 is_of_name (SetQuota name project) = true
 is_of_name (Claim name project owner) = true
@@ -148,13 +148,13 @@ is_of_name (Prohibit name) = true
 is_of_name (Allow name) = true
 is_of_name change = false
 
--- a change of who owns a name
+-- whether a change is of who owns a name
 abbrev pub is_of_owner : Change → Bool
 is_of_owner (AddOwner name user) = true
 is_of_owner (RemoveOwner name user) = true
 is_of_owner change = false
 
--- a change of a case
+-- whether a change is of a case
 abbrev pub is_of_case : Change → Bool
 is_of_case (OpenCase name case) = true
 is_of_case (RecordAttempt name case) = true

@@ -13,17 +13,17 @@ map_of R m = from_entries m.entries
 abbrev pub table_of : {X : Type 0} → BTreeMap Bytes X → Map X
 table_of m = map_of bytes_cmp m
 
--- the map with this value at a key, or with nothing there
+-- the map with this value at a key, or with none there
 abbrev pub with_at : {K X : Type 0} {R : K → K → Ordering} → FinMap R X → K → Option X → FinMap R X
 with_at m k None = remove m k
 with_at m k (Some x) = insert m k x
 
--- a map has become this one, or stays as it was where memory ran out
+-- a map has become this one, or, if memory ran out, is as it was
 pub record TurnsTo {M A E : Type 0} (old new made : M) (result : Result A E) : Type 0 where
   pub written : OnOk result (new ≡ made)
   pub unchanged : OnErr result (new ≡ old)
 
--- so it has this value at the key
+-- a map has this value at the key, or, if memory ran out, is as it was
 abbrev pub Puts : {K X A E : Type 0} {R : K → K → Ordering} → FinMap R X → FinMap R X → K → X
     → Result A E → Type 0
 Puts old new key value result = TurnsTo old new (insert old key value) result

@@ -1,4 +1,4 @@
-//! The users, and who bears which token.
+//! The users, and who has which token.
 ghost use Rattle.std.specs.Prelude.{◌≡◌, None, Some, false};
 ghost use Rattle.std.specs.FinMap.{empty, get};
 ghost use Rattle.index_rules.specs.Maps.{same};
@@ -11,7 +11,7 @@ use index_rules::{UserId, UserRecord};
 use std::alloc::{AllocError, Global};
 use std::collections::BTreeMap;
 
-/// The users with their records, and beside them the users by the digests of their tokens.
+/// The users with their records, and the users by the digests of their tokens.
 #[derive(Debug)]
 pub(crate) struct Accounts {
     pub(crate) users: BTreeMap<UserId, UserRecord>,
@@ -19,7 +19,7 @@ pub(crate) struct Accounts {
     ghost agree: { AreBearers (table_of users) (bearers_of bearers) },
 }
 
-// By hand: a drop is then one call at each exit of a function (docs/developers/PROOF-COSTS.md).
+// By hand: each exit of a function then makes one call to drop (docs/developers/PROOF-COSTS.md).
 impl Drop for Accounts {
     fn drop(self) {
         let Accounts {
@@ -40,7 +40,7 @@ impl Accounts {
         }
     }
 
-    /// Puts the record of a user, in place of the one that stood there. Without memory all stays as it was.
+    /// Puts the record of a user, in place of an earlier one. If memory runs out, nothing changes.
     pub(crate) fn put(
         &mut self,
         alloc: Global,
@@ -66,7 +66,7 @@ impl Accounts {
         }
     }
 
-    /// Puts the record of a user whose token was another.
+    /// Puts the record of a user who had another token.
     fn put_with_token(
         &mut self,
         alloc: Global,
@@ -84,7 +84,7 @@ impl Accounts {
     }
 }
 
-/// Puts the record of a user, and the user at the digest of the token. Without memory both maps stay as they were.
+/// Puts the record of a user, and the user at the digest of the token. If memory runs out, both maps stay as they were.
 fn put_both(
     alloc: Global,
     users: &mut BTreeMap<UserId, UserRecord>,

@@ -8,7 +8,8 @@ use index_digest::Digest256;
 use index_names::{FileName, NormalName, Release};
 use index_rules::UserId;
 
-/// A key of a table. Tables are in the order of their keys, in which only equal keys tie, and a copy of a key is that key.
+/// A key of a table. Tables are in the order of their keys, in which only equal keys tie, and a copy of a key is that
+/// key.
 pub trait Key: Ord + Clone + Drop {
     ghost exact: { IsAntisymmetric Self.Ord.cmp };
 

@@ -25,7 +25,7 @@ pub fn has_undeleted(
         .any(|(_, known)| is_undeleted(known, name, release))
 }
 
-/// Whether the file is undeleted and one of this release of the name.
+/// Whether the file is an undeleted one of this release of the name.
 fn is_undeleted(known: &FileRecord, name: &NormalName, release: &Release) -> bool
     ensures { result ≡ is_undeleted_of_release name.now release.now known.now }
 {

@@ -1,4 +1,4 @@
-//! A table by pairs, as a map of maps: what stands at a first key goes with one call.
+//! A table by pairs, as a map of maps: one call removes all that is stored at a first key.
 ghost use Rattle.std.specs.Prelude.{◌≡◌, option_copied};
 ghost use Rattle.std.specs.FinMap.{get, remove};
 ghost use Rattle.index_plain.specs.Pairs.{PutsPair, PutsPairAlone, TurnsBy, as_pairs, pairs_in, without_first};
@@ -23,7 +23,7 @@ pub fn find<'a, A: Key, B: Key, V>(
     }
 }
 
-/// A second key that stands at a first key, where one does.
+/// A second key that is stored at a first key, if there is one.
 pub fn first_at<'a, A: Key, B: Key, V>(
     map: &'a BTreeMap<A, BTreeMap<B, V>>,
     first: &A,
@@ -36,7 +36,7 @@ pub fn first_at<'a, A: Key, B: Key, V>(
     }
 }
 
-/// Takes away all that stands at a first key.
+/// Removes all that is stored at a first key.
 #[tactic(auto, using(crate::proofs::PairLemmas::pairs_remove))]
 pub fn clear<A: Key, B: Key, V: Drop>(map: &mut BTreeMap<A, BTreeMap<B, V>>, first: &A)
     ensures { TurnsBy A.cmp B.cmp map.old map.new (without_first A.cmp B.cmp first.now) }
@@ -44,7 +44,7 @@ pub fn clear<A: Key, B: Key, V: Drop>(map: &mut BTreeMap<A, BTreeMap<B, V>>, fir
     table::remove(map, first);
 }
 
-/// Puts a value at a pair, in place of the one that stood there. Without memory the map stays as it was.
+/// Puts a value at a pair, in place of an earlier one. If memory runs out, the map stays as it was.
 pub fn put<A: Key, B: Key, V: Drop>(
     alloc: Global,
     map: &mut BTreeMap<A, BTreeMap<B, V>>,
@@ -60,7 +60,8 @@ pub fn put<A: Key, B: Key, V: Drop>(
     }
 }
 
-/// Puts a pair with its value, in place of all that stood at its first key. Without memory the map stays as it was.
+/// Puts a pair with its value, in place of all that was stored at its first key. If memory runs out, the map stays as
+/// it was.
 pub fn put_alone<A: Key, B: Key, V: Drop>(
     alloc: Global,
     map: &mut BTreeMap<A, BTreeMap<B, V>>,
@@ -75,7 +76,7 @@ pub fn put_alone<A: Key, B: Key, V: Drop>(
     table::put(map, first, alone)
 }
 
-/// Takes a pair away with its value.
+/// Removes a pair with its value.
 pub fn remove<A: Key, B: Key, V: Drop>(map: &mut BTreeMap<A, BTreeMap<B, V>>, first: &A, second: &B)
     ensures { TurnsBy A.cmp B.cmp map.old map.new (λ pairs. remove pairs (first.now, second.now)) }
 {
@@ -85,7 +86,7 @@ pub fn remove<A: Key, B: Key, V: Drop>(map: &mut BTreeMap<A, BTreeMap<B, V>>, fi
     }
 }
 
-/// Takes a pair away with its value, from an inner map that stays.
+/// Removes a pair with its value, from an inner map that stays.
 fn take<A: Key, B: Key, V: Drop>(map: &mut BTreeMap<A, BTreeMap<B, V>>, first: &A, second: &B)
     ensures { TurnsBy A.cmp B.cmp map.old map.new (λ pairs. remove pairs (first.now, second.now)) }
 {

@@ -23,7 +23,7 @@ mod releases;
 mod rows;
 mod write;
 
-/// The tables in memory, as ordered maps. A fault of theirs is always `OutOfMemory`.
+/// The tables in memory, as ordered maps. A call fails only with `OutOfMemory`.
 #[derive(Debug)]
 pub struct PlainBooks {
     accounts: Accounts,
@@ -37,7 +37,7 @@ pub struct PlainBooks {
     failures: u64,
 }
 
-// By hand: a drop is then one call at each exit of a function (docs/developers/PROOF-COSTS.md).
+// By hand: each exit of a function then makes one call to drop (docs/developers/PROOF-COSTS.md).
 impl Drop for PlainBooks {
     fn drop(self) {
         let PlainBooks {
@@ -60,13 +60,13 @@ impl PlainBooks {
     ghost use Rattle.index_rules.specs.Sound.{IsSound};
     ghost use Rattle.index_rules.specs.History.{begins};
     ghost use Rattle.index_rules.specs.StandsFor.{StandsFor};
-    ghost use Rattle.index_plain.specs.Plain.{LooksUp, Opens, failures_of, plain_tables};
+    ghost use Rattle.index_plain.specs.Plain.{Opens, PlainLooksUp, failures_of, plain_tables};
 
     /// A new index with one user, who is of the office and whose token has this SHA-256 digest.
     ///
     /// # Errors
     ///
-    /// `BadFirstUser` exactly where the bytes are no user id, or the digest is that of the empty text, else
+    /// `BadFirstUser` exactly if the bytes are not a valid user id or the digest is that of the empty text, else
     /// `OutOfMemory`.
     pub fn new(alloc: Global, user: &[u8], token: Digest256) -> Result<PlainBooks, OpenFault>
         ensures tables { IfOk result (λ books. plain_tables books ≡ first_tables user.now token) }
@@ -80,7 +80,7 @@ impl PlainBooks {
         PlainBooks::with_first_user(alloc, user, token)
     }
 
-    /// What `new` makes, by one definition.
+    /// The books that `new` returns, by one definition.
     fn with_first_user(
         alloc: Global,
         user: &[u8],
@@ -104,10 +104,10 @@ impl PlainBooks {
         })
     }
 
-    /// Counts a failure for want of memory.
+    /// Counts a failure because memory ran out.
     fn count_failure(&mut self) -> Fault
         ensures fault { result ≡ Fault.OutOfMemory }
-        ensures counts { LooksUp self.old self.new false }
+        ensures counts { PlainLooksUp self.old self.new false }
     {
         self.failures = self.failures.saturating_add(1);
         Fault::OutOfMemory
@@ -115,7 +115,7 @@ impl PlainBooks {
 
     /// Counts a walk that a fault ended.
     fn count_walk(&mut self, ended: &Result<(), WalkEnd>)
-        ensures counts { LooksUp self.old self.new (not (has_fault ended.now)) }
+        ensures counts { PlainLooksUp self.old self.new (not (has_fault ended.now)) }
     {
         match ended {
             Ok(()) | Err(WalkEnd::Stopped) => {}
@@ -134,7 +134,7 @@ impl Books for PlainBooks {
     ghost use Rattle.index_rules.specs.TableRows.{file_rows_in, name_rows_in};
     ghost use Rattle.index_rules.specs.Verdict.{is_held as is_held_lem};
     ghost use Rattle.index_rules.specs.Walks.{to_taker};
-    ghost use Rattle.index_plain.specs.Plain.{HandsFiles, HandsNames, LooksInMemory, LooksUp, MakesOrCounts, failures_of, plain_tables};
+    ghost use Rattle.index_plain.specs.Plain.{HandsFiles, HandsNames, LooksInMemory, PlainLooksUp, PlainMakesOrCounts, failures_of, plain_tables};
 
     ghost tables = { plain_tables };
 
@@ -162,7 +162,7 @@ impl Books for PlainBooks {
     }
 
     fn write(&mut self, alloc: Global, change: Change) -> Result<(), Fault>
-        ensures { MakesOrCounts change self.old self.new result }
+        ensures { PlainMakesOrCounts change self.old self.new result }
     {
         match self.make(alloc, change) {
             Ok(()) => Ok(()),
@@ -210,7 +210,7 @@ impl Books for PlainBooks {
 
     fn walk_held<K: NameTaker>(&mut self, _alloc: Global, taker: &mut K) -> Result<(), WalkEnd>
         ensures walked { HandsNames self.old (to_taker K.takes K.stops taker.old taker.new) result }
-        ensures looks { LooksUp self.old self.new (not (has_fault result)) }
+        ensures looks { PlainLooksUp self.old self.new (not (has_fault result)) }
     {
         let ended = self.hand_names(taker);
         self.count_walk(&ended);
@@ -225,7 +225,7 @@ impl Books for PlainBooks {
     ) -> Result<(), WalkEnd>
         ensures walked { HandsFiles self.old name.now
             (to_taker K.takes K.stops taker.old taker.new) result }
-        ensures looks { LooksUp self.old self.new (not (has_fault result)) }
+        ensures looks { PlainLooksUp self.old self.new (not (has_fault result)) }
     {
         let ended = self.hand_files(name, taker);
         self.count_walk(&ended);

@@ -27,7 +27,7 @@ pub fn find<'a, K: Key, V>(map: &'a BTreeMap<K, V>, key: &K) -> Option<&'a V>
     map.get(key)
 }
 
-/// A key that is there, where one is.
+/// A key of the map, if it has one.
 pub fn first_key<K: Key, V>(map: &BTreeMap<K, V>) -> Option<&K>
     ensures { PicksKey (map_of K.cmp map.now) result }
 {
@@ -45,7 +45,7 @@ pub fn copy_at<K: Key, V: Clone>(map: &BTreeMap<K, V>, key: &K) -> Result<Option
     find(map, key).cloned()
 }
 
-/// A copy of the value at a key, where there is a key.
+/// A copy of the value at a key, if there is a key.
 pub fn copy_at_key<K: Key, V: Clone>(
     map: &BTreeMap<K, V>,
     key: &Option<K>,
@@ -59,14 +59,14 @@ pub fn copy_at_key<K: Key, V: Clone>(
     }
 }
 
-/// Takes a key away with its value.
+/// Removes a key with its value.
 pub fn remove<K: Key, V: Drop>(map: &mut BTreeMap<K, V>, key: &K)
     ensures { map_of K.cmp map.new ≡ remove (map_of K.cmp map.old) key.now }
 {
     map.remove(key);
 }
 
-/// Puts a value at a key, in place of the one that stood there. Without memory the map stays as it was.
+/// Puts a value at a key, in place of an earlier one. If memory runs out, the map stays as it was.
 pub fn put<K: Key, V: Drop>(map: &mut BTreeMap<K, V>, key: &K, value: V) -> Result<(), AllocError>
     ensures { Puts (map_of K.cmp map.old) (map_of K.cmp map.new) key.now value result }
 {
@@ -74,7 +74,7 @@ pub fn put<K: Key, V: Drop>(map: &mut BTreeMap<K, V>, key: &K, value: V) -> Resu
     Ok(())
 }
 
-/// Puts a value at a key, and gives the one that stood there. Without memory the map stays as it was.
+/// Puts a value at a key, and returns the earlier one. If memory runs out, the map stays as it was.
 pub fn replace<K: Key, V: Drop>(
     map: &mut BTreeMap<K, V>,
     key: &K,
@@ -86,7 +86,7 @@ pub fn replace<K: Key, V: Drop>(
     Ok(map.insert(key.clone()?, value)?)
 }
 
-/// Undoes `replace`: what stood at the key before comes back. It takes no memory.
+/// Undoes `replace`: the earlier value comes back. It needs no memory.
 pub fn put_back<K: Key, V: Drop>(map: &mut BTreeMap<K, V>, key: &K, former: Option<V>)
     requires { IsSome (get (map_of K.cmp map.old) key.now) }
     ensures { map_of K.cmp map.new ≡ with_at (map_of K.cmp map.old) key.now former }
@@ -103,7 +103,7 @@ pub fn put_back<K: Key, V: Drop>(map: &mut BTreeMap<K, V>, key: &K, former: Opti
     }
 }
 
-/// Puts a value at a key of each of two maps. Without memory both stay as they were.
+/// Puts a value at a key of each of two maps. If memory runs out, both stay as they were.
 pub fn put_both<K: Key, V: Drop, L: Key, W: Drop>(
     map: &mut BTreeMap<K, V>,
     key: &K,

@@ -1,4 +1,4 @@
-//! What is asked of an index, over HTTP and as lines, and what it answers.
+//! Requests to an index, over HTTP and as lines, and its answers.
 #![tactic(auto)]
 
 #[cfg(test)]

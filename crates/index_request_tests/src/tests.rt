@@ -1,9 +1,8 @@
-//! Stories: what is asked of a desk and what it answers, whichever way its books keep the tables. Each is told to a desk
-//! over tables in memory and to one over a database.
-use index_desk::{Desk, Keeper};
+//! Stories: requests to a desk and its answers. Each is run by a desk over tables in memory and by one over a database.
+use index_cache::Cache;
+use index_desk::{CachesAnswers, Desk};
 use index_digest::Digest256;
 use index_plain::PlainBooks;
-use index_recent::Recent;
 use index_tables::{SqlBooks, Unopened};
 use sqlite::{Alter, Connection};
 use std::alloc::AllocGlobal;
@@ -12,12 +11,12 @@ use std::process::Abort;
 mod exchanges;
 mod transcripts;
 
-/// What is asked of a desk and looked at, whatever its books are.
+/// Requests to a desk and checks of it, over any books.
 trait Story {
-    fn run<R: Abort + AllocGlobal, B: Keeper>(&self, rt: &R, desk: &mut Desk<B>);
+    fn run<R: Abort + AllocGlobal, B: CachesAnswers>(&self, rt: &R, desk: &mut Desk<B>);
 }
 
-/// Tries a story at a new desk over tables in memory, and at one over a database.
+/// Runs a story at a new desk over tables in memory, and at one over a database.
 fn assert_story<R: Abort + AllocGlobal, T: Story>(rt: &R, story: &T) {
     assert_in_memory(rt, story);
     let conn = Connection::open_in_memory(rt.alloc()).expect(rt, "a database");
@@ -39,20 +38,20 @@ fn assert_in_database<R: Abort + AllocGlobal, S: Alter + Drop, T: Story>(
     drop(desk.into_books().into_books().into_connection());
 }
 
-/// A desk over tables in memory, whose one user is `office`, of the office, with the token `office`. It keeps no answers.
-fn desk_in_memory(rt: &(impl Abort + AllocGlobal)) -> Desk<Recent<PlainBooks>> {
+/// A desk over tables in memory, whose one user is `office`, of the office, with the token `office`. It caches nothing.
+fn desk_in_memory(rt: &(impl Abort + AllocGlobal)) -> Desk<Cache<PlainBooks>> {
     let token = Digest256::of(b"office");
     let books = PlainBooks::new(rt.alloc(), b"office", token).expect(rt, "books");
-    Desk::new(Recent::new(rt.alloc(), books, 0))
+    Desk::new(Cache::new(rt.alloc(), books, 0))
 }
 
-/// A desk over a new index in an empty database, with the same user. It keeps a few answers.
+/// A desk over a new index in an empty database, with the same user. It has a small cache.
 fn desk_over<S: Alter + Drop>(
     rt: &(impl Abort + AllocGlobal),
     conn: Connection<S>,
-) -> Desk<Recent<SqlBooks<S>>> {
+) -> Desk<Cache<SqlBooks<S>>> {
     let books = new_books(rt, conn);
-    Desk::new(Recent::new(rt.alloc(), books, 1_000))
+    Desk::new(Cache::new(rt.alloc(), books, 1_000))
 }
 
 fn new_books<S: Alter + Drop>(rt: &(impl Abort + AllocGlobal), conn: Connection<S>) -> SqlBooks<S> {

@@ -1,4 +1,4 @@
--- The attempts to reach a name's owner, and what a case keeps of them.
+-- The attempts to reach a name's owner, and the record of them.
 use Rattle.std.specs.Prelude.{ℕ, ◌+◌, ◌<◌, ◌≤◌, ◌↔◌, ◌==◌, Bool, true, false, ◌||◌, if◌then◌else◌}
 use Rattle.std.specs.Prelude.{List, length, count_by, reverse, Option, Some, None, IsSome}
 use Rattle.std.specs.List.{find, list_any}
@@ -10,7 +10,7 @@ use Rattle.index_retention.specs.declared.attempts.Means.TheVariants.{Profile, A
 abbrev pub most_attempts : ℕ
 most_attempts = 1000
 
--- one attempt: by which means, whether it was sent, and its moment in Unix seconds
+-- an attempt: by which means, whether it was sent, and its moment in Unix seconds
 pub record Attempt : Type 0 where
   pub means : Means
   pub sent : Bool
@@ -20,19 +20,19 @@ pub record Attempt : Type 0 where
 abbrev pub attempt_of : Means → Bool → ℕ → Attempt
 attempt_of means sent at = record { means = means; sent = sent; at = at }
 
--- both means are the same
+-- whether two means are the same
 abbrev pub is_same_means : Means → Means → Bool
 is_same_means Profile Profile = true
 is_same_means Author Author = true
 is_same_means Pages Pages = true
 is_same_means a b = false
 
--- the attempt is by this means
+-- whether an attempt is by this means
 abbrev pub is_of_means : Means → Attempt → Bool
 is_of_means means attempt = is_same_means means attempt.means
 
--- what a case keeps of its attempts: how many there are, how many were sent, which of the three
--- means occur, sent or not, and the moment of the first that was sent
+-- the record of a case's attempts: how many were recorded, how many sent, which of the three means
+-- occur, sent or not, and the moment of the first that was sent
 pub record Tally : Type 0 where
   pub attempts : ℕ
   pub sent : ℕ
@@ -52,22 +52,22 @@ tally_from attempts sent profile author pages first = record {
   first = first;
 }
 
--- no attempt more is recorded
+-- whether a tally has the most attempts
 abbrev pub is_full : Tally → Bool
 is_full tally = tally.attempts == most_attempts
 
--- the numbers fit together: no more sent than there are, no more than the most, and a first moment
--- exactly where one was sent
+-- numbers of a valid tally: no more attempts sent than recorded, no more than the most, and a first
+-- moment exactly if one was sent
 pub record IsTally (attempts sent : ℕ) (first : Option ℕ) : Type 0 where
   pub sent_within : sent ≤ attempts
   pub attempts_within : attempts ≤ most_attempts
   pub first_sent : IsSome first ↔ (0 < sent)
 
--- the first sent, in the order of recording, of attempts of which the newest stands first
+-- the first attempt that was sent, in the order of recording, in a list with the newest first
 abbrev pub first_sent : List Attempt → Option Attempt
 first_sent attempts = find (λ attempt. attempt.sent) (reverse attempts)
 
--- the tally of attempts of which the newest stands first, counted anew from all of them
+-- the tally of a list of attempts with the newest first
 unfoldable pub tally_of : List Attempt → Tally
 tally_of attempts = record {
   attempts = length attempts;

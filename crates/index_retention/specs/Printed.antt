@@ -5,7 +5,7 @@ use Rattle.index_retention.specs.declared.fault.CaseFault.TheVariants.{AttemptsF
 use Rattle.index_retention.specs.declared.fault.CaseFault.TheVariants.{TooEarly, RecentRelease}
 use Rattle.index_retention.specs.declared.fault.CaseFault.TheVariants.{HomePageActive}
 
--- what stands against a transfer, or a further attempt
+-- what prevents a transfer, or a further attempt
 abbrev pub case_fault_text : CaseFault → List ℕ
 case_fault_text AttemptsFull = codes "the case has 1,000 attempts"
 case_fault_text TooFewAttempts = codes "too few attempts to reach the owner"

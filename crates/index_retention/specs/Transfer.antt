@@ -9,7 +9,7 @@ use Rattle.index_retention.specs.declared.fault.CaseFault.TheVariants.{TooEarly,
 use Rattle.index_retention.specs.declared.fault.CaseFault.TheVariants.{HomePageActive}
 use Rattle.index_retention.specs.Attempts.{Tally}
 
--- in seconds: 42 days of 86,400, and 365
+-- six weeks as 42 days of 86,400 seconds
 abbrev pub six_weeks : ℕ
 six_weeks = 3628800
 
@@ -21,29 +21,29 @@ twelve_months = 31536000
 abbrev pub fewest_sent : ℕ
 fewest_sent = 3
 
--- fewer than three attempts were sent, or one of the three means has no attempt
+-- whether fewer than three attempts were sent, or one of the three means has no attempt
 abbrev pub too_few_attempts : Tally → Bool
 too_few_attempts tally =
     nat_lt tally.sent fewest_sent || not (tally.profile && tally.author && tally.pages)
 
--- the moment is less than six weeks after the first sent attempt
+-- whether the moment is less than six weeks after the first sent attempt
 abbrev pub too_early : Tally → ℕ → Bool
 too_early tally at = option_map_or (λ first. nat_lt at (first + six_weeks)) tally.first false
 
--- the moment is less than twelve months after the latest upload, if there is one
+-- whether the moment is less than twelve months after the latest upload, if there is one
 abbrev pub recent_release : Option ℕ → ℕ → Bool
 recent_release last_upload at =
     option_map_or (λ uploaded. nat_lt at (uploaded + twelve_months)) last_upload false
 
--- the office doesn't state that the owner's home page is quiet
+-- whether the office doesn't state that the owner's home page is quiet
 abbrev pub home_page_active : Bool → Bool
 home_page_active quiet = not quiet
 
--- what may stand against a transfer, least first
+-- what may prevent a transfer, least first
 abbrev pub transfer_faults : List CaseFault
 transfer_faults = TooFewAttempts ∷ TooEarly ∷ RecentRelease ∷ HomePageActive ∷ []
 
--- whether this stands against a transfer
+-- whether this prevents a transfer
 abbrev pub stands_against : Tally → Option ℕ → Bool → ℕ → CaseFault → Bool
 stands_against tally last_upload quiet at AttemptsFull = false
 stands_against tally last_upload quiet at TooFewAttempts = too_few_attempts tally
@@ -51,20 +51,22 @@ stands_against tally last_upload quiet at TooEarly = too_early tally at
 stands_against tally last_upload quiet at RecentRelease = recent_release last_upload at
 stands_against tally last_upload quiet at HomePageActive = home_page_active quiet
 
--- the least of them that does
+-- the least fault that prevents a transfer
 abbrev pub transfer_fault : Tally → Option ℕ → Bool → ℕ → Option CaseFault
 transfer_fault tally last_upload quiet at =
     find (stands_against tally last_upload quiet at) transfer_faults
 
--- a case is ready for a transfer: three attempts or more were sent, each of the three means has an
--- attempt, six weeks or more have passed since the first that was sent, twelve months or more since
--- the latest upload, where there is one, and the office states that the home page is quiet; these
--- are the opposites of what may stand against it
+-- a case is ready for a transfer: no fault prevents it
 pub record IsReady (tally : Tally) (last_upload : Option ℕ) (quiet : Bool) (at : ℕ) : Type 0 where
+  -- three attempts or more were sent
   pub sent : fewest_sent ≤ tally.sent
+  -- each of the three means has an attempt, sent or not
   pub profile : tally.profile ≡ true
   pub author : tally.author ≡ true
   pub pages : tally.pages ≡ true
+  -- six weeks or more have passed since the first attempt that was sent
   pub waited : IsSomeAnd tally.first (λ first. first + six_weeks ≤ at)
+  -- twelve months or more have passed since the latest upload, if there is one
   pub no_release : IfSome last_upload (λ uploaded. uploaded + twelve_months ≤ at)
+  -- the office states that the home page is quiet
   pub quiet_page : IsTrue quiet

@@ -1,4 +1,4 @@
-//! What a case keeps of the attempts to reach a name's owner.
+//! The record of the attempts to reach a name's owner.
 ghost use Rattle.std.specs.Prelude.{◌≡◌, ◌≤◌, ◌<◌, ◌↔◌, ℕ, List, [], ◌∷◌, IsTrue, IsSome, IfErr, OnOk, OnErr, SomeIff};
 ghost use Rattle.index_retention.specs.Attempts.{Attempt, IsTally, attempt_of, is_full, most_attempts, tally_from, tally_with, tally_of};
 
@@ -17,7 +17,7 @@ pub enum CaseKind {
     Reuse,
 }
 
-/// By which address the owner is sought.
+/// The address by which the owner is sought.
 #[derive(Clone, Copy, Debug, PartialEq, Eq, Hash)]
 pub enum Means {
     /// The address in the user's profile.
@@ -28,7 +28,7 @@ pub enum Means {
     Pages,
 }
 
-/// What a case keeps of its attempts. Contracts see it as their `Tally`.
+/// The record of a case's attempts. Contracts see it as their `Tally`.
 #[derive(Clone, Copy, Debug, PartialEq, Eq)]
 pub struct CaseState {
     attempts: u64,
@@ -81,8 +81,8 @@ impl CaseState {
         }
     }
 
-    /// The case whose parts these are, where they fit together: no more sent than there are, no
-    /// more than 1,000, and a first moment exactly where one was sent.
+    /// The case with these parts, if they are valid together: no more attempts sent than recorded, no more than 1,000,
+    /// and a first moment exactly if one was sent.
     pub fn from_parts(
         attempts: u64,
         sent: u64,
@@ -115,7 +115,7 @@ impl CaseState {
         self.attempts
     }
 
-    /// How many of them were sent.
+    /// How many attempts were sent.
     pub fn sent(&self) -> u64
         ensures value { result ≡ self.now.sent }
         ensures within { result ≤ self.now.attempts }
@@ -153,12 +153,11 @@ impl CaseState {
     }
 }
 
-/// Records one attempt by `means` at the moment `at`, in Unix seconds; `sent` is false where the
-/// means has no address.
+/// Records one attempt by `means` at the moment `at`, in Unix seconds; `sent` is false if the means has no address.
 ///
 /// # Errors
 ///
-/// `AttemptsFull` where the case has 1,000 attempts, and it stays as it was.
+/// `AttemptsFull` if the case has 1,000 attempts; it stays as it was.
 #[tactic(auto, using(crate::proofs::TallyLemmas::attempts_are_counted))]
 pub fn note(case: &mut CaseState, means: Means, sent: bool, at: u64) -> Result<(), CaseFault>
     ensures full { (result ≡ Err CaseFault.AttemptsFull) ↔ IsTrue (is_full case.old) }

@@ -1,4 +1,4 @@
-//! What stands against an attempt or a transfer.
+//! What prevents an attempt or a transfer.
 use std::error::Error;
 use std::fmt;
 

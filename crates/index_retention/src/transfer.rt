@@ -12,8 +12,7 @@ const SIX_WEEKS: u64 = 42 * 86_400;
 
 const TWELVE_MONTHS: u64 = 365 * 86_400;
 
-// Whether `at` comes before `seconds` have passed since `since`. No sum is made that could pass a
-// `u64`.
+// Whether `at` comes before `seconds` have passed since `since`. It makes no sum that could pass a `u64`.
 fn is_within(at: u64, since: u64, seconds: u64) -> bool
     ensures { result ≡ nat_lt at (since + seconds) }
 {
@@ -27,9 +26,9 @@ fn has_too_few_attempts(case: &CaseState) -> bool
     case.sent() < FEWEST_SENT || !(case.profile() && case.author() && case.pages())
 }
 
-/// Whether the case is ready for a transfer at the moment `at`, in Unix seconds. `last_upload` is
-/// the greatest moment of the name's uploads since it was last claimed, and `quiet` the office's
-/// statement that the owner's home page shows no activity or that none is listed.
+/// Whether the case is ready for a transfer at the moment `at`, in Unix seconds. `last_upload` is the greatest moment
+/// of the name's uploads since its last claim. `quiet` is the office's statement that the owner's home page shows no
+/// activity or that none is listed.
 ///
 /// # Errors
 ///

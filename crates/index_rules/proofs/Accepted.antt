@@ -61,7 +61,7 @@ pub some_there : {A : Type 0} (o : Option A) (none : A) → is_some o ≡ true �
 some_there None none e = absurd (false≢true e)
 some_there (Some x) none e = refl
 
--- where one of two is so, the other is not
+-- if one of two is so, the other is not
 pub and_not : (a b : Bool) → (a && not b) ≡ false → b ≡ false → a ≡ false
 and_not true b h e = cc
 and_not false b h e = refl

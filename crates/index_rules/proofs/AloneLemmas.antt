@@ -1,4 +1,4 @@
--- The entries of one name, with those on users, are a legal history, in which its calls have the same verdicts.
+-- The entries of one name, with those on users, are a legal history, and its calls have the same verdicts there.
 use Rattle.std.proofs.Common.{◌≡◌, ◌⊎◌, inl, inr, Bool, true, false, cond, not, ◌&&◌, ◌||◌, refl, sym, ap, ◌∙◌, List, Option, Some, None, is_some, option_map, option_and_then, sum_by}
 use Rattle.std.specs.List.{list_any, list_all}
 use Rattle.std.specs.Option.{option_map_or}

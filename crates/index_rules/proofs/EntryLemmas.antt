@@ -89,7 +89,7 @@ module _ {X : Type 0} where
     ] refl found
   ] refl missed
 
-  -- where no entry passes, none that is found by its key does
+  -- if no entry passes, none that is found by its key does
   pub get-missed : (m : Map X) (test : Bytes × X → Bool) (k : Bytes) (v : X) → find test (entries m) ≡ None → get m k ≡ Some v → test (k, v) ≡ false
   get-missed m test k v missed found = missed_at (entries m) test k v missed (sym (get-entries m k) ∙ found)
 
@@ -111,7 +111,7 @@ module _ (p : Bytes × Bytes → Bool) where
       (each k.0 k.1 (or_left _ _ (same_pair (k.0, k.1) k ∙ and_from _ _ (same-refl k.0) (same-refl k.1))))
       (all_pairs_from ks (λ n v h. each n v (or_right _ _ h)))
 
--- where all pairs with a first part have this second, each owner is it; and the other way round
+-- if all pairs with a first part have this second, each owner is it; and the other way round
 pub each_owner : (T : Tables) (n u : Bytes) → list_all (λ pair. not (same n pair.0) || same u pair.1) (keys T.owners) ≡ true
     → (v : Bytes) → contains_key T.owners (n, v) ≡ true → same u v ≡ true
 each_owner T n u all v there =

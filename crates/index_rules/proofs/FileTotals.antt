@@ -1,4 +1,4 @@
--- A sum over a name's undeleted files, where a file is uploaded, where one is deleted and where all of a name are.
+-- A sum over a name's undeleted files, after an upload, after a delete and after the end of a name.
 use Rattle.std.proofs.Common.{◌≡◌, ℕ, ◌+◌, true, false, cond, ◌&&◌, inl, inr, refl, sym, ap, ◌∙◌, Option, Some, None, arith}
 use Rattle.std.specs.Option.{option_map_or}
 use Rattle.std.specs.FinMap.{get, insert, entries}
@@ -28,7 +28,7 @@ module _ (size : FileRecord → ℕ) where
       let new : weight name known ≡ cond (same name known.project) (size known) 0 = λ i. cond (undeleted i && same name known.project) (size known) 0 in
       omega (arith, total-insert (weight name) T.files file known, weight-deleted name (get T.files file) deleted, new)
 
-  -- falls by as much where that file is deleted
+  -- falls by as much if that file is deleted
   pub total-delete : (T : Tables) (file : Bytes) (known : FileRecord) → known.is_undeleted ≡ true → get T.files file ≡ Some known → (name : Bytes)
       → total_of (weight name) (entries (insert T.files file (as_deleted known))) + cond (same name known.project) (size known) 0 ≡ total_of (weight name) (entries T.files)
   total-delete T file known undeleted there name =
@@ -39,7 +39,7 @@ module _ (size : FileRecord → ℕ) where
   weight-other : (n : Bytes) (known : FileRecord) → same n known.project ≡ false → weight n known ≡ 0
   weight-other n known other = ap (λ b. cond (known.is_undeleted && b) (size known) 0) other ∙ ap (λ b. cond b (size known) 0) (and-false known.is_undeleted)
 
-  -- is as before for each other name where all of a name are deleted
+  -- is as before for each other name if all of a name are deleted
   pub total-delete_all : (T : Tables) (name n : Bytes) → same n name ≡ false → total_of (weight n) (entries (change_values (as_deleted_of name) T.files)) ≡ total_of (weight n) (entries T.files)
   total-delete_all T name n other = total-changed (weight n) (as_deleted_of name) T.files (λ known.
       elim (same name known.project) as (λ b. same name known.project ≡ b → weight n (cond b (as_deleted known) known) ≡ weight n known) [
@@ -47,7 +47,7 @@ module _ (size : FileRecord → ℕ) where
         | false ↦ λ _. refl
       ] refl)
 
--- where the files of a name are none, each is of another name or deleted
+-- if the files of a name are none, each is of another name or deleted
 pub none_undeleted : (T : Tables) (name : Bytes) → undeleted_count_in T name ≡ 0 → (file : Bytes) (known : FileRecord) → get T.files file ≡ Some known → is_undeleted_of name known ≡ false
 none_undeleted T name none file known there = elim (cases_Bool (is_undeleted_of name known)) [
   | inl e ↦

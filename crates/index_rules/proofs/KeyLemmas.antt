@@ -23,7 +23,7 @@ same-sym a b h = ap (λ x. same x a) (sym (same-is a b h)) ∙ same-refl a
 pub cases_same : (q k : Bytes) → (q ≡ k) ⊎ (same q k ≡ false)
 cases_same q k = elim (cases_Bool (same q k)) [ inl h ↦ inl (same-is q k h) | inr h ↦ inr h ]
 
--- where two truths follow from each other, they are equal
+-- if two truths follow from each other, they are equal
 pub same_truth : (a b : Bool) → (a ≡ true → b ≡ true) → (b ≡ true → a ≡ true) → a ≡ b
 same_truth true b f g = sym (f refl)
 same_truth false true f g = g refl

@@ -41,7 +41,7 @@ use Rattle.index_rules.proofs.StandsOn.{tables_of, verdict_agrees, legal_made}
 
 -- ---- the charge
 
--- where all files of a name are deleted, they weigh nothing for it
+-- if all files of a name are deleted, they weigh nothing for it
 none-charged : (T : Tables) (name : Bytes) → total_of (charged_size name) (entries (change_values (as_deleted_of name) T.files)) ≡ 0
 none-charged T name = total-zero (charged_size name) _ (each_changed (as_deleted_of name) T.files (λ _ known. charged_size name known ≡ 0) (λ _ known _.
     elim (same name known.project) as (λ b. same name known.project ≡ b → charged_size name (cond b (as_deleted known) known) ≡ 0) [

@@ -1,4 +1,4 @@
--- What a word of a history is where an entry's request is read as a key, and where it is not.
+-- What a word of a history is if an entry's request is read as a key, and if it is not.
 use Rattle.std.proofs.Common.{◌≡◌, false, cond, ap, ◌∙◌, Option, Some, None, is_none, option_map}
 use Rattle.std.proofs.lemmas.Bool.{true≢false}
 use Rattle.index_names.specs.FileName.{Spelled, read_file_name}

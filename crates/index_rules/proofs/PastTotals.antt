@@ -1,4 +1,4 @@
--- What tables add up and find of a name's files is what a history does, where they have the history's files.
+-- What tables add up and find of a name's files is what a history does, if they have the history's files.
 use Rattle.std.proofs.Common.{◌≡◌, ℕ, Bool, true, false, cond, ◌&&◌, refl, sym, ap, ◌∙◌, Option, Some, None, is_some, option_map, sum_by}
 use Rattle.std.specs.Option.{option_map_or}
 use Rattle.std.specs.List.{list_any}

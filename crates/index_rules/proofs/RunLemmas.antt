@@ -19,7 +19,7 @@ Runs-push T (d ∷ calls) [] T' call answer T'' run is next = absurd run
 Runs-push T (d ∷ calls) (b ∷ answers) T' call answer T'' run is next =
     (run.0, Runs-push (tables_after T d b) calls answers T' call answer T'' run.1 is next)
 
--- one more answer: where it is the fault that is looked for, its call failed
+-- one more answer: if it is the fault that is looked for, its call failed
 pub HasFailed-push : (answers : List Answer) (answer fault : Answer) (first before after : ℕ) → NotFewer first before → FailsAtMostOnce before after
     → (Contains answers fault → HasFailed first before) → (answer ≡ fault → HasFailed before after) → Contains (answers ++ answer ∷ []) fault → HasFailed first after
 HasFailed-push answers answer fault first before after counts next earlier last found =

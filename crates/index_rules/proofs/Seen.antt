@@ -1,4 +1,4 @@
--- What was seen is what the tables say, where no two users bear one digest.
+-- What was seen is what the tables say, if no two users bear one digest.
 use Rattle.std.proofs.Common.{◌≡◌, true, not, ◌&&◌, ◌||◌, refl, sym, ap, ◌∙◌, subst, List, Option, Some, None, option_map, option_and_then}
 use Rattle.std.specs.List.{list_any, list_all}
 use Rattle.std.specs.FinMap.{get, entries, keys}
@@ -10,7 +10,7 @@ use Rattle.index_rules.specs.declared.view.View.{View}
 use Rattle.index_rules.specs.Maps.{Bytes, same}
 use Rattle.index_rules.specs.Tables.{Tables}
 use Rattle.index_rules.specs.Requests.{user_key, token_key, name_key, keys_of}
-use Rattle.index_rules.specs.Facts.{Sees, IsBearer, IsBearerAs, HasOneBearer, bearer_in, caller_of, facts_seen, facts_in, is_one_of, is_only_one_of, of_both, owners_at, owns_in, owns_alone_in}
+use Rattle.index_rules.specs.Facts.{Sees, IsBearer, IsBearerAs, HasOneBearer, bearer_in, caller_of, facts_seen, facts_in, is_one_of, is_only_one_of, of_both, owners_of_name, owns_in, owns_alone_in}
 use Rattle.index_rules.specs.Verdict.{verdict_now, verdict_on}
 use Rattle.index_rules.specs.Effect.{effect, means, tables_with_call}
 use Rattle.index_rules.proofs.OwnerLists.{list_any-owners_in, same-is}
@@ -41,16 +41,16 @@ module _ (T : Tables) (one : HasOneBearer T) where
   the_part part (Some token) found is = is.2 ∙ ap (option_map part) (sym (the_bearer token is.0 is.1))
 
   -- each owner is among them, and nobody else
-  among : (n : Bytes) (users : List Bytes) → users ≡ owners_at T (Some n) → (user : Bytes) → list_any (same user) users ≡ owns_in T n user
+  among : (n : Bytes) (users : List Bytes) → users ≡ owners_of_name T (Some n) → (user : Bytes) → list_any (same user) users ≡ owns_in T n user
   among n users is user = ap (list_any (same user)) is ∙ list_any-owners_in T n user
 
-  one_seen : (name user : Option Bytes) (users : List Bytes) → users ≡ owners_at T name → is_one_of users user ≡ of_both (owns_in T) name user
+  one_seen : (name user : Option Bytes) (users : List Bytes) → users ≡ owners_of_name T name → is_one_of users user ≡ of_both (owns_in T) name user
   one_seen None None users is = refl
   one_seen None (Some u) users is = ap (list_any (same u)) is
   one_seen (Some n) None users is = refl
   one_seen (Some n) (Some u) users is = among n users is u
 
-  sole_seen : (name user : Option Bytes) (users : List Bytes) → users ≡ owners_at T name → is_only_one_of users user ≡ of_both (owns_alone_in T) name user
+  sole_seen : (name user : Option Bytes) (users : List Bytes) → users ≡ owners_of_name T name → is_only_one_of users user ≡ of_both (owns_alone_in T) name user
   sole_seen None None users is = refl
   sole_seen None (Some u) users is = ap (λ us. list_any (same u) us && list_all (same u) us) is
   sole_seen (Some n) None users is = refl

@@ -1,4 +1,4 @@
--- Sound tables stay sound where a file is banned.
+-- Sound tables stay sound if a file is banned.
 use Rattle.std.proofs.Common.{◌≡◌, true, false, refl, sym, ap, ◌∙◌, subst, Option, Some, None, is_some}
 use Rattle.std.specs.FinMap.{get, insert, remove, same_map}
 use Rattle.std.proofs.lemmas.Cmp.{nat_list_cmp_total}
@@ -15,7 +15,7 @@ use Rattle.index_rules.proofs.PutLemmas.{each_put, each_without, get-put_here}
 use Rattle.index_rules.proofs.SoundDeletes.{IsSound-delete}
 use Rattle.index_rules.proofs.SoundEnds.{nothing_there}
 
--- where the file is known and not undeleted, a ban of it is all that comes
+-- if the file is known and deleted, a ban of it is all that comes
 IsSound-ban : (T : Tables) → IsSound T → (file : Bytes) (known : FileRecord) → get T.files file ≡ Some known → known.is_undeleted ≡ false → IsSound (record T { bans = insert T.bans file tt })
 IsSound-ban T sound file known there gone = record {
   one_bearer = sound.one_bearer;
@@ -35,7 +35,7 @@ IsSound-ban T sound file known there gone = record {
       (λ q _. sound.bans q);
 }
 
--- the tables where the file is banned and not undeleted, and its name has this project, if there is one
+-- the tables after a ban of a file, which is deleted; its name has this project, if there is one
 abbrev pub with_ban : Tables → Bytes → FileRecord → Option Project → Tables
 with_ban T file known left = record T {
   names = with_project (project_of file) left T.names;

@@ -1,4 +1,4 @@
--- Sound tables stay sound where a case is opened or ends, and where a held name is transferred.
+-- Sound tables stay sound if a case is opened or ends, or a held name is transferred.
 use Rattle.std.proofs.Common.{◌≡◌, true, inl, inr, sym, ap, ◌∙◌, is_some}
 use Rattle.std.specs.FinMap.{get, insert, remove, contains_key}
 use Rattle.std.proofs.lemmas.Bool.{false≢true}

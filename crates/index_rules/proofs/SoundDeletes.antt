@@ -1,4 +1,4 @@
--- Sound tables stay sound where an undeleted file is deleted.
+-- Sound tables stay sound if an undeleted file is deleted.
 use Rattle.std.proofs.Common.{◌≡◌, ◌+◌, ◌-◌, ◌≤◌, true, false, cond, refl, sym, ap, ◌∙◌, subst, Some, is_some, arith}
 use Rattle.std.specs.FinMap.{get, insert, remove}
 use Rattle.std.proofs.lemmas.Bool.{false≢true}

@@ -1,4 +1,4 @@
--- Sound tables stay sound where a name ends with its owners, files and yanks.
+-- Sound tables stay sound if a name ends with its owners, files and yanks.
 use Rattle.std.proofs.Common.{◌≡◌, Bool, true, false, cond, not, ◌&&◌, inl, inr, refl, sym, ap, ◌∙◌, subst, Option, Some, None, is_some, option_map}
 use Rattle.std.specs.Option.{option_map_or}
 use Rattle.std.specs.FinMap.{get, insert, remove, retain_keys, same_map}
@@ -72,7 +72,7 @@ module _ (T : Tables) (sound : IsSound T) (name : Bytes) (closed : get T.cases n
         | false ↦ λ other is. (other-sym name known.project other, sound.undeleted_held file known there is)
       ] refl)
 
-  -- a body is left where the file is of another name
+  -- a body is left if the file is of another name
   abbrev left_body : Option FileRecord → Option Bytes → Option Bytes
   left_body known body = cond (not (option_map_or (λ k. same name k.project) known false)) body None
 
@@ -105,7 +105,7 @@ module _ (T : Tables) (sound : IsSound T) (name : Bytes) (closed : get T.cases n
         elim (same name was.0.project) as (λ b. (cond b (as_deleted was.0) was.0).is_undeleted ≡ false) [ true ↦ refl | false ↦ was.2 ],
       )
 
-  -- ---- the tables, where the name is held no more and the others are as they were
+  -- ---- the tables after the name is no longer held, with all others as they were
 
   module _ (names : Map NameRecord) (gone : is_held (get names name) ≡ false) (others : (n : Bytes) → same n name ≡ false → get names n ≡ get T.names n) where
     is_other : (n : Bytes) → is_held (get names n) ≡ true → same n name ≡ false

@@ -1,4 +1,4 @@
--- Sound tables stay sound where a held name's quota changes and where a free name is claimed.
+-- Sound tables stay sound if a held name's quota changes or a free name is claimed.
 use Rattle.std.proofs.Common.{◌≡◌, ◌≤◌, true, false, cond, not, ◌&&◌, inl, inr, refl, sym, ap, ◌∙◌, subst, Some, is_some, arith}
 use Rattle.std.specs.FinMap.{get, insert, contains_key}
 use Rattle.std.proofs.lemmas.Bool.{false≢true, cases_Bool, and_parts}
@@ -16,7 +16,7 @@ use Rattle.index_rules.proofs.KeyLemmas.{same-refl, has-put, has-cleared, get-wi
 use Rattle.index_rules.proofs.Totals.{total-zero}
 use Rattle.index_rules.proofs.PutLemmas.{each_put, other-sym}
 
--- a name that was held before is held where one is put
+-- a name that was held before is held if one is put
 pub still_held : (T : Tables) (name : Bytes) (project : Project) (q : Bytes) → is_held (get T.names q) ≡ true → is_held (get (insert T.names name (Held project)) q) ≡ true
 still_held T name project = each_put T.names name (Held project) (λ q found. is_held (get T.names q) ≡ true → is_held found ≡ true) (λ _. refl) (λ _ _ held. held)
 

@@ -1,4 +1,4 @@
--- Sound tables stay sound where a held name has one owner more, or one less of several.
+-- Sound tables stay sound if a held name has one owner more, or one less of several.
 use Rattle.std.proofs.Common.{◌≡◌, Bool, true, false, cond, not, ◌&&◌, ◌||◌, ◌⊎◌, inl, inr, refl, sym, ap, ◌∙◌, List, [], ◌∷◌}
 use Rattle.std.specs.List.{list_any, list_all}
 use Rattle.std.specs.Ordering.{eq_by_cmp}
@@ -39,7 +39,7 @@ IsSound-owner T sound name owner held = record {
 
 -- ---- one owner less
 
--- where not all pairs pass a test, one of them does not
+-- if not all pairs pass a test, one of them does not
 failing_pair : (p : Bytes × Bytes → Bool) (pairs : List (Bytes × Bytes)) → list_all p pairs ≡ false
     → (pair : Bytes × Bytes) × (p pair ≡ false) × (list_any (eq_by_cmp pair_cmp pair) pairs ≡ true)
 failing_pair p [] e = absurd (true≢false e)

@@ -1,4 +1,4 @@
--- Sound tables stay sound where a file that is not undeleted is uploaded within its project's quota.
+-- Sound tables stay sound if a file that is not undeleted is uploaded within its project's quota.
 use Rattle.std.proofs.Common.{◌≡◌, ℕ, ◌+◌, ◌≤◌, true, false, cond, inl, inr, sym, ap, ◌∙◌, subst, Some, is_some, length, arith}
 use Rattle.std.specs.FinMap.{get, insert}
 use Rattle.std.proofs.lemmas.Bool.{false≢true}

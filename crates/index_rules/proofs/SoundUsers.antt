@@ -1,4 +1,4 @@
--- Sound tables stay sound where a user is put whose token nobody else bears.
+-- Sound tables stay sound if a user is put whose token nobody else bears.
 use Rattle.std.proofs.Common.{◌≡◌, true, false, refl, sym, ap, ◌∙◌, Option, Some, None, is_none, option_map, option_and_then}
 use Rattle.std.specs.FinMap.{get, insert, entries}
 use Rattle.std.proofs.lemmas.Bool.{true≢false, false≢true, not-false}

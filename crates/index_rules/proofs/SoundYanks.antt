@@ -1,4 +1,4 @@
--- Sound tables stay sound where a held name's release is yanked, and where one is yanked no more.
+-- Sound tables stay sound if a held name's release is yanked or unyanked.
 use Rattle.std.proofs.Common.{◌≡◌, Bool, true, false, cond, ◌&&◌, inl, inr, sym, ap, ◌∙◌, Option, Some, None, is_some}
 use Rattle.std.specs.FinMap.{get, insert, remove}
 use Rattle.std.proofs.lemmas.Bool.{false≢true, cases_Bool, and_parts}

@@ -52,7 +52,7 @@ module _ (T : Tables) (h : History) (files : (file : Bytes) → get T.files file
     known-other : (q : Bytes) → same q file ≡ false → first_upload_after (then upload) q ≡ first_upload_after h q
     known-other q other = ap (option_or (first_upload_after h q)) (at_other (read_file file) file reads (Some first) None q other) ∙ or_old (first_upload_after h q)
 
-    -- where the file is known, it is so by this digest and size
+    -- if the file is known, it is so by this digest and size
     pub known-here : is_none (read_digest sha256) ≡ false → is_other_file (read_digest sha256) (length body) (option_and_then (get T.files) (read_file file)) ≡ false → first_upload_after (then upload) file ≡ Some first
     known-here unread other =
         ap (option_or (first_upload_after h file)) (at_key (read_file file) file reads (Some first) None)

@@ -145,7 +145,7 @@ module _ (T : Tables) (h : History) (stands : (name : Bytes) → get T.names nam
       ((λ i. Some (later (held.1 i).last_upload at)) ∙ later-greatest at (last_upload_after h n) ∙ sym (ap greatest (at_key read n reads (at ∷ uploads_after h n) (uploads_after h n)))))
       (λ q other. IsShaped-same (get T.names q) _ _ _ _ _ _ _ _ refl refl refl (sym (ap greatest (at_other read n reads (at ∷ uploads_after h q) (uploads_after h q) q other))) (before q))
 
-  -- a name that loses a file, where it is held
+  -- a name that loses a file, if it is held
   left : (n : Bytes) (size : ℕ) (found : Option Project) (undeleted : Bool) → ((project : Project) → found ≡ Some project → IsHeldAt T h n × (project ≡ project_after h n))
       → (q : Bytes) → IsNamed h q (get (with_project n (cond undeleted (option_map (without_file size) found) None) T.names) q)
   left n size None true held = before

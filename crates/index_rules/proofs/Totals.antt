@@ -1,4 +1,4 @@
--- A sum over the entries of a map, where one entry is put, where each value is changed, and where each entry weighs nothing.
+-- A sum over the entries of a map: after one entry is put or each value is changed, and if each entry weighs nothing.
 use Rattle.std.proofs.Common.{◌≡◌, ℕ, ◌+◌, ◌≤◌, Bool, true, false, cond, not, refl, sym, ap, ◌∙◌, List, [], ◌∷◌, Some, None, T, arith, sum_by, find, eqb}
 use Rattle.std.specs.Option.{option_map_or}
 use Rattle.std.specs.declared.cmp.Ordering.{Ordering}
@@ -68,7 +68,7 @@ module _ {X : Type 0} (weight : X → ℕ) where
   total_of-changed change (e ∷ es) same_weight =
       omega (arith, total_of-cons (e.0, change e.1) (changed change es), total_of-cons e es, same_weight e.1, total_of-changed change es same_weight)
 
-  -- where each value weighs what it did, so do all
+  -- if each value weighs what it did, so do all
   pub total-changed : (change : X → X) (m : Map X) → ((v : X) → weight (change v) ≡ weight v) → total_of (entries (change_values change m)) ≡ total_of (entries m)
   total-changed change m same_weight = ap total_of (entries-change_values change m) ∙ total_of-changed change (entries m) same_weight
 
@@ -83,7 +83,7 @@ module _ {X : Type 0} (weight : X → ℕ) where
     | false ↦ λ _ none. cc
   ] refl none
 
-  -- where each entry weighs nothing, so do all
+  -- if each entry weighs nothing, so do all
   pub total-zero : (m : Map X) → ((k : Bytes) (v : X) → get m k ≡ Some v → weight v ≡ 0) → total_of (entries m) ≡ 0
   unfolding weighs
   total-zero m each = elim (find weighs (entries m)) as (λ o. find weighs (entries m) ≡ o → total_of (entries m) ≡ 0) [

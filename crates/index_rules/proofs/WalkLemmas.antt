@@ -64,6 +64,6 @@ module _ {K R : Type 0} (takes stops : K → R → K → Type 0) where
   GoesOn-early all rest xs ys first a b end goes split early =
       goes b (Err end) (subst (λ rows. EndsEarly takes stops rows a b end) (sym split) (EndsEarly-within xs ys a b end early))
 
-  -- it is at its end where no rows are left
+  -- it is at its end if no rows are left
   pub GoesOn-all : (all rest : List R) (first a : K) → GoesOn all first rest a → rest ≡ [] → Took takes all first a
   GoesOn-all all rest first a goes none = goes a (Ok tt) (subst (λ rows. Took takes rows a a) (sym none) refl)

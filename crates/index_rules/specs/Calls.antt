@@ -1,4 +1,4 @@
--- What a call of the books does beside what it finds or writes.
+-- What a call of the books does besides what it finds or writes.
 use Rattle.std.specs.Prelude.{◌≡◌, ℕ, Bool, not, is_ok, Result, IsTrue}
 use Rattle.index_io.specs.Counts.{next_count}
 use Rattle.index_rules.specs.declared.answer.Fault.{Fault}
@@ -7,7 +7,7 @@ use Rattle.index_rules.specs.Tables.{Tables}
 use Rattle.index_rules.specs.StoreFaults.{CountsStoreFault, fails_by_store, ends_by_store}
 use Rattle.index_rules.specs.Walks.{has_fault}
 
--- how many calls failed, and how many of them by a fault of the store
+-- how many calls failed, and how many failed with `Store`
 pub record FaultCounts (S : Type 0) : Type 0 where
   pub failures : S → ℕ
   pub stores : S → ℕ
@@ -15,7 +15,7 @@ pub record FaultCounts (S : Type 0) : Type 0 where
 abbrev pub counts : {S : Type 0} → (failures stores : S → ℕ) → FaultCounts S
 counts failures stores = record { failures = failures; stores = stores }
 
--- the ghosts of `Books` as one value, for its own clauses: elsewhere that is `Ghosts`
+-- the ghosts of `Books` as one value, for its own clauses; elsewhere that is `Ghosts`
 pub record Model (S : Type 0) : Type 1 where
   pub tables : S → Tables
   pub IsHonest : S → Type 0
@@ -33,32 +33,34 @@ model tables IsHonest IsClean may_leave faults = record {
   faults = faults;
 }
 
--- a store that is honest or clean as a call ends was so as it began, and a failure is counted just
--- where it is told, and as one of the store where it is told as `Store`
+-- what holds of every call of the books; a failure is counted exactly if the call fails, and as one
+-- of the store exactly if it fails with `Store`
 pub record Calls {S : Type 0} (books : Model S) (old new : S)
     (succeeds is_store_fault : Bool) : Type 0 where
+  -- a store that is honest after a call was honest before it
   pub honest : books.IsHonest new → books.IsHonest old
+  -- a store that is clean after a call was clean before it
   pub clean : books.IsClean new → books.IsClean old
   pub failures : books.faults.failures new ≡ next_count (books.faults.failures old) succeeds
   pub stores : CountsStoreFault (books.faults.stores old) (books.faults.stores new) is_store_fault
 
--- a look is a call that changes no table, and a crash leaves what it could have left before
+-- a look: a call that changes no table, after which a crash leaves what it could have left before
 pub record LooksUp {S : Type 0} (books : Model S) (old new : S)
     (succeeds is_store_fault : Bool) : Type 0 where
   pub call : Calls books old new succeeds is_store_fault
   pub unchanged : books.IsHonest new → books.tables new ≡ books.tables old
-  -- one that succeeds leaves an honest store honest, while it is clean
+  -- a look that succeeds leaves an honest store honest if the store is still clean
   pub lasts : IsTrue succeeds → books.IsHonest old → books.IsClean new → books.IsHonest new
   pub crash : (T : Tables) → books.may_leave new T → books.may_leave old T
 
--- a write that returned this: it fails where that is an error
+-- a write with this result; it fails if the result is an error
 abbrev pub WritesOrFails : {S A : Type 0} → Model S → S → S → Result A Fault → Type 0
 WritesOrFails books old new result = Calls books old new (is_ok result) (fails_by_store result)
 
--- a look that returned this
+-- a look with this result; it fails if the result is an error
 abbrev pub Looks : {S A : Type 0} → Model S → S → S → Result A Fault → Type 0
 Looks books old new result = LooksUp books old new (is_ok result) (fails_by_store result)
 
--- the same of a walk: it fails where a fault ended it
+-- a walk with this result; it fails if a fault ended the walk
 abbrev pub Scans : {S A : Type 0} → Model S → S → S → Result A WalkEnd → Type 0
 Scans books old new result = LooksUp books old new (not (has_fault result)) (ends_by_store result)

@@ -33,9 +33,9 @@ use Rattle.index_rules.specs.Users.{read_user}
 use Rattle.index_rules.specs.Facts.{Facts, facts_in}
 use Rattle.index_rules.specs.Verdict.{held_project, is_undeleted}
 
--- ---- what is there, of a request that is accepted
+-- ---- the records that an accepted request finds
 
--- what was read; the empty text where nothing was, which an accepted request does not meet
+-- what was parsed, or the empty text if nothing was; an accepted request does not meet the latter
 abbrev pub or_empty : Option Bytes → Bytes
 or_empty read = unwrap_or read []
 
@@ -43,8 +43,8 @@ or_empty read = unwrap_or read []
 abbrev pub the_caller : Facts → Bytes
 the_caller facts = or_empty (option_map (λ caller. caller.user) facts.caller)
 
--- stands where there is no held name, which an accepted request does not
--- meet; so do the three below
+-- stands for the held name if there is none, which an accepted request does not meet; the three
+-- below likewise
 abbrev pub no_project : Project
 no_project = record { shown = []; quota = 0; charge = 0; undeleted = 0; last_upload = None }
 
@@ -88,14 +88,14 @@ no_case = record {
 abbrev pub the_case : Facts → CaseRecord
 the_case facts = unwrap_or facts.case no_case
 
--- ---- what is written
+-- ---- what a request writes
 
 -- the greater of two moments
 abbrev pub later : Option ℕ → ℕ → ℕ
 later None at = at
 later (Some before) at = max at before
 
--- one more undeleted file of this size, uploaded at this moment
+-- the project with one more undeleted file of this size, uploaded at this moment
 abbrev pub with_file : ℕ → ℕ → Project → Project
 with_file at size project =
     record project {
@@ -104,16 +104,16 @@ with_file at size project =
       last_upload = Some (later project.last_upload at);
     }
 
--- one less of this size; nothing falls below 0
+-- the project with one undeleted file of this size less; nothing falls below 0
 abbrev pub without_file : ℕ → Project → Project
 without_file size project =
     record project { charge = project.charge - size; undeleted = project.undeleted - 1 }
 
--- the record of a file that is deleted: all of it but the flag stays
+-- the record of a file after its delete: only the flag changes
 abbrev pub as_deleted : FileRecord → FileRecord
 as_deleted known = record known { is_undeleted = false }
 
--- a name's file, deleted; any other as it is
+-- a file's record after the prohibition of a name: deleted if the file is of that name
 abbrev pub as_deleted_of : Bytes → FileRecord → FileRecord
 as_deleted_of name known = if same name known.project then as_deleted known else known
 
@@ -121,15 +121,15 @@ as_deleted_of name known = if same name known.project then as_deleted known else
 abbrev pub is_file_of : Map FileRecord → Bytes → Bytes → Bool
 is_file_of files name file = option_map_or (λ known. same name known.project) (get files file) false
 
--- the map without what stands at this name
+-- the map without the entries of this name
 abbrev pub without_name : {X : Type 0} → Bytes → PairMap X → PairMap X
 without_name name m = retain_keys m (λ pair. not (same name pair.0))
 
--- one attempt more
+-- the case with one attempt more
 abbrev pub with_attempt_noted : Attempt → CaseRecord → CaseRecord
 with_attempt_noted attempt case = record case { state = tally_with case.state attempt }
 
--- a file's record, of its upload with this digest
+-- the record of a file after its upload with this digest
 abbrev pub new_file : Bytes → Bytes → Bytes → Bytes → FileRecord
 new_file digest file body requires = record {
   project = project_of file;
@@ -140,15 +140,15 @@ new_file digest file body requires = record {
   is_undeleted = true;
 }
 
--- the change by the upload of a file to a project that has it in its charge, and whether
--- the name has a case that ends
+-- the change by the upload of a file to a project that is charged for it, and whether the name has
+-- a case that ends
 abbrev pub upload_of : Project → Bytes → Bytes → Bytes → Bool → Change
 upload_of project file body requires ends_case =
     change.Upload (project_of file) project file (new_file (sha256 body) file body requires) body
     ends_case
 
--- the held name without the file that a ban deletes, where the file is undeleted; in sound tables
--- the name of such a file is held
+-- the held name without the file that a ban deletes, if the file is undeleted; in sound tables the
+-- name of such a file is held
 abbrev pub project_left : Facts → Option Project
 project_left facts =
     if is_undeleted facts.file
@@ -209,7 +209,7 @@ effect at (Transfer name quiet) facts =
 effect at (CloseCase name) facts = change.CloseCase (or_empty (read_name name))
 effect at (AnswerCase name) facts = change.AnswerCase (or_empty (read_name name))
 
--- the tables where a name is free: its owners, its yanks and its case go with it
+-- the tables with the name free: without its record, its owners, its yanks and its case
 abbrev pub without_record : Bytes → Tables → Tables
 without_record name T = record T {
   names = remove T.names name;
@@ -218,12 +218,12 @@ without_record name T = record T {
   cases = remove T.cases name;
 }
 
--- the names where one has this project, if there is one
+-- the names, with this project at this name if there is a project
 abbrev pub with_project : Bytes → Option Project → Map NameRecord → Map NameRecord
 with_project name None names = names
 with_project name (Some project) names = insert names name (Held project)
 
--- what a change means for the tables
+-- the tables after a change
 abbrev pub means : Change → Tables → Tables
 means (change.AddUser user account) T = record T { users = insert T.users user account }
 means (change.SetToken user account) T = record T { users = insert T.users user account }

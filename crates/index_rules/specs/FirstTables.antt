@@ -26,10 +26,10 @@ first_tables user token = record {
   bans = empty;
 }
 
--- the bytes are no user id, or the digest is that of the empty text, which is no token
+-- the bytes are not a user id, or the digest is that of the empty text, which is not a token
 abbrev pub IsBadFirstUser : Bytes → Bytes → Type 0
 IsBadFirstUser user token = (read_user user ≡ None) ⊎ (token ≡ sha256 [])
 
--- these are refused as such exactly where they are
+-- a call is refused with `BadFirstUser` exactly if the first user is invalid
 abbrev pub RefusesBadFirstUser : {A : Type 0} → Bytes → Bytes → Result A OpenFault → Type 0
 RefusesBadFirstUser user token result = IsErrOf result BadFirstUser ↔ IsBadFirstUser user token

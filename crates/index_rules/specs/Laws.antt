@@ -1,4 +1,4 @@
--- What holds of every legal history. These words speak of no tables.
+-- What holds of every legal history. No definition here speaks of tables.
 use Rattle.std.specs.Prelude.{◌≡◌, ◌⊎◌, ℕ, ◌+◌, Bool, true, false, ◌&&◌, if◌then◌else◌, length}
 use Rattle.std.specs.Prelude.{Some, option_map}
 use Rattle.index_names.specs.Project.{read_name}
@@ -27,7 +27,7 @@ use Rattle.index_rules.specs.PastFiles.{is_undeleted_after, size_after, charge_a
 
 -- ---- a token has one bearer
 
--- at most one user bears a digest
+-- at most one user has a token with a given digest
 abbrev pub HasOneBearerOfEach : History → Type 0
 HasOneBearerOfEach h =
     (u v : Bytes) (x y : UserRecord) → user_after h u ≡ Some x → user_after h v ≡ Some y
@@ -41,7 +41,7 @@ IsUploadOf (Upload file declared body requires) f first =
     (read_file file ≡ Some f) × (first ≡ (sha256 body, length body))
 IsUploadOf request f first = ⊥
 
--- some entry of the history is one
+-- some entry of the history is an upload of the file, with this digest and this size
 abbrev pub HasUpload : History → Bytes → Bytes × ℕ → Type 0
 HasUpload (begins user token) f first = ⊥
 HasUpload (more h e) f first = IsUploadOf e.call.request f first ⊎ HasUpload h f first
@@ -58,7 +58,7 @@ abbrev pub DeclaresBody : Request → Type 0
 DeclaresBody (Upload file declared body requires) = read_digest declared ≡ Some (sha256 body)
 DeclaresBody request = Unit {0}
 
--- so does each upload of the history
+-- each upload of the history declares the digest of its body
 abbrev pub DeclaresBodies : History → Type 0
 DeclaresBodies (begins user token) = Unit {0}
 DeclaresBodies (more h e) = DeclaresBodies h × DeclaresBody e.call.request
@@ -68,7 +68,7 @@ abbrev pub IsBanOf : Request → Bytes → Type 0
 IsBanOf (BanFile file) f = read_file file ≡ Some f
 IsBanOf request f = ⊥
 
--- some entry of the history is one
+-- some entry of the history is a ban of the file
 abbrev pub HasBan : History → Bytes → Type 0
 HasBan (begins user token) f = ⊥
 HasBan (more h e) f = IsBanOf e.call.request f ⊎ HasBan h f
@@ -82,31 +82,30 @@ KeepsBans (more h e) =
 
 -- ---- what is served of a file
 
--- the one is the other, or what it was before its newest entries
+-- the first history is the second one, or is what that was before its newest entries
 abbrev pub IsFrontOf : History → History → Type 0
 IsFrontOf earlier (begins user token) = earlier ≡ begins user token
 IsFrontOf earlier (more h e) = (earlier ≡ more h e) ⊎ IsFrontOf earlier h
 
--- what is served of a file name is bound for good: at any two points of the history at which bytes
--- of it are served, these have one digest and one size
+-- what is served of a file name is bound for good: if bytes of it are served at two points of the
+-- history, they have one digest and one size
 abbrev pub ServesBound : History → Type 0
 ServesBound h =
     (one other : History) → IsFrontOf one h → IsFrontOf other h
     → (f first second : Bytes) → body_after one f ≡ Some first → body_after other f ≡ Some second
     → (sha256 first ≡ sha256 second) × (length first ≡ length second)
 
--- at each point of it they are those of an upload of the file
+-- at each point of the history, the bytes served of a file are those of an upload of it
 abbrev pub ServesUploads : History → Type 0
 ServesUploads h =
     (at : History) → IsFrontOf at h
     → (f body : Bytes) → body_after at f ≡ Some body → HasUpload at f (sha256 body, length body)
 
--- ---- what moves a charge, a state, the owners
+-- ---- what changes a charge, a state, the owners
 
--- what a request does to the charge of a name `n`, in bytes, which is `before` ahead of its entry
--- and `after` behind it: an upload adds the size of its body to its own project, a delete takes the
--- file's size away, so does a ban of an undeleted file, a prohibit brings its own name to 0, and
--- nothing else changes a charge
+-- a request moves the charge of a name `n`, from `before` to `after`: an upload adds its body's
+-- size to its project's, a delete and a ban of an undeleted file take the file's size off, a
+-- prohibit sets its name's to 0; no other request moves a charge
 abbrev pub MovesCharge : Request → History → Bytes → ℕ → ℕ → Type 0
 MovesCharge (Upload file sha256 body requires) h n before after =
     after
@@ -143,15 +142,15 @@ may_move_state (Prohibit name) n = is_read_as (read_name name) n
 may_move_state (Allow name) n = is_read_as (read_name name) n
 may_move_state request n = false
 
--- whether it may change the owners of a name: these may, and an add_owner, a
--- remove_owner and a transfer
+-- whether a request may change the owners of a name: one that may change its state may, and an
+-- add_owner, a remove_owner and a transfer
 abbrev pub may_move_owners : Request → Bytes → Bool
 may_move_owners (AddOwner name user) n = is_read_as (read_name name) n
 may_move_owners (RemoveOwner name user) n = is_read_as (read_name name) n
 may_move_owners (Transfer name quiet) n = is_read_as (read_name name) n
 may_move_owners request n = may_move_state request n
 
--- what an entry moves
+-- what an entry changes
 pub record Moves (h : History) (e : Entry) : Type 0 where
   pub charge : (n : Bytes)
       → MovesCharge e.call.request h n (charge_after h n) (charge_after (more h e) n)
@@ -161,15 +160,15 @@ pub record Moves (h : History) (e : Entry) : Type 0 where
   pub owners : (n u : Bytes) → may_move_owners e.call.request n ≡ false
       → owns_after (more h e) n u ≡ owns_after h n u
 
--- each entry moves what it may
+-- each entry of the history changes only what it may
 abbrev pub MovesAsRecorded : History → Type 0
 MovesAsRecorded (begins user token) = Unit {0}
 MovesAsRecorded (more h e) = MovesAsRecorded h × Moves h e
 
 -- ---- every transfer was ready
 
--- what held right before a transfer of the name to the candidate of its case,
--- and what holds right after it
+-- what held right before a transfer of the name to the candidate of its case, and what holds right
+-- after it
 pub record WasReady (h : History) (e : Entry) (name : Bytes) (quiet : Bool) : Type 0 where
   pub case : Case
   pub is_open : case_after h name ≡ Some case
@@ -183,22 +182,22 @@ pub record WasReady (h : History) (e : Entry) (name : Bytes) (quiet : Bool) : Ty
   pub quota : quota_after (more h e) name ≡ quota_after h name
   pub yanks : (r : Bytes) → yank_after (more h e) name r ≡ yank_after h name r
 
--- an entry that is a transfer was
+-- if the entry is a transfer, it was ready
 abbrev pub TransferWasReady : Request → History → Entry → Type 0
 TransferWasReady (Transfer name quiet) h e =
     (n : Bytes) → read_name name ≡ Some n → WasReady h e n quiet
 TransferWasReady request h e = Unit {0}
 
--- every transfer was ready; that the charge and the state of the name are as they
--- were too is said by `Moves`
+-- every transfer was ready; `Moves` says that the charge and the state of the name are unchanged
+-- too
 abbrev pub TransfersWereReady : History → Type 0
 TransfersWereReady (begins user token) = Unit {0}
 TransfersWereReady (more h e) = TransfersWereReady h × TransferWasReady e.call.request h e
 
--- ---- names don't touch one another
+-- ---- names are independent of one another
 
--- whether a request is on users, or speaks of the name; an upload, a delete and a ban of a file
--- speak of the project that the file name decides
+-- whether a request is on users, or on the name; an upload, a delete and a ban of a file are on the
+-- project that the file name spells
 abbrev pub is_kept : Request → Bytes → Bool
 is_kept (AddUser user office token) n = true
 is_kept (SetToken user token) n = true
@@ -210,8 +209,8 @@ history_of_name n (begins user token) = begins user token
 history_of_name n (more h e) =
     if is_kept e.call.request n then more (history_of_name n h) e else history_of_name n h
 
--- that is a legal history, and a call of the name has the same verdict in it: so for one name it
--- makes no difference what was accepted of others
+-- the history of a name is legal, and a call on the name has the same verdict in it as in the whole
+-- history: what was accepted on other names makes no difference
 abbrev pub StandsAlone : History → Type 0
 StandsAlone h =
     (n : Bytes)

@@ -18,14 +18,14 @@ use Rattle.index_rules.specs.PastNames.{owns_after, owns_alone_after, yank_after
 use Rattle.index_rules.specs.PastFiles.{is_banned_after, has_release_after}
 use Rattle.index_rules.specs.StandsFor.{StandsFor, name_after, file_after, case_record_after}
 
--- the user as the caller of a call, with his office flag
+-- the user as a caller, with the user's office flag
 abbrev pub caller_after : History → Bytes → Caller
 caller_after h user = record {
   user = user;
   office = option_map_or (λ account. account.office) (user_after h user) false;
 }
 
--- what a history says of a call, whose caller is the bearer of its token
+-- the facts that a history has for a call, whose caller is the user who has its token
 abbrev pub facts_after : History → Call → Facts
 facts_after h call = record {
   caller = option_map (caller_after h) (bearer_after h call.token);
@@ -47,12 +47,12 @@ facts_after h call = record {
 abbrev pub verdict_after : History → Call → Verdict
 verdict_after h call = verdict_on call (facts_after h call)
 
--- the history with a call as its newest entry, made by the bearer of its token
+-- the history with a call as its newest entry, made by the user who has its token
 abbrev pub with_call : History → Call → History
 with_call h call = more h (record { actor = or_empty (bearer_after h call.token); call = call })
 
--- each entry was accepted after the entries before it, and its actor bore its token
--- there; the opening alone is legal
+-- each entry was accepted after the entries before it, and its actor had its token there; the
+-- opening alone is legal
 abbrev pub IsLegal : History → Type 0
 IsLegal (begins user token) = Unit {0}
 IsLegal (more h e) =
@@ -60,26 +60,27 @@ IsLegal (more h e) =
 
 -- ---- calls in a row
 
--- an accepted call is appended, and no other
+-- the history after a call: an accepted call is appended, and no other
 abbrev pub history_after : History → Call → Answer → History
 history_after h call answer.Accepted = with_call h call
 history_after h call answer.Already = h
 history_after h call (answer.Refused refusal) = h
 history_after h call (answer.Fault fault) = h
 
--- each answer is the verdict in the history so far or a fault, and exactly the accepted
--- calls are appended, in order
+-- each answer is the verdict in the history so far or a fault, and exactly the accepted calls are
+-- appended, in order
 abbrev pub Extends : History → List Call → List Answer → History → Type 0
 Extends = RunsOver verdict_after history_after
 
--- what is proved of one call: the answer is right, and the tables stand for the history that
--- it leads to, which is legal
+-- what is proved of one call: the answer is right, and the tables stand for the history that it
+-- leads to, which is legal
 pub record CarriesOn (h : History) (call : Call) (answer : Answer) (T' : Tables) : Type 0 where
   pub verdict : Answers (verdict_after h call) answer
   pub legal : IsLegal (history_after h call answer)
   pub stands : StandsFor T' (history_after h call answer)
 
--- the same of calls in a row
+-- what is proved of calls in a row: each answer is right, and the tables stand for the history that
+-- they lead to, which is legal
 pub record CarriesOnAll (h : History) (calls : List Call) (answers : List Answer)
     (T' : Tables) : Type 0 where
   pub after : History

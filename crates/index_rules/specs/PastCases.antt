@@ -17,22 +17,27 @@ use Rattle.index_rules.specs.Maps.{Bytes}
 use Rattle.index_rules.specs.Requests.{read_file}
 use Rattle.index_rules.specs.History.{History, begins, more, is_read_as}
 
--- an open case: its kind, its candidate and his three texts, the moment of its opening, and all
--- its attempts, the newest first
+-- an open case
 pub record Case : Type 0 where
   pub kind : CaseKind
+  -- the user who opened it, and gets the name at a transfer
   pub candidate : Bytes
+  -- how the owner was sought in vain
   pub contact : Bytes
+  -- the candidate's work
   pub work : Bytes
+  -- why no other name will do
   pub why : Bytes
+  -- when it was opened
   pub opened : ℕ
+  -- all its attempts to reach the owner, the newest first
   pub attempts : List Attempt
 
 -- the case with one attempt more
 abbrev pub with_attempt : Attempt → Case → Case
 with_attempt attempt case = record case { attempts = attempt ∷ case.attempts }
 
--- the requests that only an owner may make, of the name
+-- whether a request is one on the name that only an owner may make
 abbrev pub is_owners_request : Request → Bytes → Bool
 is_owners_request (AddUser user office token) n = false
 is_owners_request (SetToken user token) n = false
@@ -55,7 +60,7 @@ is_owners_request (Transfer name quiet) n = false
 is_owners_request (CloseCase name) n = false
 is_owners_request (AnswerCase name) n = is_read_as (read_name name) n
 
--- the open case, after one request more; a claim has no line: where one is accepted the name is
+-- the open case, after one request more; a claim has no line: when one is accepted the name is
 -- free, and a free name has no open case, since a relinquish and a prohibit end it
 abbrev pub case_by : Request → Bytes → ℕ → Bytes → Option Case → Option Case
 case_by (OpenCase name kind contact work why) actor at n before =
@@ -80,24 +85,24 @@ case_by (Transfer name quiet) actor at n before =
 case_by (Prohibit name) actor at n before = if is_read_as (read_name name) n then None else before
 case_by request actor at n before = if is_owners_request request n then None else before
 
--- the open case is the last that was opened, as long as it was not closed, the name was not
--- transferred or prohibited, and no owner's request of the name was accepted since; its
--- attempts are those recorded since
+-- the last case that was opened on the name, if it is still open: nothing closed it, and no
+-- transfer, prohibit or owner's request of the name was accepted since; its attempts are those
+-- recorded since
 abbrev pub case_after : History → Bytes → Option Case
 case_after (begins user token) n = None
 case_after (more h e) n = case_by e.call.request e.actor e.call.at n (case_after h n)
 
--- its candidate is the user who opened it
+-- the user who opened the open case
 abbrev pub candidate_after : History → Bytes → Option Bytes
 candidate_after h n = option_map (λ case. case.candidate) (case_after h n)
 
--- a request that opens a case on the name
+-- whether a request opens a case on the name
 abbrev pub opens_case : Request → Bytes → Bool
 opens_case (OpenCase name kind contact work why) n = is_read_as (read_name name) n
 opens_case request n = false
 
--- no owner's request of the name stands after the last opening of a case on it; no table keeps
--- this, and `TransfersWereReady` speaks of it
+-- whether no owner's request of the name stands after the last opening of a case on it; no table
+-- records this, and `TransfersWereReady` uses it
 abbrev pub is_unanswered_after : History → Bytes → Bool
 is_unanswered_after (begins user token) n = false
 is_unanswered_after (more h e) n =

@@ -1,4 +1,4 @@
--- Who is a user after a history, of the office or not, and who bears a token's digest.
+-- Who is a user after a history, of the office or not, and who has a token.
 use Rattle.std.specs.Prelude.{if◌then◌else◌, List, [], ◌∷◌, Option, Some, None, find, option_map}
 use Rattle.index_rules.specs.declared.call.Request.{Request}
 use Rattle.index_rules.specs.declared.call.Request.TheVariants.{AddUser, SetToken}
@@ -15,7 +15,7 @@ use Rattle.index_rules.specs.History.{History, begins, more, is_read_as}
 abbrev pub with_token : Bytes → UserRecord → UserRecord
 with_token token user = record { office = user.office; token = token }
 
--- what one request makes of a user's record
+-- a user's record after one request
 abbrev pub user_by : Request → Bytes → Option UserRecord → Option UserRecord
 user_by (AddUser user office token) u before =
     if is_read_as (read_user user) u
@@ -27,18 +27,19 @@ user_by (SetToken user token) u before =
     else before
 user_by request u before = before
 
--- a user is there from the opening or from his add_user on; the office flag is that of this entry,
--- and the digest that of the user's last add_user or set_token
+-- The record of a user after a history; none before the user is added. The first user is of the
+-- office, another as the last AddUser says. The digest is that of the last AddUser or SetToken, or
+-- the first user's.
 abbrev pub user_after : History → Bytes → Option UserRecord
 user_after (begins user token) u = if same u user then Some (first_record token) else None
 user_after (more h e) u = user_by e.call.request u (user_after h u)
 
--- one more, where a user id was read
+-- a list of users with one more, if a user id was parsed
 abbrev pub with_read : Option Bytes → List Bytes → List Bytes
 with_read None users = users
 with_read (Some user) users = user ∷ users
 
--- those who were added, after one request more
+-- the users who were added, after one request more
 abbrev pub users_by : Request → List Bytes → List Bytes
 users_by (AddUser user office token) users = with_read (read_user user) users
 users_by request users = users
@@ -48,6 +49,6 @@ abbrev pub users_after : History → List Bytes
 users_after (begins user token) = user ∷ []
 users_after (more h e) = users_by e.call.request (users_after h)
 
--- the one of them who bears the digest of a token; the refusal TokenTaken keeps it to one
+-- the user who has the token with this digest; TokenTaken refuses a second one
 abbrev pub bearer_after : History → Bytes → Option Bytes
 bearer_after h token = find (λ user. bears (Some token) (user_after h user)) (users_after h)

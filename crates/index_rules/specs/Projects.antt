@@ -2,17 +2,17 @@
 use Rattle.std.specs.Prelude.{ℕ, ◌≤◌, Option, None}
 use Rattle.index_rules.specs.Maps.{Bytes}
 
--- what the index keeps of a held name
+-- the record of a held name
 pub record Project : Type 0 where
-  -- the spelling of the last claim
+  -- the shown name: the spelling of the last claim
   pub shown : Bytes
-  -- how many bytes its undeleted files may have
+  -- the quota: how many bytes the undeleted files may have
   pub quota : ℕ
-  -- how many bytes they have
+  -- the charge: how many bytes the undeleted files have
   pub charge : ℕ
-  -- how many they are
+  -- how many undeleted files the name has
   pub undeleted : ℕ
-  -- the greatest moment of its uploads since its last claim
+  -- the greatest moment of an upload since the last claim, if there was one
   pub last_upload : Option ℕ
 
 -- the quota that a claim brings: one gibibyte
@@ -27,7 +27,8 @@ largest_quota = 1099511627776
 abbrev pub most_files : ℕ
 most_files = 9223372036854775807
 
--- numbers that a held name may have
+-- the charge is at most the quota, and neither the quota nor the count of undeleted files is above
+-- its limit
 pub record FitsProject (quota charge undeleted : ℕ) : Type 0 where
   pub charge_fits : charge ≤ quota
   pub quota_fits : quota ≤ largest_quota

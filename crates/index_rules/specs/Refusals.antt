@@ -17,7 +17,7 @@ use Rattle.index_rules.specs.declared.answer.Refusal.TheVariants.{AttemptsFull, 
 use Rattle.index_rules.specs.declared.answer.Refusal.TheVariants.{TooEarly, RecentRelease}
 use Rattle.index_rules.specs.declared.answer.Refusal.TheVariants.{HomePageActive}
 
--- the number of a refusal: of those that apply the least is answered
+-- the number of a refusal; if several apply, the one with the least number is answered
 abbrev pub number_of : Refusal → ℕ
 number_of BadMoment = 1
 number_of BadToken = 2

@@ -1,4 +1,4 @@
--- The readable parts of a request.
+-- The parts of a request that can be parsed.
 use Rattle.std.specs.Prelude.{◌≡◌, ◌⊎◌, Bool, true, false, Option, Some, None, IsSome, IsTrue}
 use Rattle.std.specs.Prelude.{option_map, Result, IfOk, IfErr}
 use Rattle.index_names.specs.Project.{read_name}
@@ -35,13 +35,13 @@ user_key (AddOwner name user) = read_user user
 user_key (RemoveOwner name user) = read_user user
 user_key request = None
 
--- the digest of the token that it brings for that user
+-- the digest of the token that a request brings for the user it names
 abbrev pub token_key : Request → Option Bytes
 token_key (AddUser user office token) = read_token token
 token_key (SetToken user token) = read_token token
 token_key request = None
 
--- the name that it speaks of; a file name decides its project
+-- the name that a request is about; a file name spells its project
 abbrev pub name_key : Request → Option Bytes
 name_key (AddUser user office token) = None
 name_key (SetToken user token) = None
@@ -63,20 +63,20 @@ name_key (Transfer name quiet) = read_name name
 name_key (CloseCase name) = read_name name
 name_key (AnswerCase name) = read_name name
 
--- the file
+-- the file that a request names
 abbrev pub file_key : Request → Option Bytes
 file_key (Upload file sha256 body requires) = read_file file
 file_key (Delete file) = read_file file
 file_key (BanFile file) = read_file file
 file_key request = None
 
--- the release
+-- the release that a request names
 abbrev pub release_key : Request → Option Bytes
 release_key (Yank name release reason) = read_release release
 release_key (Unyank name release) = read_release release
 release_key request = None
 
--- the digest that it declares, of a token or of a body
+-- the digest that a request declares, of a token or of a body
 abbrev pub declared_digest : Request → Option Bytes
 declared_digest (Upload file sha256 body requires) = read_digest sha256
 declared_digest request = token_key request
@@ -86,7 +86,7 @@ abbrev pub is_upload : Request → Bool
 is_upload (Upload file sha256 body requires) = true
 is_upload request = false
 
--- what is looked up for a request, and for the bearer of a token where there is one
+-- what is looked up for a request, and for the caller if there is a token
 abbrev pub keys_of_request : Option Bytes → Request → Keys
 keys_of_request caller request = record {
   caller = caller;
@@ -101,19 +101,19 @@ keys_of_request caller request = record {
 abbrev pub keys_of : Call → Keys
 keys_of call = keys_of_request (Some call.token) call.request
 
--- one of what is looked up for a request can be read of it
+-- something that is looked up for a request can be parsed
 abbrev pub HasReadableKey : Request → Type 0
 HasReadableKey request =
     IsSome (user_key request) ⊎ IsSome (name_key request) ⊎ IsSome (file_key request)
     ⊎ IsSome (release_key request)
 
--- what is looked up for a request was read, or memory ran out over what can be read of it
+-- what is looked up for a request was parsed, or memory ran out while parsing it
 pub record ReadsKeys {E : Type 0} (caller : Option Bytes) (request : Request)
     (result : Result Keys E) : Type 0 where
   pub keys : IfOk result (λ keys. keys ≡ keys_of_request caller request)
   pub readable : IfErr result (λ _. HasReadableKey request)
 
--- a name alone
+-- the keys of a name alone
 abbrev pub keys_of_name : Bytes → Keys
 keys_of_name name = record {
   caller = None;

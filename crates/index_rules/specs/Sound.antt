@@ -1,4 +1,4 @@
--- Tables whose accounts add up.
+-- Tables whose records agree with one another.
 use Rattle.std.specs.Prelude.{◌≡◌, ℕ, ◌≤◌, Bool, true, false, ◌&&◌, if◌then◌else◌, Some, is_some}
 use Rattle.std.specs.Prelude.{length, sum_by, count_by}
 use Rattle.std.specs.FinMap.{get, entries}
@@ -11,11 +11,11 @@ use Rattle.index_rules.specs.Tables.{Tables}
 use Rattle.index_rules.specs.Facts.{HasOneBearer, owns_in, yank_in, is_banned_in}
 use Rattle.index_rules.specs.Verdict.{held_project, is_held, is_undeleted}
 
--- an undeleted file of this name
+-- whether a file is an undeleted one of this name
 abbrev pub is_undeleted_of : Bytes → FileRecord → Bool
 is_undeleted_of name known = known.is_undeleted && same name known.project
 
--- an undeleted file's size for the name that it belongs to, and nothing for any other
+-- the size of a file if it is an undeleted one of this name, else 0
 abbrev pub charged_size : Bytes → FileRecord → ℕ
 charged_size name known = if is_undeleted_of name known then known.size else 0
 
@@ -23,7 +23,7 @@ charged_size name known = if is_undeleted_of name known then known.size else 0
 abbrev pub charge_in : Tables → Bytes → ℕ
 charge_in T name = sum_by (λ file. charged_size name file.1) (entries T.files)
 
--- how many they are
+-- the number of a name's undeleted files
 abbrev pub undeleted_count_in : Tables → Bytes → ℕ
 undeleted_count_in T name = count_by (λ file. is_undeleted_of name file.1) (entries T.files)
 
@@ -38,10 +38,10 @@ pub record IsBodyOf (known : FileRecord) (body : Bytes) : Type 0 where
   pub size : length body ≡ known.size
   pub digest : sha256 body ≡ known.digest
 
--- each key stands once, since the tables are maps, and a prohibited name
--- has neither charge nor quota
+-- tables whose records agree; each key stands once, since the tables are maps, and a prohibited
+-- name has neither charge nor quota
 pub record IsSound (T : Tables) : Type 0 where
-  -- no two users bear one digest
+  -- no two users have tokens with one digest
   pub one_bearer : HasOneBearer T
   -- a name that has an owner is held
   pub owners : (name user : Bytes) → owns_in T name user ≡ true → is_held (get T.names name) ≡ true
@@ -62,11 +62,11 @@ pub record IsSound (T : Tables) : Type 0 where
   -- a held name's charge is the sum of the sizes of its undeleted files
   pub charge : (name : Bytes) (project : Project) → held_project (get T.names name) ≡ Some project
       → project.charge ≡ charge_in T name
-  -- its count is the number of these files
+  -- a held name's count is the number of its undeleted files
   pub undeleted : (name : Bytes) (project : Project)
       → held_project (get T.names name) ≡ Some project
       → project.undeleted ≡ undeleted_count_in T name
-  -- its charge is not above its quota
+  -- a held name's charge is not above its quota
   pub quota : (name : Bytes) (project : Project) → held_project (get T.names name) ≡ Some project
       → project.charge ≤ project.quota
   -- the undeleted files, and no others, have a body

@@ -20,7 +20,8 @@ use Rattle.index_rules.specs.PastFiles.{first_upload_after, is_undeleted_after, 
 use Rattle.index_rules.specs.PastFiles.{requires_after, last_body_after, charge_after}
 use Rattle.index_rules.specs.PastFiles.{undeleted_count_after}
 
--- nothing is kept of a free name, its values of a held one, and no values of a prohibited one
+-- the record of a name by its state and its values: a free name has none, and a prohibited one has
+-- no values
 abbrev pub record_of_state : State → Project → Option NameRecord
 record_of_state Free project = None
 record_of_state Held project = Some (name_record.Held project)
@@ -51,17 +52,17 @@ file_of_upload f requires is_undeleted first = record {
   is_undeleted = is_undeleted;
 }
 
--- the record of a file is there where the file is known
+-- the record of a file, if the file is known
 abbrev pub file_after : History → Bytes → Option FileRecord
 file_after h f =
     option_map (file_of_upload f (requires_after h f) (is_undeleted_after h f))
     (first_upload_after h f)
 
--- the bytes of a file are there where it is undeleted
+-- the bytes of a file, if the file is undeleted
 abbrev pub body_after : History → Bytes → Option Bytes
 body_after h f = if is_undeleted_after h f then Some (last_body_after h f) else None
 
--- the record of an open case, which has the tally of its attempts in place of them
+-- the record of an open case, which has the tally of its attempts instead of them
 abbrev pub record_of_case : Case → CaseRecord
 record_of_case case = record {
   kind = case.kind;
@@ -73,12 +74,12 @@ record_of_case case = record {
   state = tally_of case.attempts;
 }
 
--- the record of a case is there where one is open
+-- the record of the open case of a name, if there is one
 abbrev pub case_record_after : History → Bytes → Option CaseRecord
 case_record_after h n = option_map record_of_case (case_after h n)
 
--- the tables hold exactly these records; each key stands once, since the tables are maps, so this
--- says all there is to say of them: tables that stand for one history are equal
+-- the tables hold exactly the records of the history; each key stands once, since the tables are
+-- maps, so tables that stand for one history are equal
 pub record StandsFor (T : Tables) (h : History) : Type 0 where
   pub users : (user : Bytes) → get T.users user ≡ user_after h user
   pub names : (name : Bytes) → get T.names name ≡ name_after h name

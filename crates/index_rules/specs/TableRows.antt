@@ -1,4 +1,4 @@
--- The rows that the tables have, in byte order of their keys: that is the order of a map's entries.
+-- The rows of the tables, in byte order of their keys, which is the order of a map's entries.
 use Rattle.std.specs.Prelude.{Bool, List, Some, map, filter}
 use Rattle.std.specs.FinMap.{entries}
 use Rattle.index_rules.specs.declared.records.NameRecord.{NameRecord}
@@ -19,7 +19,7 @@ name_row entry = record { name = entry.0; «record» = entry.1 }
 abbrev pub name_rows_in : Tables → List NameRow
 name_rows_in T = map name_row (entries T.names)
 
--- the name of the row is held
+-- whether the name of a row is held
 abbrev pub is_held_row : NameRow → Bool
 is_held_row row = is_held (Some row.record)
 
@@ -27,7 +27,7 @@ is_held_row row = is_held (Some row.record)
 abbrev pub held_rows_in : Tables → List NameRow
 held_rows_in T = filter is_held_row (name_rows_in T)
 
--- a file with its record; it is yanked where its release of this name is (PEP 592)
+-- a file with its record, yanked if its release of this name is (PEP 592)
 abbrev pub file_row_in : Tables → Bytes → Bytes × FileRecord → FileRow
 file_row_in T name entry = record {
   file = entry.0;

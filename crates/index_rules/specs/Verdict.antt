@@ -1,5 +1,5 @@
--- The verdict on a call: the least refusal that applies, else that it is so
--- already, else that it is accepted.
+-- The verdict on a call: the least refusal that applies; else already, if the tables are as the
+-- request asks; else accepted.
 use Rattle.std.specs.Prelude.{ℕ, ◌+◌, Bool, true, false, not, ◌&&◌, ◌==◌, nat_lt, List, [], ◌∷◌}
 use Rattle.std.specs.Prelude.{length, Option, Some, None, is_some, is_none, find}
 use Rattle.std.specs.Option.{option_map_or}
@@ -43,7 +43,7 @@ use Rattle.index_rules.specs.Tables.{Tables}
 use Rattle.index_rules.specs.Requests.{user_key, name_key, file_key, release_key, declared_digest}
 use Rattle.index_rules.specs.Facts.{Facts, facts_in}
 
--- what the rules say of a call: it is accepted, it is so already, or it is refused
+-- what the rules say of a call: it is accepted, it changes nothing, or it is refused
 pub data Verdict : Type 0 where
   Accept : Verdict
   AlreadySo : Verdict
@@ -67,54 +67,54 @@ held_project None = None
 held_project (Some (Held project)) = Some project
 held_project (Some Prohibited) = None
 
--- the record is that of a held name
+-- whether a record is that of a held name
 abbrev pub is_held : Option NameRecord → Bool
 is_held name = is_some (held_project name)
 
--- the record is that of a prohibited name
+-- whether a record is that of a prohibited name
 abbrev pub is_prohibited : Option NameRecord → Bool
 is_prohibited None = false
 is_prohibited (Some (Held project)) = false
 is_prohibited (Some Prohibited) = true
 
--- the caller is of the office
+-- whether the caller is of the office
 abbrev pub is_of_office : Facts → Bool
 is_of_office facts = option_map_or (λ caller. caller.office) facts.caller false
 
--- a user with this flag and this digest
+-- whether a user has this flag and this digest
 abbrev pub is_user_with : Bool → Option Bytes → UserRecord → Bool
 is_user_with office None user = false
 is_user_with true (Some token) user = user.office && same token user.token
 is_user_with false (Some token) user = not user.office && same token user.token
 
--- the user is there and bears this digest
+-- whether a user exists and has the token with this digest
 abbrev pub bears : Option Bytes → Option UserRecord → Bool
 bears None user = false
 bears (Some token) None = false
 bears (Some token) (Some user) = same token user.token
 
--- somebody else than the named user bears the digest
+-- whether a user other than the named one has the token
 abbrev pub is_taken : Option Bytes → Option Bytes → Bool
 is_taken None user = false
 is_taken (Some bearer) None = true
 is_taken (Some bearer) (Some user) = not (same user bearer)
 
--- the file is there and undeleted
+-- whether a file exists and is undeleted
 abbrev pub is_undeleted : Option FileRecord → Bool
 is_undeleted file = option_map_or (λ known. known.is_undeleted) file false
 
--- the name has an undeleted file
+-- whether a name has an undeleted file
 abbrev pub has_files : Option NameRecord → Bool
 has_files name = option_map_or (λ project. nat_lt 0 project.undeleted) (held_project name) false
 
--- the file is known with another digest or size
+-- whether a file is known with another digest or size
 abbrev pub is_other_file : Option Bytes → ℕ → Option FileRecord → Bool
 is_other_file declared size None = false
 is_other_file None size (Some known) = false
 is_other_file (Some digest) size (Some known) =
     not (same digest known.digest && (size == known.size))
 
--- more bytes would bring the charge above the quota
+-- whether a body of this size would bring the charge above the quota
 abbrev pub exceeds_quota : ℕ → Option NameRecord → Bool
 exceeds_quota size name =
     option_map_or (λ project. nat_lt project.quota (project.charge + size)) (held_project name)
@@ -122,7 +122,7 @@ exceeds_quota size name =
 
 -- ---- questions on the request
 
--- the texts that a request brings are texts that are kept
+-- whether the texts that a request brings are valid
 abbrev pub brings_text : Request → Bool
 brings_text (Upload file sha256 body requires) = is_text requires
 brings_text (Yank name release reason) = is_text reason
@@ -130,41 +130,41 @@ brings_text (OpenCase name kind contact work why) =
     is_evidence contact && is_evidence work && is_evidence why
 brings_text request = true
 
--- the body has more bytes than a file may have
+-- whether the body has more bytes than a file may have
 abbrev pub is_too_large : Request → Bool
 is_too_large (Upload file sha256 body requires) = nat_lt largest_body (length body)
 is_too_large request = false
 
--- the body has not the digest that is declared
+-- whether the body's digest is not the declared one
 abbrev pub is_mismatched : Request → Bool
 is_mismatched (Upload file declared body requires) =
     option_map_or (λ digest. not (same digest (sha256 body))) (read_digest declared) false
 is_mismatched request = false
 
--- the quota is above the largest one
+-- whether the quota is above the largest one
 abbrev pub is_quota_too_large : Request → Bool
 is_quota_too_large (SetQuota name quota) = nat_lt largest_quota quota
 is_quota_too_large request = false
 
--- the quota is below what the name is charged already
+-- whether the quota is below the charge of the name
 abbrev pub is_quota_below_charge : Request → Facts → Bool
 is_quota_below_charge (SetQuota name quota) facts =
     option_map_or (λ project. nat_lt quota project.charge) (held_project facts.name) false
 is_quota_below_charge request facts = false
 
--- the file name stands for another digest or size already
+-- whether the file name is bound to another digest or size
 abbrev pub uploads_other_file : Request → Facts → Bool
 uploads_other_file (Upload file declared body requires) facts =
     is_other_file (read_digest declared) (length body) facts.file
 uploads_other_file request facts = false
 
--- the body would bring the charge of its project above the quota
+-- whether the body would bring the charge of its project above the quota
 abbrev pub uploads_over_quota : Request → Facts → Bool
 uploads_over_quota (Upload file sha256 body requires) facts =
     not (is_undeleted facts.file) && exceeds_quota (length body) facts.name
 uploads_over_quota request facts = false
 
--- a candidate closes the case that he opened
+-- whether the caller closes a case, having opened it
 abbrev pub closes_own_case : Request → Facts → Bool
 closes_own_case (CloseCase name) facts =
     option_map_or
@@ -172,7 +172,8 @@ closes_own_case (CloseCase name) facts =
     facts.case false
 closes_own_case request facts = false
 
--- what stands against a transfer, of the case, the latest upload, the statement and the moment
+-- whether this fault prevents a transfer, by the case, the latest upload, the statement and the
+-- moment
 abbrev pub hinders : ℕ → Request → Facts → CaseFault → Bool
 hinders at (Transfer name quiet) facts fault =
     option_map_or
@@ -181,7 +182,7 @@ hinders at (Transfer name quiet) facts fault =
     facts.case false
 hinders at request facts fault = false
 
--- the refusal by what stands against a transfer, or a further attempt
+-- the refusal for what prevents a transfer, or a further attempt
 abbrev pub refusal_of : CaseFault → Refusal
 refusal_of case_fault.AttemptsFull = AttemptsFull
 refusal_of case_fault.TooFewAttempts = TooFewAttempts
@@ -191,7 +192,7 @@ refusal_of case_fault.HomePageActive = HomePageActive
 
 -- ---- the verdict
 
--- where a request that nothing refuses changes nothing
+-- whether a request that nothing refuses would change nothing
 abbrev pub is_already : Request → Facts → Bool
 is_already (AddUser user office token) facts =
     option_map_or (is_user_with office (read_token token)) facts.user false
@@ -215,7 +216,7 @@ is_already (Transfer name quiet) facts = false
 is_already (CloseCase name) facts = false
 is_already (AnswerCase name) facts = false
 
--- where each refusal applies, to a request at a moment
+-- whether a refusal applies to a request at a moment
 abbrev pub applies : ℕ → Request → Facts → Refusal → Bool
 applies at request facts BadMoment = nat_lt last_moment at
 applies at request facts BadToken = is_none facts.caller
@@ -253,11 +254,11 @@ applies at request facts TooEarly = hinders at request facts case_fault.TooEarly
 applies at request facts RecentRelease = hinders at request facts case_fault.RecentRelease
 applies at request facts HomePageActive = hinders at request facts case_fault.HomePageActive
 
--- those of an upload whose parts are in order
+-- the refusals of an upload whose parts are valid
 abbrev pub file_refusals : List Refusal
 file_refusals = NoProject ∷ NotOwner ∷ FileNameTaken ∷ FileBanned ∷ OverQuota ∷ []
 
--- the refusals that a request can meet beside BadMoment and BadToken, least first
+-- the refusals that a request can meet besides BadMoment and BadToken, least first
 abbrev pub refusals_of : Request → List Refusal
 refusals_of (AddUser user office token) =
     NotOffice ∷ BadUser ∷ BadDigest ∷ UserExists ∷ TokenTaken ∷ []
@@ -288,7 +289,7 @@ refusals_of (Transfer name quiet) =
 refusals_of (CloseCase name) = NotOffice ∷ BadName ∷ NoProject ∷ NoCase ∷ []
 refusals_of (AnswerCase name) = BadName ∷ NoProject ∷ NotOwner ∷ NoCase ∷ []
 
--- the verdict by the least refusal that applies, and by whether it is so already
+-- the verdict by the least refusal that applies, and by whether the tables are as the request asks
 abbrev pub verdict_of : Option Refusal → Bool → Verdict
 verdict_of (Some refusal) already = Refuse refusal
 verdict_of None true = AlreadySo
@@ -301,6 +302,6 @@ verdict_on call facts =
     (find (applies call.at call.request facts) (BadMoment ∷ BadToken ∷ refusals_of call.request))
     (is_already call.request facts)
 
--- the verdict on the tables as they are
+-- the verdict on a call by the tables
 abbrev pub verdict_now : Tables → Call → Verdict
 verdict_now T call = verdict_on call (facts_in T call)

@@ -1,4 +1,4 @@
--- How a walk over rows ends, and what it makes of the taker of the rows.
+-- How a walk over rows ends, and what it does to the taker of the rows.
 use Rattle.std.specs.Prelude.{Bool, true, false, List, Result, Ok, Err}
 use Rattle.index_rules.specs.declared.answer.Fault.{Fault}
 use Rattle.index_rules.specs.declared.answer.Fault.TheVariants as fault
@@ -6,13 +6,13 @@ use Rattle.index_rules.specs.declared.rows.WalkEnd.{WalkEnd}
 use Rattle.index_rules.specs.declared.rows.WalkEnd.TheVariants.{Stopped, OutOfMemory, Store}
 use Rattle.index_rules.specs.Rows.{Took, TookFront, StoppedAmong}
 
--- a taker that wants no more rows is no fault
+-- whether a fault ended the walk; a taker that wants no more rows is no fault
 abbrev pub is_fault : WalkEnd → Bool
 is_fault Stopped = false
 is_fault OutOfMemory = true
 is_fault Store = true
 
--- a fault ended the walk
+-- whether a fault ended the walk
 abbrev pub has_fault : {A : Type 0} → Result A WalkEnd → Bool
 has_fault (Ok done) = false
 has_fault (Err end) = is_fault end
@@ -22,7 +22,7 @@ abbrev pub walk_end_of : Fault → WalkEnd
 walk_end_of fault.OutOfMemory = OutOfMemory
 walk_end_of fault.Store = Store
 
--- what is left of a taker at an early end: it stopped among the rows, or it took a front of them
+-- what a taker is after an early end: it stopped among the rows, or it took a prefix of them
 abbrev pub EndsEarly : {K R : Type 0} → (K → R → K → Type 0) → (K → R → K → Type 0) → List R → K → K
     → WalkEnd → Type 0
 EndsEarly takes stops rows before after Stopped = StoppedAmong takes stops rows before after
@@ -41,10 +41,11 @@ abbrev pub WalksSome : {K R A : Type 0} → (K → R → K → Type 0) → (K �
 WalksSome {K} {R} takes stops before after result =
     (rows : List R) × Walks takes stops rows before after result
 
--- a taker of rows before a walk and after it, and what a row makes of it: one that it takes, and
--- one that it stops at
+-- a taker of rows before and after a walk
 pub record TakerStep (K R : Type 0) : Type 1 where
+  -- what a row that the taker takes does to it
   pub takes : K → R → K → Type 0
+  -- what a row that the taker stops at does to it
   pub stops : K → R → K → Type 0
   pub old : K
   pub new : K
@@ -53,6 +54,6 @@ abbrev pub to_taker : {K R : Type 0} → (K → R → K → Type 0) → (K → R
     → TakerStep K R
 to_taker takes stops old new = record { takes = takes; stops = stops; old = old; new = new }
 
--- a walk over these rows hands them to it
+-- a walk over these rows passes them to the taker
 abbrev pub WalksTo : {K R A : Type 0} → TakerStep K R → List R → Result A WalkEnd → Type 0
 WalksTo taker rows result = Walks taker.takes taker.stops rows taker.old taker.new result

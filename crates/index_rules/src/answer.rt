@@ -5,26 +5,27 @@ ghost use Rattle.index_rules.specs.Refusals.{number_of};
 use std::alloc::AllocError;
 use std::fmt;
 
-/// Why a call is refused. Of the refusals that apply the one with the least number is answered, and nothing changes.
+/// Why a call is refused. If several refusals apply, the one with the least number is answered. A refused call changes
+/// nothing.
 #[derive(Clone, Copy, Debug, PartialEq, Eq, Hash)]
 pub enum Refusal {
     /// The moment is greater than 253,402,300,799.
     BadMoment,
-    /// No user bears the token's digest.
+    /// No user has a token with this digest.
     BadToken,
     /// The caller is not of the office; for `CloseCase`, nor the candidate of an open case of the name.
     NotOffice,
-    /// The bytes are no user id.
+    /// The bytes are not a valid user id.
     BadUser,
-    /// The bytes are no project name.
+    /// The bytes are not a valid project name.
     BadName,
-    /// The bytes are no file name of a wheel or a source archive.
+    /// The bytes are not a valid file name of a wheel or a source archive.
     BadFileName,
-    /// The bytes are no version text.
+    /// The bytes are not a valid version.
     BadRelease,
-    /// The bytes are no text that the index keeps; for a text of a case, also no bytes at all.
+    /// The bytes are not a valid text; for a text of a case, also no bytes at all.
     BadText,
-    /// The bytes are no digest's text; for a token, also the digest of the empty text.
+    /// The bytes are not a digest in hexadecimal; for a token, also the digest of the empty text.
     BadDigest,
     /// The body has more than 16,777,216 bytes.
     TooLarge,
@@ -32,11 +33,11 @@ pub enum Refusal {
     DigestMismatch,
     /// The quota is greater than 1,099,511,627,776 bytes.
     QuotaTooLarge,
-    /// The named user is not there.
+    /// The named user does not exist.
     NoUser,
-    /// The user is there, with another flag or token.
+    /// The user exists, with another flag or token.
     UserExists,
-    /// Another user bears the token's digest.
+    /// Another user has a token with this digest.
     TokenTaken,
     /// The name is prohibited.
     NameProhibited,
@@ -91,16 +92,16 @@ pub enum Fault {
 /// The answer to a call.
 #[derive(Clone, Copy, Debug, PartialEq, Eq, Hash)]
 pub enum Answer {
-    /// The tables have the request's effect.
+    /// The request is applied to the tables.
     Accepted,
-    /// It is so already, and nothing changed.
+    /// The tables are already as the request asks; nothing changed.
     Already,
     Refused(Refusal),
     Fault(Fault),
 }
 
 impl Refusal {
-    /// The refusal's number. It takes no memory.
+    /// The refusal's number, without an allocation.
     pub fn number(self) -> u8
         ensures { result ≡ number_of self }
     {

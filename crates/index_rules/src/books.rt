@@ -1,4 +1,4 @@
-//! The tables behind a trait.
+//! The tables, as a trait of the store that holds them.
 ghost use Rattle.std.specs.Prelude.{◌≡◌, ◌⊎◌, ℕ, IfOk, OnOk, OnErr};
 ghost use Rattle.std.specs.FinMap.{get};
 ghost use Rattle.index_rules.specs.Tables.{Tables};
@@ -19,29 +19,28 @@ use index_digest::Sealed;
 use index_names::{FileName, NormalName};
 use std::alloc::Global;
 
-/// The tables, however they are kept. A store that is honest as a call ends was honest before it. One that is honest
-/// as a look at the tables begins is so as it ends, where the look succeeds and the store is still clean. A write that
-/// succeeds leaves a store honest that is still clean.
+/// A store that holds the tables. `IsHonest` and `IsClean` never begin to hold during a call. A look at the tables that
+/// succeeds leaves an honest store honest if the store is still clean; so does a write that succeeds.
 pub trait Books {
-    /// What the tables hold.
+    /// The tables in the store.
     ghost tables: { Self → Tables };
 
-    /// Whether what keeps the tables did what it was told, and is open.
+    /// Whether the store has done what it was asked to, and is open.
     ghost IsHonest: { Self → Type 0 };
 
-    /// Whether it did what it was told, where a fault may have shut it since.
+    /// Whether the store has done what it was asked to; a fault may have shut it since.
     ghost IsClean: { Self → Type 0 };
 
     /// The tables that a crash may leave.
     ghost may_leave: { Self → Tables → Type 0 };
 
-    /// How many calls answered a fault, up to 18,446,744,073,709,551,615.
+    /// How many calls failed, up to 18,446,744,073,709,551,615.
     ghost failures: { Self → ℕ };
 
-    /// How many of them answered `Store`, up to the same number.
+    /// How many calls failed with `Store`, up to 18,446,744,073,709,551,615.
     ghost stores: { Self → ℕ };
 
-    /// How many calls answered a fault, up to 18,446,744,073,709,551,615.
+    /// How many calls failed, up to 18,446,744,073,709,551,615.
     fn failure_count(&self) -> u64
         ensures { result ≡ failures self.now };
 
@@ -51,8 +50,7 @@ pub trait Books {
         ensures looks { Looks (model tables IsHonest IsClean may_leave (counts failures stores))
             self.old self.new result };
 
-    /// Writes a change. After a fault the tables are what they were, and a crash may leave them as they were or with
-    /// the change.
+    /// Writes a change. If it fails, the tables are as they were; after a crash they may be so or have the change.
     fn write(&mut self, alloc: Global, change: Change) -> Result<(), Fault>
         ensures written { IsHonest self.new
             → OnOk result (tables self.new ≡ means change (tables self.old)) }
@@ -73,8 +71,8 @@ pub trait Books {
         ensures looks { Looks (model tables IsHonest IsClean may_leave (counts failures stores))
             self.old self.new result };
 
-    /// The bytes that are kept of a file, or `None` where none are: in sound tables, where it is not undeleted. It changes
-    /// no table.
+    /// The bytes of a file, or `None` if none are stored: in sound tables, if the file is not undeleted. It changes no
+    /// table.
     fn bytes_of(&mut self, alloc: Global, file: &FileName) -> Result<Option<Sealed>, Fault>
         ensures found { IsHonest self.new → Returns result (get (tables self.old).bodies file.now) }
         ensures looks { Looks (model tables IsHonest IsClean may_leave (counts failures stores))
@@ -93,10 +91,10 @@ pub trait Books {
         ensures looks { Looks (model tables IsHonest IsClean may_leave (counts failures stores))
             self.old self.new result };
 
-    /// Hands the held names to a taker one at a time, in byte order, until it wants no more. It changes no table.
+    /// Passes the held names to a taker one at a time, in byte order, until it wants no more. It changes no table.
     ///
-    /// `Stopped` exactly where the taker answered `false`. It is no fault, and is not counted. Whatever the store does,
-    /// the taker is given some rows in this way, and nothing else is done to it.
+    /// `Stopped` exactly if the taker returned `false`; that is not counted as a fault. Whatever the store does, the
+    /// taker is given some rows in this way, and nothing else is done to it.
     fn walk_held<K: NameTaker>(&mut self, alloc: Global, taker: &mut K) -> Result<(), WalkEnd>
         ensures walked { IsHonest self.old → IsClean self.new →
             Walks K.takes K.stops (held_rows_in (tables self.old)) taker.old taker.new result }
@@ -104,11 +102,11 @@ pub trait Books {
         ensures looks { Scans (model tables IsHonest IsClean may_leave (counts failures stores))
             self.old self.new result };
 
-    /// Hands the undeleted files of a name to a taker one at a time, in byte order, until it wants no more. It changes
+    /// Passes the undeleted files of a name to a taker one at a time, in byte order, until it wants no more. It changes
     /// no table.
     ///
-    /// `Stopped` exactly where the taker answered `false`. It is no fault, and is not counted. Whatever the store does,
-    /// the taker is given some rows in this way, and nothing else is done to it.
+    /// `Stopped` exactly if the taker returned `false`; that is not counted as a fault. Whatever the store does, the
+    /// taker is given some rows in this way, and nothing else is done to it.
     fn walk_files<K: FileTaker>(
         &mut self,
         alloc: Global,
@@ -125,7 +123,7 @@ pub trait Books {
     /// An honest store is clean.
     ghost honest_is_clean: { (books : Self) → IsHonest books → IsClean books };
 
-    /// While it is honest, a crash leaves the tables as they stand, and nothing else.
+    /// While the store is honest, a crash leaves the tables as they stand, and nothing else.
     ghost settled: { (books : Self) → IsHonest books → (T : Tables) → may_leave books T →
         T ≡ tables books };
 }

@@ -1,10 +1,10 @@
-//! Bytes as a request brought them.
+//! The bytes of a request before they are parsed.
 ghost use Rattle.std.specs.Prelude.{◌≡◌, List, ℕ, IfOk};
 
 use std::alloc::{AllocError, Global};
 use std::marker::Model;
 
-/// Bytes as a request brought them, which nothing has read yet. Contracts see the list of the bytes.
+/// The bytes of a request before they are parsed. Contracts see the list of the bytes.
 #[derive(Debug, Drop)]
 pub struct Bytes {
     bytes: Vec<u8>,
@@ -28,7 +28,7 @@ impl Bytes {
     ///
     /// # Errors
     ///
-    /// `AllocError` for want of memory.
+    /// `AllocError` if memory runs out.
     pub fn copy_of(alloc: Global, bytes: &[u8]) -> Result<Bytes, AllocError>
         ensures { IfOk result (λ copy. copy ≡ bytes.now) }
     {

@@ -1,9 +1,9 @@
-//! Calls: what is asked, by whom and when.
+//! Calls: a request, with its moment and its caller.
 use crate::bytes::Bytes;
 use index_digest::Digest256;
 use index_retention::{CaseKind, Means};
 
-/// What is asked. Names, digests and texts are the bytes that came, which nothing has read yet.
+/// What is asked. Names, digests and texts are bytes that are not parsed yet.
 #[derive(Drop)]
 pub enum Request {
     /// The office adds a user, whose token has this SHA-256 digest.
@@ -26,17 +26,17 @@ pub enum Request {
     Claim {
         name: Bytes,
     },
-    /// An owner makes a user an owner too.
+    /// An owner makes a user one more owner.
     AddOwner {
         name: Bytes,
         user: Bytes,
     },
-    /// An owner makes an owner one no more.
+    /// An owner takes a user from the owners.
     RemoveOwner {
         name: Bytes,
         user: Bytes,
     },
-    /// An owner uploads a file of the project that its name decides.
+    /// An owner uploads a file to the project that its name spells.
     Upload {
         file: Bytes,
         sha256: Bytes,
@@ -47,7 +47,7 @@ pub enum Request {
     Delete {
         file: Bytes,
     },
-    /// The office bans a file that was once accepted, for good. Where it is undeleted, it is deleted.
+    /// The office bans for good a file that was once accepted. If the file is undeleted, it is deleted.
     BanFile {
         file: Bytes,
     },
@@ -74,8 +74,8 @@ pub enum Request {
     Allow {
         name: Bytes,
     },
-    /// A candidate opens a case on a held name (PEP 541): of which kind, how the owner was sought in vain, the work
-    /// that is there, and why another name will not do.
+    /// A candidate opens a case on a held name (PEP 541): its kind, how the owner was sought in vain, the candidate's
+    /// work, and why no other name will do.
     OpenCase {
         name: Bytes,
         kind: CaseKind,
@@ -83,7 +83,7 @@ pub enum Request {
         work: Bytes,
         why: Bytes,
     },
-    /// The office records an attempt to reach the owner; `sent` is false where the means has no address.
+    /// The office records an attempt to reach the owner; `sent` is false if the means has no address.
     RecordAttempt {
         name: Bytes,
         means: Means,
@@ -99,7 +99,7 @@ pub enum Request {
     CloseCase {
         name: Bytes,
     },
-    /// An owner answers the case, which ends.
+    /// An owner answers the case, which ends it.
     AnswerCase {
         name: Bytes,
     },

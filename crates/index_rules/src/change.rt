@@ -6,8 +6,8 @@ use index_digest::Sealed;
 use index_names::{FileName, NormalName, Release};
 use index_text::Text;
 
-/// What an accepted call writes, with the new records whole. All but those on users and quotas, `BanFile`, `OpenCase`
-/// and `RecordAttempt` also end the name's open case; `Upload` tells whether there is one to end.
+/// What an accepted call writes, with the new records whole. All changes except those on users and quotas, `BanFile`,
+/// `OpenCase` and `RecordAttempt` also end the name's open case; `Upload` says whether there is one to end.
 #[derive(Drop)]
 pub enum Change {
     /// The user has this record.
@@ -38,7 +38,7 @@ pub enum Change {
         name: NormalName,
         user: UserId,
     },
-    /// The name and the file have these records, and the bytes are kept. The name's case ends where `ends_case`.
+    /// The name and the file have these records, and the bytes are stored. If `ends_case`, the name's case ends.
     Upload {
         name: NormalName,
         project: Project,
@@ -47,15 +47,15 @@ pub enum Change {
         body: Sealed,
         ends_case: bool,
     },
-    /// The name and the file have these records, and the bytes go.
+    /// The name and the file have these records, and the bytes are deleted.
     Delete {
         name: NormalName,
         project: Project,
         file: FileName,
         record: FileRecord,
     },
-    /// The file is banned and has this record, and its bytes go. Where a ban deletes it, the name has the record
-    /// `project`.
+    /// The file is banned and has this record, and its bytes are deleted. If the ban deletes it, the name has the
+    /// record `project`.
     BanFile {
         name: NormalName,
         project: Option<Project>,
@@ -72,15 +72,15 @@ pub enum Change {
         name: NormalName,
         release: Release,
     },
-    /// The name is free, and its owners and yanks go.
+    /// The name is free, without owners and yanks.
     Relinquish {
         name: NormalName,
     },
-    /// The name is prohibited, its files are deleted, and its owners and yanks go.
+    /// The name is prohibited, without owners and yanks, and its files are deleted.
     Prohibit {
         name: NormalName,
     },
-    /// The name is free, and its owners and yanks go.
+    /// The name is free, without owners and yanks.
     Allow {
         name: NormalName,
     },

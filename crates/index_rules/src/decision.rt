@@ -29,7 +29,7 @@ mod users;
 /// The last moment of a call, in Unix seconds: the end of the year 9999.
 const LAST_MOMENT: u64 = 253_402_300_799;
 
-/// What becomes of a call that is not refused.
+/// The outcome of a call that is not refused.
 #[derive(Drop)]
 pub enum Decision {
     Already,
@@ -53,17 +53,17 @@ impl From<AllocError> for Stop {
     }
 }
 
-/// The decision on a call by the records that its keys name: `Already` where it is so already, else the change that the
-/// call makes.
+/// The decision on a call by the records that its keys name: `Already` if the tables are as the request asks, else the
+/// change that the call makes.
 ///
 /// # Errors
 ///
 /// `Refused` with the least refusal that applies, or `OutOfMemory`.
 pub fn decide(alloc: Global, call: Call, view: &View) -> Result<Decision, Stop>
-    // By what the view has it is the verdict, and the change is the effect.
+    // By the facts in the view, the decision is the verdict, and the change is the effect.
     ensures seen { DecidesBy call (facts_seen view.now call.request) result }
 
-    // On every tables with that view it is the verdict on them, and the change is the effect there.
+    // On all tables with that view, the decision is the verdict on them, and the change is the effect there.
     ensures tables { (T : Tables) → HasOneBearer T → Sees T (keys_of call) view.now
         → DecidesBy call (facts_in T call) result }
 {
@@ -91,7 +91,7 @@ fn judge(alloc: Global, call: Call, view: &View) -> Result<Decision, Stop>
     decide_in(&context, call.request)
 }
 
-/// The decision on a request whose moment and token are in order. An upload's body moves on into its change.
+/// The decision on a request whose moment and token are valid. An upload's body moves on into its change.
 fn decide_in(context: &Context<'_>, request: Request) -> Result<Decision, Stop>
     ensures { DecidesIn context.now request result }
 {
@@ -110,7 +110,7 @@ fn decide_in(context: &Context<'_>, request: Request) -> Result<Decision, Stop>
     }
 }
 
-/// The decision on a request that is no upload.
+/// The decision on a request that is not an upload.
 fn decide_on(context: &Context<'_>, request: &Request) -> Result<Decision, Stop>
     requires no_upload { is_upload request.now ≡ false }
     ensures { DecidesIn context.now request.now result }

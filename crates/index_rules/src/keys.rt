@@ -1,4 +1,4 @@
-//! The readable parts of a call.
+//! The parts of a call that can be parsed.
 ghost use Rattle.std.specs.Prelude.{◌≡◌, IfOk, IfErr, IsSome, option_map};
 ghost use Rattle.index_names.specs.FileName.{project_of};
 ghost use Rattle.index_rules.specs.declared.call.Request.TheVariants.{AddOwner, Claim, Delete, SetToken, Unyank};
@@ -14,7 +14,7 @@ use index_digest::Digest256;
 use index_names::{FileName, NormalName, Release};
 use std::alloc::{AllocError, Global};
 
-/// What is looked up for a call.
+/// What is looked up for a call: the parts of it that can be parsed.
 #[derive(Debug)]
 pub struct Keys {
     /// The digest of the caller's token.
@@ -28,7 +28,7 @@ pub struct Keys {
     pub release: Option<Release>,
 }
 
-// By hand: a drop is then one call at each exit of a function (docs/developers/PROOF-COSTS.md).
+// By hand: each exit of a function then makes one call to drop (docs/developers/PROOF-COSTS.md).
 impl Drop for Keys {
     fn drop(self) {
         let Keys {
@@ -43,7 +43,7 @@ impl Drop for Keys {
 }
 
 impl Keys {
-    /// This name alone.
+    /// The keys of this name alone.
     ///
     /// # Errors
     ///
@@ -64,14 +64,14 @@ impl Keys {
 }
 
 impl Call {
-    /// The readable parts of the call, each there or not.
+    /// The parts of the call that can be parsed, each `None` if absent or invalid.
     ///
     /// # Errors
     ///
     /// `OutOfMemory`.
     pub fn keys(&self, alloc: Global) -> Result<Keys, Fault>
         ensures keys { OkOrNoMemory result (λ keys. keys ≡ keys_of self.now) }
-        // Of a call with nothing to be looked up but its caller no memory is wanted.
+        // A call with nothing to be looked up but its caller needs no memory.
         ensures readable { IfErr result (λ _. HasReadableKey self.now.request) }
     {
         let caller = Some(self.token);
@@ -103,7 +103,7 @@ impl Call {
     }
 }
 
-/// The user and the digest of the token that a call brings for that user.
+/// The keys of a call on a user: the user, and the digest of the token that it brings for that user.
 fn user_keys(
     alloc: Global,
     caller: Option<Digest256>,
@@ -122,7 +122,7 @@ fn user_keys(
     })
 }
 
-/// The name that a call speaks of.
+/// The keys of a call on a name.
 fn name_keys(alloc: Global, caller: Option<Digest256>, name: &Bytes) -> Result<Keys, AllocError>
     ensures { ReadsKeys caller (Claim name.now) result }
 {
@@ -136,7 +136,7 @@ fn name_keys(alloc: Global, caller: Option<Digest256>, name: &Bytes) -> Result<K
     })
 }
 
-/// The name and the user that a call speaks of.
+/// The keys of a call on a name and a user.
 fn owner_keys(
     alloc: Global,
     caller: Option<Digest256>,
@@ -155,7 +155,7 @@ fn owner_keys(
     })
 }
 
-/// The name and the release that a call speaks of.
+/// The keys of a call on a name and a release.
 fn release_keys(
     alloc: Global,
     caller: Option<Digest256>,
@@ -174,7 +174,7 @@ fn release_keys(
     })
 }
 
-/// The file and the project that its name decides.
+/// The keys of a call on a file: the file, and the project that its name spells.
 fn file_keys(alloc: Global, caller: Option<Digest256>, file: &Bytes) -> Result<Keys, AllocError>
     ensures { ReadsKeys caller (Delete file.now) result }
 {
@@ -190,7 +190,7 @@ fn file_keys(alloc: Global, caller: Option<Digest256>, file: &Bytes) -> Result<K
     })
 }
 
-/// The project that the name of a file decides.
+/// The project that the name of a file spells.
 fn project_of_file(file: &Option<FileName>) -> Result<Option<NormalName>, AllocError>
     ensures name { IfOk result (λ name. name ≡ option_map project_of file.now) }
     ensures readable { IfErr result (λ _. IsSome file.now) }

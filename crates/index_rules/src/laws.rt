@@ -8,15 +8,15 @@ ghost use Rattle.index_rules.specs.Sound.{IsSound};
 ghost use Rattle.index_rules.specs.StandsFor.{StandsFor};
 ghost use Rattle.index_rules.specs.Laws.{BindsFiles, DeclaresBodies, HasOneBearerOfEach, KeepsBans, MovesAsRecorded, ServesBound, ServesUploads, StandsAlone, TransfersWereReady};
 
-/// A token has one bearer: no two users bear one digest.
+/// A token has one bearer: no two users have tokens with one digest.
 #[tactic(auto, using(crate::proofs::StandsOn::one_bearer_of_each))]
 pub fn tokens_have_one_bearer()
     ensures { (h : History) → IsLegal h → HasOneBearerOfEach h }
 {}
 
-/// A file name is bound for good: the bodies of any two uploads of it have the same digest and size, whatever stands
-/// between them, be it a delete or a prohibition of the project. Each upload declares the digest of its body. After a ban
-/// of the file there is none.
+/// A file name is bound for good: the bodies of any two uploads of it have the same digest and size, even if a delete
+/// or a prohibition of the project stands between them. Each upload declares the digest of its body. After a ban of the
+/// file there is no upload of it.
 #[tactic(auto, using(crate::proofs::BindLemmas::binds_files, crate::proofs::BindLemmas::declares_bodies, crate::proofs::BindLemmas::keeps_bans))]
 pub fn file_names_are_bound()
     ensures bound { (h : History) → IsLegal h → BindsFiles h }
@@ -24,40 +24,40 @@ pub fn file_names_are_bound()
     ensures bans { (h : History) → IsLegal h → KeepsBans h }
 {}
 
-/// So what is served is bound: bytes that are served of one file name, at any two points of one history, have the same
-/// digest and size. They are those of an upload of it.
+/// What is served is bound: the bytes served of one file name, at any two points of one history, have the same digest
+/// and size. They are those of an upload of the file.
 #[tactic(auto, using(crate::proofs::ServeLemmas::serves_uploads))]
 pub fn served_bytes_are_bound()
     ensures bound { (h : History) → IsLegal h → ServesBound h }
     ensures uploads { (h : History) → ServesUploads h }
 {}
 
-/// An entry moves what its request says, and only for its own name: an upload adds its size to the charge and is of a
-/// file that is not undeleted, a delete takes the file's size away, a ban that of an undeleted file, and a prohibition
-/// brings the charge to nothing; a claim, a relinquish, a prohibition and an allow alone change the state, and these with
-/// a transfer and the requests on owners alone change who owns the name.
+/// An entry changes what its request says, and only for its own name. An upload is of a file that is not undeleted, and
+/// adds its size to the charge. A delete and a ban of an undeleted file take the file's size off the charge; a
+/// prohibition sets the charge to 0. Only a claim, a relinquish, a prohibition and an allow change the state. Only
+/// these, a transfer and the requests on owners change who owns the name.
 #[tactic(auto, using(crate::proofs::MoveLemmas::moves_as_recorded))]
 pub fn charges_states_and_owners_move_as_recorded()
     ensures { (h : History) → IsLegal h → MovesAsRecorded h }
 {}
 
-/// Every transfer was ready. A case was open on the name, and no owner had acted on the name since it was opened; at
-/// least three attempts were sent and each means was tried, six weeks had passed since the first that was sent and a
-/// year since the latest upload, and the office stated that the owner's home page is quiet. After it the candidate alone
-/// owns the name, whose quota and yanks are as they were.
+/// Every transfer was ready. A case was open on the name, and no owner had acted on the name since it was opened. At
+/// least three attempts had been sent and each means tried. Six weeks had passed since the first attempt that was sent,
+/// and a year since the latest upload. The office stated that the owner's home page is quiet. After the transfer the
+/// candidate alone owns the name; its quota and yanks are unchanged.
 #[tactic(auto, using(crate::proofs::TransferLemmas::transfers_were_ready))]
 pub fn transfers_were_ready()
     ensures { (h : History) → IsLegal h → TransfersWereReady h }
 {}
 
-/// Names don't touch one another. The opening, the entries on users and those that speak of one name, in their order, are
-/// a legal history themselves, and a call of that name has the same verdict in it as in the whole history.
+/// Names are independent of one another. The opening, the entries on users and those on one name, in their order, are a
+/// legal history themselves; a call on that name has the same verdict in it as in the whole history.
 #[tactic(auto, using(crate::proofs::AloneLemmas::stands_alone))]
 pub fn names_stand_alone()
     ensures { (h : History) → IsLegal h → StandsAlone h }
 {}
 
-/// Tables that stand for a legal history are sound, so that no two users bear one digest in them.
+/// Tables that stand for a legal history are sound. In particular, no two users have tokens with one digest.
 #[tactic(auto, using(crate::proofs::StandsOn::sound_when_legal))]
 pub fn tables_of_a_legal_history_are_sound()
     ensures { (h : History) → IsLegal h → (T : Tables) → StandsFor T h → IsSound T }

@@ -11,19 +11,19 @@ use std::alloc::{AllocError, Global};
 use std::error::Error;
 use std::fmt;
 
-/// Why no index was opened.
+/// Why an index was not opened.
 #[derive(Clone, Copy, Debug, PartialEq, Eq, Hash)]
 pub enum OpenFault {
-    /// The bytes are no user id, or the digest is that of the empty text, which is no token.
+    /// The bytes are not a valid user id, or the digest is that of the empty text, which is not a token.
     BadFirstUser,
-    /// A new index was asked for where there are tables of one.
+    /// A new index was asked for, but there are tables of one already.
     NotEmpty,
-    /// What is there is no index.
+    /// The tables are not those of an index.
     NotAnIndex,
-    /// It is an index of a version that is not known here.
+    /// The index has an unknown version.
     OtherVersion,
     OutOfMemory,
-    /// What keeps the tables failed, or has rows that are no records.
+    /// The store failed, or has invalid rows.
     Store,
 }
 
@@ -61,7 +61,8 @@ impl From<AllocError> for OpenFault {
 ///
 /// # Errors
 ///
-/// `BadFirstUser` exactly where the bytes are no user id, or the digest is that of the empty text, else `OutOfMemory`.
+/// `BadFirstUser` exactly if the bytes are not a valid user id or the digest is that of the empty text, else
+/// `OutOfMemory`.
 #[tactic(auto, unfolding(crate::specs::Users::read_user))]
 pub fn first_user(
     alloc: Global,

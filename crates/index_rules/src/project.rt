@@ -16,8 +16,8 @@ pub(crate) const LARGEST_QUOTA: u64 = 1_099_511_627_776;
 /// The most undeleted files of a name.
 const MOST_FILES: u64 = 9_223_372_036_854_775_807;
 
-/// What the index keeps of a held name. Its charge is at most its quota, its quota at most 1,099,511,627,776 bytes, and
-/// its undeleted files are at most 9,223,372,036,854,775,807.
+/// The record of a held name. Its charge is at most its quota, its quota at most 1,099,511,627,776 bytes, and its
+/// undeleted files are at most 9,223,372,036,854,775,807.
 #[derive(Clone, Debug)]
 pub struct Project {
     shown: Text,
@@ -27,7 +27,7 @@ pub struct Project {
     last_upload: Option<u64>,
 }
 
-// By hand: a drop is then one call at each exit of a function (docs/developers/PROOF-COSTS.md).
+// By hand: each exit of a function then makes one call to drop (docs/developers/PROOF-COSTS.md).
 impl Drop for Project {
     fn drop(self) {
         let Project {
@@ -65,8 +65,8 @@ impl Model for Project {
 }
 
 impl Project {
-    /// The held name whose parts these are, where they fit together: the charge is at most the quota, and neither the
-    /// quota nor the count of undeleted files is above its limit.
+    /// The held name with these parts, if they are valid: the charge is at most the quota, and neither the quota nor
+    /// the count of undeleted files is above its limit.
     pub fn from_parts(
         shown: Text,
         quota: u64,
@@ -102,14 +102,14 @@ impl Project {
         }
     }
 
-    /// The spelling of the last claim.
+    /// The shown name: the spelling of the last claim.
     pub fn shown(&self) -> &Text
         ensures { result.now ≡ self.now.shown }
     {
         &self.shown
     }
 
-    /// How many bytes its undeleted files may have.
+    /// The quota: how many bytes the undeleted files may have.
     pub fn quota(&self) -> u64
         ensures value { result ≡ self.now.quota }
         ensures within { result ≤ largest_quota }
@@ -117,7 +117,7 @@ impl Project {
         self.quota
     }
 
-    /// How many bytes its undeleted files have.
+    /// The charge: how many bytes the undeleted files have.
     pub fn charge(&self) -> u64
         ensures value { result ≡ self.now.charge }
         ensures within { result ≤ self.now.quota }
@@ -125,7 +125,7 @@ impl Project {
         self.charge
     }
 
-    /// How many undeleted files it has.
+    /// How many undeleted files the name has.
     pub fn undeleted(&self) -> u64
         ensures value { result ≡ self.now.undeleted }
         ensures within { result ≤ most_files }
@@ -133,28 +133,28 @@ impl Project {
         self.undeleted
     }
 
-    /// The greatest moment of its uploads since its last claim, in Unix seconds.
+    /// The greatest moment of an upload since the last claim, in Unix seconds, if there was one.
     pub fn last_upload(&self) -> Option<u64>
         ensures { result ≡ self.now.last_upload }
     {
         self.last_upload
     }
 
-    /// Whether the quota allows so many bytes more.
+    /// Whether the quota allows this many bytes more.
     pub(crate) fn has_room(&self, size: u64) -> bool
         ensures { result ≡ not (nat_lt self.now.quota (self.now.charge + size)) }
     {
         size <= self.quota - self.charge
     }
 
-    /// Whether it has fewer undeleted files than it may have.
+    /// Whether the name has fewer undeleted files than it may have.
     pub(crate) fn takes_more_files(&self) -> bool
         ensures { result ≡ nat_lt self.now.undeleted most_files }
     {
         self.undeleted < MOST_FILES
     }
 
-    /// With another quota, in bytes.
+    /// The project with another quota, in bytes.
     pub(crate) fn with_quota(&self, quota: u64) -> Result<Project, AllocError>
         requires charge { self.now.charge ≤ quota }
         requires quota { quota ≤ largest_quota }
@@ -170,7 +170,7 @@ impl Project {
         })
     }
 
-    /// With one more undeleted file of this size in bytes, uploaded at this moment in Unix seconds.
+    /// The project with one more undeleted file of this size in bytes, uploaded at this moment in Unix seconds.
     pub(crate) fn with_file(&self, size: u64, at: u64) -> Result<Project, AllocError>
         requires charge { self.now.charge + size ≤ self.now.quota }
         requires undeleted { self.now.undeleted < most_files }
@@ -186,7 +186,7 @@ impl Project {
         })
     }
 
-    /// With one undeleted file less, of this size in bytes.
+    /// The project with one undeleted file less, of this size in bytes.
     pub(crate) fn without_file(&self, size: u64) -> Result<Project, AllocError>
         ensures { IfOk result (λ project. project ≡ without_file size self.now) }
     {

@@ -1,4 +1,4 @@
-//! What the bytes of a request are read as.
+//! What the bytes of a request are parsed as.
 ghost use Rattle.std.specs.Prelude.{◌≡◌, ◌↔◌, IfOk, IsSome, IsTrue, None, Some, if◌then◌else◌};
 ghost use Rattle.std.specs.Char.{is_control};
 ghost use Rattle.std.specs.List.{list_any};
@@ -22,7 +22,7 @@ use std::alloc::{AllocError, Global};
 /// The most bytes of a text.
 const LONGEST_TEXT: usize = 512;
 
-/// The normal form of a name, where it can be read.
+/// The normal form of a name, or `None` if the bytes are not a valid name.
 pub fn readable_name(alloc: Global, name: &Bytes) -> Result<Option<NormalName>, AllocError>
     ensures { ReturnsRead (read_name name.now) result }
 {
@@ -33,7 +33,7 @@ pub fn readable_name(alloc: Global, name: &Bytes) -> Result<Option<NormalName>, 
     }
 }
 
-/// A user id, where it can be read.
+/// A user id, or `None` if the bytes are not a valid one.
 pub fn readable_user(alloc: Global, user: &Bytes) -> Result<Option<UserId>, AllocError>
     ensures { ReturnsRead (read_user user.now) result }
 {
@@ -44,7 +44,7 @@ pub fn readable_user(alloc: Global, user: &Bytes) -> Result<Option<UserId>, Allo
     }
 }
 
-/// The release that a version text gives, where it is one.
+/// The release of a version, or `None` if the bytes are not a valid version.
 pub fn readable_release(alloc: Global, release: &Bytes) -> Result<Option<Release>, AllocError>
     ensures { ReturnsRead (read_release release.now) result }
 {
@@ -55,7 +55,7 @@ pub fn readable_release(alloc: Global, release: &Bytes) -> Result<Option<Release
     }
 }
 
-/// A file name, where it can be read.
+/// A file name, or `None` if the bytes are not a valid one.
 #[tactic(auto, unfolding(crate::specs::Requests::read_file))]
 pub fn readable_file(alloc: Global, file: &Bytes) -> Result<Option<FileName>, AllocError>
     ensures { ReturnsRead (read_file file.now) result }
@@ -67,7 +67,7 @@ pub fn readable_file(alloc: Global, file: &Bytes) -> Result<Option<FileName>, Al
     }
 }
 
-/// The digest of a token that a text gives: 64 digits of `0-9a-f`, and not the digest of the empty text.
+/// The digest of a token, or `None` if the bytes are not 64 digits of `0-9a-f`, or are the digest of the empty text.
 #[tactic(auto, unfolding(crate::specs::Texts::read_token))]
 pub fn read_token(text: &[u8]) -> Option<Digest256>
     ensures { result ≡ read_token text.now }
@@ -80,7 +80,7 @@ pub fn read_token(text: &[u8]) -> Option<Digest256>
     }
 }
 
-/// Whether these bytes are a project name.
+/// Whether these bytes are a valid project name.
 pub fn is_name(name: &Bytes) -> bool
     ensures { IsTrue result ↔ IsSome (read_name name.now) }
 {
@@ -108,7 +108,7 @@ pub fn to_shown(alloc: Global, name: &Bytes) -> Result<Text, AllocError>
     Ok(Text::new(String::from_str(alloc, ascii(name.as_slice()))?))
 }
 
-/// Whether these bytes are a user id.
+/// Whether these bytes are a valid user id.
 #[tactic(auto, unfolding(crate::specs::Users::read_user))]
 pub fn is_user(user: &Bytes) -> bool
     ensures { read_user user.now ≡ (if result then Some user.now else None) }
@@ -129,14 +129,14 @@ pub fn to_user(alloc: Global, user: &Bytes) -> Result<UserId, AllocError>
     }
 }
 
-/// Whether these bytes are a version text.
+/// Whether these bytes are a valid version.
 pub fn is_release(release: &Bytes) -> bool
     ensures { IsTrue result ↔ IsSome (read_release release.now) }
 {
     is_version(release.as_slice())
 }
 
-/// The release that a version text gives.
+/// The release of a version.
 pub fn to_release(alloc: Global, release: &Bytes) -> Result<Release, AllocError>
     requires { IsSome (read_release release.now) }
     ensures { IfOk result (λ key. read_release release.now ≡ Some key) }
@@ -149,7 +149,7 @@ pub fn to_release(alloc: Global, release: &Bytes) -> Result<Release, AllocError>
     }
 }
 
-/// Whether these bytes are a file name.
+/// Whether these bytes are a valid file name.
 #[tactic(auto, unfolding(crate::specs::Requests::read_file))]
 pub fn is_file(file: &Bytes) -> bool
     ensures { IsTrue result ↔ IsSome (read_file file.now) }
@@ -171,8 +171,7 @@ pub fn to_file(alloc: Global, file: &Bytes) -> Result<FileName, AllocError>
     }
 }
 
-/// Whether these bytes are a text that the index keeps: 0 to 512 bytes of UTF-8 without the code points 0 to 31 and
-/// 127 to 159.
+/// Whether these bytes are a valid text: 0 to 512 bytes of UTF-8 without the code points 0 to 31 and 127 to 159.
 pub fn is_text(bytes: &Bytes) -> bool
     ensures { result ≡ is_text_lem bytes.now }
 {
@@ -182,14 +181,14 @@ pub fn is_text(bytes: &Bytes) -> bool
     }
 }
 
-/// Whether the text is short enough to be kept and has no control character.
+/// Whether the text is short enough and has no control character.
 fn is_kept_text(text: &str) -> bool
     ensures { result ≡ is_text_lem text.now }
 {
     text.len() <= LONGEST_TEXT && !has_control(text)
 }
 
-/// A text that the index keeps.
+/// The text that bytes are.
 pub fn to_text(alloc: Global, text: &Bytes) -> Result<Text, AllocError>
     requires { IsTrue (is_text_lem text.now) }
     ensures { IfOk result (λ kept. kept ≡ text.now) }
@@ -201,7 +200,7 @@ pub fn to_text(alloc: Global, text: &Bytes) -> Result<Text, AllocError>
     }
 }
 
-/// Whether these bytes are an evidence text of a case: a text that the index keeps, of one byte or more.
+/// Whether these bytes are a valid text of a case: a valid text of one byte or more.
 pub fn is_evidence(text: &Bytes) -> bool
     ensures { result ≡ is_evidence_lem text.now }
 {

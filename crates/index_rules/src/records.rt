@@ -6,7 +6,7 @@ use index_names::{NormalName, Release};
 use index_retention::{CaseKind, CaseState};
 use index_text::Text;
 
-/// What the index keeps of a user.
+/// The record of a user.
 #[derive(Clone, Copy, Debug)]
 pub struct UserRecord {
     /// Whether the user is of the office.
@@ -15,7 +15,7 @@ pub struct UserRecord {
     pub token: Digest256,
 }
 
-/// What the index keeps of a name that is not free.
+/// The record of a name that is not free.
 #[derive(Clone, Debug, Drop)]
 pub enum NameRecord {
     Held(Project),
@@ -26,21 +26,21 @@ pub enum NameRecord {
 #[derive(Clone, Debug)]
 pub struct CaseRecord {
     pub kind: CaseKind,
-    /// Who opened it, and gets the name at a transfer.
+    /// The user who opened the case, and gets the name at a transfer.
     pub candidate: UserId,
     /// How the owner was sought in vain.
     pub contact: Text,
     /// Improvements in a fork, or the existing notable project.
     pub work: Text,
-    /// Why another name will not do.
+    /// Why no other name will do.
     pub why: Text,
-    /// When it was opened, in Unix seconds.
+    /// When the case was opened, in Unix seconds.
     pub opened: u64,
     /// Its attempts to reach the owner.
     pub state: CaseState,
 }
 
-// By hand: a drop is then one call at each exit of a function (docs/developers/PROOF-COSTS.md).
+// By hand: each exit of a function then makes one call to drop (docs/developers/PROOF-COSTS.md).
 impl Drop for CaseRecord {
     fn drop(self) {
         let CaseRecord {
@@ -55,10 +55,10 @@ impl Drop for CaseRecord {
     }
 }
 
-/// What the index keeps for good of a file name that was once accepted.
+/// The permanent record of a file name that was once accepted.
 #[derive(Clone, Debug)]
 pub struct FileRecord {
-    /// The project and the release that the file name decides.
+    /// The project and the release that the file name spells.
     pub project: NormalName,
     pub release: Release,
     /// The SHA-256 digest of the body and its size in bytes, to which the file name is bound.

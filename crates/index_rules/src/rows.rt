@@ -1,4 +1,4 @@
-//! Rows of the tables, and what takes them one at a time.
+//! Rows of the tables, and takers of them.
 ghost use Rattle.std.specs.Prelude.{◌≡◌, false, IsTrue};
 
 use crate::answer::Fault;
@@ -15,7 +15,7 @@ pub struct NameRow {
     pub record: NameRecord,
 }
 
-// By hand: a drop is then one call at each exit of a function (docs/developers/PROOF-COSTS.md).
+// By hand: each exit of a function then makes one call to drop (docs/developers/PROOF-COSTS.md).
 impl Drop for NameRow {
     fn drop(self) {
         let NameRow {
@@ -35,7 +35,7 @@ pub struct FileRow {
     pub size: u64,
     /// The Python versions that the last upload declared, or nothing.
     pub requires_python: Text,
-    /// Why the release is yanked, where it is. The reason may be empty (PEP 592).
+    /// Why the release is yanked, if it is. The reason may be empty (PEP 592).
     pub yanked: Option<Text>,
 }
 
@@ -52,33 +52,33 @@ impl Drop for FileRow {
     }
 }
 
-/// What takes rows of names one at a time.
+/// A taker of rows of names, one at a time.
 pub trait NameTaker {
     ghost use Rattle.index_rules.specs.declared.rows.NameRow.{NameRow};
 
-    /// What a row that is taken makes of it.
+    /// What the taker is after a row that it takes.
     ghost takes: { Self → NameRow → Self → Type 0 };
 
-    /// What a row that is not taken leaves of it.
+    /// What the taker is after a row that it stops at.
     ghost stops: { Self → NameRow → Self → Type 0 };
 
-    /// Takes a row, or answers `false`. Then it wants no more of them.
+    /// Takes a row; or returns `false`, and wants no more rows.
     fn take(&mut self, row: &NameRow) -> bool
         ensures took { IsTrue result → takes self.old row.now self.new }
         ensures stopped { result ≡ false → stops self.old row.now self.new };
 }
 
-/// What takes rows of files one at a time.
+/// A taker of rows of files, one at a time.
 pub trait FileTaker {
     ghost use Rattle.index_rules.specs.declared.rows.FileRow.{FileRow};
 
-    /// What a row that is taken makes of it.
+    /// What the taker is after a row that it takes.
     ghost takes: { Self → FileRow → Self → Type 0 };
 
-    /// What a row that is not taken leaves of it.
+    /// What the taker is after a row that it stops at.
     ghost stops: { Self → FileRow → Self → Type 0 };
 
-    /// Takes a row, or answers `false`. Then it wants no more of them.
+    /// Takes a row; or returns `false`, and wants no more rows.
     fn take(&mut self, row: &FileRow) -> bool
         ensures took { IsTrue result → takes self.old row.now self.new }
         ensures stopped { result ≡ false → stops self.old row.now self.new };

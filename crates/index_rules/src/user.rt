@@ -18,7 +18,7 @@ pub struct UserId {
     text: Text,
 }
 
-// By hand: a drop is then one call at each exit of a function (docs/developers/PROOF-COSTS.md).
+// By hand: each exit of a function then makes one call to drop (docs/developers/PROOF-COSTS.md).
 impl Drop for UserId {
     fn drop(self) {
         let UserId { text: _text } = self;
@@ -38,7 +38,7 @@ impl Model for UserId {
     ghost inverse = { λ bytes. record { text = bytes } };
 }
 
-/// Why no user id was read.
+/// Why bytes are not a user id.
 #[derive(Clone, Copy, Debug, PartialEq, Eq, Hash)]
 pub enum UserFault {
     BadUser,
@@ -75,7 +75,7 @@ impl UserId {
     ///
     /// # Errors
     ///
-    /// `BadUser` exactly where they are none, else `OutOfMemory`.
+    /// `BadUser` exactly if the bytes are not a valid user id, else `OutOfMemory`.
     #[tactic(auto, unfolding(crate::specs::Users::read_user))]
     pub fn read(alloc: Global, bytes: &[u8]) -> Result<UserId, UserFault>
         ensures id { IfOk result (λ id. read_user bytes.now ≡ Some id) }
@@ -97,14 +97,14 @@ impl UserId {
     }
 }
 
-/// Whether these bytes are a user id.
+/// Whether these bytes are a valid user id.
 pub(crate) fn is_user_id(bytes: &[u8]) -> bool
     ensures { result ≡ is_user_id_lem bytes.now }
 {
     !bytes.is_empty() && bytes.len() <= LONGEST_USER_ID && has_user_letters(bytes)
 }
 
-/// Whether each byte may stand in a user id.
+/// Whether each byte is one that user ids may have.
 fn has_user_letters(bytes: &[u8]) -> bool
     ensures { result ≡ list_all is_user_letter_lem bytes.now }
 {

@@ -1,4 +1,4 @@
-//! What a decision rests on.
+//! The view of the tables that a decision rests on.
 ghost use Rattle.std.specs.Prelude.{◌≡◌, List, ℕ};
 
 use crate::records::{CaseRecord, FileRecord, NameRecord, UserRecord};
@@ -12,7 +12,7 @@ pub struct Owners {
     users: Vec<UserId>,
 }
 
-// By hand: a drop is then one call at each exit of a function (docs/developers/PROOF-COSTS.md).
+// By hand: each exit of a function then makes one call to drop (docs/developers/PROOF-COSTS.md).
 impl Drop for Owners {
     fn drop(self) {
         let Owners { users: _users } = self;
@@ -26,14 +26,14 @@ impl Model for Owners {
 }
 
 impl Owners {
-    /// These users.
+    /// The owners with these ids.
     pub fn new(users: Vec<UserId>) -> Owners
         ensures { result ≡ users.items }
     {
         Owners { users }
     }
 
-    /// The users.
+    /// The users' ids.
     pub fn as_slice(&self) -> &[UserId]
         ensures { result.now ≡ self.now }
     {
@@ -41,7 +41,7 @@ impl Owners {
     }
 }
 
-/// The user who bears a token.
+/// The user who has a token.
 #[derive(Clone, Debug)]
 pub struct Caller {
     pub user: UserId,
@@ -61,10 +61,10 @@ impl Drop for Caller {
 /// The records that a call's keys name.
 #[derive(Debug)]
 pub struct View {
-    /// Who bears the caller's token.
+    /// The user who has the caller's token.
     pub caller: Option<Caller>,
     pub user: Option<UserRecord>,
-    /// Who bears the token that the call brings for a user.
+    /// The user who has the token that the call brings for a user.
     pub bearer: Option<UserId>,
     pub name: Option<NameRecord>,
     /// The owners of the name, in byte order.
@@ -72,7 +72,7 @@ pub struct View {
     pub file: Option<FileRecord>,
     /// Whether the file is banned.
     pub is_banned: bool,
-    /// Why the release is yanked, where it is.
+    /// Why the release is yanked, if it is.
     pub yank: Option<Text>,
     /// Whether the release has an undeleted file.
     pub has_release: bool,
@@ -105,7 +105,7 @@ pub struct UsersSeen {
     pub bearer: Option<UserId>,
 }
 
-/// What it has of the name.
+/// What a view has of the name.
 #[derive(Drop)]
 pub struct NameSeen {
     pub name: Option<NameRecord>,
@@ -113,7 +113,7 @@ pub struct NameSeen {
     pub case: Option<CaseRecord>,
 }
 
-/// What it has of the file and the release.
+/// What a view has of the file and the release.
 #[derive(Drop)]
 pub struct FilesSeen {
     pub file: Option<FileRecord>,
@@ -128,7 +128,7 @@ impl View {
     ghost use Rattle.index_rules.specs.Seen.{SeesFiles, SeesName, SeesUsers};
     ghost use Rattle.index_rules.specs.Tables.{Tables};
 
-    /// The parts as one.
+    /// The view of these parts.
     pub fn from_parts(users: UsersSeen, name: NameSeen, files: FilesSeen) -> View
         ensures { (T : Tables) (k : Keys) → SeesUsers T k users → SeesName T k.name name →
             SeesFiles T k files → Sees T k result }
@@ -159,7 +159,7 @@ impl View {
         }
     }
 
-    /// What it has of the name.
+    /// What the view has of the name.
     pub fn into_name(self) -> NameSeen
         ensures name { result.name ≡ self.name }
         ensures owners { result.owners ≡ self.owners }

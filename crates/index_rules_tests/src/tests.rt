@@ -1,4 +1,4 @@
-//! Names, users and texts from constants, and new tables. What is asked of them is so over any books.
+//! Names, users and texts from constants, and new tables. The tests run over any books.
 use index_digest::Digest256;
 use index_names::{FileName, NormalName, Release, normal, release_key};
 use index_plain::PlainBooks;

@@ -14,7 +14,7 @@ use Rattle.index_sql_schema.specs.CreateSteps.{IsStage, no_tables}
 use Rattle.index_sql_writes.specs.Asks.{Ask, CanAsk}
 use Rattle.index_sql_writes.specs.Transaction.{MakesInTransaction}
 use Rattle.index_sql_writes.specs.Statements.{put_user_ask}
-use Rattle.index_sql_writes.specs.Steps.{RunsStatement, TakesStep}
+use Rattle.index_sql_writes.specs.Steps.{RunsStatement, StepMakesChange}
 use Rattle.index_sql_writes.specs.Writes.{puts_user}
 use Rattle.index_sql_writes.proofs.AskLemmas.{IsWrite, goes}
 use Rattle.index_sql_writes.proofs.GoingLemmas.{goes_alone}
@@ -65,7 +65,7 @@ can_put s made unlimited = record { ready = (made_all s s refl made).ready; reco
 
 -- and the first user
 pub first_user : {S A B : Type 0} (g : Ghosts S) (user : Bytes) (account : UserRecord) {first mid last : Transaction S} {a : A} → CreatesTables 0 9 (on_store g first mid) (Ok a) → (r : Result B Error)
-    → TakesStep (puts_user user account) (put_user_ask user account) (on_store g mid last) r
+    → StepMakesChange (puts_user user account) (put_user_ask user account) (on_store g mid last) r
     → StepsFrom (IsStage 0) (MakesInTransaction (λ _. one_user user account) (λ _. [])) (table_asks 0 9 ++ (put_user_ask user account ∷ [])) (on_store g first last) r
 first_user g user account {first = first} {mid = mid} {last = last} made r put =
     let empty = λ (did : Advances 9 (state g first.conn.now) (state g mid.conn.now)). made_all (state g first.conn.now) (state g mid.conn.now) did.1 did.0 in

@@ -35,7 +35,7 @@ tests = op2 (Compare Eq Binary) (col 1 0) (lit (Int (pos 1))) ∷ op2 (Compare E
 abbrev project : List Term
 project = col 1 3 ∷ []
 
--- whatever the rows are under this schema, it is refused only where its steps are limited
+-- whatever the rows are under this schema, it is refused only if its steps are limited
 abbrev IsReadable : Schema → Command → Type 0
 IsReadable schema command = (db : Database) → db.schema ≡ schema → (limit : Option ℕ) (e : Error) → RefusesToRead limit command db [] e → IsSome limit
 

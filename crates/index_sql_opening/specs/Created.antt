@@ -1,4 +1,4 @@
--- What the making of a new index leaves.
+-- What the creation of an index leaves.
 use Rattle.std.specs.Prelude.{◌≡◌, ℕ, List, [], ◌∷◌}
 use Rattle.sqlite_value.specs.Order.{Row}
 use Rattle.sqlite.specs.Effect.{Database, IsDatabase}
@@ -11,20 +11,20 @@ use Rattle.index_sql_schema.specs.Index.{version_row}
 use Rattle.index_sql_schema.specs.CreateSteps.{IsStage, no_tables}
 use Rattle.index_sql_writes.specs.Writes.{puts_user}
 
--- a database with nothing in it
+-- an empty database
 pub record IsBlank (db : Database) : Type 0 where
   pub schema : db.schema ≡ no_schema
   pub sound : IsDatabase db
 
--- one user with this record, and nothing else; of the office, these are the tables of a new index
--- (`first_tables`)
+-- one user with this record, and nothing else; if the user is of the office, these are the tables
+-- of a new index (`first_tables`)
 abbrev pub one_user : Bytes → UserRecord → Tables
 one_user user account = puts_user user account no_tables
 
--- then so many tables are made, and nothing is committed
+-- the first `n` tables are made afterwards, and nothing is committed
 abbrev pub Advances : ℕ → State → State → Type 0
 Advances n old new = IsStage n new × (new.committed ≡ old.committed)
 
--- meta has one row, that of version 2, whatever it had
+-- the one row of meta of version 2, whatever rows there were
 abbrev pub one_version_row : List Row → List Row
 one_version_row rows = version_row 2 ∷ []

@@ -1,4 +1,4 @@
--- What the making of an index in a database leaves, in one transaction.
+-- What one transaction that makes an index of a database leaves.
 use Rattle.std.specs.Prelude.{◌≡◌, ℕ, false, List, IfErr, IsTrue, OnErr, OnOk, Result}
 use Rattle.sqlite_value.specs.Order.{Row}
 use Rattle.sqlite_schema.specs.declared.schema.Schema.{Schema}
@@ -21,31 +21,31 @@ use Rattle.index_sql_opening.specs.Created.{IsBlank, one_user, one_version_row}
 use Rattle.index_sql_opening.specs.Migrated.{asks_of_migration}
 use Rattle.index_sql_opening.specs.NewAsks.{asks_of_new}
 
--- it is in no transaction; on a clean disk, where it is open, all that it holds is committed
+-- a connection in no transaction; on a clean disk, if it is open, all of its database is committed
 pub record IsAtRest {S : Type 0} (g : Ghosts S) (held : Held S) : Type 0 where
   pub outside : held.in_transaction ≡ false
   pub settled : HasCleanDisk (state g held)
       → IsTrue (state g held).is_open
       → (state g held).now ≡ (state g held).committed
 
--- so it is, and its state is of this kind
+-- a connection in no transaction, whose state is of this kind
 pub record RestsAs {S : Type 0} (g : Ghosts S) (Is : State → Type 0) (held : Held S) : Type 0 where
   pub rest : IsAtRest g held
   pub is : Is (state g held)
 
--- it has this schema
+-- the connection's database has this schema
 abbrev pub IsOfSchema : {S : Type 0} → Ghosts S → Held S → Schema → Type 0
 IsOfSchema g held schema = (state g held).now.schema ≡ schema
 
--- while it is open, a database with this schema is of such a kind
+-- as long as the connection is open, a database with this schema is of this kind
 abbrev pub IsBySchema : {S : Type 0} → Ghosts S → Schema → (Database → Type 0) → Held S → Type 0
 IsBySchema g schema IsKind held =
     IsTrue (state g held).is_open
     → (state g held).now.schema ≡ schema
     → IsKind (state g held).now
 
--- Of an open database of such a kind an index is made: `change` says with which tables, `rows` with
--- which rows of meta, and `asks` which statements make it.
+-- An index is made of an open database of this kind: `change` says with which tables, `rows` with
+-- which rows of meta, and `asks` by which statements.
 pub record MakesIndex {S A : Type 0}
     (IsKind : Database → Type 0)
     (change : Tables → Tables)
@@ -53,12 +53,12 @@ pub record MakesIndex {S A : Type 0}
     (asks : List Ask)
     (conn : ConnectionStep S)
     (result : Result A Error) : Type 0 where
-  -- where it succeeds on a clean disk, the index is there, and committed
+  -- if it succeeds on a clean disk, the index is there, and committed
   pub made : let old = state conn.store conn.old in
       let new = state conn.store conn.new in
       HasCleanDisk new
       → OnOk result (IsTrue old.is_open → IsKind old.now → IsMade change rows old new)
-  -- after an error, while the connection is open, the database is as it was committed
+  -- after an error, if the connection is still open, the database is as it was committed
   pub unchanged : let old = state conn.store conn.old in
       let new = state conn.store conn.new in
       HasCleanDisk new → IsTrue new.is_open → IsKind old.now → OnErr result (IsUndone old new)
@@ -72,24 +72,24 @@ pub record MakesIndex {S A : Type 0}
   pub crash : let old = state conn.store conn.old in
       IsTrue old.is_open → IsKind old.now
       → LeavesWholeChange change rows old (state conn.store conn.new)
-  -- it fails by the store only for a reason of the store, or where SQL refuses a statement
+  -- a failure with `Store` has a reason of the store, or SQL refused a statement
   pub reason : let old = state conn.store conn.old in
       let new = state conn.store conn.new in
       HasCleanDisk new
       → (IsTrue old.is_open → IsKind old.now)
       → IfErr result (FailsForRefusal asks old new)
 
--- a new index is made of a blank database: one user with this record, and nothing else
+-- a new index is made of an empty database: one user with this record, and nothing else
 abbrev pub MakesNewIndex :
     {S A : Type 0} → Bytes → UserRecord → ConnectionStep S → Result A Error → Type 0
 MakesNewIndex user account =
     MakesIndex IsBlank (λ _. one_user user account) one_version_row (asks_of_new user account)
 
--- an index of today is made of a database of version 1: the same tables, and no bans
+-- an index of version 2 is made of a database of version 1: the same tables, and no bans
 abbrev pub MakesOfFirstVersion : {S A : Type 0} → ConnectionStep S → Result A Error → Type 0
 MakesOfFirstVersion = MakesIndex IsFirstVersion without_bans raised asks_of_migration
 
--- so many tables are made of an open blank database, if it succeeds on a clean disk
+-- the first `n` tables are made of an open empty database, if it succeeds on a clean disk
 abbrev pub MakesTables : {S A E : Type 0} → ℕ → ConnectionStep S → Result A E → Type 0
 MakesTables n conn result =
     let old = state conn.store conn.old in

@@ -1,4 +1,4 @@
--- Whether a schema has tables by the names of ours.
+-- Whether a schema has tables with the names of those of an index.
 use Rattle.std.specs.Prelude.{ℕ, Bool, false, ◌&&◌, ◌||◌, List, codes, is_some, option_map}
 use Rattle.std.specs.Prelude.{unwrap_or}
 use Rattle.std.specs.List.{list_all, list_any}
@@ -7,24 +7,24 @@ use Rattle.sqlite_schema.specs.declared.schema.Schema.{Schema}
 use Rattle.sqlite_schema.specs.declared.schema.Table.{Table}
 use Rattle.sqlite_schema.specs.declared.schema.View.{View}
 
--- a table of that name that the database keeps as it is, or what belongs to it
+-- whether a view is a table of that name that the database keeps as it is, or belongs to one
 abbrev pub is_of : View → List ℕ → Bool
 is_of view name = unwrap_or (option_map (λ table. same_name table name) view.foreign) false
 
--- a table of that name is there; the case of ASCII letters does not count
+-- whether a schema has a table of that name; the case of ASCII letters does not count
 abbrev pub has_table : Schema → List ℕ → Bool
 has_table schema name =
     is_some (table_named schema name) || list_any (λ view. is_of view name) schema.views
 
--- one by the name of any of these
+-- whether a schema has a table with the name of any of these
 abbrev pub has_any_of : Schema → List Table → Bool
 has_any_of schema = list_any (λ (t : Table). has_table schema t.name)
 
--- one by the name of each of these
+-- whether a schema has a table with the name of each of these
 abbrev pub has_all_of : Schema → List Table → Bool
 has_all_of schema = list_all (λ (t : Table). has_table schema t.name)
 
--- a table `meta` with the columns of the version, which can be read
+-- whether a table is a readable `meta` with the columns of the version
 abbrev pub is_meta : Table → Bool
 is_meta table =
     same_name table.name (codes "meta")
@@ -32,6 +32,6 @@ is_meta table =
     && is_some (column_named table (codes "kind"))
     && is_some (column_named table (codes "version"))
 
--- such a table is there
+-- whether a schema has a readable table `meta` with the columns of the version
 abbrev pub has_meta : Schema → Bool
 has_meta schema = list_any is_meta schema.tables

@@ -1,6 +1,6 @@
--- What the making of a new index asks of SQL.
-use Rattle.std.specs.Prelude.{◌≡◌, ℕ, suc, List, [], ◌∷◌, ◌++◌, None, Some, Result, map, take}
-use Rattle.std.specs.Prelude.{drop, slice_get}
+-- What the creation of an index asks of SQL.
+use Rattle.std.specs.Prelude.{List, None, Result, Some, [], drop, map, slice_get, suc, take, ℕ}
+use Rattle.std.specs.Prelude.{◌++◌, ◌∷◌, ◌≡◌}
 use Rattle.sqlite.specs.declared.error.Error.{Error}
 use Rattle.sqlite.specs.State.{State}
 use Rattle.index_rules.specs.declared.records.UserRecord.{UserRecord}
@@ -8,17 +8,17 @@ use Rattle.index_rules.specs.Maps.{Bytes}
 use Rattle.index_sql_schema.specs.CreateSteps.{IsStage, all_texts}
 use Rattle.index_sql_schema.specs.OnStore.{TransactionStep}
 use Rattle.index_sql_schema.specs.StatementTexts.{put_version_text}
-use Rattle.index_sql_writes.specs.Asks.{Ask, Statement, AnswersAll}
+use Rattle.index_sql_writes.specs.Asks.{Ask, SqlAnswersEachAsk, Statement}
 use Rattle.index_sql_writes.specs.Statements.{put_user_ask}
-use Rattle.index_sql_writes.specs.Steps.{TakesSteps}
+use Rattle.index_sql_writes.specs.Steps.{ManyStepsMakeChange}
 use Rattle.index_sql_writes.specs.Transaction.{IsUncommitted}
 use Rattle.index_sql_opening.specs.Created.{Advances}
 
--- one text, without parameters
+-- a statement without parameters
 abbrev pub text_ask : List ℕ → Ask
 text_ask text = Statement text []
 
--- the texts of these tables, in turn
+-- the statements that make these tables, in turn
 abbrev pub table_asks : ℕ → ℕ → List Ask
 table_asks from to = map text_ask (drop from (take to all_texts))
 
@@ -30,22 +30,23 @@ put_version_ask = text_ask put_version_text
 abbrev pub asks_of_new : Bytes → UserRecord → List Ask
 asks_of_new user account = table_asks 0 9 ++ (put_user_ask user account ∷ put_version_ask ∷ [])
 
--- it is so, and no query has a limit on its steps
+-- a state of this kind, in which no query has a limit on its steps
 abbrev pub Unlimited : (State → Type 0) → State → Type 0
 Unlimited Is s = Is s × (s.step_limit ≡ None)
 
--- steps on a transaction that is such, which make this of it and ask these of SQL
+-- steps on a transaction in a state of this kind, which change it in this way and ask these of SQL
 abbrev pub StepsFrom : {S A : Type 0} → (State → Type 0)
     → (State → State → Type 0)
     → List Ask
     → TransactionStep S → Result A Error → Type 0
-StepsFrom Begins Makes asks = TakesSteps Begins Makes (Unlimited Begins) (AnswersAll asks)
+StepsFrom Begins Makes asks =
+    ManyStepsMakeChange Begins Makes (Unlimited Begins) (SqlAnswersEachAsk asks)
 
--- so many tables are made where so many were
+-- the tables up to `to` are made in a transaction that has those up to `from`
 abbrev pub CreatesTables : {S A : Type 0} → ℕ → ℕ → TransactionStep S → Result A Error → Type 0
 CreatesTables from to = StepsFrom (IsStage from) (Advances to) (table_asks from to)
 
--- the next table is made by this statement; where it is refused, none is
+-- the next table is made by this statement; if the statement is refused, no table is made
 pub record CreatesNext {S A : Type 0} (sql : List ℕ) (tx : TransactionStep S)
     (result : Result A Error) : Type 0 where
   pub uncommitted : IsUncommitted tx.store tx.old.conn tx.new.conn

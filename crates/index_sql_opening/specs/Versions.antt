@@ -1,6 +1,6 @@
--- The version that a database tells.
-use Rattle.std.specs.Prelude.{◌≡◌, ℕ, true, List, [], IfErr, IfOk, Option, Result, option_map}
-use Rattle.std.specs.Prelude.{slice_get}
+-- The version in a database.
+use Rattle.std.specs.Prelude.{IfErr, IfOk, List, Option, Result, [], option_map, slice_get, true, ℕ}
+use Rattle.std.specs.Prelude.{◌≡◌}
 use Rattle.sqlite_value.specs.Order.{Row, column}
 use Rattle.sqlite_trees.specs.declared.store.Store.{Ghosts}
 use Rattle.sqlite.specs.declared.error.Error.{Error}
@@ -12,33 +12,35 @@ use Rattle.index_rules.specs.declared.answer.Fault.TheVariants.{Store}
 use Rattle.index_sql_schema.specs.Records.{number_in}
 use Rattle.index_sql_schema.specs.StatementTexts.{select_version_text}
 
--- the number in the first row of an answer, or 0 where that has none from 0 on
+-- the number in the first row of an answer; 0 if the row has none from 0 on
 abbrev pub first_number : List Row → Option ℕ
 first_number rows = option_map (λ r. number_in (column r 0)) (slice_get rows 0)
 
--- inside a transaction, the query of the version shows rows of which the first has this number: all
--- that is known where the tables are not ours
-pub record Tells {S : Type 0} (g : Ghosts S) (inside : Held S) (version : Option ℕ) : Type 0 where
+-- inside a transaction, the query of the version shows rows, and this is the number in the first;
+-- of tables that are not those of an index no more is known
+pub record VersionQueryShows {S : Type 0} (g : Ghosts S) (inside : Held S) (version : Option ℕ)
+    : Type 0 where
   pub after : Held S
   pub rows : List Row
   pub shown : Shown select_version_text [] (state g inside) (state g after) rows
   pub first : version ≡ first_number rows
 
--- there it is refused, by what is no want of memory
-pub record FailsToTell {S : Type 0} (g : Ghosts S) (inside : Held S) : Type 0 where
+-- inside a transaction, the query of the version is refused, and not because memory ran out
+pub record VersionQueryFails {S : Type 0} (g : Ghosts S) (inside : Held S) : Type 0 where
   pub after : Held S
   pub error : Error
   pub fails : FailsToQuery select_version_text [] (state g inside) (state g after) error
   pub fault : fault_by error ≡ Store
 
--- on a clean disk the answer is what that query tells, and `Store` only where it is refused so
-pub record AnswersVersion {S : Type 0} (g : Ghosts S)
+-- on a clean disk the result is the version that the query shows, or `Store` only if the query is
+-- refused
+pub record VersionQueryAnswers {S : Type 0} (g : Ghosts S)
     (inside new : Held S)
     (result : Result (Option ℕ) Fault) : Type 0 where
-  pub told : HasCleanDisk (state g new) → IfOk result (Tells g inside)
+  pub told : HasCleanDisk (state g new) → IfOk result (VersionQueryShows g inside)
   pub fails : HasCleanDisk (state g new)
-      → IfErr result (λ fault. fault ≡ Store → FailsToTell g inside)
+      → IfErr result (λ fault. fault ≡ Store → VersionQueryFails g inside)
 
--- a transaction is begun on the connection
+-- the connection with a transaction begun
 abbrev pub begun : {S : Type 0} → Held S → Held S
 begun held = record held { in_transaction = true }

@@ -1,4 +1,4 @@
-//! What is known of every connection.
+//! What holds of every connection.
 ghost use Rattle.std.specs.Prelude.{◌≡◌, false, IsTrue};
 ghost use Rattle.sqlite.specs.Held.{state};
 ghost use Rattle.sqlite.specs.State.{IsLive};
@@ -9,10 +9,10 @@ ghost use Rattle.index_sql_schema.specs.FirstVersion.{first_version_schema, IsFi
 
 use sqlite::{Alter, Connection};
 
-/// The connection as it is. One with the schema of an index is an index, and one with that of version 1 is of version 1:
-/// the rowids of each table rise, so none comes twice.
+/// The connection unchanged. One with the schema of an index is an index, and one with that of version 1 is of version
+/// 1: the rowids of each table rise, so none occurs twice.
 ///
-/// It is taken by value, since only then is what a connection keeps true of itself known.
+/// It is taken by value, since the invariants of a connection are known only then.
 pub fn expose_invariants<S: Alter>(conn: Connection<S>) -> Connection<S>
     ensures same { result ≡ conn }
     ensures live { IsLive (state S.Store conn) }

@@ -1,5 +1,5 @@
-//! An index in a database of SQLite as it is opened: whether a database is one, how a new one is made, and how
-//! one of version 1 becomes an index of today.
+//! Opening an index in an SQLite database: whether a database is one, how a new one is made, and how one of version 1
+//! becomes one of version 2.
 #![tactic(auto)]
 
 mod connections;

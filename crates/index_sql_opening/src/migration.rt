@@ -1,4 +1,4 @@
-//! How a database of version 1 becomes an index of today.
+//! How a database of version 1 becomes an index of version 2.
 ghost use Rattle.std.specs.Prelude.{◌≡◌, [], ◌∷◌, false};
 ghost use Rattle.index_sql_opening.specs.Migrated.{asks_of_migration, IsMigrating};
 ghost use Rattle.index_sql_opening.specs.NewAsks.{text_ask, StepsFrom};
@@ -41,11 +41,11 @@ fn migrate_tables<S: Alter>(tx: &mut Transaction<'_, S>) -> Result<(), Error>
 }
 
 /// Makes an index of a database of version 1, with the same tables and no bans, in one transaction. The rows of `meta`
-/// stay, but for the version. A crash leaves what was there, or the whole index.
+/// stay, except for the version. A crash leaves the database as it was, or the whole index.
 ///
 /// # Errors
 ///
-/// The error of the statement that failed, or of the commit. After it the database is as it was.
+/// The error of the statement that failed, or of the commit. The database is then as it was.
 pub fn migrate<S: Alter>(conn: &mut Connection<S>) -> Result<(), Error>
     requires { conn.old.in_transaction ≡ false }
     ensures made { MakesOfFirstVersion (on_store S.Store conn.old conn.new) result }

@@ -9,22 +9,21 @@ ghost use Rattle.index_sql_schema.specs.FirstVersion.{first_version_schema};
 use sqlite_schema::names::same_name;
 use sqlite_schema::schema::{Schema, Table, View};
 
-/// Whether the schema has a table of that name, whoever made it. It may be one that the database does not understand, and
-/// keeps as it is.
+/// Whether the schema has a table of that name, even one that the database does not understand and keeps as it is.
 pub fn has_table(schema: &Schema, name: &[u8]) -> bool
     ensures found { result ≡ has_table schema.now name.now }
 {
     schema.table_named(name).is_some() || is_kept(schema.views.as_slice(), name)
 }
 
-/// Whether a table of that name is among those that are kept as they are.
+/// Whether a table of that name is among those that the database keeps as they are.
 fn is_kept(views: &[View], name: &[u8]) -> bool
     ensures found { result ≡ list_any (λ view. is_of view name.now) views.now }
 {
     views.iter().any(|view| is_of(view, name))
 }
 
-/// Whether this is such a table of that name, or belongs to one.
+/// Whether this is a table of that name which the database keeps as it is, or belongs to one.
 fn is_of(view: &View, name: &[u8]) -> bool
     ensures found { result ≡ is_of view.now name.now }
 {
@@ -34,15 +33,15 @@ fn is_of(view: &View, name: &[u8]) -> bool
     }
 }
 
-/// Whether the schema has a table `meta` with the columns in which an index keeps its version, which can be read. That of
-/// another program has other columns.
+/// Whether the schema has a readable table `meta` with the columns in which an index keeps its version. A table `meta`
+/// of another program has other columns.
 pub fn has_meta(schema: &Schema) -> bool
     ensures found { result ≡ has_meta schema.now }
 {
     schema.tables.as_slice().iter().any(|table| is_meta(table))
 }
 
-/// Whether this is such a table.
+/// Whether this is a readable table `meta` with the columns of the version.
 fn is_meta(table: &Table) -> bool
     ensures found { result ≡ is_meta table.now }
 {

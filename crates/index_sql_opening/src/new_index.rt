@@ -1,4 +1,4 @@
-//! What a new index holds.
+//! The rows of a new index.
 ghost use Rattle.std.specs.Prelude.{◌≡◌, [], ◌∷◌, false};
 ghost use Rattle.index_sql_schema.specs.CreateSteps.{IsStage};
 ghost use Rattle.index_sql_schema.specs.Index.{with_version_2};
@@ -37,12 +37,12 @@ fn make_all<S: Alter>(
     put_version(tx)
 }
 
-/// Makes a new index of a blank database, with this user and the row of the version, and nothing else. A crash leaves
-/// what was there, or the whole index.
+/// Makes a new index of an empty database, with this user and the row of the version, and nothing else. A crash leaves
+/// the database as it was, or the whole index.
 ///
 /// # Errors
 ///
-/// The error of the statement that failed, or of the commit. After it the database is as it was.
+/// The error of the statement that failed, or of the commit. The database is then as it was.
 pub fn fill_new<S: Alter>(
     conn: &mut Connection<S>,
     user: &UserId,

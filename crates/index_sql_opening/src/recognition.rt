@@ -1,4 +1,4 @@
-//! Schemas that are compared with those of an index. Where `is_ours` or `is_first_version` is false, nothing is known.
+//! Comparisons of a schema with those of an index. If `is_ours` or `is_first_version` is false, nothing is known.
 ghost use Rattle.std.specs.Prelude.{◌≡◌, ◌↔◌, false, IsTrue, IfOk};
 ghost use Rattle.sqlite.specs.Steps.{over_memory};
 ghost use Rattle.index_sql_opening.specs.Making.{IsOfSchema, MakesTables};
@@ -11,7 +11,7 @@ use crate::tables::{make_first_version, make_tables};
 use sqlite::{Alter, Connection, Error, MemStore};
 use std::alloc::{AllocError, Global};
 
-/// Whether nothing is in the database.
+/// Whether the database is empty.
 pub fn is_blank<S: Alter>(conn: &Connection<S>) -> bool
     ensures schema { IsTrue result ↔ IsOfSchema S.Store conn.now no_schema }
 {
@@ -19,11 +19,11 @@ pub fn is_blank<S: Alter>(conn: &Connection<S>) -> bool
     schema.tables.is_empty() && schema.indexes.is_empty() && schema.views.is_empty()
 }
 
-/// Whether the schema is that of an index, which is made in memory.
+/// Whether the schema is that of an index, which is made in memory for the comparison.
 ///
 /// # Errors
 ///
-/// `AllocError` for want of memory.
+/// `AllocError` if memory runs out.
 pub fn is_ours<S: Alter>(alloc: Global, conn: &Connection<S>) -> Result<bool, AllocError>
     ensures schema { IfOk result (λ it. IsTrue it → IsOfSchema S.Store conn.now index_schema) }
 {
@@ -33,11 +33,11 @@ pub fn is_ours<S: Alter>(alloc: Global, conn: &Connection<S>) -> Result<bool, Al
     }
 }
 
-/// Whether the schema is that of version 1, which is made in memory too.
+/// Whether the schema is that of version 1, which is made in memory for the comparison.
 ///
 /// # Errors
 ///
-/// `AllocError` for want of memory.
+/// `AllocError` if memory runs out.
 pub fn is_first_version<S: Alter>(alloc: Global, conn: &Connection<S>) -> Result<bool, AllocError>
     ensures schema { IfOk result (λ it. IsTrue it
         → IsOfSchema S.Store conn.now first_version_schema) }

@@ -1,4 +1,4 @@
-//! What can be told to be the same as another, and the smallest parts of a schema.
+//! Equality that may err on one side, and the smallest parts of a schema.
 
 ghost use Rattle.std.specs.Prelude.{◌≡◌, IsTrue};
 
@@ -10,9 +10,9 @@ mod schema;
 mod tables;
 mod terms;
 
-/// What can be told to be the same as another.
+/// A value that can be seen to be the same as another.
 pub(crate) trait Same {
-    /// Whether both were seen to be the same. Where the answer is false they may still be the same.
+    /// Whether both were seen to be the same. If the result is false they may still be the same.
     fn same(&self, other: &Self) -> bool
         ensures equal { IsTrue result → self.now ≡ other.now };
 }

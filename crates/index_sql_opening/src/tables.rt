@@ -6,7 +6,7 @@ use index_sql_schema::table_texts::{BANS, BLOBS, CASES, FILES, META, NAMES, OWNE
 use index_sql_writes::run_statement;
 use sqlite::{Alter, Error, Transaction};
 
-/// Makes the next table. Where the statement is refused, none is made.
+/// Makes the next table. If the statement is refused, no table is made.
 fn make_table<S: Alter>(tx: &mut Transaction<'_, S>, sql: &str) -> Result<(), Error>
     ensures { CreatesNext sql.now (on_store S.Store tx.old tx.new) result }
 {
@@ -33,7 +33,7 @@ fn make_next_four<S: Alter>(tx: &mut Transaction<'_, S>) -> Result<(), Error>
     make_table(tx, CASES)
 }
 
-/// Makes the tables of version 1, which has none of bans.
+/// Makes the tables of version 1, which has no table of bans.
 pub(crate) fn make_first_version<S: Alter>(tx: &mut Transaction<'_, S>) -> Result<(), Error>
     ensures { CreatesTables 0 8 (on_store S.Store tx.old tx.new) result }
 {

@@ -1,10 +1,10 @@
-//! The version that the table `meta` tells.
+//! The version in the table `meta`.
 ghost use Rattle.std.specs.Prelude.{◌≡◌, true, false, is_ok, IsTrue, IfOk};
 ghost use Rattle.sqlite.specs.Held.{state};
 ghost use Rattle.sqlite.specs.State.{HasCleanDisk};
 ghost use Rattle.sqlite_value.specs.Order.{column};
 ghost use Rattle.index_sql_opening.specs.Making.{IsAtRest, RestsAs};
-ghost use Rattle.index_sql_opening.specs.Versions.{AnswersVersion, begun, first_number};
+ghost use Rattle.index_sql_opening.specs.Versions.{VersionQueryAnswers, begun, first_number};
 ghost use Rattle.index_sql_schema.specs.Looks.{QueriesOnly};
 ghost use Rattle.index_sql_schema.specs.Reasons.{StoreForReason};
 ghost use Rattle.index_sql_schema.specs.Records.{number_in};
@@ -18,12 +18,12 @@ use index_sql_schema::statement_texts::SELECT_VERSION;
 use sqlite::types::ValueRef;
 use sqlite::{Alter, Connection, Row, Transaction};
 
-/// The version of an index of today or of version 1, or `None` where `meta` has no row of it. A version that is no number
-/// from 0 to 18,446,744,073,709,551,615 is told as 0.
+/// The version of an index of version 2 or 1, or `None` if `meta` has no row of it. A version that is not a number from
+/// 0 to 18,446,744,073,709,551,615 counts as 0.
 ///
 /// # Errors
 ///
-/// `OutOfMemory` for want of memory, and `Store` where the store fails.
+/// `OutOfMemory` if memory runs out, and `Store` if the store fails.
 pub fn read_version<S: Alter>(conn: &mut Connection<S>) -> Result<Option<u64>, Fault>
     requires { RestsAs S.Store (λ s. IsTrue s.is_open → IsAnyVersion s.now) conn.old }
     ensures found { HasCleanDisk (state S.Store conn.new)
@@ -38,26 +38,26 @@ pub fn read_version<S: Alter>(conn: &mut Connection<S>) -> Result<Option<u64>, F
     }
 }
 
-/// The version that a table `meta` tells which others may have made, as `read_version` tells it.
+/// The version in a table `meta` that other programs may have made, as `read_version` returns it.
 ///
 /// Nothing is known of what a query does to such a database, so it runs in a transaction that is dropped.
 ///
 /// # Errors
 ///
-/// `OutOfMemory` for want of memory, and `Store` where the query fails by anything else.
+/// `OutOfMemory` if memory runs out, and `Store` if the query fails otherwise.
 pub fn told_version<S: Alter>(conn: &mut Connection<S>) -> Result<Option<u64>, Fault>
     requires rest { IsAtRest S.Store conn.old }
-    ensures version { AnswersVersion S.Store (begun conn.old) conn.new result }
+    ensures version { VersionQueryAnswers S.Store (begun conn.old) conn.new result }
     ensures looks { QueriesOnly S.Store conn.old conn.new false }
 {
     let mut tx = conn.transaction();
     query_version(&mut tx)
 }
 
-/// The version that `meta` tells inside a transaction.
+/// The version in `meta`, inside a transaction.
 fn query_version<S: Alter>(tx: &mut Transaction<'_, S>) -> Result<Option<u64>, Fault>
     requires inside { tx.old.conn.now.in_transaction ≡ true }
-    ensures version { AnswersVersion S.Store tx.old.conn.now tx.new.conn.now result }
+    ensures version { VersionQueryAnswers S.Store tx.old.conn.now tx.new.conn.now result }
     ensures uncommitted { IsUncommitted S.Store tx.old.conn tx.new.conn }
 {
     match tx.query_all(SELECT_VERSION, &[]) {
@@ -76,7 +76,7 @@ fn first_number(rows: &[Row]) -> Option<u64>
     }
 }
 
-/// The number in the first column, or 0 where it has none from 0 on.
+/// The number in the first column, or 0 if it has none from 0 on.
 fn number(row: &Row) -> u64
     ensures number { result ≡ number_in (column row.now 0) }
 {

@@ -23,13 +23,13 @@ use Rattle.index_sql_reads.specs.Finds.{FindsInTables}
 
 -- ---- results
 
--- what is answered at all, or for want of memory, is no fault of the store
+-- an answer, or memory that ran out, is not a fault of the store
 pub never_store : {A : Type 0} (r : Result A Fault) (P : Type 0) → IsOkUnless r OutOfMemory → IfErr r (λ fault. fault ≡ Store → P)
 never_store (Ok a) P h = tt
 never_store (Err OutOfMemory) P h = λ is. absurd (let e = is in cc)
 never_store (Err Store) P h = λ is. absurd (let e = h in cc)
 
--- so is want of memory
+-- memory that ran out is not a fault of the store either
 pub never_memory : (why : Fault) (P : Type 0) → why ≡ OutOfMemory → why ≡ Store → P
 never_memory why P is store = absurd (let e = sym is ∙ store in cc)
 
@@ -43,7 +43,7 @@ pub at_exit : {A : Type 0} (r : Result A Fault) (why : Fault) (P : Type 0) → I
 at_exit (Ok a) why P is reason = tt
 at_exit (Err fault) why P is reason = λ store. reason (sym is ∙ store)
 
--- there is a value where there is a row
+-- there is a value if there is a row
 pub is_some-map : {A B : Type 0} (f : A → B) (o : Option A) → is_some (option_map f o) ≡ is_some o
 is_some-map f None = refl
 is_some-map f (Some a) = refl
@@ -118,7 +118,7 @@ module _ {S : Type 0} (g : Ghosts S) where
       pub finds_told : (x : A) → value x ≡ read slice → FindsInTables g old new (Ok x) (λ T it. Has T (value it))
       finds_told x told = record { found = reads x told; looks = looks; reason = λ clean records. tt }
 
-      -- or not, for want of memory alone where all are those of records
+      -- or not, only because memory ran out if all are those of records
       pub finds_read : (r : Result A Fault) (IsRow : Row → Type 0)
           → ((old new : State) (rows : List Row) → IsIndex old.now → Shown sql cells old new rows → AreRecordsOf index_schema.tables old.now.trees → AllByRecursion IsRow rows)
           → IfOk r (λ it. value it ≡ read slice) → (AllByRecursion IsRow slice → IsOkUnless r OutOfMemory) → FindsInTables g old new r (λ T it. Has T (value it))
@@ -128,7 +128,7 @@ module _ {S : Type 0} (g : Ghosts S) where
         reason = λ clean records. never_store r _ (complete (all IsRow are clean records));
       }
 
-      -- where they are not all read, that is for want of memory
+      -- if they are not all read, memory ran out
       pub fails_read : {C : Type 0} {why : Fault} {r : Result C Fault} {As : Tables → C → Type 0} (IsRow : Row → Type 0)
           → ((old new : State) (rows : List Row) → IsIndex old.now → Shown sql cells old new rows → AreRecordsOf index_schema.tables old.now.trees → AllByRecursion IsRow rows)
           → (AllByRecursion IsRow slice → why ≡ OutOfMemory) → IsErrAnd r (λ fault. fault ≡ why) → FindsInTables g old new r As

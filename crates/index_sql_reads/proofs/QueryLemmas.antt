@@ -1,4 +1,4 @@
--- What a query whose rows are handed over leaves, and what its rows have to do with the tables.
+-- What a query whose rows are passed on leaves, and what its rows have to do with the tables.
 use Rattle.std.proofs.Common.{◌≡◌, ◌∙◌, ◌⊎◌, ℕ, ◌≤◌, ◌-◌, ◌^◌, Bool, true, false, not, List, [], ◌∷◌, ◌++◌, length, map, Ok, Err, Result, IfErr, None, IsTrue, inl, inr, refl, sym, ap, subst, arith, length-append}
 use Rattle.std.specs.List.{AllByRecursion}
 use Rattle.std.proofs.lemmas.List.{map-append, length-map}
@@ -30,7 +30,7 @@ use Rattle.index_sql_schema.specs.RecordRows.{AreRecords}
 use Rattle.index_sql_schema.specs.Sure.{IsSure}
 use Rattle.index_sql_schema.specs.Reasons.{HasReason}
 use Rattle.index_sql_schema.proofs.LookLemmas.{clean_before, looks_by, looks_kept, reason_then, reasoned}
-use Rattle.index_sql_reads.specs.Handed.{FailsAfter, GivesUnread, HasStayed, IsGiving, IsLastLook, IsOf}
+use Rattle.index_sql_reads.specs.Handed.{GivesUnread, HasStayed, IsGiving, IsLastLook, IsOf, WalkFailsAfterRows}
 use Rattle.index_sql_reads.proofs.WalkLemmas.{front_are, read_walks}
 
 -- a fault of another look is one of the walk
@@ -52,7 +52,7 @@ settled a b it = (record { was_open = it.0.is_open; is_open = it.0.is_open; now_
 
 -- ---- the last look for a row
 
--- where nothing is done, nothing outlasts a crash
+-- if nothing is done, nothing outlasts a crash
 survives_nothing : (s : State) → Survives s s (λ _. ⊥)
 survives_nothing s = record {
   clean = omega arith;
@@ -90,7 +90,7 @@ module _ {S : Type 0} (g : Ghosts S) where
       either (inl fails) = inr (e, fails)
       either (inr same) = inl (unchanged_stays (state g mid) (state g now) same)
 
-  -- the row that was found was the last to be handed over
+  -- the row that was found was the last to be passed on
   pub nothing_done : (mid now : Held S) (end : WalkEnd) → (HasCleanDisk (state g now) → IsUnchanged (state g mid) (state g now)) → IsLastLook g now now (Err end)
   nothing_done mid now end same = record {
     mode = λ outside. outside;
@@ -176,7 +176,7 @@ module _ {S : Type 0} (g : Ghosts S) (sql : List ℕ) (params : Row) (plain : Is
 
   -- what fails after them has a reason, or gave rows that are not read
   pub ends_by : (IsRow : Row → Type 0) (mid now : Held S) (rows : List Row) (result : Result (Unit {0}) WalkEnd) → IsSure sql params → IsGiving g sql params old mid rows → IsLastLook g mid now result
-      → (HasCleanDisk (state g now) → HasGiven g sql params mid rows → IfErr result (λ end. end ≡ Store → FailsAfter g IsRow sql params mid now rows))
+      → (HasCleanDisk (state g now) → HasGiven g sql params mid rows → IfErr result (λ end. end ≡ Store → WalkFailsAfterRows g IsRow sql params mid now rows))
       → HasCleanDisk (state g now) → IfErr result (λ end. end ≡ Store → HasReason (state g old) (state g now) ⊎ GivesUnread g IsRow sql params old)
   ends_by IsRow mid now rows (Ok done) sure it last fails clean = tt
   ends_by IsRow mid now rows (Err end) sure it last fails clean = λ is. by (fails clean gave is)
@@ -190,7 +190,7 @@ module _ {S : Type 0} (g : Ghosts S) (sql : List ℕ) (params : Row) (plain : Is
       looks : QueriesOnly g old mid true
       looks = looks_giving mid rows it
 
-      by : FailsAfter g IsRow sql params mid now rows → HasReason (state g old) (state g now) ⊎ GivesUnread g IsRow sql params old
+      by : WalkFailsAfterRows g IsRow sql params mid now rows → HasReason (state g old) (state g now) ⊎ GivesUnread g IsRow sql params old
       by (inl (e, failed, fault)) = inl (reason_then g old mid now looks before (reasoned g mid now sql params e (looks_kept g old mid true kept looks) before sure failed fault))
       by (inr unread) = inr (rows, mid, it.stayed.same before, gave, unread)
 
@@ -232,7 +232,7 @@ module _ {S : Type 0} (g : Ghosts S) (sql : List ℕ) (params : Row) (ends : (db
       let front = front_given it.0 rows it.1 it.2 in
       subst (λ rows. EndsEarly takes stops rows a b end) front.1 (EndsEarly-within takes stops (map read rows) (map read front.0) a b end (read_walks takes stops read rows a b (Err end) walks))
 
-  -- where each row of an answer can be read, only so many are not
+  -- if each row of an answer can be read, only so many are not
   module _ (IsRow : Row → Type 0) (reads : (old new : State) (rows : List Row) → IsIndex old.now → AreRecords old.now → Shown sql params old new rows → AllByRecursion IsRow rows) (records : AreRecords (state g held).now) where
     counted : GivesUnread g IsRow sql params held → 2 ^ 64 - 1 ≤ length all
     counted (rows, at, same, gave, inl unread) =

@@ -1,4 +1,4 @@
--- What is read of a row.
+-- How a row is read.
 use Rattle.std.specs.Prelude.{◌≡◌, MatchOption, Option, Result, Err, IfOk, IsOk, IsOkUnless, IsSome}
 use Rattle.sqlite_value.specs.declared.value.Value.{Value}
 use Rattle.sqlite_value.specs.declared.value.Value.TheVariants.{Null, Text}
@@ -10,38 +10,38 @@ use Rattle.index_rules.specs.declared.answer.Fault.TheVariants.{OutOfMemory, Sto
 use Rattle.index_rules.specs.Maps.{Bytes}
 use Rattle.index_sql_schema.specs.RecordRows.{IsTextOf}
 
--- An answer is such a value; where one is there it is answered; and where none is,
--- that is a fault of the store.
-pub record ReadsRow {A : Type 0} (result : Result A Fault) (IsThere : Type 0)
+-- A result is such a value; if there is a value it is returned; and if there is none, the result is
+-- `Store`.
+pub record ValueIsRead {A : Type 0} (result : Result A Fault) (IsThere : Type 0)
     (MayBe : A → Type 0) : Type 0 where
   pub value : IfOk result MayBe
   pub complete : IsThere → IsOk result
   pub fault : IsOkUnless result Store
 
 -- a cell of this kind is read as what it holds
-abbrev pub ReadsCell : {A : Type 0} → Result A Fault → (Value → Type 0) → Value
+abbrev pub CellIsRead : {A : Type 0} → Result A Fault → (Value → Type 0) → Value
     → (A → Value) → Type 0
-ReadsCell result Is cell value = ReadsRow result (Is cell) (λ it. cell ≡ value it)
+CellIsRead result Is cell value = ValueIsRead result (Is cell) (λ it. cell ≡ value it)
 
--- a cell that may be empty is read as nothing, or as what it holds
+-- a cell that may be NULL is read as nothing, or as what it holds
 abbrev pub IsNullOr : {A : Type 0} → (A → Value) → Value → Option A → Type 0
 IsNullOr value cell read = MatchOption read (cell ≡ Null) (λ it. cell ≡ value it)
 
--- the same of a value that takes memory, which may be wanting
-pub record ReadsOwned {A : Type 0} (result : Result A Fault) (IsThere : Type 0)
+-- a value that takes memory is read: if there is one it is returned, unless memory runs out
+pub record OwnedIsRead {A : Type 0} (result : Result A Fault) (IsThere : Type 0)
     (MayBe : A → Type 0) : Type 0 where
   pub value : IfOk result MayBe
   pub complete : IsThere → IsOkUnless result OutOfMemory
 
--- the same of a text of this kind; memory is wanting only where the cell has a text of that kind,
--- in any spelling
-pub record ReadsText (Is IsSpelled : Bytes → Type 0) (cell : Value)
+-- a text of this kind is read; memory runs out only if the cell has a text of that kind, in any
+-- spelling
+pub record TextCellIsRead (Is IsSpelled : Bytes → Type 0) (cell : Value)
     (result : Result Bytes Fault) : Type 0 where
   pub value : IfOk result (λ it. cell ≡ Text it)
   pub complete : IsTextOf Is cell → IsOkUnless result OutOfMemory
   pub memory : result ≡ Err OutOfMemory → IsTextOf IsSpelled cell
 
--- these bytes spell a project name, a release or a file name
+-- bytes that spell a project name, a release or a file name
 abbrev pub SpellsName : Bytes → Type 0
 SpellsName bytes = IsSome (read_name bytes)
 

@@ -1,4 +1,4 @@
--- What a walk over the rows of the tables answers, and what it leaves.
+-- What a walk over the rows of the tables returns, and what it leaves.
 use Rattle.std.specs.Prelude.{◌≡◌, ◌⊎◌, ◌≤◌, ◌-◌, ◌^◌, List, length, not, IfErr, Result}
 use Rattle.sqlite_trees.specs.declared.store.Store.{Ghosts}
 use Rattle.sqlite.specs.Held.{Held, state}
@@ -13,8 +13,8 @@ use Rattle.index_sql_schema.specs.RecordRows.{AreRecords}
 use Rattle.index_sql_reads.specs.ConnectionTables.{tables_of}
 use Rattle.index_sql_schema.specs.OnStore.{ConnectionStep}
 
--- on a clean disk, where all rows are those of records, a walk over these rows ends by `Store` only
--- for a reason of a look, or since they are more than it counts
+-- on a clean disk, if all rows are records, a walk over these rows ends with `Store` only for a
+-- reason of a look, or because they are more than it counts
 abbrev pub EndsForReason : {S A R : Type 0} → Ghosts S → Held S → Held S → List R
     → Result A WalkEnd → Type 0
 EndsForReason g old new rows result =
@@ -22,7 +22,8 @@ EndsForReason g old new rows result =
     → IfErr result
     (λ end. end ≡ Store → HasReason (state g old) (state g new) ⊎ (2 ^ 64 - 1 ≤ length rows))
 
--- any walk hands over some rows, and on a clean disk those of the tables; these stay as they are
+-- a walk passes some rows to the taker, on a clean disk those of the tables; the tables stay as
+-- they are
 pub record HandsRows {S K R A : Type 0} (rows_in : Tables → List R) (conn : ConnectionStep S)
     (taker : TakerStep K R) (result : Result A WalkEnd) : Type 0 where
   pub walked : let rows = rows_in (tables_of conn.store conn.old) in

@@ -1,4 +1,4 @@
-//! The bytes that are kept of a file.
+//! The bytes of a file.
 ghost use Rattle.std.specs.Prelude.{◌≡◌, is_ok, option_map, slice_get, IfOk, IsOk};
 ghost use Rattle.std.specs.List.{AllByRecursion};
 ghost use Rattle.std.specs.FinMap.{get};
@@ -8,7 +8,7 @@ ghost use Rattle.index_sql_schema.specs.Records.{body_in};
 ghost use Rattle.index_sql_schema.specs.Looks.{QueriesOnly};
 ghost use Rattle.index_sql_schema.specs.Reasons.{FailsForReason};
 ghost use Rattle.index_sql_schema.specs.RecordRows.{IsBodyRow};
-ghost use Rattle.index_sql_reads.specs.Reads.{ReadsOwned};
+ghost use Rattle.index_sql_reads.specs.Reads.{OwnedIsRead};
 ghost use Rattle.index_sql_reads.specs.Finds.{FindsInTables, Gets};
 ghost use Rattle.index_sql_reads.specs.ConnectionTables.{tables_of};
 ghost use Rattle.index_sql_reads.specs.Sealed.{digest_in, IsBoundTo};
@@ -23,11 +23,11 @@ use index_sql_schema::{IndexConnection, look};
 use sqlite::{Alter, Row, params};
 use std::alloc::Global;
 
-/// The bytes that are kept of a file, if any are.
+/// The bytes of a file, if any are stored.
 ///
 /// # Errors
 ///
-/// `OutOfMemory` for want of memory, and `Store` where the store fails or they have not the digest that the file is
+/// `OutOfMemory` if memory runs out, and `Store` if the store fails or the bytes don't have the digest that the file is
 /// bound to.
 pub fn find_body<S: Alter>(
     alloc: Global,
@@ -62,7 +62,7 @@ fn find_digest<S: Alter>(
     }
 }
 
-/// The bytes that are kept of a file, whatever their digest is.
+/// The bytes of a file, whatever their digest is.
 fn find_bytes<S: Alter>(
     alloc: Global,
     conn: &mut IndexConnection<S>,
@@ -77,7 +77,7 @@ fn find_bytes<S: Alter>(
 
 /// The bytes in the first row, if there is a row.
 fn first_body(alloc: Global, rows: &[Row]) -> Result<Option<Vec<u8>>, Fault>
-    ensures { ReadsOwned result (AllByRecursion IsBodyRow rows.now) (λ it.
+    ensures { OwnedIsRead result (AllByRecursion IsBodyRow rows.now) (λ it.
         option_map (λ bytes. bytes.items) it ≡ option_map body_in (slice_get rows.now 0)) }
 {
     match rows.first() {
@@ -88,12 +88,12 @@ fn first_body(alloc: Global, rows: &[Row]) -> Result<Option<Vec<u8>>, Fault>
 
 /// The bytes in a row of blobs. `Store` if the column holds no blob.
 fn body(alloc: Global, row: &Row) -> Result<Vec<u8>, Fault>
-    ensures { ReadsOwned result (IsBodyRow row.now) (λ it. it.items ≡ body_in row.now) }
+    ensures { OwnedIsRead result (IsBodyRow row.now) (λ it. it.items ≡ body_in row.now) }
 {
     Ok(Vec::from_slice(alloc, blob(row, 2)?)?)
 }
 
-/// The bytes under their digest. `Store` where they have another, or none is declared.
+/// The bytes with their digest. `Store` if they have another digest, or none is declared.
 fn seal(bytes: Option<Vec<u8>>, declared: Option<Digest256>) -> Result<Option<Sealed>, Fault>
     ensures kept { IfOk result (λ it. it ≡ option_map (λ bytes. bytes.items) bytes) }
     ensures bound { IfOk result (IsBoundTo declared) }

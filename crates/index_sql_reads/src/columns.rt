@@ -1,4 +1,4 @@
-//! Columns of a row, each read as a value of one type. Where a column holds no such value, that is `Fault::Store`.
+//! Columns of a row, each read as a value of one type. If a column holds no such value, that is `Fault::Store`.
 ghost use Rattle.std.specs.Prelude.{◌≡◌, ◌↔◌, pos, [], IsTrue, IsUtf8, ⊤, if◌then◌else◌};
 ghost use Rattle.sqlite_value.specs.declared.value.Value.TheVariants.{Int as IntValue, Text as TextValue, Blob as BlobValue};
 ghost use Rattle.sqlite_value.specs.Order.{column};
@@ -6,7 +6,7 @@ ghost use Rattle.index_names.specs.Project.{IsNormalName};
 ghost use Rattle.index_names.specs.Release.{IsRelease};
 ghost use Rattle.index_rules.specs.Users.{IsUserId};
 ghost use Rattle.index_sql_schema.specs.RecordRows.{IsBlobOf, IsDigestBlob, IsFlag, IsNull, IsNumber, IsNumberIfAny, IsTextIfAny, IsTextOf};
-ghost use Rattle.index_sql_reads.specs.Reads.{IsNullOr, ReadsCell, ReadsRow, ReadsOwned, ReadsText};
+ghost use Rattle.index_sql_reads.specs.Reads.{CellIsRead, IsNullOr, OwnedIsRead, TextCellIsRead, ValueIsRead};
 ghost use Rattle.index_sql_reads.specs.Reads.{SpellsFile, SpellsName, SpellsRelease};
 
 use index_digest::Digest256;
@@ -17,9 +17,9 @@ use sqlite::Row;
 use sqlite::types::ValueRef;
 use std::alloc::Global;
 
-/// The bytes of a text.
+/// The bytes of the text in a column.
 fn text_bytes(row: &Row, at: usize) -> Result<&[u8], Fault>
-    ensures { ReadsCell result (IsTextOf (λ _. ⊤)) (column row.now at) (λ it. TextValue it.now) }
+    ensures { CellIsRead result (IsTextOf (λ _. ⊤)) (column row.now at) (λ it. TextValue it.now) }
 {
     match row.get_ref(at) {
         Ok(ValueRef::Text(bytes)) => Ok(bytes),
@@ -27,9 +27,9 @@ fn text_bytes(row: &Row, at: usize) -> Result<&[u8], Fault>
     }
 }
 
-/// The bytes of a blob.
+/// The bytes of the blob in a column.
 pub(crate) fn blob(row: &Row, at: usize) -> Result<&[u8], Fault>
-    ensures { ReadsCell result (IsBlobOf (λ _. ⊤)) (column row.now at) (λ it. BlobValue it.now) }
+    ensures { CellIsRead result (IsBlobOf (λ _. ⊤)) (column row.now at) (λ it. BlobValue it.now) }
 {
     match row.get_ref(at) {
         Ok(ValueRef::Blob(bytes)) => Ok(bytes),
@@ -37,9 +37,9 @@ pub(crate) fn blob(row: &Row, at: usize) -> Result<&[u8], Fault>
     }
 }
 
-/// A whole number that isn't negative.
+/// The whole number in a column, which isn't negative.
 pub(crate) fn number(row: &Row, at: usize) -> Result<u64, Fault>
-    ensures { ReadsCell result IsNumber (column row.now at) (λ it. IntValue (pos it)) }
+    ensures { CellIsRead result IsNumber (column row.now at) (λ it. IntValue (pos it)) }
 {
     match row.get_ref(at) {
         Ok(ValueRef::Int(number)) => match u64::try_from(number) {
@@ -50,9 +50,9 @@ pub(crate) fn number(row: &Row, at: usize) -> Result<u64, Fault>
     }
 }
 
-/// Such a number, or nothing where there is NULL.
+/// The whole number in a column, or `None` for NULL.
 pub(crate) fn number_if_any(row: &Row, at: usize) -> Result<Option<u64>, Fault>
-    ensures { ReadsRow result (IsNumberIfAny row.now at)
+    ensures { ValueIsRead result (IsNumberIfAny row.now at)
         (IsNullOr (λ number. IntValue (pos number)) (column row.now at)) }
 {
     match row.get_ref(at) {
@@ -61,9 +61,9 @@ pub(crate) fn number_if_any(row: &Row, at: usize) -> Result<Option<u64>, Fault>
     }
 }
 
-/// 0 for no, or 1 for yes.
+/// The flag in a column: 0 for no, or 1 for yes.
 pub(crate) fn flag(row: &Row, at: usize) -> Result<bool, Fault>
-    ensures { ReadsCell result IsFlag (column row.now at)
+    ensures { CellIsRead result IsFlag (column row.now at)
         (λ it. IntValue (pos (if it then 1 else 0))) }
 {
     match number(row, at)? {
@@ -73,9 +73,9 @@ pub(crate) fn flag(row: &Row, at: usize) -> Result<bool, Fault>
     }
 }
 
-/// A SHA-256 digest: a blob of 32 bytes.
+/// The SHA-256 digest in a column: a blob of 32 bytes.
 pub(crate) fn digest(row: &Row, at: usize) -> Result<Digest256, Fault>
-    ensures { ReadsCell result IsDigestBlob (column row.now at) BlobValue }
+    ensures { CellIsRead result IsDigestBlob (column row.now at) BlobValue }
 {
     let blob = blob(row, at)?;
     if blob.len() != 32 {
@@ -86,9 +86,9 @@ pub(crate) fn digest(row: &Row, at: usize) -> Result<Digest256, Fault>
     Ok(Digest256::from_bytes(bytes))
 }
 
-/// A text.
+/// The text in a column.
 pub(crate) fn text(alloc: Global, row: &Row, at: usize) -> Result<Text, Fault>
-    ensures { ReadsText IsUtf8 IsUtf8 (column row.now at) result }
+    ensures { TextCellIsRead IsUtf8 IsUtf8 (column row.now at) result }
 {
     match str::from_utf8(text_bytes(row, at)?) {
         Ok(text) => Ok(Text::new(String::from_str(alloc, text)?)),
@@ -96,9 +96,9 @@ pub(crate) fn text(alloc: Global, row: &Row, at: usize) -> Result<Text, Fault>
     }
 }
 
-/// Such a text, or nothing where there is NULL.
+/// The text in a column, or `None` for NULL.
 pub(crate) fn text_if_any(alloc: Global, row: &Row, at: usize) -> Result<Option<Text>, Fault>
-    ensures { ReadsOwned result (IsTextIfAny row.now at) (IsNullOr TextValue (column row.now at)) }
+    ensures { OwnedIsRead result (IsTextIfAny row.now at) (IsNullOr TextValue (column row.now at)) }
 {
     match row.get_ref(at) {
         Ok(ValueRef::Null) => Ok(None),
@@ -106,10 +106,10 @@ pub(crate) fn text_if_any(alloc: Global, row: &Row, at: usize) -> Result<Option<
     }
 }
 
-/// A user id.
+/// The user id in a column.
 #[tactic(auto, unfolding(index_rules::specs::Users::read_user))]
 pub(crate) fn user(alloc: Global, row: &Row, at: usize) -> Result<UserId, Fault>
-    ensures { ReadsText IsUserId IsUserId (column row.now at) result }
+    ensures { TextCellIsRead IsUserId IsUserId (column row.now at) result }
 {
     match UserId::read(alloc, text_bytes(row, at)?) {
         Ok(user) => Ok(user),
@@ -118,9 +118,9 @@ pub(crate) fn user(alloc: Global, row: &Row, at: usize) -> Result<UserId, Fault>
     }
 }
 
-/// A name in its normal form. In another spelling it is none.
+/// The name in a column, in its normal form. Any other spelling is invalid.
 pub(crate) fn name(alloc: Global, row: &Row, at: usize) -> Result<NormalName, Fault>
-    ensures { ReadsText IsNormalName SpellsName (column row.now at) result }
+    ensures { TextCellIsRead IsNormalName SpellsName (column row.now at) result }
 {
     let bytes = text_bytes(row, at)?;
     match normal(alloc, bytes) {
@@ -130,9 +130,9 @@ pub(crate) fn name(alloc: Global, row: &Row, at: usize) -> Result<NormalName, Fa
     }
 }
 
-/// A release in lower case. In another spelling it is none.
+/// The release in a column, in lower case. Any other spelling is invalid.
 pub(crate) fn release(alloc: Global, row: &Row, at: usize) -> Result<Release, Fault>
-    ensures { ReadsText IsRelease SpellsRelease (column row.now at) result }
+    ensures { TextCellIsRead IsRelease SpellsRelease (column row.now at) result }
 {
     let bytes = text_bytes(row, at)?;
     match release_key(alloc, bytes) {
@@ -142,9 +142,9 @@ pub(crate) fn release(alloc: Global, row: &Row, at: usize) -> Result<Release, Fa
     }
 }
 
-/// The name of a wheel or a source archive.
+/// The name of a wheel or a source archive in a column.
 pub(crate) fn file_name(alloc: Global, row: &Row, at: usize) -> Result<FileName, Fault>
-    ensures { ReadsText SpellsFile SpellsFile (column row.now at) result }
+    ensures { TextCellIsRead SpellsFile SpellsFile (column row.now at) result }
 {
     match FileName::read(alloc, text_bytes(row, at)?) {
         Ok(file) => Ok(file),

@@ -1,12 +1,12 @@
-//! Rows of an answer, read as records. A row is `Fault::Store` if it is no record, and `Fault::OutOfMemory` if there is no
-//! memory for what the record owns. Each column stands in the place that it has in its table, behind the rowid.
+//! Rows of an answer, read as records. An invalid row is `Fault::Store`; if there is no memory for what the record
+//! owns, that is `Fault::OutOfMemory`. Each column stands in the place that it has in its table, behind the rowid.
 ghost use Rattle.std.specs.Prelude.{◌≡◌, is_some, map, option_map, slice_get, IfOk, IsTrue};
 ghost use Rattle.std.specs.List.{AllByRecursion};
 ghost use Rattle.sqlite_value.specs.Order.{column};
 ghost use Rattle.index_sql_schema.specs.Records.{kind_by, name_in, number_in, project_in, tally_in, user_in};
 ghost use Rattle.index_sql_schema.specs.RecordRows.{IsBareRow, IsKind, IsNameRow, IsProjectRow, IsTallyRow, IsUserRow};
 ghost use Rattle.index_sql_reads.specs.ProhibitedRow.{empty_project};
-ghost use Rattle.index_sql_reads.specs.Reads.{ReadsRow, ReadsOwned};
+ghost use Rattle.index_sql_reads.specs.Reads.{OwnedIsRead, ValueIsRead};
 
 use crate::columns::{
     digest, file_name, flag, is_empty_text, is_null, is_zero, name, number, number_if_any, release,
@@ -27,17 +27,17 @@ pub trait FromRow: Drop {
     /// The value that a row stands for.
     ghost stands_for: { RowData → Self };
 
-    /// The rows that have one.
+    /// The rows that stand for a value.
     ghost is_row: { RowData → Type 0 };
 
-    /// The value of the row. `Store` where it has none.
+    /// The value of the row. `Store` if the row is invalid.
     fn from_row(alloc: Global, row: &Row) -> Result<Self, Fault>
-        ensures { ReadsOwned result (is_row row.now) (λ it. it ≡ stands_for row.now) };
+        ensures { OwnedIsRead result (is_row row.now) (λ it. it ≡ stands_for row.now) };
 }
 
 /// The value of the first row, if there is a row.
 pub fn first<T: FromRow>(alloc: Global, rows: &[Row]) -> Result<Option<T>, Fault>
-    ensures { ReadsOwned result (AllByRecursion T.is_row rows.now)
+    ensures { OwnedIsRead result (AllByRecursion T.is_row rows.now)
         (λ it. it ≡ option_map T.stands_for (slice_get rows.now 0)) }
 {
     match rows.first() {
@@ -48,7 +48,7 @@ pub fn first<T: FromRow>(alloc: Global, rows: &[Row]) -> Result<Option<T>, Fault
 
 /// The values of all rows.
 pub fn each<T: FromRow>(alloc: Global, rows: &[Row]) -> Result<Vec<T>, Fault>
-    ensures { ReadsOwned result (AllByRecursion T.is_row rows.now)
+    ensures { OwnedIsRead result (AllByRecursion T.is_row rows.now)
         (λ all. all.items ≡ map T.stands_for rows.now) }
 {
     let mut all = Vec::new(alloc);
@@ -78,10 +78,10 @@ impl FromRow for UserRecord {
     }
 }
 
-/// A row of users, which takes no memory. `Store` if the office's column isn't 0 or 1, or the token's is no blob of 32
-/// bytes.
+/// The record in a row of users, read without an allocation. `Store` if the office's column isn't 0 or 1, or the
+/// token's isn't a blob of 32 bytes.
 fn user_record(row: &Row) -> Result<UserRecord, Fault>
-    ensures { ReadsRow result (IsUserRow row.now) (λ it. it ≡ user_in row.now) }
+    ensures { ValueIsRead result (IsUserRow row.now) (λ it. it ≡ user_in row.now) }
 {
     let office = flag(row, 2)?;
     let token = digest(row, 3)?;
@@ -128,10 +128,10 @@ impl FromRow for NameRecord {
     }
 }
 
-/// A row of names. `Store` if the state is neither 1 (held) nor 2 (prohibited), if the numbers of a held name don't fit
-/// together, or if a prohibited one has any.
+/// The record in a row of names. `Store` if the state is neither 1 (held) nor 2 (prohibited), if the numbers of a held
+/// name are invalid together, or if a prohibited one has any.
 fn name_record(alloc: Global, row: &Row) -> Result<NameRecord, Fault>
-    ensures read { ReadsOwned result (IsNameRow row.now) (λ it. it ≡ name_in row.now) }
+    ensures read { OwnedIsRead result (IsNameRow row.now) (λ it. it ≡ name_in row.now) }
     ensures bare { IfOk result (λ it. it ≡ NameRecord.Prohibited
         → project_in row.now ≡ empty_project) }
 {
@@ -142,9 +142,9 @@ fn name_record(alloc: Global, row: &Row) -> Result<NameRecord, Fault>
     }
 }
 
-/// The row of a held name. `Store` where its numbers don't fit together.
+/// The record of a held name in its row. `Store` if its numbers are invalid together.
 fn project(alloc: Global, row: &Row) -> Result<Project, Fault>
-    ensures { ReadsOwned result (IsProjectRow row.now) (λ it. it ≡ project_in row.now) }
+    ensures { OwnedIsRead result (IsProjectRow row.now) (λ it. it ≡ project_in row.now) }
 {
     let quota = number(row, 4)?;
     let charge = number(row, 5)?;
@@ -157,7 +157,7 @@ fn project(alloc: Global, row: &Row) -> Result<Project, Fault>
     }
 }
 
-/// Whether the row of a name has nothing of a held one.
+/// Whether the row of a name has no values of a held one.
 fn is_empty_project(row: &Row) -> bool
     ensures bare { IsTrue result → project_in row.now ≡ empty_project }
     ensures complete { IsBareRow row.now → IsTrue result }
@@ -215,7 +215,7 @@ impl FromRow for CaseRecord {
 
 /// The kind of a case by the number in its row; any other number is a fault of the store.
 fn case_kind(row: &Row) -> Result<CaseKind, Fault>
-    ensures { ReadsRow result (IsKind (column row.now 2))
+    ensures { ValueIsRead result (IsKind (column row.now 2))
         (λ it. it ≡ kind_by (number_in (column row.now 2))) }
 {
     match number(row, 2)? {
@@ -225,10 +225,10 @@ fn case_kind(row: &Row) -> Result<CaseKind, Fault>
     }
 }
 
-/// The attempts of a row of cases. `Store` where more than 1,000 are recorded, where more are sent than recorded, or where
-/// there is a first moment and none was sent, or none and one was.
+/// The attempts in a row of cases. `Store` if more than 1,000 are recorded, if more are sent than recorded, or if there
+/// is a first moment although none was sent, or none although one was.
 fn case_state(row: &Row) -> Result<CaseState, Fault>
-    ensures { ReadsRow result (IsTallyRow row.now) (λ it. it ≡ tally_in row.now) }
+    ensures { ValueIsRead result (IsTallyRow row.now) (λ it. it ≡ tally_in row.now) }
 {
     let attempts = number(row, 8)?;
     let sent = number(row, 9)?;

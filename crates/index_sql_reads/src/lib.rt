@@ -1,4 +1,4 @@
-//! Look-ups in the tables of an index in SQLite, and walks over them, which hand over one row at a time.
+//! Look-ups in the tables of an index in SQLite, and walks over them, which pass on one row at a time.
 #![tactic(auto)]
 
 mod body;

@@ -35,7 +35,7 @@ pub(crate) fn find_user<S: Alter>(
     first(alloc, rows.as_slice())
 }
 
-/// Who bears the token with this digest, with the record of that user.
+/// The user who has the token with this digest, with the user's record.
 pub(crate) fn find_bearer<S: Alter>(
     alloc: Global,
     conn: &mut IndexConnection<S>,
@@ -64,7 +64,7 @@ pub(crate) fn find_name<S: Alter>(
 ///
 /// # Errors
 ///
-/// `OutOfMemory` for want of memory, and `Store` where the store fails or the name's row is no record.
+/// `OutOfMemory` if memory runs out, and `Store` if the store fails or the name's row is invalid.
 pub fn is_held<S: Alter>(
     alloc: Global,
     conn: &mut IndexConnection<S>,
@@ -104,7 +104,7 @@ pub(crate) fn owners_of<S: Alter>(
 ///
 /// # Errors
 ///
-/// `OutOfMemory` for want of memory, and `Store` where the store fails or a row is no record.
+/// `OutOfMemory` if memory runs out, and `Store` if the store fails or a row is invalid.
 pub fn names<S: Alter>(alloc: Global, conn: &mut IndexConnection<S>) -> Result<Vec<NameRow>, Fault>
     ensures { FindsInTables S.Store conn.old conn.new result (λ T it. it.items ≡ name_rows_in T) }
 {
@@ -116,7 +116,7 @@ pub fn names<S: Alter>(alloc: Global, conn: &mut IndexConnection<S>) -> Result<V
 ///
 /// # Errors
 ///
-/// `OutOfMemory` for want of memory, and `Store` where the store fails or a row is no record.
+/// `OutOfMemory` if memory runs out, and `Store` if the store fails or a row is invalid.
 pub fn files_of<S: Alter>(
     alloc: Global,
     conn: &mut IndexConnection<S>,
@@ -152,7 +152,7 @@ pub(crate) fn is_banned<S: Alter>(
     Ok(has_row(rows.as_slice()))
 }
 
-/// Why the release is yanked, where it is.
+/// Why the release is yanked, if it is.
 pub(crate) fn find_yank<S: Alter>(
     alloc: Global,
     conn: &mut IndexConnection<S>,
@@ -165,8 +165,8 @@ pub(crate) fn find_yank<S: Alter>(
     first(alloc, rows.as_slice())
 }
 
-/// Whether the name has an undeleted file of the release. The source archive and the wheel for any system are looked for
-/// first, as build tools name them (PEP 625, PEP 427): the search behind that goes over all files of the name.
+/// Whether the name has an undeleted file of the release. The source archive and the wheel for any system are looked up
+/// first, by the names that build tools give them (PEP 625, PEP 427); only then are all files of the name read.
 pub(crate) fn has_release<S: Alter>(
     alloc: Global,
     conn: &mut IndexConnection<S>,
@@ -185,7 +185,7 @@ pub(crate) fn has_release<S: Alter>(
     Ok(found)
 }
 
-/// Whether the file of the release whose name ends so is there and undeleted.
+/// Whether the file of the release whose name ends in this way exists and is undeleted.
 fn has_usual_file<S: Alter>(
     alloc: Global,
     conn: &mut IndexConnection<S>,
@@ -205,14 +205,14 @@ fn has_usual_file<S: Alter>(
     }
 }
 
-/// Whether the file is undeleted and one of this release of the name.
+/// Whether the file is an undeleted one of this release of the name.
 fn is_undeleted_of(file: &FileRecord, name: &NormalName, release: &Release) -> bool
     ensures { result ≡ is_undeleted_of_release name.now release.now file.now }
 {
     file.is_undeleted && *name == file.project && *release == file.release
 }
 
-/// The name that build tools give the file of the release that ends so, if there is memory for it.
+/// The name that build tools give the file of the release with this ending, or `None` if memory runs out.
 fn usual_name(alloc: Global, name: &NormalName, release: &Release, end: &[u8]) -> Option<FileName>
     ensures { IfSome result (λ file. file ≡ usual_text name.now release.now end.now) }
 {
@@ -223,7 +223,7 @@ fn usual_name(alloc: Global, name: &NormalName, release: &Release, end: &[u8]) -
     FileName::read(alloc, text.as_slice()).ok()
 }
 
-/// A name with an underscore for each hyphen, if there is memory for it.
+/// A name with an underscore for each hyphen, or `None` if memory runs out.
 fn with_underscores(alloc: Global, name: &[u8]) -> Option<Vec<u8>>
     ensures { IfSome result (λ text. text.items ≡ map in_file_name name.now) }
 {
@@ -234,7 +234,7 @@ fn with_underscores(alloc: Global, name: &[u8]) -> Option<Vec<u8>>
     Some(text)
 }
 
-/// Whether any file of the name is undeleted and of the release.
+/// Whether any file of the name is an undeleted one of the release.
 fn has_any_file<S: Alter>(
     conn: &mut IndexConnection<S>,
     name: &NormalName,

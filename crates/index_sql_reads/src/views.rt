@@ -1,4 +1,4 @@
-//! What the tables have at the keys of a call. A call may lack a key, and then nothing is looked up for it.
+//! What the tables have at the keys of a call. If a call lacks a key, nothing is looked up for it.
 ghost use Rattle.std.specs.Prelude.{false, option_and_then, Some};
 ghost use Rattle.std.specs.Option.{option_map_or};
 ghost use Rattle.std.specs.FinMap.{get};
@@ -25,7 +25,7 @@ use std::alloc::Global;
 ///
 /// # Errors
 ///
-/// `OutOfMemory` for want of memory, and `Store` where the store fails or a row is no record.
+/// `OutOfMemory` if memory runs out, and `Store` if the store fails or a row is invalid.
 pub fn view<S: Alter>(
     alloc: Global,
     conn: &mut IndexConnection<S>,
@@ -38,7 +38,7 @@ pub fn view<S: Alter>(
     Ok(View::from_parts(users, name, files))
 }
 
-/// The caller, the user whom the call names and the bearer of the token that it brings.
+/// The caller, the user whom the call names and the user who has the token that it brings.
 fn see_users<S: Alter>(
     alloc: Global,
     conn: &mut IndexConnection<S>,
@@ -56,7 +56,7 @@ fn see_users<S: Alter>(
     })
 }
 
-/// What the tables have of the file, the release and the name that the call speaks of.
+/// What the tables have of the file, the release and the name that the call is about.
 fn see_project<S: Alter>(
     alloc: Global,
     conn: &mut IndexConnection<S>,
@@ -90,7 +90,7 @@ fn see_files<S: Alter>(
     })
 }
 
-/// The record, the owners and the case of the name, if the call speaks of one.
+/// The record, the owners and the case of the name, if the call is about one.
 fn see_name<S: Alter>(
     alloc: Global,
     conn: &mut IndexConnection<S>,
@@ -128,7 +128,7 @@ fn see_one_name<S: Alter>(
 
 // ---- one part each
 
-/// Who bears the token, as the caller of a call.
+/// The user who has the token, as a caller.
 fn caller_at<S: Alter>(
     alloc: Global,
     conn: &mut IndexConnection<S>,
@@ -148,7 +148,7 @@ fn caller_at<S: Alter>(
     }
 }
 
-/// Who bears the token.
+/// The user who has the token.
 fn bearer_at<S: Alter>(
     alloc: Global,
     conn: &mut IndexConnection<S>,
@@ -205,7 +205,7 @@ fn ban_at<S: Alter>(conn: &mut IndexConnection<S>, file: &Option<FileName>) -> R
     }
 }
 
-/// Why the release of the name is yanked, where it is.
+/// Why the release of the name is yanked, if it is.
 fn yank_at<S: Alter>(
     alloc: Global,
     conn: &mut IndexConnection<S>,

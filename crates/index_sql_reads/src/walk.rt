@@ -1,4 +1,4 @@
-//! Walks over the tables, which hand the rows of one query to a taker as the port reads them.
+//! Walks over the tables, which pass the rows of one query to a taker as they are read.
 ghost use Rattle.std.specs.Prelude.{◌≡◌, ◌≢◌, ◌∷◌, [], not, IfErr};
 ghost use Rattle.sqlite_value.specs.Order.{Row as RowData};
 ghost use Rattle.sqlite.specs.Given.{IsPlain};
@@ -23,13 +23,14 @@ use sqlite::types::ValueRef;
 use sqlite::{Alter, Error, Row, Rows, params};
 use std::alloc::Global;
 
-/// Hands the held names to a taker one at a time, in byte order, until it wants no more. The tables stay as they are.
+/// Passes the held names to a taker one at a time, in byte order, until it wants no more. The tables stay as they are.
+/// Whatever the store does, the taker is given some rows in this way, and nothing else is done to it.
 ///
 /// # Errors
 ///
-/// `Stopped` exactly where the taker answered `false`. `OutOfMemory` for want of memory, and `Store` where the store
-/// fails, a row is no name, or there are 18,446,744,073,709,551,615 of them or more. Whatever the store does, the taker
-/// is given some rows in this way, and nothing else is done to it.
+/// - `Stopped` exactly if the taker returned `false`.
+/// - `OutOfMemory`: memory ran out.
+/// - `Store`: the store fails, a row is invalid, or there are 18,446,744,073,709,551,615 rows or more.
 pub fn walk_held<S: Alter, K: NameTaker>(
     alloc: Global,
     conn: &mut IndexConnection<S>,
@@ -41,14 +42,14 @@ pub fn walk_held<S: Alter, K: NameTaker>(
     walk::<S, K, Names>(alloc, conn, SELECT_HELD, &[], taker)
 }
 
-/// Hands the undeleted files of a name to a taker one at a time, in byte order, until it wants no more. The tables stay
-/// as they are.
+/// Passes the undeleted files of a name to a taker one at a time, in byte order, until it wants no more. The tables
+/// stay as they are. Whatever the store does, the taker is given some rows in this way, and nothing else is done to it.
 ///
 /// # Errors
 ///
-/// `Stopped` exactly where the taker answered `false`. `OutOfMemory` for want of memory, and `Store` where the store
-/// fails, a row is no file, or there are 18,446,744,073,709,551,615 of them or more. Whatever the store does, the taker
-/// is given some rows in this way, and nothing else is done to it.
+/// - `Stopped` exactly if the taker returned `false`.
+/// - `OutOfMemory`: memory ran out.
+/// - `Store`: the store fails, a row is invalid, or there are 18,446,744,073,709,551,615 rows or more.
 pub fn walk_files<S: Alter, K: FileTaker>(
     alloc: Global,
     conn: &mut IndexConnection<S>,
@@ -61,12 +62,13 @@ pub fn walk_files<S: Alter, K: FileTaker>(
     walk::<S, K, Files>(alloc, conn, SELECT_FILES, params![name.text()], taker)
 }
 
-/// Hands the rows that a query shows to a taker one at a time, until it wants no more. The tables stay as they are.
+/// Passes the rows that a query shows to a taker one at a time, until it wants no more. The tables stay as they are.
 ///
 /// # Errors
 ///
-/// `Stopped` exactly where the taker refused a row. `OutOfMemory` for want of memory, and `Store` where the store fails,
-/// a row is no record, or there are 18,446,744,073,709,551,615 rows or more.
+/// - `Stopped` exactly if the taker stopped at a row.
+/// - `OutOfMemory`: memory ran out.
+/// - `Store`: the store fails, a row is invalid, or there are 18,446,744,073,709,551,615 rows or more.
 pub(crate) fn walk<S: Alter, K, H: Hand<K>>(
     alloc: Global,
     conn: &mut IndexConnection<S>,
@@ -89,7 +91,7 @@ pub(crate) fn walk<S: Alter, K, H: Hand<K>>(
     hand_all::<S, K, H>(alloc, &mut rows, taker)
 }
 
-/// Hands the rows that are left of a query over.
+/// Passes on the rows that are left of a query.
 fn hand_all<S: Alter, K, H: Hand<K>>(
     alloc: Global,
     rows: &mut Rows<'_, S>,
@@ -100,8 +102,7 @@ fn hand_all<S: Alter, K, H: Hand<K>>(
         (on_store S.Store rows.old.conn.now rows.new.conn.now)
         (to_taker H.takes H.stops taker.old taker.new) result }
 {
-    // The bound is there because a proof needs an end: no table has as many rows. The proof names the loop by its
-    // label.
+    // A proof needs a bound, and no table has as many rows. The proof names the loop by its label.
     'rows: for _given in 0..u64::MAX {
         match rows.next() {
             Ok(Some(row)) => H::hand(alloc, row, taker)?,
@@ -112,25 +113,25 @@ fn hand_all<S: Alter, K, H: Hand<K>>(
     Err(WalkEnd::Store)
 }
 
-/// The end of a walk that an error of the database is.
+/// The end of a walk for an error of the database.
 fn end_of(error: Error) -> WalkEnd
     ensures { result ≡ walk_end_of (fault_by error) }
 {
     WalkEnd::from(fault_of(error))
 }
 
-/// What a row is read as, and handed to a taker.
+/// How a row is read and passed to a taker.
 pub(crate) trait Hand<K> {
-    /// What a row that is taken makes of the taker.
+    /// What the taker is after a row that it takes.
     ghost takes: { K → RowData → K → Type 0 };
 
-    /// What a row that is not taken leaves of it.
+    /// What the taker is after a row that it stops at.
     ghost stops: { K → RowData → K → Type 0 };
 
-    /// The rows that can be read, where there is memory.
+    /// The rows that can be read, given enough memory.
     ghost is_row: { RowData → Type 0 };
 
-    /// Hands a row over.
+    /// Passes a row to the taker.
     fn hand(alloc: Global, row: &Row, taker: &mut K) -> Result<(), WalkEnd>
         ensures walks { WalksTo (to_taker takes stops taker.old taker.new) (row.now ∷ []) result }
         ensures complete { is_row row.now → IfErr result (λ end. end ≢ WalkEnd.Store) };

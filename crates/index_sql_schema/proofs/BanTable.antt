@@ -28,7 +28,7 @@ all_nine = refl
 tables_after : (db next : Trees) → KeepsRows first_version_schema.tables db next → next 17 ≡ [] → tables_in next ≡ without_bans (tables_in db)
 tables_after db next h none = rw (h.1.0, h.1.1.0, h.1.1.1.0, h.1.1.1.1.0, h.1.1.1.1.1.0, h.1.1.1.1.1.1.0, h.1.1.1.1.1.1.1.0, none) refl
 
--- an index with the same tables, where nothing is banned, and with the same rows of meta
+-- an index with the same tables, no bans, and the same rows of meta
 pub creates_bans : (old new : State) (count : ℕ) → IsFirstVersion old.now → Executes bans_text [] old new (Ok count)
     → Changes without_bans old.now new.now
 unfolding digits

@@ -144,7 +144,7 @@ module _ (name : Bytes) where
   hit_is child r row is one key =
       or_false _ ∙ ap (λ b. b && agree plain (1 ∷ []) row (1 ∷ []) r) (lost_name r is) ∙ agree_texts r row is one ∙ ap (bytes_eq (text_key row)) key ∙ is_key name (text_key row) ∙ is_eq-slice_cmp name (text_key row)
 
-  -- ---- where no row has the name, no child has it either
+  -- ---- if no row has the name, no child has it either
 
   unparented : (parents : List Row) (row : Row) → AllByRecursion (IsText 1) parents → IsText 1 row → filter named parents ≡ [] → list_any (λ parent. agree plain (1 ∷ []) parent (1 ∷ []) row) parents ≡ true → same name (text_key row) ≡ false
   unparented parents row all is none any = go (same name (text_key row)) refl

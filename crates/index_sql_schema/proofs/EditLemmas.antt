@@ -1,4 +1,4 @@
--- What an edit makes of a table in which no rowid comes twice, in whatever order its rows stand.
+-- What an edit makes of a table without a repeated rowid, whatever the order of its rows.
 use Rattle.std.proofs.Common.{◌≡◌, ◌≢◌, inl, inr, ℕ, ℤ, Bool, true, false, not, ◌||◌, ◌&&◌, cond, List, [], ◌∷◌, ◌++◌, map, filter, fold, refl, sym, ap, ap₂, subst, ◌∙◌, arith, true≢false, IsTrue, is_eq, Ordering, Less, Equal, Greater, int_eq, eqb, IsPermutation}
 use Rattle.std.specs.List.{AllByRecursion, list_any}
 use Rattle.std.specs.Ordering.{match_ordering}

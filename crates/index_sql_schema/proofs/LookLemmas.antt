@@ -30,7 +30,7 @@ use Rattle.index_sql_schema.specs.RecordRows.{AreRecords}
 pub clean_before : (old new : State) (P : Trees → Type 0) → Survives old new P → HasCleanDisk new → HasCleanDisk old
 clean_before old new P it clean = omega (arith, it.clean)
 
--- where nothing is done, nothing outlasts a crash
+-- if nothing is done, nothing outlasts a crash
 survives_nothing : (s : State) → Survives s s (λ _. ⊥)
 survives_nothing s = record {
   clean = omega arith;

@@ -35,7 +35,7 @@ same_number (pos m) n = go (int_eq (pos m) (pos (suc n))) (m == suc n) refl refl
         absurd (true≢false (sym same ∙ s))
 same_number (negsuc m) n = let none : (0 == suc n) ≡ false = grind arith in sym none
 
--- it equals a number above 0 where that is the number that it stands for
+-- it equals a number above 0 if that is the number that it stands for
 pub number_test : (params : Row) (place n : ℕ) (r : Row) → IsNumber place r → holds (params ∷ r ∷ []) (is_number Eq place (suc n)) ≡ (number_in (column r place) == suc n)
 number_test params place n r is = rw is (at_ints false Eq (id_in (column r place)) (pos (suc n)) ∙ same_number (id_in (column r place)) n)
 

@@ -31,7 +31,7 @@ from_with tree more filter project order = record {
 abbrev pub from_one : ℕ → List Term → List Term → List (Term × Key) → Query
 from_one tree = from_with tree end
 
--- one of the rows that pass, where there is one
+-- one of the rows that pass, if there is one
 abbrev pub first_from : ℕ → List Term → List Term → Query
 first_from tree filter project = record (from_one tree filter project []) { limit = lit (Int (pos 1)) }
 

@@ -81,7 +81,7 @@ module _ {A K X : Type 0} {R : K → K → Ordering} (total : IsTotalOrder R) (e
   apart_rest q r [] P here apart = refl
   apart_rest q r (b ∷ rows) P here apart = rw (one_at q r b apart.0 here) (apart_rest q r rows P here apart.1)
 
-  -- some row has this key and passes just where the map has a value there that passes
+  -- some row has this key and passes exactly if the map has a value there that passes
   pub any_at : (q : K) (P : X → Bool) (rows : List A) → AreApart rows → list_any (λ r. is_at q r && P (value r)) rows ≡ option_map_or P (get (map_from {R = R} key value rows) q) false
   any_at q P rows apart = any_found rows apart ∙ ap (λ o. option_map_or P o false) (sym (get-map_from rows q))
     where

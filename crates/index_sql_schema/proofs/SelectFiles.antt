@@ -86,7 +86,7 @@ record IsRow (r : Row) : Type 0 where
   release : IsText 3 r
   live : IsNumber 7 r
 
--- where at most one row is joined, it is that one or the row of NULLs
+-- if at most one row is joined, it is that one or the row of NULLs
 joined : (found : List Row) (f : Row → List Env) → length found ≤ 1 → flat_map f (or_nulls found) ≡ f (unwrap_or (slice_get found 0) [])
 joined [] f short = append-nil (f [])
 joined (y ∷ []) f short = append-nil (f y)

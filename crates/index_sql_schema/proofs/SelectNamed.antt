@@ -45,7 +45,7 @@ sure name = ((omega arith, refl, refl, refl, readable_one 8 tests (col 1 1 ∷ [
 pub is_plain : IsPlain (understood index_schema select_named_text)
 is_plain = shown.is_plain
 
--- some row that is kept passes where some row passes and is kept
+-- some row that is kept passes if some row passes and is kept
 one_more : {A : Type 0} (p : A → Bool) (x : A) (kept passes : Bool) (xs : List A) (rest : Bool) → p x ≡ passes → list_any p xs ≡ rest → list_any p (cond kept (x ∷ xs) xs) ≡ ((passes && kept) || rest)
 one_more p x true true xs rest here is = ap₂ (λ a b. a || b) here is
 one_more p x true false xs rest here is = ap₂ (λ a b. a || b) here is
@@ -88,7 +88,7 @@ module _ (name : Bytes) where
       let found = found_named old new rows h ran in
       shown_all P Q (λ r. eval_all (col 1 1 ∷ []) (params ∷ r ∷ [])) keeps owns (old.now.trees 8) found.0 rows found.1 found.2 all
 
-  -- a file is in a row that is shown just where its record has the name
+  -- a file is in a row that is shown exactly if its record has the name
   pub selects : (old new : State) (rows : List Row) → IsIndex old.now → Shown select_named_text params old new rows
       → (file : Bytes) → list_any (λ r. same file (file_shown r)) rows ≡ is_file_of (tables_in old.now.trees).files name file
   selects old new rows h ran file =

@@ -88,7 +88,7 @@ selects_names old new rows h shown =
     lists select_names_text [] all_shown (λ e. true) old new rows h (all_of _ (λ r. refl) (old.now.trees 4)) shown
     ∙ ap (map name_row) (filter_all (λ e. true) (entries (tables_in old.now.trees).names) (all_of _ (λ e. refl) _))
 
--- a name is held just where its state is not that of a prohibited one
+-- a name is held exactly if its state is not that of a prohibited one
 held_is : (state : ℕ) (project : Project) → not (state == 2) ≡ is_held (Some (name_by state project))
 held_is state project = elim (state == 2) as (λ b. not b ≡ is_held (Some (cond b Prohibited (Held project)))) [ true ↦ refl | false ↦ refl ]
 

@@ -49,7 +49,7 @@ unlisted : reads_listing index_schema select_release_text ≡ false
 unfolding understood everything
 unlisted = refl
 
--- one of the rows is found where all of them have a first
+-- one of the rows is found if all of them have a first
 first_is : {A : Type 0} (xs : List A) → is_some (slice_get (take 1 xs) 0) ≡ is_some (slice_get xs 0)
 first_is [] = refl
 first_is (x ∷ xs) = refl
@@ -62,7 +62,7 @@ first_shown db params rows a = (
   ap (λ l. is_some (slice_get l 0)) a.shown ∙ first_is (map (λ (o : Output). o.1) a.ordered),
 )
 
--- a list has a first element where some element passes a test that all pass
+-- a list has a first element if some element passes a test that all pass
 first_any : {A : Type 0} (xs : List A) → is_some (slice_get xs 0) ≡ list_any (λ _. true) xs
 first_any [] = refl
 first_any (x ∷ xs) = refl

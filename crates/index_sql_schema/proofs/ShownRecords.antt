@@ -1,4 +1,4 @@
--- The rows of records stay such where each column is shown in its place.
+-- The rows of records stay such if each column is shown in its place.
 use Rattle.std.proofs.Common.{inl, inr, [], ◌∷◌, subst, arith}
 use Rattle.sqlite_value.specs.Order.{Row, column}
 use Rattle.sqlite_schema.specs.declared.schema.Schema.{Schema}

@@ -70,7 +70,7 @@ other_id r other = rw other refl
 pub one_version : (rows : List Row) → AreRows rows → length (filter is_version rows) ≤ 1
 one_version rows are = one_passes Differ is_version rows (λ a b apart here. other_id b (other_first a b apart (first_part _ _ here))) are.0
 
--- ---- the version where the row with id 1 is put back
+-- ---- the version after the row with id 1 is put back
 
 none_found : (rows : List Row) → AllByRecursion (λ r. is_first r ≡ false) rows → find is_version rows ≡ None
 none_found [] all = refl
@@ -104,7 +104,7 @@ was_false : (b : Bool) → not b ≡ true → b ≡ false
 was_false true h = absurd (true≢false (sym h))
 was_false false h = refl
 
--- version 2 is told, where a version was
+-- version 2 is told, if a version was
 pub raised_tells : (rows : List Row) → AreRows rows → version_among (raised rows) ≡ option_map (λ _. 2) (version_among rows)
 raised_tells rows are =
     let others = all_weaker _ (λ r. is_first r ≡ false) (λ r it. was_false (is_first r) it.1) (delete_where is_first rows) (filter_passes (λ r. not (is_first r)) rows) in

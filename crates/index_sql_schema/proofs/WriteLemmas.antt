@@ -180,7 +180,7 @@ module _ (at : ℕ) (table : Table) (is : slice_get index_schema.tables at ≡ S
         let is : next table.tree ≡ put_all (delete_where p rows) news = it.rows ∙ ap (λ l. put_all l news) left in
         (subst (IsPermutation (news ++ delete_where p rows)) (sym is) put.0, subst AreRows (sym is) put.1, is)
 
-    -- UPDATE makes the rows that pass what f says, and puts them in again in the order in which it found them
+    -- UPDATE makes the rows that pass what f says, and puts them in again in the order that it found them in
     pub updates_rows : (tests project : List Term) (p : Row → Bool) (f : Row → Row) → command_of (understood index_schema text) ≡ Update at (plan (from_one table.tree tests (col 1 0 ∷ project) []))
         → ((found : List Row) → works index_schema Enforced 0 table.tree (map (row_at (old.now.trees table.tree)) (map rowid_in found)) (map f found) ≡ [])
         → AllByRecursion (λ r. cast_row table (eval_all project (params ∷ r ∷ [])) ≡ f r) (filter p (old.now.trees table.tree))

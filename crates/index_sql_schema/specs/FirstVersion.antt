@@ -1,4 +1,4 @@
--- Databases of version 1: the same tables, but none of bans.
+-- Databases of version 1: the tables of an index without that of the bans.
 use Rattle.std.specs.Prelude.{◌≡◌, ◌⊎◌, take}
 use Rattle.std.specs.FinMap.{empty}
 use Rattle.std.specs.List.{AllByRecursion}
@@ -9,7 +9,7 @@ use Rattle.index_rules.specs.Tables.{Tables}
 use Rattle.index_sql_schema.specs.Schema.{index_schema}
 use Rattle.index_sql_schema.specs.Index.{AreRows, IsIndex}
 
--- the schema without its last table and the key of that
+-- the schema of version 1: that of an index without its last table and the key of that table
 abbrev pub first_version_schema : Schema
 first_version_schema = record {
   tables = take 8 index_schema.tables;
@@ -17,7 +17,7 @@ first_version_schema = record {
   views = index_schema.views;
 }
 
--- a database that keeps the rules of that schema
+-- a database that keeps the rules of the schema of version 1
 pub record IsFirstVersion (db : Database) : Type 0 where
   pub schema : db.schema ≡ first_version_schema
   pub sound : IsDatabase db
@@ -28,6 +28,6 @@ pub record IsFirstVersion (db : Database) : Type 0 where
 abbrev pub IsAnyVersion : Database → Type 0
 IsAnyVersion db = IsIndex db ⊎ IsFirstVersion db
 
--- the same tables, where nothing is banned
+-- the tables with no file banned
 abbrev pub without_bans : Tables → Tables
 without_bans T = record T { bans = empty }

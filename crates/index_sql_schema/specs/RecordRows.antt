@@ -1,4 +1,4 @@
--- The rows that stand for a record: what each column may hold, and databases with no other rows.
+-- The rows that are records: what each column may hold, and databases with no other rows.
 use Rattle.std.specs.Prelude.{◌≡◌, ◌<◌, ◌⊎◌, ⊤, ℕ, ◌==◌, pos, length, List, [], IsSome, IsUtf8}
 use Rattle.std.specs.Prelude.{MatchBool}
 use Rattle.std.specs.List.{AllByRecursion}
@@ -43,7 +43,7 @@ IsBlobOf P _ = ⊥
 abbrev pub IsDigestBlob : Value → Type 0
 IsDigestBlob = IsBlobOf (λ bytes. length bytes ≡ digest_length)
 
--- a text, in UTF-8 as each text of a database should be
+-- a text, in valid UTF-8
 abbrev pub IsText : Value → Type 0
 IsText = IsTextOf IsUtf8
 
@@ -81,7 +81,7 @@ pub record IsProjectRow (r : Row) : Type 0 where
   pub last_upload : IsNumberIfAny r 7
   pub fits : FitsProject (number_in (column r 4)) (number_in (column r 5)) (number_in (column r 6))
 
--- what a prohibited name has in their place
+-- the columns of a held name in the row of a prohibited one
 pub record IsBareRow (r : Row) : Type 0 where
   pub shown : column r 3 ≡ Text []
   pub quota : column r 4 ≡ Int (pos 0)
@@ -113,7 +113,7 @@ pub record IsTallyRow (r : Row) : Type 0 where
   pub first : IsNumberIfAny r 13
   pub fit : IsTally (number_in (column r 8)) (number_in (column r 9)) (number_if_any (column r 13))
 
--- 1 is continue, and 2 is reuse
+-- the kind of a case: 1 is continue, and 2 is reuse
 abbrev pub IsKind : Value → Type 0
 IsKind v = (v ≡ Int (pos 1)) ⊎ (v ≡ Int (pos 2))
 
@@ -192,8 +192,7 @@ pub record IsOpenedRow (r : Row) : Type 0 where
 abbrev pub IsBannedRow : Row → Type 0
 IsBannedRow r = IsFileText (column r 1)
 
--- the row of a table with this tree is that of a record with its key; of meta, whose rows are none,
--- nothing is asked
+-- the row of the table with this tree is a record with its key; any row of meta is one
 abbrev pub IsRecordIn : ℕ → Row → Type 0
 IsRecordIn tree r =
     MatchBool (tree == 1) (IsAccountRow r)
@@ -205,14 +204,14 @@ IsRecordIn tree r =
     (MatchBool (tree == 15) (IsOpenedRow r)
     (MatchBool (tree == 17) (IsBannedRow r) ⊤)))))))
 
--- all rows of the table are such rows
+-- all rows of the table are records with their keys
 abbrev pub AreRecordsIn : Trees → ℕ → Type 0
 AreRecordsIn db tree = AllByRecursion (IsRecordIn tree) (db tree)
 
--- so are those of each of these tables
+-- all rows of each of these tables are records
 abbrev pub AreRecordsOf : List Table → Trees → Type 0
 AreRecordsOf tables db = AllByRecursion (λ (t : Table). AreRecordsIn db t.tree) tables
 
--- so are those of each table that the database has
+-- all rows of each table that the database has are records
 abbrev pub AreRecords : Database → Type 0
 AreRecords db = AreRecordsOf db.schema.tables db.trees

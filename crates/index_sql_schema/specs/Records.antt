@@ -1,5 +1,4 @@
--- What the rows of the tables stand for, column by column. A row that is no record stands for one
--- all the same.
+-- What the rows of the tables stand for, column by column. An invalid row stands for a record too.
 use Rattle.std.specs.Prelude.{ℕ, pos, ◌==◌, if◌then◌else◌, Option, Some, None}
 use Rattle.sqlite_value.specs.declared.value.Value.{Value}
 use Rattle.sqlite_value.specs.declared.value.Value.TheVariants.{Null, Int}
@@ -20,42 +19,42 @@ use Rattle.index_sql_schema.specs.RowMaps.{map_from}
 
 -- ---- values
 
--- a whole number that isn't negative
+-- the whole number in a value, which isn't negative
 abbrev pub number_in : Value → ℕ
 number_in (Int (pos n)) = n
 number_in _ = 0
 
--- such a number, or none where there is NULL
+-- the whole number in a value, or none for NULL
 abbrev pub number_if_any : Value → Option ℕ
 number_if_any (Int (pos n)) = Some n
 number_if_any _ = None
 
--- a text, or none where there is NULL
+-- the text in a value, or none for NULL
 abbrev pub text_if_any : Value → Option Bytes
 text_if_any Null = None
 text_if_any v = Some (bytes v)
 
 -- ---- keys
 
--- a text in the first column
+-- the key of a row that has a text in its first column
 abbrev pub text_key : Row → Bytes
 text_key r = bytes (column r 1)
 
--- two texts in the first two columns
+-- the key of a row that has two texts in its first two columns
 abbrev pub pair_key : Row → Bytes × Bytes
 pair_key r = (bytes (column r 1), bytes (column r 2))
 
 -- ---- records
 
--- nothing but the key
+-- the value of a table that has keys alone
 abbrev pub nothing_in : Row → Unit {0}
 nothing_in r = tt
 
--- a row of users
+-- the record in a row of users
 abbrev pub user_in : Row → UserRecord
 user_in r = record { office = number_in (column r 2) == 1; token = bytes (column r 3) }
 
--- a held name, by a row of names
+-- the record of a held name in a row of names
 abbrev pub project_in : Row → Project
 project_in r = record {
   shown = bytes (column r 3);
@@ -65,15 +64,15 @@ project_in r = record {
   last_upload = number_if_any (column r 7);
 }
 
--- by the state: 2 is prohibited
+-- the record of a name by its state; 2 is prohibited
 abbrev pub name_by : ℕ → Project → NameRecord
 name_by state project = if state == 2 then Prohibited else Held project
 
--- a row of names
+-- the record in a row of names
 abbrev pub name_in : Row → NameRecord
 name_in r = name_by (number_in (column r 2)) (project_in r)
 
--- a row of files
+-- the record in a row of files
 abbrev pub file_in : Row → FileRecord
 file_in r = record {
   project = bytes (column r 2);
@@ -84,19 +83,19 @@ file_in r = record {
   is_undeleted = number_in (column r 7) == 1;
 }
 
--- a row of blobs
+-- the bytes in a row of blobs
 abbrev pub body_in : Row → Bytes
 body_in r = bytes (column r 2)
 
--- a row of yanks
+-- the reason in a row of yanks
 abbrev pub reason_in : Row → Bytes
 reason_in r = bytes (column r 3)
 
--- by its number: 2 is reuse
+-- the kind of a case by its number; 2 is reuse
 abbrev pub kind_by : ℕ → CaseKind
 kind_by number = if number == 2 then Reuse else Continue
 
--- the attempts of a row of cases
+-- the attempts in a row of cases
 abbrev pub tally_in : Row → Tally
 tally_in r = record {
   attempts = number_in (column r 8);
@@ -107,7 +106,7 @@ tally_in r = record {
   first = number_if_any (column r 13);
 }
 
--- a row of cases
+-- the record in a row of cases
 abbrev pub case_in : Row → CaseRecord
 case_in r = record {
   kind = kind_by (number_in (column r 2));

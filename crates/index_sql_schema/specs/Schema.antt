@@ -42,7 +42,7 @@ optional name kind = record {
 abbrev pub no_stamps : Stamps
 no_stamps = record { places = []; terms = []; formats = [] }
 
--- the column at a place refers to a table, and its row goes with the row that it refers to
+-- the column at a place refers to a table; its row is deleted with the row that it refers to
 abbrev pub cascades_to : ℕ → List ℕ → List ℕ → Reference
 cascades_to place parent column = record {
   columns = place ∷ [];
@@ -53,7 +53,7 @@ cascades_to place parent column = record {
   is_deferred = false;
 }
 
--- the column at a place refers to a table, whose row can't go as long as this one is there
+-- the column at a place refers to a table, whose row can't be deleted as long as this row exists
 abbrev pub refers_to : ℕ → List ℕ → List ℕ → Reference
 refers_to place parent column = record {
   columns = place ∷ [];
@@ -81,7 +81,7 @@ keyed name tree columns places references = record {
   is_counted = false;
 }
 
--- its key is the rowid
+-- the table meta; its key is the rowid
 abbrev pub meta_at : ℕ → Table
 meta_at tree = record {
   name = codes "meta";
@@ -102,7 +102,7 @@ meta_at tree = record {
   is_counted = false;
 }
 
--- found by the user, and by the token
+-- the table of users, with a key on the user and one on the token
 abbrev pub users_at : ℕ → Table
 users_at tree = record {
   name = codes "users";
@@ -130,7 +130,7 @@ charge_check =
     (op2 (Compare Ge Binary) (col 1 5) (lit (Int (pos 0))))
     (op2 (Compare Le Binary) (col 1 5) (col 1 4))
 
--- found by the name
+-- the table of names, with a key on the name
 abbrev pub names_at : ℕ → Table
 names_at tree =
     record (keyed (codes "names") tree
@@ -144,7 +144,7 @@ names_at tree =
     ∷ [])
     (1 ∷ []) []) { checks = charge_check ∷ [] }
 
--- found by the name and the user
+-- the table of owners, with a key on the name and the user
 abbrev pub owners_at : ℕ → Table
 owners_at tree =
     keyed (codes "owners") tree
@@ -152,7 +152,7 @@ owners_at tree =
     (1 ∷ 2 ∷ [])
     (cascades_to 1 (codes "names") (codes "name") ∷ refers_to 2 (codes "users") (codes "user") ∷ [])
 
--- found by the file, and by the name and the file
+-- the table of files, with a key on the file, and one on the name and the file
 abbrev pub files_at : ℕ → Table
 files_at tree =
     record (keyed (codes "files") tree
@@ -166,7 +166,7 @@ files_at tree =
     ∷ [])
     (1 ∷ []) []) { uniques = (1 ∷ []) ∷ (2 ∷ 1 ∷ []) ∷ []; orders = plain ∷ plain ∷ [] }
 
--- found by the file
+-- the table of blobs, with a key on the file
 abbrev pub blobs_at : ℕ → Table
 blobs_at tree =
     keyed (codes "blobs") tree
@@ -174,7 +174,7 @@ blobs_at tree =
     (1 ∷ [])
     (refers_to 1 (codes "files") (codes "file") ∷ [])
 
--- found by the name and the release
+-- the table of yanks, with a key on the name and the release
 abbrev pub yanks_at : ℕ → Table
 yanks_at tree =
     keyed (codes "yanks") tree
@@ -182,7 +182,7 @@ yanks_at tree =
     (1 ∷ 2 ∷ [])
     (cascades_to 1 (codes "names") (codes "name") ∷ [])
 
--- found by the name
+-- the table of cases, with a key on the name
 abbrev pub cases_at : ℕ → Table
 cases_at tree =
     keyed (codes "cases") tree
@@ -205,7 +205,7 @@ cases_at tree =
     ∷ refers_to 3 (codes "users") (codes "user")
     ∷ [])
 
--- found by the file
+-- the table of bans, with a key on the file
 abbrev pub bans_at : ℕ → Table
 bans_at tree =
     keyed (codes "bans") tree

@@ -1,4 +1,4 @@
--- What the rows of an answer stand for, where they show more than a record.
+-- What the rows of an answer stand for, if they show more than a record.
 use Rattle.sqlite_value.specs.Order.{Row, column, bytes}
 use Rattle.index_rules.specs.declared.records.UserRecord.{UserRecord}
 use Rattle.index_rules.specs.declared.rows.NameRow.{NameRow}
@@ -7,15 +7,15 @@ use Rattle.index_rules.specs.Maps.{Bytes}
 use Rattle.index_rules.specs.TableRows.{name_row}
 use Rattle.index_sql_schema.specs.Records.{text_key, user_in, name_in, number_in, text_if_any}
 
--- a row of users, with its key
+-- the user and the record in a row of users
 abbrev pub account_in : Row → Bytes × UserRecord
 account_in r = (text_key r, user_in r)
 
--- a row of names, with its key
+-- the name and the record in a row of names
 abbrev pub name_row_in : Row → NameRow
 name_row_in r = name_row (text_key r, name_in r)
 
--- a row of files with its key, and behind it the reason of its yank, or NULL
+-- the row of a file, by a row of files with its key, and behind it the reason of its yank, or NULL
 abbrev pub file_row_shown : Row → FileRow
 file_row_shown r = record {
   file = bytes (column r 1);
@@ -26,10 +26,10 @@ file_row_shown r = record {
   yanked = text_if_any (column r 8);
 }
 
--- a user, and nothing else
+-- the user in a row that shows a user alone
 abbrev pub user_shown : Row → Bytes
 user_shown r = bytes (column r 0)
 
--- a file, and nothing else
+-- the file in a row that shows a file alone
 abbrev pub file_shown : Row → Bytes
 file_shown r = bytes (column r 0)

@@ -23,141 +23,141 @@ use Rattle.index_sql_schema.specs.declared.statement_texts.TheConstants.{SELECT_
 
 -- ---- a row in place of the one with its key, if there is one
 
--- a user with its record
+-- puts a user with its record
 abbrev pub put_user_text : List ℕ
 put_user_text = PUT_USER.now
 
--- a name with its record
+-- puts a name with its record
 abbrev pub put_name_text : List ℕ
 put_name_text = PUT_NAME.now
 
--- a name with one more owner
+-- puts a name with one more owner
 abbrev pub put_owner_text : List ℕ
 put_owner_text = PUT_OWNER.now
 
--- a file with its record
+-- puts a file with its record
 abbrev pub put_file_text : List ℕ
 put_file_text = PUT_FILE.now
 
--- a file with its bytes
+-- puts the bytes of a file that has none
 abbrev pub put_body_text : List ℕ
 put_body_text = PUT_BODY.now
 
--- a release of a name with the reason of its yank
+-- puts a release of a name with the reason of its yank
 abbrev pub put_yank_text : List ℕ
 put_yank_text = PUT_YANK.now
 
--- a name with its open case
+-- puts a name with its open case
 abbrev pub put_case_text : List ℕ
 put_case_text = PUT_CASE.now
 
--- a banned file
+-- puts a banned file
 abbrev pub put_ban_text : List ℕ
 put_ban_text = PUT_BAN.now
 
--- the version of a new index
+-- puts the version of a new index
 abbrev pub put_version_text : List ℕ
 put_version_text = PUT_VERSION.now
 
--- ---- rows that go
+-- ---- rows that are deleted
 
--- a name, and by the schema its owners, yanks and case
+-- deletes a name, and by the schema its owners, yanks and case
 abbrev pub delete_name_text : List ℕ
 delete_name_text = DELETE_NAME.now
 
--- all owners of a name
+-- deletes all owners of a name
 abbrev pub delete_owners_text : List ℕ
 delete_owners_text = DELETE_OWNERS.now
 
--- one owner of a name
+-- deletes one owner of a name
 abbrev pub delete_owner_text : List ℕ
 delete_owner_text = DELETE_OWNER.now
 
--- all yanks of a name
+-- deletes all yanks of a name
 abbrev pub delete_yanks_text : List ℕ
 delete_yanks_text = DELETE_YANKS.now
 
--- the yank of a release of a name
+-- deletes the yank of a release of a name
 abbrev pub delete_yank_text : List ℕ
 delete_yank_text = DELETE_YANK.now
 
--- the open case of a name
+-- deletes the open case of a name
 abbrev pub delete_case_text : List ℕ
 delete_case_text = DELETE_CASE.now
 
--- the bytes of a file
+-- deletes the bytes of a file
 abbrev pub delete_body_text : List ℕ
 delete_body_text = DELETE_BODY.now
 
 -- ---- rows that change
 
--- all files of a name are deleted
+-- marks all files of a name as deleted
 abbrev pub update_files_text : List ℕ
 update_files_text = UPDATE_FILES.now
 
--- the version, where it was that of an earlier one
+-- sets the version to 2
 abbrev pub update_version_text : List ℕ
 update_version_text = UPDATE_VERSION.now
 
--- ---- rows that are looked up; where a row is shown whole, each column is in the place that it has
--- in the table
+-- ---- rows that are looked up; if a row is shown whole, each column is in the place that it has in
+-- the table
 
--- the version of the tables
+-- finds the version of the tables
 abbrev pub select_version_text : List ℕ
 select_version_text = SELECT_VERSION.now
 
--- a user
+-- finds a user
 abbrev pub select_user_text : List ℕ
 select_user_text = SELECT_USER.now
 
--- who bears a token with this digest
+-- finds the user who has the token with this digest
 abbrev pub select_bearer_text : List ℕ
 select_bearer_text = SELECT_BEARER.now
 
--- a name
+-- finds a name
 abbrev pub select_name_text : List ℕ
 select_name_text = SELECT_NAME.now
 
--- a file
+-- finds a file
 abbrev pub select_file_text : List ℕ
 select_file_text = SELECT_FILE.now
 
--- the files of a name, the deleted ones too
+-- finds the files of a name, the deleted ones too
 abbrev pub select_named_text : List ℕ
 select_named_text = SELECT_NAMED.now
 
--- an undeleted file of a release, where there is one
+-- finds an undeleted file of a release, if there is one
 abbrev pub select_release_text : List ℕ
 select_release_text = SELECT_RELEASE.now
 
--- the bytes of a file
+-- finds the bytes of a file
 abbrev pub select_body_text : List ℕ
 select_body_text = SELECT_BODY.now
 
--- the yank of a release of a name
+-- finds the yank of a release of a name
 abbrev pub select_yank_text : List ℕ
 select_yank_text = SELECT_YANK.now
 
--- the open case of a name
+-- finds the open case of a name
 abbrev pub select_case_text : List ℕ
 select_case_text = SELECT_CASE.now
 
--- a banned file
+-- finds a banned file
 abbrev pub select_ban_text : List ℕ
 select_ban_text = SELECT_BAN.now
 
--- the owners of a name, in byte order
+-- finds the owners of a name, in byte order
 abbrev pub select_owners_text : List ℕ
 select_owners_text = SELECT_OWNERS.now
 
--- the held names and the prohibited ones, in byte order
+-- finds the held names and the prohibited ones, in byte order
 abbrev pub select_names_text : List ℕ
 select_names_text = SELECT_NAMES.now
 
--- the held names, in byte order
+-- finds the held names, in byte order
 abbrev pub select_held_text : List ℕ
 select_held_text = SELECT_HELD.now
 
--- the undeleted files of a name with the reasons of their yanks, in byte order
+-- finds the undeleted files of a name with the reasons of their yanks, in byte order
 abbrev pub select_files_text : List ℕ
 select_files_text = SELECT_FILES.now

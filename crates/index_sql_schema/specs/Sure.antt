@@ -10,7 +10,8 @@ use Rattle.sqlite.specs.Effect.{Database, RefusesToRead}
 use Rattle.sqlite.specs.Listing.{understood, reads_listing}
 use Rattle.index_sql_schema.specs.Schema.{index_schema}
 
--- over the tables of an index, whatever their rows are, it is refused only if its steps are limited
+-- over the tables of an index, whatever their rows are, the query is refused only if its steps are
+-- limited
 abbrev pub IsReadable : Command → Row → Type 0
 IsReadable command params =
     (db : Database)
@@ -19,7 +20,8 @@ IsReadable command params =
     → RefusesToRead limit command db params e
     → IsSome limit
 
--- one statement for so many parameters, which is such a query
+-- a compiled text is one query, with as many parameters as are given, that is refused only if its
+-- steps are limited
 abbrev pub IsSureAs : List ℕ → Row → Result Compiled CompileError → Type 0
 IsSureAs sql params (Ok c) =
     (length sql ≤ c.tail)
@@ -29,7 +31,8 @@ IsSureAs sql params (Ok c) =
     × IsReadable c.command params
 IsSureAs sql params (Err e) = ⊥
 
--- the text is one, and reads no list of the tables
+-- a text is one query that is refused only if its steps are limited, and reads no list of the
+-- tables
 unfoldable pub IsSure : List ℕ → Row → Type 0
 IsSure sql params =
     IsSureAs sql params (understood index_schema sql)

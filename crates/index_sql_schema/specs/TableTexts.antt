@@ -12,7 +12,7 @@ meta_text = META.now
 abbrev pub users_text : List ℕ
 users_text = USERS.now
 
--- each name that is not free; `state` is 1 where it is held and 2 where it is prohibited
+-- each name that is not free; `state` is 1 for a held name and 2 for a prohibited one
 abbrev pub names_text : List ℕ
 names_text = NAMES.now
 
@@ -20,8 +20,8 @@ names_text = NAMES.now
 abbrev pub owners_text : List ℕ
 owners_text = OWNERS.now
 
--- each file that was ever accepted; `live` is 1 where it is undeleted, else 0. The second key is
--- there so that the files of a name are found in their order without a look at those of other names
+-- each file that was ever accepted; `live` is 1 if it is undeleted, else 0; by the second key the
+-- files of a name are found in order without reading those of other names
 abbrev pub files_text : List ℕ
 files_text = FILES.now
 

@@ -17,10 +17,10 @@ use sqlite::types::ValueRef;
 use sqlite::{Alter, Connection, Error, ErrorCode, Row};
 use std::marker::Model;
 
-/// A connection to an index, outside a transaction: on a clean disk, where it is open, it is an index that tells version
-/// 2, and all of it is committed. Contracts see the connection itself.
+/// A connection to an index, outside a transaction. On a clean disk, if it is open, it is an index with version 2 in
+/// `meta`, all of it committed. Contracts see the connection itself.
 ///
-/// Whoever changes what it holds has to leave such a connection again. It has no `Drop`.
+/// Code that changes its state has to leave such a connection again. It has no `Drop`.
 pub struct IndexConnection<S: Alter> {
     pub conn: Connection<S>,
 }
@@ -38,7 +38,7 @@ impl<S: Alter> Model for IndexConnection<S> {
     ghost invariant = { λ it. IsIndexConnection S.Store it.conn };
 }
 
-/// The fault that an error of the database is: want of memory as such, and each other one as a fault of the store.
+/// An error of the database as a fault: `OutOfMemory` if memory ran out, else `Store`.
 pub fn fault_of(error: Error) -> Fault
     ensures { result ≡ fault_by error }
 {
@@ -48,11 +48,11 @@ pub fn fault_of(error: Error) -> Fault
     }
 }
 
-/// The rows that a query shows. The tables stay as they are, whatever it answers.
+/// The rows that a query shows. The tables stay as they are, whatever it returns.
 ///
 /// # Errors
 ///
-/// `OutOfMemory` for want of memory, else `Store`. Where the connection is open after it, it holds what it held.
+/// `OutOfMemory` if memory runs out, else `Store`. If the connection is still open, its database is as it was.
 pub fn look<S: Alter>(
     conn: &mut IndexConnection<S>,
     text: &str,

@@ -8,7 +8,7 @@ pub const META: &str =
 pub const USERS: &str =
     "CREATE TABLE users (user TEXT NOT NULL PRIMARY KEY, office INTEGER NOT NULL, token BLOB NOT NULL UNIQUE) STRICT";
 
-/// Each name that is not free; `state` is 1 where it is held and 2 where it is prohibited.
+/// Each name that is not free; `state` is 1 for a held name and 2 for a prohibited one.
 pub const NAMES: &str =
     "CREATE TABLE names (name TEXT NOT NULL PRIMARY KEY, state INTEGER NOT NULL, shown TEXT NOT NULL, quota INTEGER NOT NULL, charged INTEGER NOT NULL, live INTEGER NOT NULL, last_upload INTEGER, CHECK (charged BETWEEN 0 AND quota)) STRICT";
 
@@ -16,7 +16,8 @@ pub const NAMES: &str =
 pub const OWNERS: &str =
     "CREATE TABLE owners (name TEXT NOT NULL REFERENCES names (name) ON DELETE CASCADE, user TEXT NOT NULL REFERENCES users (user), PRIMARY KEY (name, user)) STRICT";
 
-/// Each file that was ever accepted; `live` is 1 where it is undeleted, else 0. The second key is there so that the files of a name are found in their order without a look at those of other names.
+/// Each file that was ever accepted; `live` is 1 if it is undeleted, else 0. By the second key the files of a name are
+/// found in order without reading those of other names.
 pub const FILES: &str =
     "CREATE TABLE files (file TEXT NOT NULL PRIMARY KEY, name TEXT NOT NULL, rel TEXT NOT NULL, digest BLOB NOT NULL, size INTEGER NOT NULL, requires TEXT NOT NULL, live INTEGER NOT NULL, UNIQUE (name, file)) STRICT";
 

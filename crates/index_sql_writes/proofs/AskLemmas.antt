@@ -23,7 +23,7 @@ use Rattle.sqlite.specs.State.{State, Escapes, EndsScope, Executes, ExecutesIn, 
 use Rattle.index_sql_schema.specs.Faults.{fault_by}
 use Rattle.index_rules.specs.declared.answer.Fault.TheVariants as fault
 use Rattle.index_sql_schema.specs.Schema.{index_schema}
-use Rattle.index_sql_writes.specs.Asks.{Statement, WithNumbers, AnswersStatement, AnswersAsk, FailsAs, each_statement}
+use Rattle.index_sql_writes.specs.Asks.{SqlAnswersAsk, SqlAnswersStatement, SqlFailsForReason, Statement, WithNumbers, each_statement}
 use Rattle.index_sql_writes.specs.Transaction.{IsInTransaction}
 
 -- a command that changes rows, or makes a table
@@ -108,7 +108,7 @@ module _ (schema : Schema) (sql : List ℕ) (params : Row) (write : IsWrite sche
       let bare : timed params c.formats it.now ≡ params = rw ((writes_as (Ok c) it.is).2, append-nil params) refl in
       subst₂ (λ limit ps. Does limit each_statement ps old.now (text_of sql c) c.returning c.command out) unlimited bare does
 
-  did : (count : ℕ) → Executes sql params old new (Ok count) → AnswersStatement sql params old.now (Ok new.now)
+  did : (count : ℕ) → Executes sql params old new (Ok count) → SqlAnswersStatement sql params old.now (Ok new.now)
   unfolding ExecutesIn
   did count h =
       let known = writes_as (Ok h.0) h.1.is in
@@ -118,7 +118,7 @@ module _ (schema : Schema) (sql : List ℕ) (params : Row) (write : IsWrite sche
 
   module _ (e : Error) (store : fault_by e ≡ fault.Store) where
     abbrev Reason : Type 0
-    Reason = MoreFaults old.faults new.faults ⊎ ((why : Option Error) × AnswersStatement sql params old.now (Err why))
+    Reason = MoreFaults old.faults new.faults ⊎ ((why : Option Error) × SqlAnswersStatement sql params old.now (Err why))
 
     refused : (c : Compiled) (it : IsStatement old sql params c) (why : Option Error) → Does old.step_limit (mode_of old) (timed params c.formats it.now) old.now (text_of sql c) c.returning c.command (Err why) → Reason
     refused c it why does = inr (why, (c, it.is, inl (why, plainly c it (Err why) does, refl)))
@@ -146,19 +146,19 @@ module _ (schema : Schema) (sql : List ℕ) (params : Row) (write : IsWrite sche
     inside (inr ((c, it, escapes), _, _)) = absurd (stays_in old c.command (writes_as (Ok c) it.is).4 escapes)
 
   -- it makes what SQL answers, or fails by the disk, or as SQL refuses
-  pub goes : (r : Result ℕ Error) → ExecutesInside 0 sql params old new r → MatchResult r (λ _. AnswersStatement sql params old.now (Ok new.now)) (FailsAs (AnswersStatement sql params old.now) old new)
+  pub goes : (r : Result ℕ Error) → ExecutesInside 0 sql params old new r → MatchResult r (λ _. SqlAnswersStatement sql params old.now (Ok new.now)) (SqlFailsForReason (SqlAnswersStatement sql params old.now) old new)
   goes (Ok count) ran = did count ran.0
   goes (Err e) ran = λ store. inside e store ran
 
 -- so goes a step of one statement
 pub step_goes : {S : Type 0} (g : Ghosts S) (sql : List ℕ) (cells params : Row) → IsWrite index_schema sql (length cells) → (old new : Held S) (r : Result ℕ Error) → IsInTransaction (state g old) → (state g old).step_limit ≡ None
     → (IsTrue (state g old).in_transaction → ExecutesInside 0 sql params (state g old) (state g new) r) → params ≡ cells
-    → MatchResult r (λ _. AnswersStatement sql cells (state g old).now (Ok (state g new).now)) (FailsAs (AnswersStatement sql cells (state g old).now) (state g old) (state g new))
+    → MatchResult r (λ _. SqlAnswersStatement sql cells (state g old).now (Ok (state g new).now)) (SqlFailsForReason (SqlAnswersStatement sql cells (state g old).now) (state g old) (state g new))
 step_goes g sql cells params write old new r ready unlimited runs given =
     goes index_schema sql cells write (state g old) (state g new) ready.index.schema ready.is_open unlimited r (subst (λ ps. ExecutesInside 0 sql ps (state g old) (state g new) r) given (runs ready.inside))
 
--- a step with numbers goes as its statement, where these fit
-pub fits : {A : Type 0} (numbers : List ℕ) (sql : List ℕ) (given cells : Row) (old new : State) (r : Result A Error) → given ≡ cells → MatchResult r (λ _. AnswersStatement sql given old.now (Ok new.now)) (FailsAs (AnswersStatement sql given old.now) old new)
-    → MatchResult r (λ _. AnswersAsk (WithNumbers numbers (Statement sql cells)) old.now (Ok new.now)) (FailsAs (AnswersAsk (WithNumbers numbers (Statement sql cells)) old.now) old new)
-fits numbers sql given cells old new (Ok done) same it = inr (subst (λ ps. AnswersStatement sql ps old.now (Ok new.now)) same it)
-fits numbers sql given cells old new (Err e) same it = λ store. elim (it store) [ inl more ↦ inl more | inr refuses ↦ inr (refuses.0, inr (subst (λ ps. AnswersStatement sql ps old.now (Err refuses.0)) same refuses.1)) ]
+-- a step with numbers goes as its statement, if these fit
+pub fits : {A : Type 0} (numbers : List ℕ) (sql : List ℕ) (given cells : Row) (old new : State) (r : Result A Error) → given ≡ cells → MatchResult r (λ _. SqlAnswersStatement sql given old.now (Ok new.now)) (SqlFailsForReason (SqlAnswersStatement sql given old.now) old new)
+    → MatchResult r (λ _. SqlAnswersAsk (WithNumbers numbers (Statement sql cells)) old.now (Ok new.now)) (SqlFailsForReason (SqlAnswersAsk (WithNumbers numbers (Statement sql cells)) old.now) old new)
+fits numbers sql given cells old new (Ok done) same it = inr (subst (λ ps. SqlAnswersStatement sql ps old.now (Ok new.now)) same it)
+fits numbers sql given cells old new (Err e) same it = λ store. elim (it store) [ inl more ↦ inl more | inr refuses ↦ inr (refuses.0, inr (subst (λ ps. SqlAnswersStatement sql ps old.now (Err refuses.0)) same refuses.1)) ]

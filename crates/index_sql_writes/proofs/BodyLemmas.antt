@@ -14,7 +14,7 @@ use Rattle.index_sql_schema.specs.Faults.{fault_by}
 use Rattle.index_names.proofs.NameLemmas.{read_file_name-no_text}
 use Rattle.index_rules.specs.declared.answer.Fault.TheVariants as fault
 use Rattle.index_sql_schema.specs.RecordRows.{IsFileText}
-use Rattle.index_sql_writes.specs.Asks.{ShowsFileName}
+use Rattle.index_sql_writes.specs.Asks.{RowShowsFileName}
 use Rattle.index_rules.specs.Effect.{is_file_of}
 use Rattle.index_rules.specs.Maps.{Bytes, Map, same}
 use Rattle.index_rules.specs.Tables.{Tables}
@@ -39,7 +39,7 @@ get-removes (r ∷ rows) bodies file =
     ∙ ap (cond (list_any (λ r. same file (file_shown r)) rows) None) (get-without bodies (file_shown r) file)
     ∙ one_or_rest (same file (file_shown r)) (list_any (λ r. same file (file_shown r)) rows) (get bodies file)
 
--- where the rows show the files of a name, their bytes are all of that name's
+-- if the rows show the files of a name, their bytes are all of that name's
 pub bodies_gone : (name : Bytes) (T : Tables) (rows : List Row) → AreFilesOf name T rows → deletes_shown rows T ≡ deletes_bodies name T
 bodies_gone name T rows are = λ i. record T { bodies = gone i }
   where
@@ -53,6 +53,6 @@ never_unread_at : (v : Value) → IsFileText v → ((t : Bytes) × (v ≡ Text t
 never_unread_at (Text file) is unread = true≢false (sym (subst IsSome (read_file_name-no_text file (λ utf8. unread (file, refl, utf8))) is))
 never_unread_at _ is unread = is
 
-pub never_unread : (r : Row) → ShowsFileName r → (e : Error) → fault_by e ≡ fault.Store → (e ≢ SqliteFailure OutOfMemory → 0 < length r → (t : Bytes) × (column r 0 ≡ Text t) × IsUtf8 t → ⊥) → ⊥
+pub never_unread : (r : Row) → RowShowsFileName r → (e : Error) → fault_by e ≡ fault.Store → (e ≢ SqliteFailure OutOfMemory → 0 < length r → (t : Bytes) × (column r 0 ≡ Text t) × IsUtf8 t → ⊥) → ⊥
 never_unread r shows e store unread =
     never_unread_at (column r 0) shows.1 (unread (λ memory. absurd (let f = subst (λ x. fault_by x ≡ fault.Store) memory store in cc)) shows.0)

@@ -8,7 +8,7 @@ use Rattle.sqlite.specs.Rows.{Outcome}
 use Rattle.sqlite.specs.State.{State}
 use Rattle.index_sql_schema.specs.RecordRows.{AreRecords}
 use Rattle.index_sql_schema.proofs.StatementLemmas.{same_value}
-use Rattle.index_sql_writes.specs.Asks.{Ask, AnswersAll, AnswersAsk, CanAsk, FailsAs}
+use Rattle.index_sql_writes.specs.Asks.{Ask, CanAsk, SqlAnswersAsk, SqlAnswersEachAsk, SqlFailsForReason}
 use Rattle.index_sql_writes.specs.Transaction.{IsInTransaction}
 
 pub fault_since : (first mid last : State) → first.faults ≤ mid.faults → MoreFaults mid.faults last.faults → MoreFaults first.faults last.faults
@@ -21,23 +21,23 @@ can_go_on first now can ready records limit = record { ready = ready; records = 
 -- ---- lists of what is asked
 
 -- what comes of all of the first, and then of the second, comes of both
-pub all_then : (xs ys : List Ask) (a b : Database) (out : Outcome Database) → AnswersAll xs a (Ok b) → AnswersAll ys b out → AnswersAll (xs ++ ys) a out
-all_then [] ys a b out is more = subst (λ (d : Database). AnswersAll ys d out) (same_value is) more
+pub all_then : (xs ys : List Ask) (a b : Database) (out : Outcome Database) → SqlAnswersEachAsk xs a (Ok b) → SqlAnswersEachAsk ys b out → SqlAnswersEachAsk (xs ++ ys) a out
+all_then [] ys a b out is more = subst (λ (d : Database). SqlAnswersEachAsk ys d out) (same_value is) more
 all_then (x ∷ xs) ys a b out (inl stopped) more = absurd (let e = stopped.2 in cc)
 all_then (x ∷ xs) ys a b out (inr (mid, did, rest)) more = inr (mid, did, all_then xs ys mid b out rest more)
 
--- where one of the first is refused, that is all
-pub all_stop : (xs ys : List Ask) (a : Database) (why : Option Error) → AnswersAll xs a (Err why) → AnswersAll (xs ++ ys) a (Err why)
+-- if one of the first is refused, that is all
+pub all_stop : (xs ys : List Ask) (a : Database) (why : Option Error) → SqlAnswersEachAsk xs a (Err why) → SqlAnswersEachAsk (xs ++ ys) a (Err why)
 all_stop [] ys a why is = absurd (let e = is in cc)
 all_stop (x ∷ xs) ys a why (inl (stop, halts, is)) = inl (stop, halts, is)
 all_stop (x ∷ xs) ys a why (inr (mid, did, rest)) = inr (mid, did, all_stop xs ys mid why rest)
 
 -- one is as a list of one
-pub alone : (ask : Ask) (a : Database) (out : Outcome Database) → AnswersAsk ask a out → AnswersAll (ask ∷ []) a out
+pub alone : (ask : Ask) (a : Database) (out : Outcome Database) → SqlAnswersAsk ask a out → SqlAnswersEachAsk (ask ∷ []) a out
 alone ask a (Ok b) it = inr (b, it, refl)
 alone ask a (Err why) it = inl (why, it, refl)
 
-pub goes_alone : {A : Type 0} (ask : Ask) (old new : State) (r : Result A Error) → MatchResult r (λ _. AnswersAsk ask old.now (Ok new.now)) (FailsAs (AnswersAsk ask old.now) old new)
-    → MatchResult r (λ _. AnswersAll (ask ∷ []) old.now (Ok new.now)) (FailsAs (AnswersAll (ask ∷ []) old.now) old new)
+pub goes_alone : {A : Type 0} (ask : Ask) (old new : State) (r : Result A Error) → MatchResult r (λ _. SqlAnswersAsk ask old.now (Ok new.now)) (SqlFailsForReason (SqlAnswersAsk ask old.now) old new)
+    → MatchResult r (λ _. SqlAnswersEachAsk (ask ∷ []) old.now (Ok new.now)) (SqlFailsForReason (SqlAnswersEachAsk (ask ∷ []) old.now) old new)
 goes_alone ask old new (Ok done) it = alone ask old.now (Ok new.now) it
 goes_alone ask old new (Err e) it = λ store. elim (it store) [ inl fault ↦ inl fault | inr refuses ↦ inr (refuses.0, alone ask old.now (Err refuses.0) refuses.1) ]

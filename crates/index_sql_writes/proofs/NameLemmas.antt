@@ -1,4 +1,4 @@
--- A record that is put anew after its row went.
+-- A record that is put again after its row went.
 use Rattle.std.proofs.Common.{◌≡◌, true, false, sym, ◌∙◌}
 use Rattle.std.specs.FinMap.{insert, remove, get, same_map}
 use Rattle.std.proofs.lemmas.Cmp.{nat_list_cmp_total}

@@ -16,7 +16,7 @@ use Rattle.index_sql_schema.specs.Records.{tables_in}
 use Rattle.index_sql_schema.specs.Sure.{IsSure}
 use Rattle.index_sql_schema.proofs.SureLemmas.{fails_for}
 use Rattle.sqlite.specs.Rows.{Gives}
-use Rattle.index_sql_writes.specs.Asks.{CanAsk, FailsAs}
+use Rattle.index_sql_writes.specs.Asks.{CanAsk, SqlFailsForReason}
 use Rattle.index_sql_writes.proofs.AskLemmas.{by_cause}
 use Rattle.index_sql_schema.specs.RecordRows.{AreRecords}
 use Rattle.index_sql_writes.specs.Transaction.{IsInTransaction, MakesInTransaction}
@@ -77,7 +77,7 @@ makes_as change other first last same made = record {
 }
 
 -- a sure query fails with the disk alone
-pub query_goes : (sql : List ℕ) (cells params : Row) (old new : State) (e : Error) → params ≡ cells → IsSure sql cells → CanAsk old → FailsToQuery sql params old new e ⊎ IsTooLate sql params old new e → FailsAs (Gives old.now) old new e
+pub query_goes : (sql : List ℕ) (cells params : Row) (old new : State) (e : Error) → params ≡ cells → IsSure sql cells → CanAsk old → FailsToQuery sql params old new e ⊎ IsTooLate sql params old new e → SqlFailsForReason (Gives old.now) old new e
 query_goes sql cells params old new e given sure can (inr late) store = absurd (true≢false (sym can.ready.inside ∙ late.3))
 query_goes sql cells params old new e given sure can (inl fails) store =
     elim (fails_for sql params old new e can.ready.index.schema (subst (IsSure sql) (sym given) sure) fails) [

@@ -12,7 +12,7 @@ use Rattle.index_sql_schema.specs.Reasons.{HasReason}
 use Rattle.index_rules.specs.declared.answer.Fault.TheVariants as fault
 use Rattle.index_sql_schema.specs.Index.{IsIndex}
 use Rattle.index_sql_schema.specs.RecordRows.{AreRecords}
-use Rattle.index_sql_writes.specs.Asks.{Ask, AnswersAll, CanAsk, FailsAs}
+use Rattle.index_sql_writes.specs.Asks.{Ask, CanAsk, SqlAnswersEachAsk, SqlFailsForReason}
 use Rattle.index_sql_writes.specs.Transaction.{IsInTransaction}
 use Rattle.index_sql_writes.proofs.AskLemmas.{caused}
 use Rattle.index_sql_writes.specs.StepAsks.{AreRefused, FailsForRefusal}
@@ -26,7 +26,7 @@ module _ {S : Type 0} (g : Ghosts S) (old start : Held S) (begun : start ≡ rec
   abbrev pub inside : Held S
   inside = record old { in_transaction = true }
 
-  -- a connection that was shut, or where the steps of queries are limited, is a reason of its own
+  -- a connection that was shut, or whose queries have limited steps, is a reason of its own
   by_case : (mid : Held S) → (IsTrue (state g old).is_open → (state g old).step_limit ≡ None → Begins (state g inside)) → (Begins (state g inside) → fault_by e ≡ fault.Store → HasReason (state g old) (state g mid) ⊎ AreRefused asks (state g old).now)
       → FailsForRefusal asks (state g old) (state g mid) e
   by_case mid begins fails store = elim (cases_Bool (state g old).is_open) [
@@ -39,10 +39,10 @@ module _ {S : Type 0} (g : Ghosts S) (old start : Held S) (begun : start ≡ rec
       by_limit opened None is = fails (begins opened is) store
 
   -- a step failed
-  pub fails_inside : (mid new : Held S) → (IsTrue (state g old).is_open → (state g old).step_limit ≡ None → Begins (state g inside)) → (Begins (state g start) → FailsAs (AnswersAll asks (state g start).now) (state g start) (state g mid) e)
+  pub fails_inside : (mid new : Held S) → (IsTrue (state g old).is_open → (state g old).step_limit ≡ None → Begins (state g inside)) → (Begins (state g start) → SqlFailsForReason (SqlAnswersEachAsk asks (state g start).now) (state g start) (state g mid) e)
       → (state g mid).faults ≤ (state g new).faults → FailsForRefusal asks (state g old) (state g new) e
   fails_inside mid new begins fails counts = by_case new begins (λ it store.
-      elim ((subst (λ h. Begins (state g h) → FailsAs (AnswersAll asks (state g h).now) (state g h) (state g mid) e) begun fails) it store) [
+      elim ((subst (λ h. Begins (state g h) → SqlFailsForReason (SqlAnswersEachAsk asks (state g h).now) (state g h) (state g mid) e) begun fails) it store) [
         | inl more ↦ inl (inl (omega (arith, more, counts)))
         | inr refuses ↦ inr refuses
       ])

@@ -17,7 +17,7 @@ inside_keeps sql params old new (Err e) (inl (_, inl same)) = record { was_open 
 inside_keeps sql params old new (Err e) (inl (_, inr back)) = record { was_open = back.was_open; committed = λ is_open. (back.undone is_open).1 }
 inside_keeps sql params old new (Err e) (inr (_, _, same)) = record { was_open = λ _. same.0.was_open; committed = λ _. same.0.committed_is }
 
--- the same, also where no transaction is under way
+-- the same, even if no transaction is under way
 pub keeps_by : {S : Type 0} (g : Ghosts S) (old new : Held S) (sql : List ℕ) (params : Row) (r : Result ℕ Error) → (old.in_transaction ≡ false → new ≡ old)
     → (IsTrue old.in_transaction → ExecutesInside 0 sql params (state g old) (state g new) r) → KeepsCommit (state g old) (state g new)
 keeps_by g old new sql params r outside inside = elim (cases_Bool old.in_transaction) [

@@ -19,9 +19,9 @@ use Rattle.index_sql_schema.specs.Index.{IsIndex, Changes, same_meta}
 use Rattle.index_sql_schema.specs.OnStore.{on_store}
 use Rattle.index_sql_schema.specs.Schema.{index_schema}
 use Rattle.index_sql_schema.specs.StatementTexts.{put_name_text}
-use Rattle.index_sql_writes.specs.Asks.{AnswersAll, Ask, CanAsk, HasTooMuch, Statement, WithNumbers}
+use Rattle.index_sql_writes.specs.Asks.{Ask, CanAsk, HasTooMuch, SqlAnswersEachAsk, Statement, WithNumbers}
 use Rattle.index_sql_writes.specs.Transaction.{IsInTransaction, IsUncommitted, MakesInTransaction}
-use Rattle.index_sql_writes.specs.Steps.{RunsStatement, TakesStep, TakesSteps}
+use Rattle.index_sql_writes.specs.Steps.{ManyStepsMakeChange, RunsStatement, StepMakesChange}
 use Rattle.index_sql_writes.specs.Statements.{hold_name_ask, project_numbers}
 use Rattle.index_sql_writes.specs.Writes.{held_numbers, name_cells, name_of, puts_name}
 use Rattle.index_sql_writes.specs.declared.statements.NameNumbers.{NameNumbers}
@@ -78,7 +78,7 @@ module _ {S : Type 0} (g : Ghosts S) where
   -- a statement that changes an index so is a step of it; `cells` are its parameters
   pub step_of : (sql : List ℕ) (cells params : Row) (change : Tables → Tables) (old new : Transaction S) (r : Result (Unit {0}) Error) → IsWrite index_schema sql (length cells)
       → ((count : ℕ) → IsIndex (state g old.conn.now).now → Executes sql cells (state g old.conn.now) (state g new.conn.now) (Ok count) → Changes change (state g old.conn.now).now (state g new.conn.now).now)
-      → params ≡ cells → RunsStatement sql params (on_store g old new) r → TakesStep change (Statement sql cells) (on_store g old new) r
+      → params ≡ cells → RunsStatement sql params (on_store g old new) r → StepMakesChange change (Statement sql cells) (on_store g old new) r
   step_of sql cells params change old new (Ok done) write changes given run = record {
     uncommitted = run.uncommitted;
     made = λ clean ready.
@@ -97,9 +97,9 @@ module _ {S : Type 0} (g : Ghosts S) where
   }
 
   module _ {A : Type 0} (change : Tables → Tables) (numbers : List ℕ) where
-    -- a step with numbers is one of its statement, where these fit
-    pub fitting : (sql : List ℕ) (given cells : Row) (old new : Transaction S) (r : Result A Error) → given ≡ cells → TakesStep change (Statement sql given) (on_store g old new) r
-        → TakesStep change (WithNumbers numbers (Statement sql cells)) (on_store g old new) r
+    -- a step with numbers is one of its statement, if these fit
+    pub fitting : (sql : List ℕ) (given cells : Row) (old new : Transaction S) (r : Result A Error) → given ≡ cells → StepMakesChange change (Statement sql given) (on_store g old new) r
+        → StepMakesChange change (WithNumbers numbers (Statement sql cells)) (on_store g old new) r
     fitting sql given cells old new r same step = record {
       uncommitted = step.uncommitted;
       made = step.made;
@@ -107,9 +107,9 @@ module _ {S : Type 0} (g : Ghosts S) where
       asked = λ clean can. fits numbers sql given cells (state g old.conn.now) (state g new.conn.now) r same (step.asked clean can);
     }
 
-    -- and is refused before it, where one does not
-    pub too_much : (ask : Ask) (it : Transaction S) (r : Result A Error) (e : Error) → IsErrAnd r (λ it. it ≡ e) → HasTooMuch numbers → TakesStep change (WithNumbers numbers ask) (on_store g it it) r
-    too_much ask it r e failed much = at_exit r e (TakesStep change (WithNumbers numbers ask) (on_store g it it)) failed (record {
+    -- and is refused before it, if one does not
+    pub too_much : (ask : Ask) (it : Transaction S) (r : Result A Error) (e : Error) → IsErrAnd r (λ it. it ≡ e) → HasTooMuch numbers → StepMakesChange change (WithNumbers numbers ask) (on_store g it it) r
+    too_much ask it r e failed much = at_exit r e (StepMakesChange change (WithNumbers numbers ask) (on_store g it it)) failed (record {
       uncommitted = uncommitted_none it.conn;
       made = λ clean. tt;
       opened = λ clean. tt;
@@ -118,19 +118,19 @@ module _ {S : Type 0} (g : Ghosts S) where
 
 -- a step that puts the columns that a call has holds the name with its project
 pub held_step : {S A : Type 0} (g : Ghosts S) (name : Bytes) (project : Project) (shown : Bytes) (numbers : NameNumbers) → shown ≡ project.shown → numbers ≡ held_numbers project → (old new : Transaction S) (r : Result A Error)
-    → TakesStep (puts_name name (name_of shown numbers)) (Statement put_name_text (name_cells name shown numbers)) (on_store g old new) r
-    → TakesStep (puts_name name (known.Held project)) (hold_name_ask name project) (on_store g old new) r
+    → StepMakesChange (puts_name name (name_of shown numbers)) (Statement put_name_text (name_cells name shown numbers)) (on_store g old new) r
+    → StepMakesChange (puts_name name (known.Held project)) (hold_name_ask name project) (on_store g old new) r
 held_step g name project shown numbers s n old new r step =
     let cells = name_cells name project.shown (held_numbers project) in
     let put = rw (s, n) at step in
     fitting g (puts_name name (known.Held project)) (project_numbers project) put_name_text cells cells old new r refl
-    (subst (λ it. TakesStep (puts_name name it) (Statement put_name_text cells) (on_store g old new) r) (held_again project) put)
+    (subst (λ it. StepMakesChange (puts_name name it) (Statement put_name_text cells) (on_store g old new) r) (held_again project) put)
 
 -- ---- steps in turn
 
 -- a step is steps
-pub step_alone : {S A : Type 0} (g : Ghosts S) (change : Tables → Tables) (ask : Ask) (old new : Transaction S) (r : Result A Error) → TakesStep change ask (on_store g old new) r
-    → TakesSteps IsInTransaction (MakesInTransaction change same_meta) CanAsk (AnswersAll (ask ∷ [])) (on_store g old new) r
+pub step_alone : {S A : Type 0} (g : Ghosts S) (change : Tables → Tables) (ask : Ask) (old new : Transaction S) (r : Result A Error) → StepMakesChange change ask (on_store g old new) r
+    → ManyStepsMakeChange IsInTransaction (MakesInTransaction change same_meta) CanAsk (SqlAnswersEachAsk (ask ∷ [])) (on_store g old new) r
 step_alone g change ask old new r step = record {
   uncommitted = step.uncommitted;
   made = step.made;
@@ -138,10 +138,10 @@ step_alone g change ask old new r step = record {
 }
 
 module _ {S A B : Type 0} (g : Ghosts S) {Begins CanAsk : State → Type 0} {One : State → State → Type 0} (xs : List Ask) {first mid : Transaction S} where
-  -- where some fail, so do all
-  pub exits : (zs : List Ask) (Both : State → State → Type 0) (r : Result B Error) (e : Error) → IsErrAnd r (λ it. it ≡ e) → TakesSteps {A = A} Begins One CanAsk (AnswersAll xs) (on_store g first mid) (Err e)
-      → TakesSteps Begins Both CanAsk (AnswersAll (xs ++ zs)) (on_store g first mid) r
-  exits zs Both r e failed some = at_exit r e (TakesSteps Begins Both CanAsk (AnswersAll (xs ++ zs)) (on_store g first mid)) failed (record {
+  -- if some fail, so do all
+  pub exits : (zs : List Ask) (Both : State → State → Type 0) (r : Result B Error) (e : Error) → IsErrAnd r (λ it. it ≡ e) → ManyStepsMakeChange {A = A} Begins One CanAsk (SqlAnswersEachAsk xs) (on_store g first mid) (Err e)
+      → ManyStepsMakeChange Begins Both CanAsk (SqlAnswersEachAsk (xs ++ zs)) (on_store g first mid) r
+  exits zs Both r e failed some = at_exit r e (ManyStepsMakeChange Begins Both CanAsk (SqlAnswersEachAsk (xs ++ zs)) (on_store g first mid)) failed (record {
     uncommitted = some.uncommitted;
     made = λ clean. tt;
     asked = λ clean can store. elim (some.asked clean can store) [
@@ -152,9 +152,9 @@ module _ {S A B : Type 0} (g : Ghosts S) {Begins CanAsk : State → Type 0} {One
 
   module _ {Goes AsksOn : State → Type 0} {Two : State → State → Type 0} (Both : State → State → Type 0) (ys : List Ask) {last : Transaction S} {a : A} (begins : CanAsk (state g first.conn.now) → Begins (state g first.conn.now))
       (goes : One (state g first.conn.now) (state g mid.conn.now) → Goes (state g mid.conn.now)) (asks_on : CanAsk (state g first.conn.now) → One (state g first.conn.now) (state g mid.conn.now) → (state g mid.conn.now).step_limit ≡ (state g first.conn.now).step_limit → AsksOn (state g mid.conn.now))
-      (both : One (state g first.conn.now) (state g mid.conn.now) → Two (state g mid.conn.now) (state g last.conn.now) → Both (state g first.conn.now) (state g last.conn.now)) (one : TakesSteps Begins One CanAsk (AnswersAll xs) (on_store g first mid) (Ok a)) where
+      (both : One (state g first.conn.now) (state g mid.conn.now) → Two (state g mid.conn.now) (state g last.conn.now) → Both (state g first.conn.now) (state g last.conn.now)) (one : ManyStepsMakeChange Begins One CanAsk (SqlAnswersEachAsk xs) (on_store g first mid) (Ok a)) where
     -- steps, and those after them
-    pub steps_then : (r : Result B Error) → TakesSteps Goes Two AsksOn (AnswersAll ys) (on_store g mid last) r → TakesSteps Begins Both CanAsk (AnswersAll (xs ++ ys)) (on_store g first last) r
+    pub steps_then : (r : Result B Error) → ManyStepsMakeChange Goes Two AsksOn (SqlAnswersEachAsk ys) (on_store g mid last) r → ManyStepsMakeChange Begins Both CanAsk (SqlAnswersEachAsk (xs ++ ys)) (on_store g first last) r
     steps_then (Ok b) two = record {
       uncommitted = uncommitted_then g first.conn mid.conn last.conn one.uncommitted two.uncommitted;
       made = λ clean can.

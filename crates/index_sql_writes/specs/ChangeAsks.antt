@@ -21,7 +21,7 @@ abbrev hold_if_any : Bytes → Option Project → List Ask → List Ask
 hold_if_any name None rest = rest
 hold_if_any name (Some project) rest = hold_name_ask name project ∷ rest
 
--- a row is put before those that refer to it
+-- what a change asks; a row is put before those that refer to it
 abbrev pub asks_of : Change → List Ask
 asks_of (change.AddUser user account) = put_user_ask user account ∷ []
 asks_of (change.SetToken user account) = put_user_ask user account ∷ []
@@ -56,6 +56,6 @@ asks_of (change.Transfer name candidate) =
 asks_of (change.CloseCase name) = delete_case_ask name ∷ []
 asks_of (change.AnswerCase name) = delete_case_ask name ∷ []
 
--- the steps make what the change means, and ask what it asks
+-- the steps have the effect of the change, and ask what it asks
 abbrev pub AreStepsOf : Change → List Step → Type 0
 AreStepsOf change steps = (all_of steps ≡ means change) × (asks_by steps ≡ asks_of change)

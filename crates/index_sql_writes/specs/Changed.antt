@@ -24,7 +24,7 @@ use Rattle.index_sql_writes.specs.declared.step.Deletion.TheVariants as deletion
 use Rattle.index_sql_writes.specs.declared.step.Step.{Step}
 use Rattle.index_sql_writes.specs.declared.step.Step.TheVariants as step
 
--- what a record that is put makes of the tables
+-- the tables after a record is put
 abbrev pub put_by : Put → Tables → Tables
 put_by (put.User user account) = puts_user user.now account.now
 put_by (put.Held name project) = puts_name name.now (Held project.now)
@@ -36,7 +36,7 @@ put_by (put.Case name case) = puts_case name.now case.now
 put_by (put.Ban file) = puts_ban file.now
 put_by (put.Yank name release reason) = puts_yank name.now release.now reason.now
 
--- what is left where something goes
+-- the tables after a deletion
 abbrev pub deletion_by : Deletion → Tables → Tables
 deletion_by (deletion.Name name) = without_record name.now
 deletion_by (deletion.Owners name) = deletes_owners name.now
@@ -47,13 +47,13 @@ deletion_by (deletion.Case name) = deletes_case name.now
 deletion_by (deletion.Body file) = deletes_body file.now
 deletion_by (deletion.Bodies name) = deletes_bodies name.now
 
--- what a step makes of the tables
+-- the tables after a step
 abbrev pub step_by : Step → Tables → Tables
 step_by (step.Put it) = put_by it
 step_by (step.Delete it) = deletion_by it
 step_by (step.MarkFiles name) = marks_files name.now
 
--- the steps in turn
+-- the tables after all steps, in turn
 abbrev pub all_of : List Step → Tables → Tables
 all_of [] T = T
 all_of (it ∷ rest) T = all_of rest (step_by it T)
@@ -67,12 +67,12 @@ pub record IsMade
   pub index : IsIndex new.now
   pub tables : tables_in new.now.trees ≡ change (tables_in old.now.trees)
   pub meta : meta_in new.now.trees ≡ rows (meta_in old.now.trees)
-  -- its rows are records if they were
+  -- the rows of the tables are records if they were
   pub records : AreRecords old.now → AreRecords new.now
   pub committed : new.committed ≡ new.now
   pub ended : new.in_transaction ≡ false
 
--- all is as it was committed before
+-- the database is as it was committed before
 abbrev pub IsUndone : State → State → Type 0
 IsUndone old new = (new.now ≡ old.committed) × (new.committed ≡ old.committed)
 
@@ -80,7 +80,7 @@ IsUndone old new = (new.now ≡ old.committed) × (new.committed ≡ old.committ
 abbrev pub HoldsIndex : Trees → Type 0
 HoldsIndex db = IsIndex (record { schema = index_schema; trees = db })
 
--- a crash leaves what could be left before, or the change as a whole, with its rows of meta, in an
+-- a crash leaves what could be left before, or the whole change, with its rows of meta, in an
 -- index; its rows are records if they were
 abbrev pub LeavesWholeChange : (Tables → Tables) → (List Row → List Row) → State → State → Type 0
 LeavesWholeChange change rows old new =
@@ -90,7 +90,7 @@ LeavesWholeChange change rows old new =
     × (AreRecords old.now → AreRecordsOf index_schema.tables db))
 
 -- What a transaction leaves that is to make this change of an open database of such a kind, and
--- this of its rows of meta. What it says of values is of a clean disk.
+-- this of its rows of meta. Its facts about the database are about a clean disk.
 pub record MakesAll {S A E : Type 0} (g : Ghosts S)
     (IsKind : Database → Type 0)
     (change : Tables → Tables)
@@ -103,7 +103,7 @@ pub record MakesAll {S A E : Type 0} (g : Ghosts S)
       → IsKind (state g old).now
       → IsMade change rows (state g old) (state g new))
   pub opened : HasCleanDisk (state g new) → OnOk result (IsTrue (state g new).is_open)
-  -- after an error, while the connection is open, the database is as it was committed
+  -- after an error, if the connection is still open, the database is as it was committed
   pub unchanged : HasCleanDisk (state g new)
       → IsTrue (state g new).is_open
       → IsKind (state g old).now
@@ -116,7 +116,7 @@ pub record MakesAll {S A E : Type 0} (g : Ghosts S)
   pub crash : IsTrue (state g old).is_open → IsKind (state g old).now
       → LeavesWholeChange change rows (state g old) (state g new)
 
--- so it is where the database is an index, and its rows of meta stay
+-- a transaction makes this change of an index, and leaves its rows of meta
 abbrev pub MakesChange : {S A E : Type 0} → Ghosts S
     → (Tables → Tables) → Connected S → Connected S → Result A E → Type 0
 MakesChange g change = MakesAll g IsIndex change same_meta

@@ -21,11 +21,11 @@ use Rattle.index_sql_writes.specs.Asks.{Ask, Statement, WithNumbers, BodiesOf}
 use Rattle.index_sql_writes.specs.Writes.{flag_number, kind_number, held_numbers}
 use Rattle.index_sql_writes.specs.Writes.{prohibited_numbers, name_cells}
 
--- one text, by which rows are found
+-- a statement that finds rows by one text
 abbrev by_text : List ℕ → Bytes → Ask
 by_text sql key = Statement sql (Text key ∷ [])
 
--- two of them
+-- a statement that finds rows by two texts
 abbrev by_texts : List ℕ → Bytes → Bytes → Ask
 by_texts sql first second = Statement sql (Text first ∷ Text second ∷ [])
 
@@ -79,7 +79,7 @@ abbrev pub case_numbers : CaseRecord → List ℕ
 case_numbers case =
     case.opened ∷ case.state.attempts ∷ case.state.sent ∷ option_to_list case.state.first
 
--- what it has beside its texts, as SQL holds it
+-- the columns of a case besides its texts, as SQL holds them
 abbrev pub integers_of : CaseRecord → CaseNumbers
 integers_of case = record {
   kind = kind_number case.kind;
@@ -117,7 +117,7 @@ put_case_ask name case =
 abbrev pub put_ban_ask : Bytes → Ask
 put_ban_ask = by_text put_ban_text
 
--- ---- rows that go, or are marked
+-- ---- rows that are deleted, or marked
 
 abbrev pub delete_name_ask : Bytes → Ask
 delete_name_ask = by_text delete_name_text

@@ -10,13 +10,13 @@ use Rattle.index_sql_schema.specs.Index.{IsIndex}
 use Rattle.index_sql_schema.specs.RecordRows.{AreRecords}
 use Rattle.index_sql_schema.specs.Reasons.{HasReason}
 use Rattle.index_rules.specs.declared.answer.Fault.TheVariants.{Store}
-use Rattle.index_sql_writes.specs.Asks.{Ask, AnswersAll}
-use Rattle.index_sql_writes.specs.Statements.{put_user_ask, hold_name_ask, prohibit_name_ask}
-use Rattle.index_sql_writes.specs.Statements.{put_owner_ask, put_file_ask, put_body_ask}
-use Rattle.index_sql_writes.specs.Statements.{put_case_ask, put_ban_ask, put_yank_ask}
-use Rattle.index_sql_writes.specs.Statements.{delete_name_ask, delete_owners_ask, delete_owner_ask}
-use Rattle.index_sql_writes.specs.Statements.{delete_yanks_ask, delete_yank_ask, delete_case_ask}
-use Rattle.index_sql_writes.specs.Statements.{delete_body_ask, delete_bodies_ask, mark_files_ask}
+use Rattle.index_sql_writes.specs.Asks.{Ask, SqlAnswersEachAsk}
+use Rattle.index_sql_writes.specs.Statements.{hold_name_ask, prohibit_name_ask, put_body_ask}
+use Rattle.index_sql_writes.specs.Statements.{put_ban_ask, put_case_ask, put_file_ask}
+use Rattle.index_sql_writes.specs.Statements.{delete_name_ask, delete_owner_ask, delete_owners_ask}
+use Rattle.index_sql_writes.specs.Statements.{delete_case_ask, delete_yank_ask, delete_yanks_ask}
+use Rattle.index_sql_writes.specs.Statements.{delete_bodies_ask, delete_body_ask, mark_files_ask}
+use Rattle.index_sql_writes.specs.Statements.{put_owner_ask, put_user_ask, put_yank_ask}
 use Rattle.index_sql_writes.specs.declared.step.Put.{Put}
 use Rattle.index_sql_writes.specs.declared.step.Put.TheVariants as put
 use Rattle.index_sql_writes.specs.declared.step.Deletion.{Deletion}
@@ -24,7 +24,7 @@ use Rattle.index_sql_writes.specs.declared.step.Deletion.TheVariants as deletion
 use Rattle.index_sql_writes.specs.declared.step.Step.{Step}
 use Rattle.index_sql_writes.specs.declared.step.Step.TheVariants as step
 
--- by a record that is put
+-- what putting a record asks
 abbrev pub put_ask : Put → Ask
 put_ask (put.User user account) = put_user_ask user.now account.now
 put_ask (put.Held name project) = hold_name_ask name.now project.now
@@ -36,7 +36,7 @@ put_ask (put.Case name case) = put_case_ask name.now case.now
 put_ask (put.Ban file) = put_ban_ask file.now
 put_ask (put.Yank name release reason) = put_yank_ask name.now release.now reason.now
 
--- where something goes
+-- what a deletion asks
 abbrev pub deletion_ask : Deletion → Ask
 deletion_ask (deletion.Name name) = delete_name_ask name.now
 deletion_ask (deletion.Owners name) = delete_owners_ask name.now
@@ -47,25 +47,26 @@ deletion_ask (deletion.Case name) = delete_case_ask name.now
 deletion_ask (deletion.Body file) = delete_body_ask file.now
 deletion_ask (deletion.Bodies name) = delete_bodies_ask name.now
 
--- by a step
+-- what a step asks
 abbrev pub step_ask : Step → Ask
 step_ask (step.Put it) = put_ask it
 step_ask (step.Delete it) = deletion_ask it
 step_ask (step.MarkFiles name) = mark_files_ask name.now
 
--- by several, in turn
+-- what several steps ask, in turn
 abbrev pub asks_by : List Step → List Ask
 asks_by = map step_ask
 
--- SQL refuses one of these, on what those before it make of the database
+-- SQL refuses one of these, after those before it
 abbrev pub AreRefused : List Ask → Database → Type 0
-AreRefused asks db = (why : Option Error) × AnswersAll asks db (Err why)
+AreRefused asks db = (why : Option Error) × SqlAnswersEachAsk asks db (Err why)
 
--- a fault of the store comes for a reason of the store, or where SQL refuses
+-- the error is a fault of the store only for a reason of the store, or if SQL refuses
 abbrev pub FailsForRefusal : List Ask → State → State → Error → Type 0
 FailsForRefusal asks old new e = fault_by e ≡ Store → HasReason old new ⊎ AreRefused asks old.now
 
--- so it does on a clean disk, over an index whose rows are those of records
+-- on a clean disk, over an index whose rows are records, the error is a fault of the store only for
+-- a reason of the store, or if SQL refuses
 abbrev pub FailsForAsks :
     {S A : Type 0} → Ghosts S → List Ask → Held S → Held S → Result A Error → Type 0
 FailsForAsks g asks old new result =

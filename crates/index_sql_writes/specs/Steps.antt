@@ -15,11 +15,11 @@ use Rattle.index_sql_writes.specs.StepAsks.{deletion_ask, put_ask, step_ask}
 use Rattle.index_sql_writes.specs.declared.step.Deletion.{Deletion}
 use Rattle.index_sql_writes.specs.declared.step.Put.{Put}
 use Rattle.index_sql_writes.specs.declared.step.Step.{Step}
-use Rattle.index_sql_writes.specs.Transaction.{IsInTransaction, IsUncommitted, MakesInTransaction}
-use Rattle.index_sql_writes.specs.Transaction.{MakesIfOk, WasOpenIfOk}
+use Rattle.index_sql_writes.specs.Transaction.{IsInTransaction, IsUncommitted, MakesIfOk}
+use Rattle.index_sql_writes.specs.Transaction.{MakesInTransaction, WasOpenIfOk}
 
 -- a step that makes this change of the tables, and asks this of SQL
-pub record TakesStep {S A : Type 0}
+pub record StepMakesChange {S A : Type 0}
     (change : Tables → Tables)
     (ask : Ask)
     (tx : TransactionStep S)
@@ -29,24 +29,24 @@ pub record TakesStep {S A : Type 0}
   pub opened : WasOpenIfOk tx.store tx.old.conn.now tx.new.conn.now result
   pub asked : GoesByAsk tx.store ask tx.old.conn.now tx.new.conn.now result
 
--- this step
+-- a call runs this step
 abbrev pub RunsStep :
     {S A : Type 0} → Step → TransactionStep S → Result A Error → Type 0
-RunsStep step = TakesStep (step_by step) (step_ask step)
+RunsStep step = StepMakesChange (step_by step) (step_ask step)
 
--- one that puts this
-abbrev pub TakesPut :
+-- a step that puts this record
+abbrev pub StepPuts :
     {S A : Type 0} → Put → TransactionStep S → Result A Error → Type 0
-TakesPut put = TakesStep (put_by put) (put_ask put)
+StepPuts put = StepMakesChange (put_by put) (put_ask put)
 
--- one by which this goes
-abbrev pub TakesDeletion :
+-- a step that makes this deletion
+abbrev pub StepDeletes :
     {S A : Type 0} → Deletion → TransactionStep S → Result A Error → Type 0
-TakesDeletion deletion = TakesStep (deletion_by deletion) (deletion_ask deletion)
+StepDeletes deletion = StepMakesChange (deletion_by deletion) (deletion_ask deletion)
 
--- any number of steps: where a transaction is such that they can, they make this of it; and where
--- they can be asked, they go as SQL answers
-pub record TakesSteps {S A : Type 0}
+-- any number of steps: in a state in which they can, they make this of a transaction; in a state in
+-- which SQL can be asked, they have the result that it answers
+pub record ManyStepsMakeChange {S A : Type 0}
     (CanMake : State → Type 0)
     (MakesInTransaction : State → State → Type 0)
     (CanAsk : State → Type 0)
@@ -60,12 +60,12 @@ pub record TakesSteps {S A : Type 0}
       → MakesInTransaction (state tx.store tx.old.conn.now) (state tx.store tx.new.conn.now))
   pub asked : GoesAs tx.store CanAsk Answered tx.old.conn.now tx.new.conn.now result
 
--- any number of them on an index, which make this change of its tables
+-- any number of steps on an index, which make this change of its tables
 abbrev pub ChangesIndex : {S A : Type 0} → (Tables → Tables)
     → (State → Type 0)
     → (Database → Part Database)
     → TransactionStep S → Result A Error → Type 0
-ChangesIndex change = TakesSteps IsInTransaction (MakesInTransaction change same_meta)
+ChangesIndex change = ManyStepsMakeChange IsInTransaction (MakesInTransaction change same_meta)
 
 -- one statement with these parameters
 pub record RunsStatement {S : Type 0}

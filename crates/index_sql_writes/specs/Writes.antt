@@ -1,4 +1,4 @@
--- What each statement makes of the tables.
+-- The effect of each statement on the tables.
 use Rattle.std.specs.Prelude.{◌≡◌, ℤ, pos, List, [], ◌∷◌, Bool, if◌then◌else◌, not, None}
 use Rattle.std.specs.Prelude.{option_map}
 use Rattle.std.specs.List.{list_any}
@@ -20,7 +20,7 @@ use Rattle.index_sql_schema.specs.Records.{number_in, number_if_any, name_by}
 use Rattle.index_sql_schema.specs.ShownRows.{file_shown}
 use Rattle.index_sql_writes.specs.declared.statements.NameNumbers.{NameNumbers}
 
--- ---- a record at its key, in place of the one that is there
+-- ---- a record at its key, in place of an earlier one
 
 abbrev pub puts_user : Bytes → UserRecord → Tables → Tables
 puts_user user account T = record T { users = insert T.users user account }
@@ -46,7 +46,7 @@ puts_case name case T = record T { cases = insert T.cases name case }
 abbrev pub puts_ban : Bytes → Tables → Tables
 puts_ban file T = record T { bans = insert T.bans file tt }
 
--- ---- what stands at a key is taken out; a name goes by `without_record`
+-- ---- the record at a key is deleted; for a name that is `without_record`
 
 -- all owners of a name
 abbrev pub deletes_owners : Bytes → Tables → Tables
@@ -73,13 +73,13 @@ abbrev pub deletes_bodies : Bytes → Tables → Tables
 deletes_bodies name T =
     record T { bodies = retain_keys T.bodies (λ file. not (is_file_of T.files name file)) }
 
--- the rows show the files of a name, each of them, in any order
+-- the rows show the files of a name, in any order
 abbrev pub AreFilesOf : Bytes → Tables → List Row → Type 0
 AreFilesOf name T rows =
     (file : Bytes)
     → list_any (λ r. same file (file_shown r)) rows ≡ is_file_of T.files name file
 
--- the bytes of the files that these rows show
+-- the bodies without those of the files that these rows show
 abbrev pub removes : List Row → Map Bytes → Map Bytes
 removes [] bodies = bodies
 removes (r ∷ rows) bodies = removes rows (remove bodies (file_shown r))
@@ -95,7 +95,7 @@ marks_files name T = record T { files = change_values (as_deleted_of name) T.fil
 
 -- ---- records by the numbers of their columns
 
--- those of a held name
+-- the columns of a held name, as SQL holds them
 abbrev pub held_numbers : Project → NameNumbers
 held_numbers project = record {
   state = pos 1;
@@ -105,7 +105,7 @@ held_numbers project = record {
   last_upload = option_map pos project.last_upload;
 }
 
--- those of a prohibited one
+-- the columns of a prohibited name, as SQL holds them
 abbrev pub prohibited_numbers : NameNumbers
 prohibited_numbers = record {
   state = pos 2;
@@ -115,7 +115,7 @@ prohibited_numbers = record {
   last_upload = None;
 }
 
--- the record of a name that is shown so, by the numbers in its row
+-- the record of a name with this shown name, by the numbers in its row
 abbrev pub name_of : Bytes → NameNumbers → NameRecord
 name_of shown it =
     name_by (number_in (Int it.state)) (record {
@@ -126,7 +126,7 @@ name_of shown it =
       last_upload = number_if_any (or_null Int it.last_upload);
     })
 
--- the columns of its row
+-- the columns of the row of a name
 abbrev pub name_cells : Bytes → Bytes → NameNumbers → Row
 name_cells name shown it =
     Text name
@@ -138,11 +138,11 @@ name_cells name shown it =
     ∷ or_null Int it.last_upload
     ∷ []
 
--- 1 for true and 0 for false
+-- the number of a flag: 1 for true and 0 for false
 abbrev pub flag_number : Bool → ℤ
 flag_number b = if b then pos 1 else pos 0
 
--- 1 for continued maintenance and 2 for reuse
+-- the number of a kind: 1 for continued maintenance and 2 for reuse
 abbrev pub kind_number : CaseKind → ℤ
 kind_number Continue = pos 1
 kind_number Reuse = pos 2

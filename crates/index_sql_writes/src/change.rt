@@ -22,7 +22,7 @@ use sqlite::{Alter, Connection, Error};
 /// # Errors
 ///
 /// The error of the step or of the commit that failed: a fault of the store, a number that SQL can't hold, or what the
-/// schema refuses. The tables are then what was committed before.
+/// schema refuses. The tables are then as they were committed before.
 pub fn make_change<S: Alter>(conn: &mut Connection<S>, change: &Change) -> Result<(), Error>
     requires { conn.old.in_transaction ≡ false }
     ensures made { MakesChange S.Store (means change.now) conn.old conn.new result }
@@ -33,8 +33,8 @@ pub fn make_change<S: Alter>(conn: &mut Connection<S>, change: &Change) -> Resul
     commit_steps(conn, steps.as_slice())
 }
 
-/// Takes the steps in a transaction and commits it. After an error the tables are what was committed before, and a crash
-/// leaves that, or what all steps make of it. A connection that was shut does none of it.
+/// Takes the steps in a transaction and commits it. After an error the tables are as they were committed before; a
+/// crash leaves these, or the result of all steps. A connection that was shut does none of it.
 fn commit_steps<S: Alter>(conn: &mut Connection<S>, steps: &[Step<'_>]) -> Result<(), Error>
     requires { conn.old.in_transaction ≡ false }
     ensures made { MakesChange S.Store (all_of steps.now) conn.old conn.new result }

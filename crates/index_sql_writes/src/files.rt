@@ -40,8 +40,8 @@ pub(crate) fn file_steps(change: &Change) -> Steps<'_>
     }
 }
 
-/// The name and the file have these records, and the bytes are kept. The name's case ends where `ends_case`. A body that
-/// is there goes first: the one that is put takes nobody's place, and is copied five times less.
+/// The name and the file have these records, and the bytes are stored. If `ends_case`, the name's case ends. A body
+/// that exists is deleted first: the new one then replaces none, and is copied five times less.
 fn upload<'a>(
     name: &'a NormalName,
     project: &'a Project,
@@ -64,7 +64,7 @@ fn upload<'a>(
     }
 }
 
-/// The name and the file have these records, and the bytes go.
+/// The name and the file have these records, and the bytes are deleted.
 fn delete<'a>(
     name: &'a NormalName,
     project: &'a Project,
@@ -79,7 +79,8 @@ fn delete<'a>(
         .then(Step::Delete(Deletion::Case(name.text())))
 }
 
-/// The file is banned and has this record, and its bytes go. The name has the record `project`, if there is one.
+/// The file is banned and has this record, and its bytes are deleted. The name has the record `project`, if there is
+/// one.
 fn ban<'a>(
     name: &'a NormalName,
     project: &'a Option<Project>,

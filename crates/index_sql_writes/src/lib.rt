@@ -1,4 +1,4 @@
-//! Accepted changes of the index as statements on its tables in SQLite, all of a change in one transaction.
+//! Accepted changes of the index as statements on its tables in SQLite, one transaction for each change.
 #![tactic(auto)]
 
 mod change;

@@ -14,7 +14,7 @@ pub(crate) fn set_project<'a>(name: &'a NormalName, project: &'a Project) -> Ste
     Steps::first(Step::Put(Put::Held(name, project)))
 }
 
-/// The name is held, with this record and no owner but this one. What there was of an earlier claim goes first.
+/// The name is held, with this record and this owner alone. The records of an earlier claim are deleted first.
 pub(crate) fn claim<'a>(name: &'a NormalName, project: &'a Project, owner: &'a UserId) -> Steps<'a>
     ensures { AreStepsOf (Change.Claim name.now project.now owner.now) result }
 {
@@ -26,14 +26,14 @@ pub(crate) fn claim<'a>(name: &'a NormalName, project: &'a Project, owner: &'a U
         .then(Step::Put(Put::Owner(name, owner)))
 }
 
-/// The name is free. Its owners, its yanks and its case go with its row.
+/// The name is free. Its owners, its yanks and its case are deleted with its row.
 pub(crate) fn free<'a>(name: &'a NormalName) -> Steps<'a>
     ensures { AreStepsOf (Change.Relinquish name.now) result }
 {
     Steps::first(Step::Delete(Deletion::Name(name.text())))
 }
 
-/// The name is prohibited, and its files are deleted. Its owners, its yanks and its case go with the row that it had.
+/// The name is prohibited, and its files are deleted. Its owners, its yanks and its case are deleted with its old row.
 pub(crate) fn prohibit<'a>(name: &'a NormalName) -> Steps<'a>
     ensures { AreStepsOf (Change.Prohibit name.now) result }
 {
@@ -51,7 +51,7 @@ pub(crate) fn add_owner<'a>(name: &'a NormalName, user: &'a UserId) -> Steps<'a>
     Steps::first(Step::Put(Put::Owner(name, user))).then(Step::Delete(Deletion::Case(name.text())))
 }
 
-/// The user does not own the name any more.
+/// The user no longer owns the name.
 pub(crate) fn remove_owner<'a>(name: &'a NormalName, user: &'a UserId) -> Steps<'a>
     ensures { AreStepsOf (Change.RemoveOwner name.now user.now) result }
 {
@@ -79,7 +79,7 @@ pub(crate) fn yank<'a>(name: &'a NormalName, release: &'a Release, reason: &'a T
     ))
 }
 
-/// The release is not yanked any more.
+/// The release is no longer yanked.
 pub(crate) fn unyank<'a>(name: &'a NormalName, release: &'a Release) -> Steps<'a>
     ensures { AreStepsOf (Change.Unyank name.now release.now) result }
 {

@@ -3,7 +3,7 @@ ghost use Rattle.std.specs.Prelude.{◌≡◌, IfErr, IfOk, OnOk};
 ghost use Rattle.index_retention.specs.Attempts.{IsTally};
 ghost use Rattle.index_sql_schema.specs.OnStore.{on_store};
 ghost use Rattle.index_sql_writes.specs.Asks.{HasTooMuch, IsOutOfRange};
-ghost use Rattle.index_sql_writes.specs.Steps.{TakesPut};
+ghost use Rattle.index_sql_writes.specs.Steps.{StepPuts};
 ghost use Rattle.index_sql_writes.specs.declared.step.Put.{Put};
 ghost use Rattle.index_sql_writes.specs.Writes.{kind_number};
 ghost use Rattle.index_sql_writes.specs.Statements.{case_numbers, integers_of};
@@ -15,7 +15,7 @@ use index_rules::CaseRecord;
 use index_sql_schema::statement_texts::PUT_CASE;
 use sqlite::{Alter, Error, Transaction, params};
 
-/// What a case has beside its texts, as SQL holds it.
+/// The columns of a case besides its texts, as SQL holds them.
 #[derive(Clone, Copy)]
 struct CaseNumbers {
     kind: i64,
@@ -34,7 +34,7 @@ pub(crate) fn put_case<S: Alter>(
     name: &NormalName,
     case: &CaseRecord,
 ) -> Result<(), Error>
-    ensures { TakesPut (Put.Case name.entry case.entry) (on_store S.Store tx.old tx.new) result }
+    ensures { StepPuts (Put.Case name.entry case.entry) (on_store S.Store tx.old tx.new) result }
 {
     let numbers = numbers_of(case)?;
     run_statement(
@@ -58,7 +58,7 @@ pub(crate) fn put_case<S: Alter>(
     )
 }
 
-/// What a case has beside its texts. `IntegralValueOutOfRange` where one is more than SQL can hold.
+/// The columns of a case besides its texts. `IntegralValueOutOfRange` if one is more than SQL can hold.
 fn numbers_of(case: &CaseRecord) -> Result<CaseNumbers, Error>
     ensures numbers { IfOk result (λ it. it ≡ integers_of case.now) }
     ensures tally { let it = case.now.state in OnOk result (IsTally it.attempts it.sent it.first) }

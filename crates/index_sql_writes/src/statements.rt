@@ -1,7 +1,7 @@
-//! The statements of the steps: records that are put, and rows that go or are marked.
+//! The statements of the steps: records that are put, and rows that are deleted or marked.
 //!
-//! A row that is put takes the place of the one with its key, if there is one. Where a number is more than SQL can
-//! hold, 9,223,372,036,854,775,807, that is an error, and nothing is written. Where no row is there to go, that is none.
+//! A row that is put replaces the one with its key, if there is one. A number above 9,223,372,036,854,775,807, the
+//! greatest that SQL can hold, is an error, and nothing is written. It is no error if there is no row to delete.
 ghost use Rattle.std.specs.Prelude.{◌≡◌, ◌≤◌, ◌^◌, [], ◌∷◌, ℤ, pos, IfErr, IfOk, OnOk, option_map};
 ghost use Rattle.std.specs.Option.{option_to_list};
 ghost use Rattle.sqlite_value.specs.declared.value.Value.TheVariants.{Int};
@@ -14,12 +14,12 @@ ghost use Rattle.index_sql_schema.specs.OnStore.{on_store};
 ghost use Rattle.index_sql_schema.specs.RecordRows.{IsNameRow};
 ghost use Rattle.index_sql_schema.specs.ShownRows.{file_shown};
 ghost use Rattle.index_sql_schema.specs.StatementTexts.{put_name_text};
-ghost use Rattle.index_sql_writes.specs.Asks.{AnswersAsk, AnswersBodyDeletions, AreFilesIn};
+ghost use Rattle.index_sql_writes.specs.Asks.{AreFilesIn, SqlAnswersAsk, SqlDeletesBodies};
 ghost use Rattle.index_sql_writes.specs.Asks.{CanAsk, CanAskFor, HasTooMuch, IsOutOfRange};
 ghost use Rattle.index_sql_writes.specs.Asks.{Statement};
 ghost use Rattle.index_sql_writes.specs.Statements.{delete_body_ask, project_numbers, put_user_ask};
 ghost use Rattle.index_sql_writes.specs.Steps.{ChangesIndex, RunsStatement, RunsStep};
-ghost use Rattle.index_sql_writes.specs.Steps.{TakesDeletion, TakesPut, TakesStep};
+ghost use Rattle.index_sql_writes.specs.Steps.{StepDeletes, StepMakesChange, StepPuts};
 ghost use Rattle.index_sql_writes.specs.Transaction.{WasOpenIfOk};
 ghost use Rattle.index_sql_writes.specs.Writes.{deletes_body, deletes_shown, held_numbers};
 ghost use Rattle.index_sql_writes.specs.Writes.{name_cells, name_of, puts_name, puts_user};
@@ -37,7 +37,7 @@ use index_sql_schema::statement_texts::{
 use sqlite::types::ValueRef;
 use sqlite::{Alter, Error, Row, Transaction, params};
 
-/// Runs the statement. How many rows it changes is not told.
+/// Runs the statement. It does not return how many rows change.
 pub fn run_statement<S: Alter>(
     tx: &mut Transaction<'_, S>,
     sql: &str,
@@ -51,10 +51,10 @@ pub fn run_statement<S: Alter>(
 
 // ---- records that are put
 
-/// What the row of a name has beside its texts, as SQL holds it.
+/// The columns of a name besides its texts, as SQL holds them.
 #[derive(Clone, Copy)]
 struct NameNumbers {
-    /// 1 where the name is held, and 2 where it is prohibited.
+    /// 1 for a held name, and 2 for a prohibited one.
     state: i64,
     quota: i64,
     charge: i64,
@@ -72,7 +72,7 @@ pub fn put_user<S: Alter>(
     user: &UserId,
     account: &UserRecord,
 ) -> Result<(), Error>
-    ensures { TakesStep (puts_user user.now account.now) (put_user_ask user.now account.now)
+    ensures { StepMakesChange (puts_user user.now account.now) (put_user_ask user.now account.now)
         (on_store S.Store tx.old tx.new) result }
 {
     let token = account.token.to_bytes();
@@ -89,13 +89,13 @@ pub(crate) fn hold_name<S: Alter>(
     name: &NormalName,
     project: &Project,
 ) -> Result<(), Error>
-    ensures { TakesPut (Put.Held name.entry project.entry) (on_store S.Store tx.old tx.new) result }
+    ensures { StepPuts (Put.Held name.entry project.entry) (on_store S.Store tx.old tx.new) result }
 {
     let numbers = numbers_of(project)?;
     put_name(tx, name, project.shown().as_str(), numbers)
 }
 
-/// The numbers of a held name. `IntegralValueOutOfRange` where one is more than SQL can hold.
+/// The numbers of a held name. `IntegralValueOutOfRange` if one is more than SQL can hold.
 fn numbers_of(project: &Project) -> Result<NameNumbers, Error>
     ensures numbers { IfOk result (λ it. it ≡ held_numbers project.now) }
     ensures fit { let it = project.now in
@@ -120,7 +120,7 @@ pub(crate) fn prohibit_name<S: Alter>(
     tx: &mut Transaction<'_, S>,
     name: &NormalName,
 ) -> Result<(), Error>
-    ensures { TakesPut (Put.Prohibited name.entry) (on_store S.Store tx.old tx.new) result }
+    ensures { StepPuts (Put.Prohibited name.entry) (on_store S.Store tx.old tx.new) result }
 {
     let numbers = NameNumbers {
         state: 2,
@@ -141,7 +141,7 @@ fn put_name<S: Alter>(
 ) -> Result<(), Error>
     requires { (id : ℤ) → IsNameRow (Int id ∷ name_cells name.now shown.now numbers) }
     ensures { let cells = name_cells name.now shown.now numbers in
-        TakesStep (puts_name name.now (name_of shown.now numbers))
+        StepMakesChange (puts_name name.now (name_of shown.now numbers))
         (Statement put_name_text cells) (on_store S.Store tx.old tx.new) result }
 {
     run_statement(
@@ -165,7 +165,7 @@ pub(crate) fn put_owner<S: Alter>(
     name: &NormalName,
     user: &UserId,
 ) -> Result<(), Error>
-    ensures { TakesPut (Put.Owner name.entry user.entry) (on_store S.Store tx.old tx.new) result }
+    ensures { StepPuts (Put.Owner name.entry user.entry) (on_store S.Store tx.old tx.new) result }
 {
     run_statement(tx, PUT_OWNER, params![name.text(), user.text()])
 }
@@ -176,7 +176,7 @@ pub(crate) fn put_file<S: Alter>(
     file: &FileName,
     known: &FileRecord,
 ) -> Result<(), Error>
-    ensures { TakesPut (Put.File file.entry known.entry) (on_store S.Store tx.old tx.new) result }
+    ensures { StepPuts (Put.File file.entry known.entry) (on_store S.Store tx.old tx.new) result }
 {
     let size = sql_integer(known.size)?;
     let digest = known.digest.to_bytes();
@@ -195,13 +195,13 @@ pub(crate) fn put_file<S: Alter>(
     )
 }
 
-/// These bytes are kept of the file.
+/// The file has these bytes.
 pub(crate) fn put_body<S: Alter>(
     tx: &mut Transaction<'_, S>,
     file: &FileName,
     body: &[u8],
 ) -> Result<(), Error>
-    ensures { TakesPut (Put.Body file.entry body.entry) (on_store S.Store tx.old tx.new) result }
+    ensures { StepPuts (Put.Body file.entry body.entry) (on_store S.Store tx.old tx.new) result }
 {
     run_statement(tx, PUT_BODY, params![file.text(), body])
 }
@@ -213,7 +213,7 @@ pub(crate) fn put_yank<S: Alter>(
     release: &Release,
     reason: &str,
 ) -> Result<(), Error>
-    ensures { TakesPut (Put.Yank name.entry release.entry reason.entry)
+    ensures { StepPuts (Put.Yank name.entry release.entry reason.entry)
         (on_store S.Store tx.old tx.new) result }
 {
     run_statement(tx, PUT_YANK, params![name.text(), release.text(), reason])
@@ -221,23 +221,23 @@ pub(crate) fn put_yank<S: Alter>(
 
 /// The file is banned.
 pub(crate) fn put_ban<S: Alter>(tx: &mut Transaction<'_, S>, file: &FileName) -> Result<(), Error>
-    ensures { TakesPut (Put.Ban file.entry) (on_store S.Store tx.old tx.new) result }
+    ensures { StepPuts (Put.Ban file.entry) (on_store S.Store tx.old tx.new) result }
 {
     run_statement(tx, PUT_BAN, params![file.text()])
 }
 
-// ---- rows that go, or are marked
+// ---- rows that are deleted, or marked
 
-/// The name is free: its owners, its yanks and its case go with it.
+/// The name is free: its owners, its yanks and its case are deleted with it.
 pub(crate) fn delete_name<S: Alter>(tx: &mut Transaction<'_, S>, name: &str) -> Result<(), Error>
-    ensures { TakesDeletion (Deletion.Name name.entry) (on_store S.Store tx.old tx.new) result }
+    ensures { StepDeletes (Deletion.Name name.entry) (on_store S.Store tx.old tx.new) result }
 {
     run_statement(tx, DELETE_NAME, params![name])
 }
 
 /// The name has no owner.
 pub(crate) fn delete_owners<S: Alter>(tx: &mut Transaction<'_, S>, name: &str) -> Result<(), Error>
-    ensures { TakesDeletion (Deletion.Owners name.entry) (on_store S.Store tx.old tx.new) result }
+    ensures { StepDeletes (Deletion.Owners name.entry) (on_store S.Store tx.old tx.new) result }
 {
     run_statement(tx, DELETE_OWNERS, params![name])
 }
@@ -248,7 +248,7 @@ pub(crate) fn delete_owner<S: Alter>(
     name: &str,
     user: &str,
 ) -> Result<(), Error>
-    ensures { TakesDeletion (Deletion.Owner name.entry user.entry)
+    ensures { StepDeletes (Deletion.Owner name.entry user.entry)
         (on_store S.Store tx.old tx.new) result }
 {
     run_statement(tx, DELETE_OWNER, params![name, user])
@@ -256,7 +256,7 @@ pub(crate) fn delete_owner<S: Alter>(
 
 /// No release of the name is yanked.
 pub(crate) fn delete_yanks<S: Alter>(tx: &mut Transaction<'_, S>, name: &str) -> Result<(), Error>
-    ensures { TakesDeletion (Deletion.Yanks name.entry) (on_store S.Store tx.old tx.new) result }
+    ensures { StepDeletes (Deletion.Yanks name.entry) (on_store S.Store tx.old tx.new) result }
 {
     run_statement(tx, DELETE_YANKS, params![name])
 }
@@ -267,7 +267,7 @@ pub(crate) fn delete_yank<S: Alter>(
     name: &str,
     release: &str,
 ) -> Result<(), Error>
-    ensures { TakesDeletion (Deletion.Yank name.entry release.entry)
+    ensures { StepDeletes (Deletion.Yank name.entry release.entry)
         (on_store S.Store tx.old tx.new) result }
 {
     run_statement(tx, DELETE_YANK, params![name, release])
@@ -275,14 +275,14 @@ pub(crate) fn delete_yank<S: Alter>(
 
 /// The name has no open case.
 pub(crate) fn delete_case<S: Alter>(tx: &mut Transaction<'_, S>, name: &str) -> Result<(), Error>
-    ensures { TakesDeletion (Deletion.Case name.entry) (on_store S.Store tx.old tx.new) result }
+    ensures { StepDeletes (Deletion.Case name.entry) (on_store S.Store tx.old tx.new) result }
 {
     run_statement(tx, DELETE_CASE, params![name])
 }
 
-/// No bytes are kept of the file.
+/// The file has no bytes.
 pub(crate) fn delete_body<S: Alter>(tx: &mut Transaction<'_, S>, file: &str) -> Result<(), Error>
-    ensures { TakesDeletion (Deletion.Body file.entry) (on_store S.Store tx.old tx.new) result }
+    ensures { StepDeletes (Deletion.Body file.entry) (on_store S.Store tx.old tx.new) result }
 {
     run_statement(tx, DELETE_BODY, params![file])
 }
@@ -296,10 +296,10 @@ pub(crate) fn mark_files<S: Alter>(tx: &mut Transaction<'_, S>, name: &str) -> R
 
 // ---- the bytes of all files of a name
 
-/// No bytes are kept of the files of the name. One statement asks for the files, and for each of them one finds its bytes
-/// by their key: so a name costs no look at the files of others.
+/// The files of the name have no bytes. One statement finds the files, and one for each of them finds its bytes by
+/// their key, so the files of other names are not read.
 pub(crate) fn delete_bodies<S: Alter>(tx: &mut Transaction<'_, S>, name: &str) -> Result<(), Error>
-    ensures { TakesDeletion (Deletion.Bodies name.entry) (on_store S.Store tx.old tx.new) result }
+    ensures { StepDeletes (Deletion.Bodies name.entry) (on_store S.Store tx.old tx.new) result }
 {
     let rows = files_named(tx, name)?;
     delete_each(tx, rows.as_slice())?;
@@ -319,10 +319,10 @@ fn files_named<S: Alter>(tx: &mut Transaction<'_, S>, name: &str) -> Result<Vec<
     }
 }
 
-/// No bytes are kept of the files that these rows show.
+/// The files that these rows show have no bytes.
 fn delete_each<S: Alter>(tx: &mut Transaction<'_, S>, rows: &[Row]) -> Result<(), Error>
     ensures { ChangesIndex (deletes_shown rows.now) (CanAskFor rows.now)
-        (AnswersBodyDeletions rows.now) (on_store S.Store tx.old tx.new) result }
+        (SqlDeletesBodies rows.now) (on_store S.Store tx.old tx.new) result }
 {
     for row in rows {
         delete_shown(tx, row)?;
@@ -330,10 +330,10 @@ fn delete_each<S: Alter>(tx: &mut Transaction<'_, S>, rows: &[Row]) -> Result<()
     Ok(())
 }
 
-/// No bytes are kept of the file that a row shows.
+/// The file that a row shows has no bytes.
 fn delete_shown<S: Alter>(tx: &mut Transaction<'_, S>, row: &Row) -> Result<(), Error>
     ensures { let file = file_shown row.now in ChangesIndex (deletes_body file)
-        (CanAskFor (row.now ∷ [])) (AnswersAsk (delete_body_ask file))
+        (CanAskFor (row.now ∷ [])) (SqlAnswersAsk (delete_body_ask file))
         (on_store S.Store tx.old tx.new) result }
 {
     let file: String = row.get(0)?;
@@ -342,7 +342,7 @@ fn delete_shown<S: Alter>(tx: &mut Transaction<'_, S>, row: &Row) -> Result<(), 
 
 // ---- numbers as SQL holds them
 
-/// The number as SQL holds it. `IntegralValueOutOfRange` where it is above the greatest.
+/// The number as SQL holds it. `IntegralValueOutOfRange` if it is above the greatest.
 pub(crate) fn sql_integer(number: u64) -> Result<i64, Error>
     ensures whole { IfOk result (λ it. it ≡ pos number) }
     ensures too_much { IfErr result (IsOutOfRange (2 ^ 63 ≤ number)) }
@@ -353,7 +353,7 @@ pub(crate) fn sql_integer(number: u64) -> Result<i64, Error>
     }
 }
 
-/// The same, or `None` for `None`.
+/// The number as SQL holds it, or `None` for `None`. `IntegralValueOutOfRange` if it is above the greatest.
 pub(crate) fn sql_integer_if_any(number: Option<u64>) -> Result<Option<i64>, Error>
     ensures whole { IfOk result (λ it. it ≡ option_map pos number) }
     ensures too_much { IfErr result (IsOutOfRange (HasTooMuch (option_to_list number))) }

@@ -2,8 +2,8 @@
 ghost use Rattle.std.specs.Prelude.{◌≡◌, ◌<◌, [], ◌∷◌, ◌++◌, length};
 ghost use Rattle.index_sql_schema.specs.OnStore.{on_store};
 ghost use Rattle.index_sql_writes.specs.Transaction.{WasOpenIfOk};
-ghost use Rattle.index_sql_writes.specs.Asks.{AnswersAll, CanAsk};
-ghost use Rattle.index_sql_writes.specs.Steps.{ChangesIndex, RunsStep, TakesDeletion, TakesPut};
+ghost use Rattle.index_sql_writes.specs.Asks.{CanAsk, SqlAnswersEachAsk};
+ghost use Rattle.index_sql_writes.specs.Steps.{ChangesIndex, RunsStep, StepDeletes, StepPuts};
 ghost use Rattle.index_sql_writes.specs.StepAsks.{asks_by};
 ghost use Rattle.index_sql_writes.specs.Changed.{all_of};
 
@@ -18,7 +18,7 @@ use index_rules::{CaseRecord, FileRecord, Project, UserId, UserRecord};
 use sqlite::{Alter, Error, Transaction};
 use std::marker::Model;
 
-/// A record that is put at its key, in place of the one that is there.
+/// A record that is put at its key, in place of an earlier one.
 #[derive(Clone, Copy)]
 pub(crate) enum Put<'a> {
     /// The user has this record.
@@ -31,7 +31,7 @@ pub(crate) enum Put<'a> {
     Owner(&'a NormalName, &'a UserId),
     /// The file has this record.
     File(&'a FileName, &'a FileRecord),
-    /// These bytes are kept of the file.
+    /// The file has these bytes.
     Body(&'a FileName, &'a [u8]),
     /// The name has this open case.
     Case(&'a NormalName, &'a CaseRecord),
@@ -41,10 +41,10 @@ pub(crate) enum Put<'a> {
     Yank(&'a NormalName, &'a Release, &'a str),
 }
 
-/// What goes, where it is there.
+/// What is deleted, if it exists.
 #[derive(Clone, Copy)]
 pub(crate) enum Deletion<'a> {
-    /// The name is free: its owners, its yanks and its case go with it.
+    /// The name is free: its owners, its yanks and its case are deleted with it.
     Name(&'a str),
     /// The name has no owner.
     Owners(&'a str),
@@ -56,9 +56,9 @@ pub(crate) enum Deletion<'a> {
     Yank(&'a str, &'a str),
     /// The name has no open case.
     Case(&'a str),
-    /// No bytes are kept of the file.
+    /// The file has no bytes.
     Body(&'a str),
-    /// No bytes are kept of the files of the name.
+    /// The files of the name have no bytes.
     Bodies(&'a str),
 }
 
@@ -131,7 +131,7 @@ impl<'a> Steps<'a> {
 
 /// Puts a record.
 fn take_put<S: Alter>(tx: &mut Transaction<'_, S>, put: Put<'_>) -> Result<(), Error>
-    ensures { TakesPut put.entry (on_store S.Store tx.old tx.new) result }
+    ensures { StepPuts put.entry (on_store S.Store tx.old tx.new) result }
 {
     match put {
         Put::User(user, account) => put_user(tx, user, account),
@@ -146,9 +146,9 @@ fn take_put<S: Alter>(tx: &mut Transaction<'_, S>, put: Put<'_>) -> Result<(), E
     }
 }
 
-/// Takes out what goes.
+/// Deletes what the deletion names.
 fn take_deletion<S: Alter>(tx: &mut Transaction<'_, S>, deletion: Deletion<'_>) -> Result<(), Error>
-    ensures { TakesDeletion deletion.entry (on_store S.Store tx.old tx.new) result }
+    ensures { StepDeletes deletion.entry (on_store S.Store tx.old tx.new) result }
 {
     match deletion {
         Deletion::Name(name) => delete_name(tx, name),
@@ -178,7 +178,7 @@ pub(crate) fn take_steps<S: Alter>(
     tx: &mut Transaction<'_, S>,
     steps: &[Step<'_>],
 ) -> Result<(), Error>
-    ensures taken { ChangesIndex (all_of steps.now) CanAsk (AnswersAll (asks_by steps.now))
+    ensures taken { ChangesIndex (all_of steps.now) CanAsk (SqlAnswersEachAsk (asks_by steps.now))
         (on_store S.Store tx.old tx.new) result }
     ensures opened { 0 < length steps.now →
         WasOpenIfOk S.Store tx.old.conn.now tx.new.conn.now result }

@@ -29,8 +29,8 @@ use Rattle.index_tables.specs.declared.opening.Unopened.{Unopened}
 use Rattle.index_tables.specs.BooksState.{IsWorking, BooksState}
 use Rattle.index_tables.specs.declared.adopt.Kind.{Kind}
 use Rattle.index_tables.specs.declared.adopt.Kind.TheVariants.{FirstVersion}
-use Rattle.index_tables.specs.Adopted.{Adopts, AreHandedOn, FailsToOpen, IsFound, IsOurs, IsRaised, IsReason, IsReasonOfKind, StandAsFound, TellsFirst, TellsVersion, refusal_in, version_of}
-use Rattle.index_tables.specs.Opened.{AreOpened, IsFault, IsUnopened, LeavesOr, StoreForRefusal, open_fault_by}
+use Rattle.index_tables.specs.Adopted.{Adopts, AreHandedOn, DatabaseFailsToOpen, DatabaseHasVersion, HasVersionOne, IsFound, IsOurs, IsRaised, IsReason, IsReasonOfKind, StandAsFound, refusal_in, version_of}
+use Rattle.index_tables.specs.Opened.{AreOpened, CrashLeavesOrMakes, IsFault, IsUnopened, StoreForRefusal, open_fault_by}
 
 -- one set of tables is found in a database
 found_once : (db : Database) (T was : Tables) → IsFound db T → IsFound db was → T ≡ was
@@ -42,8 +42,8 @@ found_once db T was (inr it) (inr other) = it.tables ∙ sym other.tables
 pub stand_as_found : (db : Database) (T : Tables) → IsFound db T → StandAsFound db T
 stand_as_found db T found was h other stands = subst (λ it. StandsFor it h) (sym (found_once db T was found other)) stands
 
--- one of version 1 tells version 2, where its row of meta is raised
-pub raised_told : (db : Database) → TellsFirst db → version_among (raised (meta_in db.trees)) ≡ Some 2
+-- one of version 1 tells version 2, if its row of meta is raised
+pub raised_told : (db : Database) → HasVersionOne db → version_among (raised (meta_in db.trees)) ≡ Some 2
 raised_told db (first, told) = raised_tells (meta_in db.trees) first.numbered.0 ∙ ap (option_map (λ _. 2)) told
 
 -- the version that such a database tells leaves the store to blame
@@ -62,11 +62,11 @@ any_version db (inl (h, told)) = inl h
 any_version db (inr (h, told)) = inr h
 
 module _ {S : Type 0} (g : Ghosts S) where
-  told_is : (held : Held S) (version : Option ℕ) → IsTrue (state g held).is_open → IsOurs (state g held).now → TellsVersion g held version → version ≡ version_in (state g held).now.trees
+  told_is : (held : Held S) (version : Option ℕ) → IsTrue (state g held).is_open → IsOurs (state g held).now → DatabaseHasVersion g held version → version ≡ version_in (state g held).now.trees
   told_is held version o ours (inl (_, is)) = is
   told_is held version o ours (inr tells) = tells.first ∙ selects (state g (begun held)) (state g tells.after) tells.rows (any_version (state g held).now ours) tells.shown
 
-  by_version : (held : Held S) (version : Option ℕ) (why : OpenFault) → IsTrue (state g held).is_open → IsOurs (state g held).now → TellsVersion g held version → why ≡ refusal_in (state g held).now.schema version → IsFault why
+  by_version : (held : Held S) (version : Option ℕ) (why : OpenFault) → IsTrue (state g held).is_open → IsOurs (state g held).now → DatabaseHasVersion g held version → why ≡ refusal_in (state g held).now.schema version → IsFault why
   by_version held version why o ours tells is = inr (is ∙ ap (refusal_in (state g held).now.schema) (told_is held version o ours tells) ∙ store_alone (state g held).now ours)
 
   -- of an index only a fault is a reason
@@ -82,7 +82,7 @@ module _ {S : Type 0} (g : Ghosts S) where
   -- what is known of a database with a table of the version
   module _ (held new : Held S) (meta : IsTrue (has_meta (state g held).now.schema)) where
     -- what the version that is told says is a reason
-    pub reason_told : (version : Option ℕ) (why : OpenFault) → TellsVersion g held version → why ≡ refusal_in (state g held).now.schema version → IsReason g held new why
+    pub reason_told : (version : Option ℕ) (why : OpenFault) → DatabaseHasVersion g held version → why ≡ refusal_in (state g held).now.schema version → IsReason g held new why
     reason_told version NotAnIndex tells is = inr (version, tells, is)
     reason_told version OutOfMemory tells is = meta
     reason_told version Store tells is = (meta, inl (version, tells, is))
@@ -91,7 +91,7 @@ module _ {S : Type 0} (g : Ghosts S) where
     reason_told version OtherVersion tells is = (version, tells, is)
 
     -- and so is a fault
-    pub reason_failed : (f : Fault) (why : OpenFault) → why ≡ open_fault_by f → (f ≡ fault.Store → FailsToOpen g held new) → IsReason g held new why
+    pub reason_failed : (f : Fault) (why : OpenFault) → why ≡ open_fault_by f → (f ≡ fault.Store → DatabaseFailsToOpen g held new) → IsReason g held new why
     reason_failed fault.OutOfMemory why is fails = subst (IsReason g held new) (sym is) meta
     reason_failed fault.Store why is fails = subst (IsReason g held new) (sym is) (meta, inr (fails refl))
 
@@ -108,7 +108,7 @@ module _ {S : Type 0} (g : Ghosts S) where
   -- what is known of one of a kind
   module _ (kind : Kind) (held new : Held S) where
     -- another version than its own is a reason
-    pub other_told : (version : Option ℕ) (why : OpenFault) → TellsVersion g held version → version ≢ Some (version_of kind) → why ≡ refusal_in (state g held).now.schema version → IsReasonOfKind g kind held new why
+    pub other_told : (version : Option ℕ) (why : OpenFault) → DatabaseHasVersion g held version → version ≢ Some (version_of kind) → why ≡ refusal_in (state g held).now.schema version → IsReasonOfKind g kind held new why
     other_told version NotAnIndex tells other is = (version, tells, other, is)
     other_told version OutOfMemory tells other is = tt
     other_told version Store tells other is = inl (version, tells, other, is)
@@ -117,7 +117,7 @@ module _ {S : Type 0} (g : Ghosts S) where
     other_told version OtherVersion tells other is = (version, tells, other, is)
 
     -- and so is a fault
-    pub kind_failed : (f : Fault) (why : OpenFault) → why ≡ open_fault_by f → (f ≡ fault.Store → FailsToOpen g held new) → IsReasonOfKind g kind held new why
+    pub kind_failed : (f : Fault) (why : OpenFault) → why ≡ open_fault_by f → (f ≡ fault.Store → DatabaseFailsToOpen g held new) → IsReasonOfKind g kind held new why
     kind_failed fault.OutOfMemory why is fails = subst (IsReasonOfKind g kind held new) (sym is) tt
     kind_failed fault.Store why is fails = subst (IsReasonOfKind g kind held new) (sym is) (inr (fails refl))
 
@@ -132,7 +132,7 @@ module _ {S : Type 0} (g : Ghosts S) where
       ]
       since (inr (inr limit)) = inr (inr (subst IsSome looks.survives.limit limit))
 
-      refused : (IsTrue (state g held).is_open → IsFirstVersion (state g held).now) → version_in (state g held).now.trees ≡ Some 1 → AreRefused asks_of_migration (state g mid).now → FailsToOpen g held new
+      refused : (IsTrue (state g held).is_open → IsFirstVersion (state g held).now) → version_in (state g held).now.trees ≡ Some 1 → AreRefused asks_of_migration (state g mid).now → DatabaseFailsToOpen g held new
       refused first told refuses = elim (cases_Bool (state g held).is_open) [
         | inl opened ↦ inr (inr ((first opened, told), subst (AreRefused asks_of_migration) (looks.same refl clean) refuses))
         | inr shut ↦ inl (inr (inl shut))
@@ -147,7 +147,7 @@ module _ {S : Type 0} (g : Ghosts S) where
     works_after : IsWorking (state g a) → HasCleanDisk (state g b) → IsWorking (state g b)
     works_after working clean = record { clean = clean; is_open = looks.lasts refl clean working.is_open }
 
-    raised_after : (c : Held S) → (HasCleanDisk (state g c) → HasCleanDisk (state g b)) → LeavesOr IsRaised (state g b) (state g c) → LeavesOr IsRaised (state g a) (state g c)
+    raised_after : (c : Held S) → (HasCleanDisk (state g c) → HasCleanDisk (state g b)) → CrashLeavesOrMakes IsRaised (state g b) (state g c) → CrashLeavesOrMakes IsRaised (state g a) (state g c)
     raised_after c was_clean it working clean db may =
         let at_b = was_clean clean in
         elim (it (works_after working at_b) clean db may) [

@@ -18,7 +18,7 @@ use Rattle.index_sql_schema.specs.Index.{IsIndex, meta_in, version_in}
 use Rattle.index_sql_schema.specs.RecordRows.{AreRecords}
 use Rattle.index_sql_schema.specs.Records.{tables_in}
 use Rattle.index_tables.specs.BooksState.{IsHonest, BooksState, Leaves}
-use Rattle.index_tables.specs.LooksUp.{BooksStep, LooksFor, LooksUp, WalksBooks}
+use Rattle.index_tables.specs.LooksUp.{BooksStep, LooksFor, SqlLooks, WalksBooks}
 
 pub keeps : {S : Type 0} (g : Ghosts S) (old new : Held S) (did : Bool) → IsTrue did → QueriesOnly g old new did → IsHonest (state g old) → HasCleanDisk (state g new) → IsHonest (state g new)
 keeps g old new did right looks honest clean =
@@ -52,7 +52,7 @@ looks_leave g old new did looks T (clean, (db, may, is)) = (looks.was_clean clea
 
 -- so a look at the connection, counted, is a look at the books
 pub looks_up : {S : Type 0} (g : Ghosts S) (old new : BooksState S) (did is_store_fault : Bool) → QueriesOnly g old.conn new.conn did → new.failures ≡ next_count old.failures did
-    → CountsStoreFault old.stores new.stores is_store_fault → LooksUp g old new did is_store_fault
+    → CountsStoreFault old.stores new.stores is_store_fault → SqlLooks g old new did is_store_fault
 looks_up g old new did is_store_fault looks counted stores = record {
   looks = record {
     call = record {

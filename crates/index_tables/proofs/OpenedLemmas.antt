@@ -23,7 +23,7 @@ use Rattle.index_rules.specs.Tables.{Tables}
 use Rattle.index_tables.specs.declared.opening.Unopened.{Unopened}
 use Rattle.index_tables.specs.BooksState.{AreCurrent, IsHonest, IsWorking}
 use Rattle.index_tables.specs.Laws.{IsSettled, settled_at}
-use Rattle.index_tables.specs.Opened.{AreOpened, IsUnopened, KeepsLimit, LeavesOr, StoreForRefusal, open_fault_by}
+use Rattle.index_tables.specs.Opened.{AreOpened, CrashLeavesOrMakes, IsUnopened, KeepsLimit, StoreForRefusal, open_fault_by}
 use Rattle.index_tables.proofs.KeptLemmas.{keeps}
 
 store_by : (f : Fault) → open_fault_by f ≡ open_fault.Store → f ≡ fault.Store
@@ -31,9 +31,9 @@ store_by fault.Store same = refl
 store_by fault.OutOfMemory same = absurd (let s = same in cc)
 
 module _ {S : Type 0} (g : Ghosts S) (Made : Database → Trees → Type 0) (old new : Held S) where
-  -- books that are honest where the connection worked leave their tables alone
+  -- books that are honest if the connection worked leave their tables alone
   opened_by : IsSettled (state g new) → (HasCleanDisk (state g new) → HasCleanDisk (state g old)) → (HasCleanDisk (state g new) → IsTrue (state g new).is_open → IsTrue (state g old).is_open)
-      → (IsWorking (state g old) → HasCleanDisk (state g new) → IsHonest (state g new)) → LeavesOr Made (state g old) (state g new)
+      → (IsWorking (state g old) → HasCleanDisk (state g new) → IsHonest (state g new)) → CrashLeavesOrMakes Made (state g old) (state g new)
       → (IsWorking (state g new) → KeepsLimit (state g old) (state g new)) → (AreRecords (state g old).now → IsWorking (state g new) → AreRecords (state g new).now)
       → AreOpened g Made old (record { conn = new; failures = 0; stores = 0 })
   opened_by settled was_clean was_open lasts crash limit records = record {
@@ -50,7 +50,7 @@ module _ {S : Type 0} (g : Ghosts S) (Made : Database → Trees → Type 0) (old
 
   -- a look leaves nothing new
   module _ {did : Bool} (looks : QueriesOnly g old new did) (rest : IsAtRest g old) where
-    looked_crash : LeavesOr Made (state g old) (state g new)
+    looked_crash : CrashLeavesOrMakes Made (state g old) (state g new)
     looked_crash working clean db may = elim (looks.survives.crash clean db may) [ inl before ↦ inl before | inr none ↦ absurd none ]
 
     pub looked_opened : IsTrue did → IsSettled (state g new) → (IsTrue (state g old).is_open → IsIndex (state g old).now) → (HasCleanDisk (state g new) → version_in (state g old).now.trees ≡ Some 2)
@@ -75,7 +75,7 @@ module _ {S : Type 0} (g : Ghosts S) (Made : Database → Trees → Type 0) (old
       (kind : HasCleanDisk (state g old) → IsTrue (state g old).is_open → IsKind (state g old).now)
       (tells : HasCleanDisk (state g old) → IsTrue (state g old).is_open → version_among (rows (meta_in (state g old).now.trees)) ≡ Some 2)
       (comes : IsWorking (state g old) → (db : Trees) → IsKind (state g old).now → AreCurrent db → tables_in db ≡ change (tables_in (state g old).now.trees) → meta_in db ≡ rows (meta_in (state g old).now.trees) → Made (state g old).now db) where
-    made_crash : (result : Result A Error) → MakesIndex IsKind change rows asks (on_store g old new) result → LeavesOr Made (state g old) (state g new)
+    made_crash : (result : Result A Error) → MakesIndex IsKind change rows asks (on_store g old new) result → CrashLeavesOrMakes Made (state g old) (state g new)
     made_crash result it working clean db may =
         let fit = kind working.clean working.is_open in
         elim ((it.crash working.is_open fit).crash clean db may) [

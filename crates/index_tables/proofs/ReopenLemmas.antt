@@ -101,7 +101,7 @@ fault_or NotEmpty = inr (λ is. elim is [ inl a ↦ absurd cc | inr b ↦ absurd
 fault_or NotAnIndex = inr (λ is. elim is [ inl a ↦ absurd cc | inr b ↦ absurd cc ])
 fault_or OtherVersion = inr (λ is. elim is [ inl a ↦ absurd cc | inr b ↦ absurd cc ])
 
--- what is opened, where the connection is known to be over the files
+-- what is opened, if the connection is known to be over the files
 abbrev pub OpensIf : {S : Type 0} → Ghosts S → (Tables → Type 0) → Result (BooksState S) (Unopened S) → Type 0
 OpensIf g Are (Ok books) = IsWorking (state g books.conn) → Are (tables_of g books.conn)
 OpensIf g Are (Err refused) = HasCleanDisk (state g refused.conn) → IsFault refused.why

@@ -1,6 +1,6 @@
--- What a database that is there is taken for.
-use Rattle.std.specs.Prelude.{◌≡◌, ◌≢◌, ◌⊎◌, ℕ, ◌==◌, Bool, ◌&&◌, false, if◌then◌else◌, Option}
-use Rattle.std.specs.Prelude.{Some, None, codes, IsTrue, List, ⊤, IfErr, IfOk, Result}
+-- Which index an existing database is opened as.
+use Rattle.std.specs.Prelude.{Bool, IfErr, IfOk, IsTrue, List, None, Option, Result, Some, codes}
+use Rattle.std.specs.Prelude.{false, if◌then◌else◌, ℕ, ⊤, ◌&&◌, ◌==◌, ◌≡◌, ◌≢◌, ◌⊎◌}
 use Rattle.sqlite_value.specs.Order.{Row}
 use Rattle.sqlite_trees.specs.Tree.{Trees}
 use Rattle.sqlite_trees.specs.declared.store.Store.{Ghosts}
@@ -10,7 +10,7 @@ use Rattle.sqlite.specs.Held.{Held, state}
 use Rattle.sqlite.specs.State.{State}
 use Rattle.index_sql_opening.specs.Migrated.{asks_of_migration}
 use Rattle.index_sql_opening.specs.Names.{has_all_of, has_meta, has_table}
-use Rattle.index_sql_opening.specs.Versions.{FailsToTell, Tells, begun}
+use Rattle.index_sql_opening.specs.Versions.{VersionQueryFails, VersionQueryShows, begun}
 use Rattle.index_sql_writes.specs.StepAsks.{AreRefused}
 use Rattle.index_sql_schema.specs.Reasons.{HasReason}
 use Rattle.index_rules.specs.declared.open.OpenFault.{OpenFault}
@@ -30,76 +30,76 @@ use Rattle.index_tables.specs.declared.opening.Unopened.{Unopened}
 use Rattle.index_tables.specs.BooksState.{AreCurrent, BooksState}
 use Rattle.index_tables.specs.Opened.{AreOpened, HaveMeta, HaveTables, IsUnopened, RefusesFound}
 
--- it is an index that tells version 2, with these tables
+-- an index with version 2 in meta and these tables
 pub record IsCurrent (db : Database) (T : Tables) : Type 0 where
   pub index : IsIndex db
   pub version : version_in db.trees ≡ Some 2
   pub tables : T ≡ tables_in db.trees
 
--- the connection holds an index of today with these tables, all of it committed
+-- the connection is to an index of version 2 with these tables, all of it committed
 pub record IsCommitted (s : State) (T : Tables) : Type 0 where
   pub current : IsCurrent s.now T
   pub committed : s.now ≡ s.committed
 
--- it is of version 1 and tells that, and these are its tables with no bans
+-- a database of version 1, with that version in meta; these are its tables, with no file banned
 pub record IsFirst (db : Database) (T : Tables) : Type 0 where
   pub first : IsFirstVersion db
   pub version : version_in db.trees ≡ Some 1
   pub tables : T ≡ without_bans (tables_in db.trees)
 
--- it is of version 1, and tells so
-abbrev pub TellsFirst : Database → Type 0
-TellsFirst db = IsFirstVersion db × (version_in db.trees ≡ Some 1)
+-- a database of version 1, with that version in meta
+abbrev pub HasVersionOne : Database → Type 0
+HasVersionOne db = IsFirstVersion db × (version_in db.trees ≡ Some 1)
 
--- it is an index, or of version 1, and tells so
+-- an index with its version in meta, 2 or 1
 abbrev pub IsOurs : Database → Type 0
-IsOurs db = (IsIndex db × (version_in db.trees ≡ Some 2)) ⊎ TellsFirst db
+IsOurs db = (IsIndex db × (version_in db.trees ≡ Some 2)) ⊎ HasVersionOne db
 
--- an index is found in it, with these tables
+-- an index with these tables is found in the database
 abbrev pub IsFound : Database → Tables → Type 0
 IsFound db T = IsCurrent db T ⊎ IsFirst db T
 
--- they stand for each history for which the tables stand that are found in it, of version 1 too
+-- the tables stand for each history that the tables found in the database stand for
 abbrev pub StandAsFound : Database → Tables → Type 0
 StandAsFound db T = (was : Tables) (h : History) → IsFound db was → StandsFor was h → StandsFor T h
 
--- of a database of version 1 that tells so the index is made that comes of it, which tells version
--- 2; the rows of meta are those that were there, but for the version
+-- an index of version 2 made of a database of version 1; the rows of meta stay, except for the
+-- version
 abbrev pub IsRaised : Database → Trees → Type 0
 IsRaised was db =
-    TellsFirst was × AreCurrent db × (tables_in db ≡ without_bans (tables_in was.trees))
+    HasVersionOne was × AreCurrent db × (tables_in db ≡ without_bans (tables_in was.trees))
     × (meta_in db ≡ raised (meta_in was.trees))
 
--- these rows of meta are those of an index as they were, or those of a database of version 1, but
--- for the version
+-- the rows of meta of an index as they were, or those of a database of version 1 with the version
+-- changed
 abbrev pub AreHandedOn : Database → List Row → Type 0
 AreHandedOn was rows =
     (IsIndex was × (rows ≡ meta_in was.trees))
-    ⊎ (TellsFirst was × (rows ≡ raised (meta_in was.trees)))
+    ⊎ (HasVersionOne was × (rows ≡ raised (meta_in was.trees)))
 
--- the schema is this one of ours
+-- the schema is that of this kind
 abbrev pub HasSchema : Schema → Kind → Type 0
 HasSchema schema kind.Index = schema ≡ index_schema
 HasSchema schema kind.FirstVersion = schema ≡ first_version_schema
 
--- it is an index, or of version 1
+-- the database is an index, or is of version 1
 abbrev pub IsOfKind : Database → Kind → Type 0
 IsOfKind db kind.Index = IsIndex db
 IsOfKind db kind.FirstVersion = IsFirstVersion db
 
--- it tells this version: what its row of meta has where the tables are ours, else what the query of
--- it shows
-abbrev pub TellsVersion : {S : Type 0} → Ghosts S → Held S → Option ℕ → Type 0
-TellsVersion g held version =
+-- the version of a database: that in its row of meta if its tables are those of an index, else what
+-- the query of it shows
+abbrev pub DatabaseHasVersion : {S : Type 0} → Ghosts S → Held S → Option ℕ → Type 0
+DatabaseHasVersion g held version =
     ((IsTrue (state g held).is_open → IsAnyVersion (state g held).now)
-    × (version ≡ version_in (state g held).now.trees)) ⊎ Tells g (begun held) version
+    × (version ≡ version_in (state g held).now.trees)) ⊎ VersionQueryShows g (begun held) version
 
--- tables that are there by name, but are not as an index has them
+-- why a database is refused whose tables exist by name, but are not as an index has them
 abbrev pub foreign_tables_fault : Bool → OpenFault
 foreign_tables_fault has_all = if has_all then Store else NotAnIndex
 
--- why a database is refused that tells this version, and has all tables of version 1 by name, and
--- that of the bans
+-- why a database with this version is refused, by whether it has all tables of version 1 by name,
+-- and that of the bans
 abbrev pub refusal_by : Option ℕ → Bool → Bool → OpenFault
 refusal_by None has_first has_bans = NotAnIndex
 refusal_by (Some version) has_first has_bans =
@@ -107,60 +107,61 @@ refusal_by (Some version) has_first has_bans =
     else if version == 2 then foreign_tables_fault (has_first && has_bans)
     else OtherVersion
 
--- the same, by its schema
+-- why a database with this schema and this version is refused
 abbrev pub refusal_in : Schema → Option ℕ → OpenFault
 refusal_in schema version =
     refusal_by version (has_all_of schema first_version_schema.tables)
     (has_table schema (codes "bans"))
 
--- it is refused for this by the version that it tells
+-- a database is refused for this by its version
 abbrev pub IsRefusedByVersion : {S : Type 0} → Ghosts S → Held S → OpenFault → Type 0
 IsRefusedByVersion g held why =
-    (version : Option ℕ) × TellsVersion g held version
+    (version : Option ℕ) × DatabaseHasVersion g held version
     × (why ≡ refusal_in (state g held).now.schema version)
 
--- it is of version 1 and tells that, and SQL refuses a statement that makes an index of it
+-- a database of version 1, with that version in meta, of which SQL refuses to make an index
 abbrev pub IsNotRaised : Database → Type 0
-IsNotRaised db = TellsFirst db × AreRefused asks_of_migration db
+IsNotRaised db = HasVersionOne db × AreRefused asks_of_migration db
 
--- the store fails, the query of the version is refused, or the database is of version 1 and is not
--- raised
-abbrev pub FailsToOpen : {S : Type 0} → Ghosts S → Held S → Held S → Type 0
-FailsToOpen g old new =
+-- a database is not opened: the store fails, the query of the version is refused, or no index can
+-- be made of version 1
+abbrev pub DatabaseFailsToOpen : {S : Type 0} → Ghosts S → Held S → Held S → Type 0
+DatabaseFailsToOpen g old new =
     HasReason (state g old) (state g new)
-    ⊎ (FailsToTell g (begun old) ⊎ IsNotRaised (state g old).now)
+    ⊎ (VersionQueryFails g (begun old) ⊎ IsNotRaised (state g old).now)
 
--- the version that an index of this kind tells
+-- the version in meta of an index of this kind
 abbrev pub version_of : Kind → ℕ
 version_of kind.Index = 2
 version_of kind.FirstVersion = 1
 
--- an index of this kind is refused for this by another version that it tells
+-- an index of this kind is refused because it has another version in meta
 abbrev pub IsRefusedByOther : {S : Type 0} → Ghosts S → Kind → Held S → OpenFault → Type 0
 IsRefusedByOther g kind held why =
-    (version : Option ℕ) × TellsVersion g held version × (version ≢ Some (version_of kind))
+    (version : Option ℕ) × DatabaseHasVersion g held version × (version ≢ Some (version_of kind))
     × (why ≡ refusal_in (state g held).now.schema version)
 
--- Why no index is opened of a database whose schema is that of this kind: one that tells the
--- version of its kind is opened, unless it fails to be.
+-- Why a database whose schema is of this kind is not opened; one with the version of its kind is
+-- opened, unless that fails.
 abbrev pub IsReasonOfKind : {S : Type 0} → Ghosts S → Kind → Held S → Held S → OpenFault → Type 0
 IsReasonOfKind g kind old new OutOfMemory = ⊤
-IsReasonOfKind g kind old new Store = IsRefusedByOther g kind old Store ⊎ FailsToOpen g old new
+IsReasonOfKind g kind old new Store =
+    IsRefusedByOther g kind old Store ⊎ DatabaseFailsToOpen g old new
 IsReasonOfKind g kind old new why = IsRefusedByOther g kind old why
 
--- Why no index is opened on a connection, which is left as `new`. Without a table of the version it
--- is no index, whatever the store does.
+-- Why an index is not opened on a connection, which is left as `new`. Without a table of the
+-- version the database is not an index, whatever the store does.
 abbrev pub IsReason : {S : Type 0} → Ghosts S → Held S → Held S → OpenFault → Type 0
 IsReason g old new NotAnIndex =
     (has_meta (state g old).now.schema ≡ false) ⊎ IsRefusedByVersion g old NotAnIndex
 IsReason g old new OutOfMemory = IsTrue (has_meta (state g old).now.schema)
 IsReason g old new Store =
     IsTrue (has_meta (state g old).now.schema)
-    × (IsRefusedByVersion g old Store ⊎ FailsToOpen g old new)
+    × (IsRefusedByVersion g old Store ⊎ DatabaseFailsToOpen g old new)
 IsReason g old new why = IsRefusedByVersion g old why
 
--- What comes of the adoption of a database: where books are opened, they are the index that is
--- found in it; else no index is opened, for a reason of this kind.
+-- The adoption of a database: the books are the index that is found in it, or it is not opened, for
+-- a reason of this kind.
 pub record Adopts {S : Type 0} (g : Ghosts S) (Reason : Held S → Held S → OpenFault → Type 0)
     (old : Held S) (result : Result (BooksState S) (Unopened S)) : Type 0 where
   pub found : IfOk result (HaveTables g (IsFound (state g old).now))

@@ -1,4 +1,4 @@
--- What holds the tables, and what is left of it.
+-- The state of the books: a connection and counts.
 use Rattle.std.specs.Prelude.{◌≡◌, ℕ, IsTrue, Some, refl}
 use Rattle.std.specs.Coded.{Coded, code_by, coded×, coded_ℕ}
 use Rattle.sqlite_trees.specs.Tree.{Trees}
@@ -9,7 +9,7 @@ use Rattle.index_rules.specs.Tables.{Tables}
 use Rattle.index_sql_schema.specs.Index.{IsIndex, version_in}
 use Rattle.index_sql_schema.specs.Records.{tables_in}
 
--- a connection, how many calls answered a fault, and how many of them `Store`
+-- a connection, how many calls failed, and how many of them with `Store`
 pub record BooksState (S : Type 0) : Type 0 where
   pub conn : Held S
   pub failures : ℕ
@@ -22,12 +22,13 @@ books_state_code {S} store =
     (λ p. record { conn = p.0; failures = p.1.0; stores = p.1.1 })
     (λ _. refl)
 
--- so far the disk has returned what was written, and no fault has shut the connection
+-- the disk has returned what was written, and no fault has shut the connection
 pub record IsWorking (s : State) : Type 0 where
   pub clean : HasCleanDisk s
   pub is_open : IsTrue s.is_open
 
--- so it is, the schema is that of an index, which tells version 2, and all of it is committed
+-- the disk is clean and the connection open, to an index with version 2 in meta, all of it
+-- committed
 pub record IsHonest (s : State) : Type 0 where
   pub clean : HasCleanDisk s
   pub is_open : IsTrue s.is_open
@@ -35,13 +36,13 @@ pub record IsHonest (s : State) : Type 0 where
   pub committed : s.now ≡ s.committed
   pub version : version_in s.now.trees ≡ Some 2
 
--- the trees of an index that tells version 2
+-- the trees of an index with version 2 in meta
 pub record AreCurrent (db : Trees) : Type 0 where
   pub index : HoldsIndex db
   pub version : version_in db ≡ Some 2
 
--- the disk has returned what was written, and an open after a crash may find these tables. Where it
--- may find no index that tells version 2, that is any tables at all: so a clause that says which
--- tables are left says too that an index is
+-- The disk has returned what was written, and an open after a crash may find these tables. If it
+-- may find no index of version 2, any tables do: a clause on which tables are left also says that
+-- an index is.
 abbrev pub Leaves : State → Tables → Type 0
 Leaves s T = HasCleanDisk s × ((db : Trees) × s.may_leave db × (AreCurrent db → T ≡ tables_in db))

@@ -9,7 +9,7 @@ use Rattle.index_rules.specs.Tables.{Tables}
 use Rattle.index_sql_schema.specs.Records.{tables_in}
 use Rattle.index_tables.specs.BooksState.{AreCurrent, IsHonest, Leaves}
 
--- while it is open, a crash leaves the last commit and nothing else: a law of each store
+-- while a connection is open, a crash leaves the last commit and nothing else: a law of each store
 abbrev pub IsSettled : State → Type 0
 IsSettled s = (db : Trees) → IsTrue s.is_open → s.may_leave db → db ≡ s.committed.trees
 
@@ -17,7 +17,7 @@ IsSettled s = (db : Trees) → IsTrue s.is_open → s.may_leave db → db ≡ s.
 pub current : (s : State) → IsHonest s → AreCurrent s.now.trees
 current s honest = record { index = index_held s.now _ honest.index refl; version = honest.version }
 
--- so of an honest index it leaves the tables as they stand
+-- a crash leaves the tables of an honest index as they stand
 pub settled_at : {s : State} → IsHonest s → IsSettled s → (T : Tables) → Leaves s T
     → T ≡ tables_in s.now.trees
 settled_at {s} honest settled T (clean, (db, may, is)) =

@@ -24,7 +24,7 @@ abbrev pub HasMetaOf : Database → Trees → Type 0
 HasMetaOf was db = meta_in db ≡ meta_in was.trees
 
 module _ {S : Type 0} (g : Ghosts S) where
-  -- what contracts see of these books
+  -- the ghosts of the books over this store
   abbrev pub sql_model : calls.Model (BooksState S)
   sql_model = record {
     tables = λ kept. tables_of g kept.conn;
@@ -34,21 +34,21 @@ module _ {S : Type 0} (g : Ghosts S) where
     faults = calls.counts (λ kept. kept.failures) (λ kept. kept.stores);
   }
 
-  -- what the trait says of each call
-  abbrev pub Calls : (old new : BooksState S) (succeeds is_store_fault : Bool) → Type 0
-  Calls = calls.Calls sql_model
+  -- the facts of the trait on each call
+  abbrev pub SqlCalls : (old new : BooksState S) (succeeds is_store_fault : Bool) → Type 0
+  SqlCalls = calls.Calls sql_model
 
-  -- and of each look
+  -- the facts of the trait on each look
   abbrev pub LooksOrFails : (old new : BooksState S) (succeeds is_store_fault : Bool) → Type 0
   LooksOrFails = calls.LooksUp sql_model
 
-  -- the rows of its tables stay records
+  -- the rows of the tables stay records
   abbrev pub KeepsRecords : (old new : BooksState S) → Type 0
   KeepsRecords old new =
       IsHonest (state g new.conn) → AreRecords (state g old.conn).now
       → AreRecords (state g new.conn).now
 
-  -- while they work, the limit on the steps of their queries is as it was
+  -- as long as the connection works, the limit on the steps of its queries is unchanged
   abbrev pub KeepsBooksLimit : (old new : BooksState S) → Type 0
   KeepsBooksLimit old new =
       IsWorking (state g new.conn) → opened.KeepsLimit (state g old.conn) (state g new.conn)
@@ -57,20 +57,21 @@ module _ {S : Type 0} (g : Ghosts S) where
   pub record KeepsMeta (old new : BooksState S) : Type 0 where
     pub stays : IsHonest (state g new.conn)
         → HasMetaOf (state g old.conn).now (state g new.conn).now.trees
-    pub crash : opened.LeavesOr HasMetaOf (state g old.conn) (state g new.conn)
+    pub crash : opened.CrashLeavesOrMakes HasMetaOf (state g old.conn) (state g new.conn)
 
-  -- a look, where they do so too
-  pub record LooksUp (old new : BooksState S) (succeeds is_store_fault : Bool) : Type 0 where
+  -- a look, which also leaves the records, the limit and the rows of meta
+  pub record SqlLooks (old new : BooksState S) (succeeds is_store_fault : Bool) : Type 0 where
     pub looks : LooksOrFails old new succeeds is_store_fault
     pub records : KeepsRecords old new
     pub limit : KeepsBooksLimit old new
     pub meta : KeepsMeta old new
 
-  -- a look that finds this of the tables of an honest store, and fails only for a reason
+  -- a look that finds this in the tables of an honest store, and fails with `Store` only for a
+  -- reason
   pub record LooksFor {A : Type 0} (old new : BooksState S) (result : Result A Fault)
       (Has : Tables → A → Type 0) : Type 0 where
     pub found : IsHonest (state g new.conn) → IfOk result (Has (tables_of g old.conn))
-    pub looks : LooksUp old new (is_ok result) (fails_by_store result)
+    pub looks : SqlLooks old new (is_ok result) (fails_by_store result)
     pub reason : FailsForReason g old.conn new.conn result
 
 -- what books over a store of this kind were before a call, and what they are after it
@@ -82,7 +83,7 @@ pub record BooksStep (S : Type 0) : Type 1 where
 abbrev pub with_books : {S : Type 0} → Ghosts S → BooksState S → BooksState S → BooksStep S
 with_books store old new = record { store = store; old = old; new = new }
 
--- a walk hands over some rows, and of an honest store that stays clean those of the tables
+-- a walk passes some rows to the taker; of an honest store that stays clean, those of the tables
 pub record WalksBooks {S K R A : Type 0} (rows_in : Tables → List R) (books : BooksStep S)
     (taker : TakerStep K R) (result : Result A WalkEnd) : Type 0 where
   pub walked : let rows = rows_in (tables_of books.store books.old.conn) in
@@ -91,6 +92,6 @@ pub record WalksBooks {S K R A : Type 0} (rows_in : Tables → List R) (books : 
       → WalksTo taker rows result
   pub given : (rows : List R) × WalksTo taker rows result
   pub looks :
-      LooksUp books.store books.old books.new (not (has_fault result)) (ends_by_store result)
+      SqlLooks books.store books.old books.new (not (has_fault result)) (ends_by_store result)
   pub reason : let rows = rows_in (tables_of books.store books.old.conn) in
       EndsForReason books.store books.old.conn books.new.conn rows result

@@ -1,4 +1,4 @@
--- What is opened over what an index left.
+-- What is opened of what an index left.
 use Rattle.std.specs.Prelude.{◌≡◌, ◌⊎◌, Result, Ok, Err}
 use Rattle.sqlite_disk.specs.declared.Disk as disk
 use Rattle.sqlite_wal.specs.Recovery.{Image}
@@ -20,7 +20,7 @@ use Rattle.index_tables.specs.Opened.{IsFault}
 abbrev pub MayLeave : {D : Type 0} {g : disk.Ghosts D} → Held (FileStore D g) → Image → Type 0
 MayLeave held = (store.state held.store).may_leave
 
--- they are what a crash may leave, or what a close leaves
+-- a crash or a close may leave these two files
 abbrev pub IsLeft : {D : Type 0} {g : disk.Ghosts D} → Held (FileStore D g) → Image → Type 0
 IsLeft held image = MayLeave held image ⊎ HoldsAlone image (file_state held).committed.trees
 
@@ -29,16 +29,15 @@ pub record IsOver (image : Image) (s : State) : Type 0 where
   pub found : FindsIn image s
   pub opened : Opens s × IsLive s
 
--- so it was, as far as its disk is clean
+-- the connection was opened over these files, as far as its disk is clean
 abbrev pub IsOpenedOver : {S : Type 0} → Ghosts S → Image → Held S → Type 0
 IsOpenedOver g image conn = HasCleanDisk (state g conn) → IsOver image (state g conn)
 
 -- a crash leaves one of these two tables
-abbrev pub LeavesEither : Tables → Tables → State → Type 0
-LeavesEither A B s = (T : Tables) → Leaves s T → (T ≡ A) ⊎ (T ≡ B)
+abbrev pub CrashLeavesEitherTables : Tables → Tables → State → Type 0
+CrashLeavesEitherTables A B s = (T : Tables) → Leaves s T → (T ≡ A) ⊎ (T ≡ B)
 
--- on a clean disk, an open index with such tables is there, or none for want of memory or by a
--- fault of the store
+-- on a clean disk, an index with such tables is opened, or memory ran out or the store failed
 abbrev pub OpensOnly : {S : Type 0} → Ghosts S → (Tables → Type 0)
     → Result (BooksState S) (Unopened S) → Type 0
 OpensOnly g Are (Ok books) =

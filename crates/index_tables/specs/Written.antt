@@ -1,4 +1,4 @@
--- Why a write answers a fault of the store.
+-- Why a write fails with `Store`.
 use Rattle.std.specs.Prelude.{◌≡◌, ◌⊎◌, IfErr, Result}
 use Rattle.sqlite_trees.specs.declared.store.Store.{Ghosts}
 use Rattle.sqlite.specs.Held.{Held, state}
@@ -11,8 +11,8 @@ use Rattle.index_rules.specs.declared.answer.Fault.TheVariants.{Store}
 use Rattle.index_rules.specs.declared.change.Change.{Change}
 use Rattle.index_sql_schema.specs.RecordRows.{AreRecords}
 
--- On a clean disk, where all rows are those of records, it does so only for a reason of the store,
--- or where SQL refuses a statement of the change on the tables as they stand.
+-- On a clean disk, if all rows are records, a write fails with `Store` only for a reason of the
+-- store, or if SQL refuses a statement of the change on the tables as they stand.
 abbrev pub FailsToWrite : {S A : Type 0} → Ghosts S → Change → Held S → Held S → Result A Fault
     → Type 0
 FailsToWrite g change old new result =

@@ -1,4 +1,4 @@
-//! The index in a database that is there.
+//! Opening the index in an existing database.
 ghost use Rattle.std.specs.Prelude.{◌≡◌, false, IfOk, IfErr, IfSome, IsTrue};
 ghost use Rattle.sqlite.specs.Held.{state};
 ghost use Rattle.sqlite.specs.State.{HasCleanDisk};
@@ -11,7 +11,7 @@ ghost use Rattle.index_tables.specs.Opened.{IsRefusal, IsRefusedAs, IsUnopened, 
 ghost use Rattle.index_tables.specs.Opened.{StoreForRefusal};
 ghost use Rattle.index_tables.specs.Adopted.{Adopts, AreHandedOn, HasSchema, IsFound, IsOfKind};
 ghost use Rattle.index_tables.specs.Adopted.{IsOurs, IsRaised, IsReason, IsReasonOfKind};
-ghost use Rattle.index_tables.specs.Adopted.{StandAsFound, TellsFirst};
+ghost use Rattle.index_tables.specs.Adopted.{HasVersionOne, StandAsFound};
 ghost use Rattle.index_tables.specs.Adopted.{foreign_tables_fault, refusal_by};
 
 use crate::books::SqlBooks;
@@ -25,26 +25,29 @@ use index_sql_schema::{IndexConnection, fault_of};
 use sqlite::{Alter, Connection};
 use std::alloc::{AllocError, Global};
 
-/// A schema of ours.
+/// A schema that this crate knows.
 #[derive(Clone, Copy)]
 pub(crate) enum Kind {
-    /// That of an index.
+    /// The schema of an index.
     Index,
-    /// That of version 1.
+    /// The schema of version 1.
     FirstVersion,
 }
 
 impl<S: Alter> SqlBooks<S> {
-    /// The index in a database that is there. One of version 1 is made one of version 2, in one transaction. A crash
-    /// leaves what was there, or of version 1 the whole index; once it is adopted, the index alone. The rows of `meta` are
-    /// those that were there, but for the version.
+    /// Opens the index in an existing database. One of version 1 becomes one of version 2, in one transaction; the rows
+    /// of `meta` stay, except for the version. A crash leaves the database as it was, or, of version 1, with the whole
+    /// change; after the adoption, the index alone.
     ///
     /// # Errors
     ///
-    /// `NotAnIndex` where there is no table `meta` with the columns of the version, where it has no row with id 1 and
-    /// kind `python-index`, or where a table of the version that it tells is not there by name; `OtherVersion` where
-    /// that version is neither 1 nor 2; else `OutOfMemory` for want of memory, and `Store` where the tables are not as
-    /// an index has them or the store fails. A refused database is as it was.
+    /// A refused database is as it was.
+    ///
+    /// - `NotAnIndex`: there is no table `meta` with the columns of the version, it has no row with id 1 and kind
+    ///   `python-index`, or a table of its version is missing by name.
+    /// - `OtherVersion`: the version is neither 1 nor 2.
+    /// - `OutOfMemory`: memory ran out.
+    /// - `Store`: the tables are not as an index has them, or the store fails.
     pub fn adopt(alloc: Global, conn: Connection<S>) -> Result<SqlBooks<S>, Unopened<S>>
         requires outside { conn.in_transaction ≡ false }
         ensures found { IfOk result (HaveTables S.Store (IsFound (state S.Store conn).now)) }
@@ -78,7 +81,7 @@ impl<S: Alter> SqlBooks<S> {
     }
 }
 
-/// Which schema of ours it is, or `None` where it was not seen to be one.
+/// The kind of the schema, or `None` if it was not recognised.
 fn kind_of<S: Alter>(alloc: Global, conn: &Connection<S>) -> Result<Option<Kind>, AllocError>
     ensures kind { IfOk result (λ kind.
         IfSome kind (HasSchema (state S.Store conn.now).now.schema)) }
@@ -92,10 +95,10 @@ fn kind_of<S: Alter>(alloc: Global, conn: &Connection<S>) -> Result<Option<Kind>
     }
 }
 
-/// The index on a connection to one, or the one that comes of a database of version 1.
+/// The index on a connection to one, or to a database of version 1, which becomes one.
 fn adopt_kind<S: Alter>(conn: Connection<S>, kind: Kind) -> Result<SqlBooks<S>, Unopened<S>>
     requires { RestsAs S.Store (λ s. IsTrue s.is_open → IsOfKind s.now kind) conn }
-    // One that tells the version of its kind is opened, unless the store or SQL fails.
+    // One that has the version of its kind is opened, unless the store or SQL fails.
     ensures { Adopts S.Store (IsReasonOfKind S.Store kind) conn result }
 {
     let has_first = has_version_1_tables(conn.schema());
@@ -119,7 +122,8 @@ fn adopt_kind<S: Alter>(conn: Connection<S>, kind: Kind) -> Result<SqlBooks<S>, 
     }
 }
 
-/// Why a database is refused that tells this version, and has all tables of version 1 by name, and that of the bans.
+/// Why a database with this version is refused, by whether it has all tables of version 1 by name, and that of the
+/// bans.
 fn refusal(version: Option<u64>, has_first: bool, has_bans: bool) -> OpenFault
     ensures { IsRefusal (refusal_by version has_first has_bans) result }
 {
@@ -131,7 +135,7 @@ fn refusal(version: Option<u64>, has_first: bool, has_bans: bool) -> OpenFault
     }
 }
 
-/// Tables that are there by name, but are not as an index has them.
+/// Why a database is refused whose tables exist by name, but are not as an index has them.
 fn foreign_tables_fault(has_all: bool) -> OpenFault
     ensures { IsRefusal (foreign_tables_fault has_all) result }
 {
@@ -142,7 +146,7 @@ fn foreign_tables_fault(has_all: bool) -> OpenFault
     }
 }
 
-/// A database whose tables others made, refused by the version that it tells.
+/// Refuses a database that others made, by its version.
 fn refuse_other<S: Alter>(conn: Connection<S>) -> Unopened<S>
     requires { RestsAs S.Store (λ s. IsTrue (has_meta s.now.schema)) conn }
     ensures why { RefusesFound result.why }
@@ -163,9 +167,9 @@ fn refuse_other<S: Alter>(conn: Connection<S>) -> Unopened<S>
     }
 }
 
-/// Makes the index of a database of version 1.
+/// Makes a database of version 1 an index of version 2, and opens it.
 fn migrate_and_adopt<S: Alter>(conn: Connection<S>) -> Result<SqlBooks<S>, Unopened<S>>
-    requires { RestsAs S.Store (λ s. HasCleanDisk s → IsTrue s.is_open → TellsFirst s.now) conn }
+    requires { RestsAs S.Store (λ s. HasCleanDisk s → IsTrue s.is_open → HasVersionOne s.now) conn }
     ensures adopts { Adopts S.Store (StoreForRefusal S.Store asks_of_migration) conn result }
     ensures fault { IfErr result (λ refused. IsFault refused.why) }
 {

@@ -1,4 +1,4 @@
-//! The tables of the index over a connection to it, as `Books`: each call is done by the connection, and then counted.
+//! The tables of the index over a connection to it, as `Books`. The connection does each call, which is then counted.
 ghost use Rattle.std.specs.Prelude.{◌≡◌, ◌⊎◌, Err, IfErr, IfOk, OnErr, OnOk, false, is_ok};
 ghost use Rattle.std.specs.FinMap.{get};
 ghost use Rattle.sqlite.specs.Held.{state};
@@ -16,7 +16,7 @@ ghost use Rattle.index_rules.specs.Verdict.{is_held as is_held_lem};
 ghost use Rattle.index_rules.specs.Walks.{has_fault, to_taker};
 ghost use Rattle.index_tables.specs.Adopted.{IsCommitted};
 ghost use Rattle.index_tables.specs.BooksState.{IsHonest, IsWorking};
-ghost use Rattle.index_tables.specs.LooksUp.{Calls, KeepsBooksLimit, KeepsMeta, KeepsRecords, LooksFor, LooksUp, WalksBooks, with_books};
+ghost use Rattle.index_tables.specs.LooksUp.{KeepsBooksLimit, KeepsMeta, KeepsRecords, LooksFor, SqlCalls, SqlLooks, WalksBooks, with_books};
 ghost use Rattle.index_tables.specs.Written.{FailsToWrite};
 
 use index_digest::Sealed;
@@ -30,9 +30,9 @@ use sqlite::{Alter, Connection, Error};
 use std::alloc::Global;
 use std::marker::Model;
 
-/// The tables in a database of SQLite. Contracts see the connection and how many calls answered a fault.
+/// The tables in an SQLite database. Contracts see the connection and how many calls failed.
 ///
-/// A call looks at the database, or makes one transaction. After a fault of the store the connection may be shut, and
+/// A call looks at the database, or makes one transaction. After a fault of the store the connection may be shut; then
 /// no later write succeeds. It has no `Drop`: `into_connection` gives the connection back, to be closed.
 pub struct SqlBooks<S: Alter> {
     pub(crate) conn: IndexConnection<S>,
@@ -51,7 +51,7 @@ impl<S: Alter> Model for SqlBooks<S> {
 }
 
 impl<S: Alter> SqlBooks<S> {
-    /// The connection, outside a transaction. While it works it is one to an index, all of which is committed.
+    /// The connection, outside a transaction. As long as it works, it is one to an index, all of which is committed.
     pub fn into_connection(self) -> Connection<S>
         ensures same { result ≡ self.conn }
         ensures ended { result.in_transaction ≡ false }
@@ -115,11 +115,11 @@ impl<S: Alter> Books for SqlBooks<S> {
         ensures alone { IsHonest (state S.Store self.old.conn) → OnOk result ((T : Tables)
             → Leaves (state S.Store self.new.conn) T
             → T ≡ means change (tables_of S.Store self.old.conn)) }
-        ensures call { Calls S.Store self.old self.new (is_ok result) (fails_by_store result) }
-        // What is written can be read: its rows are records, where they were.
+        ensures call { SqlCalls S.Store self.old self.new (is_ok result) (fails_by_store result) }
+        // What is written can be read again: its rows are records if they were.
         ensures records { KeepsRecords S.Store self.old self.new }
         ensures limit { KeepsBooksLimit S.Store self.old self.new }
-        // Nothing is kept in `meta`: its rows are what they were.
+        // A write leaves the rows of `meta`.
         ensures meta { KeepsMeta S.Store self.old self.new }
         ensures reason { FailsToWrite S.Store change self.old.conn self.new.conn result }
     {
@@ -144,8 +144,8 @@ impl<S: Alter> Books for SqlBooks<S> {
     fn bytes_of(&mut self, alloc: Global, file: &FileName) -> Result<Option<Sealed>, Fault>
         ensures found { IsHonest (state S.Store self.new.conn)
             → IfOk result (λ body. body ≡ get (tables_of S.Store self.old.conn).bodies file.now) }
-        ensures looks { LooksUp S.Store self.old self.new (is_ok result) (fails_by_store result) }
-        // They have the digest that the file is bound to, whatever else wrote the database.
+        ensures looks { SqlLooks S.Store self.old self.new (is_ok result) (fails_by_store result) }
+        // The bytes have the digest that the file is bound to, even if other programs wrote the database.
         ensures bound { IsHonest (state S.Store self.new.conn)
             → IfOk result (IsBoundTo (digest_in (tables_of S.Store self.old.conn) file.now)) }
         ensures reason { let T = tables_of S.Store self.old.conn in
@@ -237,14 +237,14 @@ fn has_fault(ended: &Result<(), WalkEnd>) -> bool
     matches!(ended, Err(WalkEnd::OutOfMemory | WalkEnd::Store))
 }
 
-/// Whether a fault of the store ended it.
+/// Whether a fault of the store ended the walk.
 fn ends_by_store(ended: &Result<(), WalkEnd>) -> bool
     ensures { result ≡ ends_by_store ended.now }
 {
     matches!(ended, Err(WalkEnd::Store))
 }
 
-/// Whether a call told a fault of the store.
+/// Whether a call failed with a fault of the store.
 fn fails_by_store<T>(told: &Result<T, Fault>) -> bool
     ensures { result ≡ fails_by_store told.now }
 {

@@ -1,4 +1,4 @@
-//! A new index in a database with nothing in it.
+//! A new index in an empty database.
 ghost use Rattle.std.specs.Prelude.{◌≡◌, ◌⊎◌, ◌↔◌, false, IfOk, IfErr, IsTrue};
 ghost use Rattle.sqlite.specs.Held.{state};
 ghost use Rattle.sqlite.specs.State.{IsLive};
@@ -23,15 +23,18 @@ use sqlite::{Alter, Connection};
 use std::alloc::Global;
 
 impl<S: Alter> SqlBooks<S> {
-    /// A new index with one user, who is of the office and whose token has this SHA-256 digest, and with the one row of
-    /// `meta`, in one transaction. A crash leaves what was there, or the whole index; once it is made, the index alone.
+    /// Makes a new index with one user, who is of the office and whose token has this SHA-256 digest, and with one row
+    /// in `meta`, in one transaction. A crash leaves the database as it was, or the whole index; after the call, the
+    /// index alone.
     ///
     /// # Errors
     ///
-    /// `BadFirstUser` exactly where the bytes are no user id, or the digest is that of the empty text; then `NotEmpty`
-    /// exactly where there is a table by the name of one of an index; `Store` where there is anything else, or the
-    /// store fails: the disk has a fault, the connection was shut, a limit is set on the steps of its queries, or SQL
-    /// refuses a statement. A refused database is as it was.
+    /// A refused database is as it was.
+    ///
+    /// - `BadFirstUser` exactly if the bytes are not a valid user id or the digest is that of the empty text.
+    /// - `NotEmpty`, otherwise, exactly if a table has the name of one of an index.
+    /// - `Store`: the database has anything else, or the store fails: the disk has a fault, the connection was shut, a
+    ///   limit is set on the steps of its queries, or SQL refuses a statement.
     pub fn create(
         alloc: Global,
         conn: Connection<S>,
@@ -63,7 +66,7 @@ impl<S: Alter> SqlBooks<S> {
     }
 }
 
-/// A new index with this user, where the database has nothing in it.
+/// A new index with this user, if the database is empty.
 fn fill_blank<S: Alter>(
     conn: Connection<S>,
     user: &UserId,

@@ -1,4 +1,4 @@
-//! Laws of an index that is opened again. Their contracts are the laws.
+//! Laws of an index that is opened again. The contract of each function is the law.
 ghost use Rattle.std.specs.Prelude.{◌≡◌, ◌⊎◌, false, IsTrue};
 ghost use Rattle.sqlite_trees.specs.Tree.{Trees};
 ghost use Rattle.sqlite_wal.specs.Recovery.{Image};
@@ -8,7 +8,7 @@ ghost use Rattle.sqlite.specs.State.{HasCleanDisk};
 ghost use Rattle.index_sql_reads.specs.ConnectionTables.{tables_of};
 ghost use Rattle.index_rules.specs.Tables.{Tables};
 ghost use Rattle.index_tables.specs.BooksState.{IsHonest, Leaves};
-ghost use Rattle.index_tables.specs.Reopened.{MayLeave, IsLeft, IsOpenedOver, LeavesEither, OpensOnly};
+ghost use Rattle.index_tables.specs.Reopened.{CrashLeavesEitherTables, IsLeft, IsOpenedOver, MayLeave, OpensOnly};
 
 use crate::books::SqlBooks;
 use crate::opening::Unopened;
@@ -17,9 +17,9 @@ use sqlite::{Alter, Connection, FileStore};
 use sqlite_disk::Disk;
 use std::alloc::Global;
 
-/// What a crash or a close of an index leaves is found again by opening. Over it, `adopt` gives the tables of the index,
-/// or where a call was under way, which by its clause on crashes leaves the tables before it or those with it, one of the
-/// two; or there is no memory, or the store fails.
+/// What a crash or a close of an index leaves, opening finds again: `adopt` gives the tables of the index. If a call
+/// was in progress, they are those before it or those with it, as the call's clause on crashes says. Or `adopt` fails,
+/// because memory runs out or the store fails.
 pub fn left_is_found_again<D: Disk, S: Alter>(
     alloc: Global,
     books: SqlBooks<FileStore<D>>,
@@ -31,7 +31,7 @@ pub fn left_is_found_again<D: Disk, S: Alter>(
         IsOpenedOver S.Store left conn
         → OpensOnly S.Store (λ T. T ≡ tables_of over_files books.conn) result.1 }
     ensures during { (left : Image) (A B : Tables) → HasCleanDisk (file_state books.conn)
-        → LeavesEither A B (file_state books.conn) → MayLeave books.conn left →
+        → CrashLeavesEitherTables A B (file_state books.conn) → MayLeave books.conn left →
         IsOpenedOver S.Store left conn → OpensOnly S.Store (λ T. ∥ (T ≡ A) ⊎ (T ≡ B) ∥₁) result.1 }
 {
     let SqlBooks {
@@ -52,7 +52,7 @@ pub fn left_is_found_again<D: Disk, S: Alter>(
     )
 }
 
-/// An honest index leaves itself: where a crash comes between two calls, it leaves the tables as they stand.
+/// A crash between two calls leaves the tables of an honest index as they stand.
 pub fn honest_index_leaves_itself<S: Alter>(books: SqlBooks<S>) -> SqlBooks<S>
     ensures same { result ≡ books }
     ensures itself { IsHonest (state S.Store books.conn) → (T : Tables) →
@@ -72,7 +72,7 @@ pub fn honest_index_leaves_itself<S: Alter>(books: SqlBooks<S>) -> SqlBooks<S>
     }
 }
 
-/// The connection as it is: what a crash leaves of it is a database, and of an open one its last commit.
+/// The connection unchanged: a crash leaves a database of it, and of an open connection its last commit.
 fn left_by<S: Alter>(conn: Connection<S>) -> Connection<S>
     ensures same { result ≡ conn }
     ensures numbered { HasCleanDisk (state S.Store conn)

@@ -1,4 +1,4 @@
-//! Why no index was opened on a connection.
+//! Why an index was not opened on a connection.
 ghost use Rattle.std.specs.Prelude.{◌≡◌};
 ghost use Rattle.index_tables.specs.Opened.{IsFault, open_fault_by};
 
@@ -11,7 +11,7 @@ pub struct Unopened<S: Alter> {
     pub conn: Connection<S>,
 }
 
-/// The reason that a fault is.
+/// A fault as the reason for which no index was opened.
 pub(crate) fn open_fault_of(fault: Fault) -> OpenFault
     ensures is { result ≡ open_fault_by fault }
     ensures fault { IsFault result }

@@ -1,4 +1,4 @@
-//! The index in a database: opened, asked, spoilt and stopped.
+//! The index in a database: opened, used, damaged and stopped.
 #![tactic(auto)]
 
 #[cfg(test)]

@@ -1,4 +1,4 @@
-//! Indexes in databases, and lines asked of them.
+//! Indexes in databases, and requests to them.
 use index_cli::apply_lines;
 use index_desk::Desk;
 use index_digest::{Digest256, Sealed};
@@ -38,7 +38,7 @@ const FILE: &[[&str; 2]] = &[[UPLOAD, ACCEPTED]];
 const UPLOAD: &str =
     r#"{"at":11,"token":"abc","do":"upload","file":"frob-1.0.tar.gz","sha256":"ba7816bf8f01cfea414140de5dae2223b00361a396177a9cb410ff61f20015ad","hex":"616263","requires_python":""}"#;
 
-/// Then the standing of `frob` is asked.
+/// Then the standing of `frob` is asked for.
 const STANDING: &str = r#"{"do":"standing","name":"frob"}"#;
 
 const FREE: &str = r#"{"name":"frob","state":"free"}"#;
@@ -58,7 +58,7 @@ const FILE_NAME_TAKEN: &str = r#"{"answer":"refused","code":24,"name":"FileNameT
 /// ann deletes the file.
 const DELETE: &str = r#"{"at":12,"token":"abc","do":"delete","file":"frob-1.0.tar.gz"}"#;
 
-/// The version that tables tell.
+/// A query of the version of the tables.
 const VERSION: &str = "SELECT version FROM meta";
 
 /// An empty database.
@@ -75,7 +75,7 @@ fn create<S: Alter + Drop>(
     SqlBooks::create(rt.alloc(), conn, b"office", Digest256::of(b"office"))
 }
 
-/// The index that is there.
+/// Opens the index in a database.
 fn adopt<S: Alter + Drop>(
     rt: &(impl Abort + AllocGlobal),
     conn: Connection<S>,
@@ -98,7 +98,7 @@ fn desk_over<S: Alter + Drop>(
     }
 }
 
-/// A desk over a new index in an empty database, of which these exchanges were asked.
+/// A desk over a new index in an empty database, after these exchanges.
 fn new_desk<S: Alter + Drop>(
     rt: &(impl Abort + AllocGlobal),
     conn: Connection<S>,
@@ -109,7 +109,7 @@ fn new_desk<S: Alter + Drop>(
     desk
 }
 
-/// The database of a new index, of which these exchanges were asked.
+/// The database of a new index, after these exchanges.
 fn new_index<S: Alter + Drop>(
     rt: &(impl Abort + AllocGlobal),
     conn: Connection<S>,
@@ -118,7 +118,7 @@ fn new_index<S: Alter + Drop>(
     connection_of(new_desk(rt, conn, parts))
 }
 
-/// The index that is there answers these exchanges.
+/// The index in a database gives these answers.
 fn assert_adopted<S: Alter + Drop>(
     rt: &(impl Abort + AllocGlobal),
     conn: Connection<S>,
@@ -129,7 +129,7 @@ fn assert_adopted<S: Alter + Drop>(
     drop(connection_of(desk));
 }
 
-/// The connection that was refused for this reason.
+/// The connection to a database that was refused for this reason.
 fn refused<S: Alter + Drop>(
     rt: &impl Abort,
     books: Result<SqlBooks<S>, Unopened<S>>,
@@ -152,7 +152,7 @@ fn connection_of<S: Alter + Drop>(desk: Desk<SqlBooks<S>>) -> Connection<S> {
     desk.into_books().into_connection()
 }
 
-/// Asks these exchanges in order: each request is answered so.
+/// Makes these exchanges in order: each request gets its answer.
 fn assert_parts<B: Books>(
     rt: &(impl Abort + AllocGlobal),
     desk: &mut Desk<B>,
@@ -169,7 +169,7 @@ fn assert_part<B: Books>(rt: &(impl Abort + AllocGlobal), desk: &mut Desk<B>, pa
     }
 }
 
-/// A request is answered so.
+/// A request gets this answer.
 fn assert_answer<B: Books>(
     rt: &(impl Abort + AllocGlobal),
     desk: &mut Desk<B>,
@@ -180,7 +180,7 @@ fn assert_answer<B: Books>(
     assert_eq!(rt; told.as_str().trim_end(), answer, "{request}");
 }
 
-/// What a desk answers, with a line feed at the end.
+/// The answer of a desk, with a line feed at the end.
 fn answer_to<B: Books>(
     rt: &(impl Abort + AllocGlobal),
     desk: &mut Desk<B>,
@@ -202,7 +202,7 @@ fn body<B: Books>(
     desk.body(rt.alloc(), &file)
 }
 
-/// So many names have a wrong charge.
+/// This many names have a wrong charge.
 fn assert_wrong_charges<B: Books>(rt: &(impl Abort + AllocGlobal), desk: &mut Desk<B>, count: u64) {
     let wrong = desk.check(rt.alloc());
     assert_eq!(rt; wrong, Ok(count));

@@ -1,4 +1,4 @@
-//! Texts that are kept as they were given, and ASCII bytes as texts.
+//! Texts in their original spelling, and ASCII bytes as texts.
 #![tactic(auto)]
 
 mod text;

@@ -1,4 +1,4 @@
-//! Texts as they were given, and ASCII bytes as texts.
+//! Texts in their original spelling, and ASCII bytes as texts.
 ghost use Rattle.std.specs.Prelude.{◌≡◌, Some, refl, bytes_eq, string_bytes};
 ghost use Rattle.std.specs.Ordering.{nat_cmp};
 ghost use Rattle.std.specs.Cmp.{partial_equiv_from_equiv};
@@ -10,12 +10,12 @@ use std::cmp::Ordering;
 use std::fmt;
 use std::marker::Model;
 
-/// A text that is kept as it was given. Contracts see its UTF-8 bytes, and it compares in byte order.
+/// A text in its original spelling. Contracts see its UTF-8 bytes, and it compares in byte order.
 pub struct Text {
     string: String,
 }
 
-// By hand: a drop is then one call at each exit of a function (docs/developers/PROOF-COSTS.md).
+// By hand: each exit of a function then makes one call to drop (docs/developers/PROOF-COSTS.md).
 impl Drop for Text {
     fn drop(self) {
         let Text { string: _string } = self;

@@ -1,4 +1,4 @@
-//! How many names have a wrong charge.
+//! Counts the names whose charge is wrong.
 ghost use Rattle.std.specs.Prelude.{◌≡◌, ◌==◌, count_by, sum_by};
 ghost use Rattle.index_rules.specs.Sound.{IsSound};
 ghost use Rattle.index_desk.specs.Checks.{charge_of as charge_of_lem, is_charged_wrong_in, wrong_charges_in};
@@ -9,12 +9,12 @@ use index_rules::{Books, Fault, FileRow, NameRecord, NameRow};
 use std::alloc::Global;
 
 impl<B: Books> Desk<B> {
-    /// How many names have a charge that is not the sum of the sizes of their undeleted files: none in sound tables. It
+    /// The number of names whose charge is not the sum of the sizes of their undeleted files: 0 in sound tables. It
     /// changes no table.
     ///
     /// # Errors
     ///
-    /// `OutOfMemory` for want of memory, and `Store` where the books fail.
+    /// `OutOfMemory` if memory runs out, and `Store` if the books fail.
     pub fn check(&mut self, alloc: Global) -> Result<u64, Fault>
         ensures { LooksAt B.Books self.old self.new result
             (λ T count. (count ≡ wrong_charges_in T) × (IsSound T → count ≡ 0)) }
@@ -24,7 +24,7 @@ impl<B: Books> Desk<B> {
     }
 }
 
-/// How many of these names have a wrong charge. It changes no table.
+/// The number of these names whose charge is wrong. It changes no table.
 fn wrong_charges<B: Books>(books: &mut B, alloc: Global, rows: &[NameRow]) -> Result<u64, Fault>
     ensures { LooksAt B.Books books.old books.new result
         (λ T count. count ≡ count_by (is_charged_wrong_in T) rows.now) }

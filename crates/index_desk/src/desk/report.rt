@@ -8,12 +8,12 @@ use index_io::{Sink, write_bytes};
 use index_rules::{Books, Fault, NameRecord, NameRow};
 use std::alloc::{AllocError, Global};
 
-/// Why a report is not written whole.
+/// Why a report is not whole.
 #[derive(Clone, Copy, Debug, PartialEq, Eq, Hash)]
 pub enum ReportFault {
     OutOfMemory,
     Store,
-    /// A write failed or took no byte, after so many bytes went out.
+    /// A write failed or took no byte, after this many bytes.
     WriteFault(u64),
 }
 
@@ -31,15 +31,15 @@ impl From<Fault> for ReportFault {
 }
 
 impl<B: Books> Desk<B> {
-    /// Writes a line for each held or prohibited name, by name in byte order: the name, its state, how many undeleted
-    /// files it has, its charge and its quota, the last two in bytes. It changes no table.
+    /// Writes a line for each held or prohibited name, in byte order: the name, its state, the number of its undeleted
+    /// files, its charge and its quota, both in bytes. It changes no table.
     ///
     /// # Errors
     ///
-    /// All of it is made before the first byte goes out. So after `OutOfMemory`, and after `Store` where the books
-    /// fail, nothing was written, and after `WriteFault` so many bytes were.
+    /// The whole report is made before the first byte is written. After `OutOfMemory`, and after `Store` if the books
+    /// fail, nothing was written. After `WriteFault` that many bytes were.
     pub fn report<S: Sink>(&mut self, alloc: Global, sink: &mut S) -> Result<(), ReportFault>
-        // Also where a fault has shut the store.
+        // Holds also if a fault has shut the store.
         ensures report { B.IsHonest self.old → B.IsClean self.new
             → Reports (report_in (B.tables self.old))
             (S.contents sink.old) (S.contents sink.new) result }
@@ -54,7 +54,7 @@ impl<B: Books> Desk<B> {
     }
 }
 
-/// The report. It changes no table.
+/// The text of the report. It changes no table.
 fn report_text<B: Books>(books: &mut B, alloc: Global) -> Result<Vec<u8>, Fault>
     ensures { LooksAt B.Books books.old books.new result (λ T text. text.items ≡ report_in T) }
 {
@@ -84,7 +84,7 @@ fn add_line(text: &mut Vec<u8>, alloc: Global, row: &NameRow) -> Result<(), Allo
     Ok(())
 }
 
-/// The name and its state, with a space after each.
+/// Adds the name and its state, with a space after each.
 fn add_name(text: &mut Vec<u8>, row: &NameRow) -> Result<(), AllocError>
     ensures { OnOk result (text.new.items ≡ text.old.items ++ name_columns row.now) }
 {
@@ -95,7 +95,7 @@ fn add_name(text: &mut Vec<u8>, row: &NameRow) -> Result<(), AllocError>
     Ok(())
 }
 
-/// The word of a name's state.
+/// The word for a name's state.
 fn state_text(known: &NameRecord) -> &'static [u8]
     ensures { result.now ≡ state_text_lem known.now }
 {
@@ -105,7 +105,7 @@ fn state_text(known: &NameRecord) -> &'static [u8]
     }
 }
 
-/// The count of undeleted files, the charge and the quota, with a space between them.
+/// Adds the number of undeleted files, the charge and the quota, with spaces between them.
 fn add_numbers(text: &mut Vec<u8>, alloc: Global, known: &NameRecord) -> Result<(), AllocError>
     ensures { OnOk result (text.new.items ≡ text.old.items ++ number_columns known.now) }
 {
@@ -120,7 +120,7 @@ fn add_numbers(text: &mut Vec<u8>, alloc: Global, known: &NameRecord) -> Result<
     add_right(text, alloc, quota, 14)
 }
 
-/// A text at the left of so many places.
+/// Adds a text, padded with spaces to this width.
 fn add_left(text: &mut Vec<u8>, piece: &[u8], width: usize) -> Result<(), AllocError>
     ensures { OnOk result (text.new.items ≡ text.old.items ++ at_left width piece.now) }
 {
@@ -128,7 +128,7 @@ fn add_left(text: &mut Vec<u8>, piece: &[u8], width: usize) -> Result<(), AllocE
     add_spaces(text, width.saturating_sub(piece.len()))
 }
 
-/// A number at the right of so many places.
+/// Adds a number, padded on the left with spaces to this width.
 fn add_right(text: &mut Vec<u8>, alloc: Global, number: u64, width: usize) -> Result<(), AllocError>
     ensures { OnOk result (text.new.items ≡ text.old.items ++ at_right width number) }
 {
@@ -137,7 +137,7 @@ fn add_right(text: &mut Vec<u8>, alloc: Global, number: u64, width: usize) -> Re
     text.extend_from_slice(digits.as_bytes())
 }
 
-/// Adds so many spaces.
+/// Adds this many spaces.
 fn add_spaces(text: &mut Vec<u8>, count: usize) -> Result<(), AllocError>
     ensures { OnOk result (text.new.items ≡ text.old.items ++ replicate count 32) }
 {

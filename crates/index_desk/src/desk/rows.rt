@@ -1,4 +1,4 @@
-//! Rows of the tables: whole lists of them, and walks that hand them to a taker one at a time.
+//! Rows of the tables: as lists, and by walks that pass them to a taker one at a time.
 ghost use Rattle.std.specs.Prelude.{◌≡◌, option_map};
 ghost use Rattle.std.specs.FinMap.{get};
 ghost use Rattle.index_rules.specs.TableRows.{held_rows_in, is_held_row as is_held_row_lem};
@@ -19,9 +19,9 @@ impl<B: Books> Desk<B> {
     ///
     /// # Errors
     ///
-    /// `OutOfMemory` for want of memory, and `Store` where the books fail.
+    /// `OutOfMemory` if memory runs out, and `Store` if the books fail.
     pub fn is_held(&mut self, alloc: Global, name: &NormalName) -> Result<bool, Fault>
-        // It is so after each history for which the tables stand.
+        // Each history for which the tables stood says the same.
         ensures { LooksAtBoth B.Books self.old self.new result
             (λ T held. held ≡ is_held_lem (get T.names name.now))
             (λ h held. held ≡ is_held_now (state_after h name.now)) }
@@ -33,9 +33,9 @@ impl<B: Books> Desk<B> {
     ///
     /// # Errors
     ///
-    /// `OutOfMemory` for want of memory, and `Store` where the books fail.
+    /// `OutOfMemory` if memory runs out, and `Store` if the books fail.
     pub fn root_rows(&mut self, alloc: Global) -> Result<Vec<NameRow>, Fault>
-        // They are the rows of the names that are held after a history for which the tables stand.
+        // The names are those that are held after a history for which the tables stood.
         ensures { LooksAtBoth B.Books self.old self.new result
             (λ T rows. rows.items ≡ held_rows_in T) (λ h rows. AreHeldRowsAfter h rows.items) }
     {
@@ -44,18 +44,18 @@ impl<B: Books> Desk<B> {
         Ok(rows)
     }
 
-    /// The undeleted files of a held name with their records, in byte order, or `None` where the name is not held. It
+    /// The undeleted files of a held name with their records, in byte order, or `None` if the name is not held. It
     /// changes no table.
     ///
     /// # Errors
     ///
-    /// `OutOfMemory` for want of memory, and `Store` where the books fail.
+    /// `OutOfMemory` if memory runs out, and `Store` if the books fail.
     pub fn project_rows(
         &mut self,
         alloc: Global,
         name: &NormalName,
     ) -> Result<Option<Vec<FileRow>>, Fault>
-        // They are the rows of the name's files after a history for which the tables stand.
+        // The rows are those of the name's files after a history for which the tables stood.
         ensures { LooksAtBoth B.Books self.old self.new result
             (λ T found. option_map (λ rows. rows.items) found ≡ project_rows_in T name.now)
             (λ h found. AreProjectRowsAfter h name.now (option_map (λ rows. rows.items) found)) }
@@ -67,11 +67,11 @@ impl<B: Books> Desk<B> {
         Ok(Some(rows))
     }
 
-    /// Hands the rows of `root_rows` to a taker one at a time, until it wants no more. It changes no table.
+    /// Passes the rows of `root_rows` to a taker one at a time, until it wants no more. It changes no table.
     ///
     /// # Errors
     ///
-    /// `Stopped` where the taker wants no more, `OutOfMemory` for want of memory, and `Store` where the books fail.
+    /// `Stopped` if the taker wants no more, `OutOfMemory` if memory runs out, and `Store` if the books fail.
     pub fn walk_root<K: NameTaker>(&mut self, alloc: Global, taker: &mut K) -> Result<(), WalkEnd>
         ensures { HandsOver B.Books self.old self.new result held_rows_in AreHeldRowsAfter
             (λ rows. Walks K.takes K.stops rows taker.old taker.new result) }
@@ -79,12 +79,12 @@ impl<B: Books> Desk<B> {
         self.books.walk_held(alloc, taker)
     }
 
-    /// Hands the rows of `project_rows` to a taker one at a time, until it wants no more. `false` where the name is not
-    /// held, and then nothing was handed over. It changes no table.
+    /// Passes the rows of `project_rows` to a taker one at a time, until it wants no more. Returns `false` if the name
+    /// is not held, and then no row was passed. It changes no table.
     ///
     /// # Errors
     ///
-    /// `Stopped` where the taker wants no more, `OutOfMemory` for want of memory, and `Store` where the books fail.
+    /// `Stopped` if the taker wants no more, `OutOfMemory` if memory runs out, and `Store` if the books fail.
     pub fn walk_project<K: FileTaker>(
         &mut self,
         alloc: Global,

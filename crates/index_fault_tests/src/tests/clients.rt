@@ -4,16 +4,16 @@ ghost use Rattle.std.specs.Slice.Iter.{iter_rest};
 ghost use Rattle.index_desk.specs.Rules.{by_tables};
 ghost use Rattle.index_desk.specs.Takes.{ByTables};
 ghost use Rattle.index_cli.specs.Connections.{AddsReply};
-ghost use Rattle.index_cli.specs.Serving.{IsCount, ServesOn};
+ghost use Rattle.index_cli.specs.Serving.{IsCount, Serves};
 ghost use Rattle.index_fault_tests.specs.Clients.{AreNamed};
 
 use super::fakes::{BooksCall, FailingBooks};
 use super::new_books;
+use index_cache::Cache;
 use index_cli::{Connection, Connections, ServeEnd, answer_connections};
-use index_desk::{Desk, Keeper};
+use index_desk::{CachesAnswers, Desk};
 use index_io::{Failed, Input, Output};
 use index_message::Site;
-use index_recent::Recent;
 use index_rules::{Books, Fault};
 use std::alloc::AllocGlobal;
 use std::process::Abort;
@@ -22,9 +22,8 @@ use std::slice;
 /// A message, and the whole reply to it.
 type Exchange = (&'static str, &'static str);
 
-/// Clients of whom each sends its message and no more, in order. What they are sent is kept, so a clause of a run over them
-/// names each message and what went out for it. For one of them there may be no memory. Behind the last none can be
-/// accepted.
+/// Clients that each send their message and no more, in order. Their replies are kept, so a clause of a run over them
+/// names each message and its reply. For one of them there may be no memory. After the last none can be accepted.
 struct Clients<'a, R: Abort> {
     rt: &'a R,
     coming: slice::Iter<'a, Exchange>,
@@ -44,7 +43,7 @@ impl<R: Abort> Drop for Clients<'_, R> {
 }
 
 impl<R: Abort> Clients<'_, R> {
-    /// Keeps what went out on one more connection.
+    /// Keeps the reply of one more connection.
     fn keep(&mut self, reply: Vec<u8>)
         ensures reply { self.new.replies.items ≡ self.old.replies.items ++ reply ∷ [] }
         ensures coming { self.new.coming ≡ self.old.coming }
@@ -105,8 +104,8 @@ impl<R: Abort> Connections for Clients<'_, R> {
     }
 }
 
-/// Answers so many of these clients, of whom none was answered yet.
-fn answer_clients<R: Abort, B: Keeper>(
+/// Answers this many clients, none of which was answered yet.
+fn answer_clients<R: Abort, B: CachesAnswers>(
     host: &HostRuntime,
     clients: &mut Clients<'_, R>,
     requests: u64,
@@ -114,11 +113,10 @@ fn answer_clients<R: Abort, B: Keeper>(
     desk: &mut Desk<B>,
 ) -> Result<(), ServeEnd>
     requires new { clients.old.replies.items ≡ [] }
-    // By the tables: what became of them by the messages of these very clients, and which replies
-    // went out.
+    // By the tables: the messages of these clients were answered, and their replies were sent.
     ensures named { ByTables B.Books desk.old desk.new (λ T T'. (count : ℕ)
         × IsCount requests result count
-        × ServesOn (AreNamed (map (λ it. it.0.now) (iter_rest clients.old.coming))
+        × Serves (AreNamed (map (λ it. it.0.now) (iter_rest clients.old.coming))
         (map (λ it. it.items) clients.new.replies.items)) by_tables (Some 2) count T T') }
 {
     answer_connections(host, clients, requests, Some(2), site, desk)
@@ -195,7 +193,7 @@ const STORE: &str = json_reply!(
     r#"{"answer":"fault","name":"Store"}"#
 );
 
-/// The examples of the page, in its order, and messages that can't be read among them.
+/// The examples of the page, in its order, and malformed messages among them.
 const EXAMPLES: &[Exchange] = &[
     ADD_ANN,
     CLAIM,
@@ -262,7 +260,7 @@ const EXAMPLES: &[Exchange] = &[
     ),
 ];
 
-/// A run over so many connections of clients: how many of them get a reply, and how it ends.
+/// A run over this many connections: how many clients get a reply, and how it ends.
 #[derive(Clone, Copy)]
 struct Run<'a> {
     exchanges: &'a [Exchange],
@@ -272,7 +270,7 @@ struct Run<'a> {
     ended: Result<(), ServeEnd>,
 }
 
-fn assert_run<R: Abort + AllocGlobal, B: Keeper + Drop>(
+fn assert_run<R: Abort + AllocGlobal, B: CachesAnswers + Drop>(
     rt: &R,
     host: &HostRuntime,
     books: B,
@@ -301,8 +299,8 @@ fn assert_replies(rt: &impl Abort, replies: &[Vec<u8>], exchanges: &[Exchange]) 
 }
 
 /// Books that keep no answers.
-fn keeping_nothing<B: Books>(rt: &impl AllocGlobal, books: B) -> Recent<B> {
-    Recent::new(rt.alloc(), books, 0)
+fn keeping_nothing<B: Books>(rt: &impl AllocGlobal, books: B) -> Cache<B> {
+    Cache::new(rt.alloc(), books, 0)
 }
 
 const ALL: Run<'static> = Run {
@@ -338,7 +336,7 @@ fn a_run_ends_behind_so_many_clients(rt: HostRuntime) {
     assert_run(&rt, &rt, keeping_nothing(&rt, new_books(&rt)), &run);
 }
 
-/// Nothing goes out to a client for whom there is no memory, and what it sent is not done. The next one is answered.
+/// If memory runs out for a client, it gets no reply and its request is not applied. The next client is answered.
 #[test]
 fn a_client_without_memory_is_passed_over(rt: HostRuntime) {
     let run = Run {
@@ -351,7 +349,7 @@ fn a_client_without_memory_is_passed_over(rt: HostRuntime) {
     assert_run(&rt, &rt, keeping_nothing(&rt, new_books(&rt)), &run);
 }
 
-/// A store that answers by `Store` alone ends the run behind the client in hand.
+/// A store that only answers `Store` ends the run after the current client.
 #[test]
 fn no_client_is_served_over_a_store_that_is_shut(rt: HostRuntime) {
     let books = FailingBooks::new(new_books(&rt), BooksCall::Every, Fault::Store, 0);

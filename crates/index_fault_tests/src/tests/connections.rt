@@ -1,10 +1,10 @@
-//! Connections on loopback, each of which gets the reply to its message.
+//! Connections on loopback: each gets the reply to its message.
 use super::fakes::{BooksCall, FailingBooks};
 use super::{desk_with_users, new_books};
+use index_cache::Cache;
 use index_cli::{Listening, ServeEnd, answer_connections};
-use index_desk::{Desk, Keeper};
+use index_desk::{CachesAnswers, Desk};
 use index_message::Site;
-use index_recent::Recent;
 use index_rules::{Books, Fault};
 use std::alloc::AllocGlobal;
 use std::io::{Read, Write};
@@ -27,7 +27,7 @@ const STORE: &str = concat!(
     r#"{"answer":"fault","name":"Store"}"#
 );
 
-/// A look at a name that nobody claimed.
+/// A request for the standing of a name that nobody claimed.
 const LOOK: &str = "GET /names/nest HTTP/1.1\r\nHost: index\r\n\r\n";
 
 const FREE: &str = concat!(
@@ -46,7 +46,7 @@ fn client(
     stream
 }
 
-/// All that the client is sent is this reply.
+/// The client is sent exactly this reply.
 fn assert_replied(rt: &(impl Abort + AllocGlobal), mut client: TcpStream, reply: &str) {
     let mut taken = Vec::new(rt.alloc());
     client.read_to_end(&mut taken).expect(rt, "a reply");
@@ -54,9 +54,9 @@ fn assert_replied(rt: &(impl Abort + AllocGlobal), mut client: TcpStream, reply:
     assert_eq!(rt; told.as_str(), reply);
 }
 
-/// What two clients of a desk with users are told, in turn. The runtime of the test is lent twice: for its own work, and
-/// for that of the server.
-fn assert_served<B: Keeper + Drop>(
+/// Two clients of a desk with users get these replies, in turn. The runtime of the test is lent twice: for the test,
+/// and for the server.
+fn assert_served<B: CachesAnswers + Drop>(
     rt: &(impl Abort + AllocGlobal + Net<Stream = TcpStream>),
     host: &HostRuntime,
     listener: TcpListener,
@@ -78,12 +78,13 @@ fn assert_served<B: Keeper + Drop>(
 fn connections_are_answered_in_turn(rt: HostRuntime) {
     let loopback = SocketAddr::from((Ipv4Addr::LOCALHOST, 0));
     let listener = TcpListener::bind(&rt, loopback).expect(&rt, "a port");
-    let books = Recent::new(rt.alloc(), new_books(&rt), 0);
+    let books = Cache::new(rt.alloc(), new_books(&rt), 0);
     assert_served(&rt, &rt, listener, books);
 }
 
-/// A store that answers by `Store` alone ends the run with the connection in hand. One whose writes alone fail so does not.
-fn assert_ends<B: Keeper + Drop>(
+/// A store that only answers `Store` ends the run after the current connection. A store of which only writes fail does
+/// not.
+fn assert_ends<B: CachesAnswers + Drop>(
     rt: &(impl Abort + AllocGlobal + Net<Stream = TcpStream>),
     host: &HostRuntime,
     listener: TcpListener,
@@ -102,15 +103,15 @@ fn assert_ends<B: Keeper + Drop>(
     drop(other);
 }
 
-/// Books over those with users, of which each call of a kind ends in `Store`.
+/// Books with users, of which each call of this kind fails with `Store`.
 fn failing<B: Books + Drop>(
     rt: &(impl Abort + AllocGlobal),
     books: B,
     failing: BooksCall,
-) -> Recent<FailingBooks<B>> {
+) -> Cache<FailingBooks<B>> {
     let books = desk_with_users(rt, books).into_books();
     let failing = FailingBooks::new(books, failing, Fault::Store, 0);
-    Recent::new(rt.alloc(), failing, 0)
+    Cache::new(rt.alloc(), failing, 0)
 }
 
 #[test]

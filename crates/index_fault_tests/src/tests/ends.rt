@@ -6,12 +6,12 @@ use super::{
 };
 use index_cli::LineEnd;
 use index_desk::Desk;
-use index_fakes::ShortWriter;
 use index_rules::Books;
+use index_test_support::ShortWriter;
 use std::alloc::AllocGlobal;
 use std::process::Abort;
 
-/// Asks these lines of a new desk with users, which are so many and answered so.
+/// A new desk with users gives these answers to these lines.
 fn assert_count(rt: &(impl Abort + AllocGlobal), input: &[u8], lines: u64, output: &str) {
     assert_count_over(rt, new_books(rt), input, lines, output);
 }
@@ -45,7 +45,7 @@ fn counts_lines(rt: HostRuntime) {
     assert_count(&rt, br#"{"do":"standing","name":"-a"}"#, 1, BAD_NAME);
 }
 
-/// A claim in a line of so many bytes, and another claim in the next line.
+/// A line with a claim, of this many bytes, and a line with another claim.
 fn with_long_line(rt: &(impl Abort + AllocGlobal), size: usize) -> Vec<u8> {
     let mut input = Vec::from_slice(rt.alloc(), CLAIM.as_bytes()).expect(rt, "a claim");
     input.resize(size, b' ').expect(rt, "spaces");
@@ -103,7 +103,7 @@ const ANSWERS: &str = r#"{"answer":"accepted"}
 {"case":null,"charge":0,"name":"frob-nest","owners":["ann"],"quota":1073741824,"shown":"Frob._-Nest","state":"held"}
 "#;
 
-/// How many lines are whole.
+/// The number of whole lines.
 fn whole_lines(front: &[u8]) -> usize {
     let mut count = 0usize;
     for byte in front {
@@ -114,7 +114,7 @@ fn whole_lines(front: &[u8]) -> usize {
     count
 }
 
-/// A read fails behind this front of the lines: those that came whole are answered, and no other is.
+/// A read fails after this front of the lines: the whole lines are answered, and no other is.
 fn fail_behind<B: Books + Drop>(rt: &(impl Abort + AllocGlobal), books: B, front: &[u8]) {
     let mut answers = String::new(rt.alloc());
     for answer in ANSWERS.lines().take(whole_lines(front)) {

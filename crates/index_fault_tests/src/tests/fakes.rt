@@ -6,16 +6,16 @@ ghost use Rattle.index_rules.specs.Walks.{Walks, WalksSome, has_fault};
 ghost use Rattle.index_io.specs.Counts.{next_count};
 
 use index_digest::Sealed;
-use index_fakes::ShortReader;
 use index_names::{FileName, NormalName};
 use index_rules::{
     Books, Change, Fault, FileRow, FileTaker, Keys, NameRow, NameTaker, View, WalkEnd,
 };
+use index_test_support::ShortReader;
 use std::alloc::Global;
 use std::io;
 use std::io::{Error, ErrorKind, Read, Write};
 
-/// Gives these bytes, and then fails.
+/// A reader that gives these bytes, and then fails.
 pub(super) fn failing(bytes: &[u8]) -> ShortReader<'_> {
     ShortReader {
         rest: bytes,
@@ -75,15 +75,15 @@ pub(super) enum BooksCall {
     FilesOf,
     WalkHeld,
     WalkFiles,
-    /// A walk over the held names, behind its first row.
+    /// A walk over the held names, after its first row.
     HeldRow,
-    /// A walk over the files of a name, behind its first row.
+    /// A walk over the files of a name, after its first row.
     FilesRow,
-    /// Each of them, as of a store that is shut.
+    /// Every call, as of a store that is shut.
     Every,
 }
 
-/// Hands a name to a taker, as a walk does that this fault ends then.
+/// Passes a name to a taker, as a walk does that then ends with this fault.
 fn hand_name<K: NameTaker>(taker: &mut K, row: &NameRow, fault: Fault) -> Result<(), WalkEnd>
     ensures given { (rows : List NameRowData) ×
         Walks K.takes K.stops rows taker.old taker.new result }
@@ -95,7 +95,7 @@ fn hand_name<K: NameTaker>(taker: &mut K, row: &NameRow, fault: Fault) -> Result
     }
 }
 
-/// Hands a file to a taker, as a walk does that this fault ends then.
+/// Passes a file to a taker, as a walk does that then ends with this fault.
 fn hand_file<K: FileTaker>(taker: &mut K, row: &FileRow, fault: Fault) -> Result<(), WalkEnd>
     ensures given { (rows : List FileRowData) ×
         Walks K.takes K.stops rows taker.old taker.new result }
@@ -107,7 +107,7 @@ fn hand_file<K: FileTaker>(taker: &mut K, row: &FileRow, fault: Fault) -> Result
     }
 }
 
-/// A walk over the held names that this fault ends behind the first row.
+/// A walk over the held names that ends with this fault after the first row.
 fn hand_first_name<B: Books, K: NameTaker>(
     books: &mut B,
     alloc: Global,
@@ -123,7 +123,7 @@ fn hand_first_name<B: Books, K: NameTaker>(
     }
 }
 
-/// A walk over the files of a name that this fault ends behind the first row.
+/// A walk over the files of a name that ends with this fault after the first row.
 fn hand_first_file<B: Books, K: FileTaker>(
     books: &mut B,
     alloc: Global,
@@ -140,8 +140,8 @@ fn hand_first_file<B: Books, K: FileTaker>(
     }
 }
 
-/// Books of which one call fails, after so many that didn't. They count the calls that answered a fault. No contract knows
-/// what they hold.
+/// Books of which one call fails, after this many that succeed. They count the calls that failed. No contract says what
+/// they hold.
 pub(super) struct FailingBooks<B: Books + Drop> {
     pub(super) books: B,
     pub(super) failing: BooksCall,
@@ -163,7 +163,7 @@ impl<B: Books + Drop> Drop for FailingBooks<B> {
 }
 
 impl<B: Books + Drop> FailingBooks<B> {
-    /// Books of which this call fails, after so many that don't.
+    /// Books of which this call fails, after this many that succeed.
     pub(super) fn new(books: B, failing: BooksCall, fault: Fault, after: u32) -> FailingBooks<B> {
         FailingBooks {
             books,

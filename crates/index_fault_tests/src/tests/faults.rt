@@ -1,4 +1,4 @@
-//! Each fault of the books is the answer to what was asked, and nothing changed.
+//! A failed call of the books is the answer to its request, and nothing changes.
 use super::fakes::{BooksCall, FailingBooks};
 use super::{
     ACCEPTED, ALREADY, CLAIM, NEST_IS_FREE, STANDING_OF_NEST, assert_answers, desk_with_users,
@@ -11,8 +11,7 @@ use index_rules::{Answer, Books, Bytes, Call, Fault, Request};
 use std::alloc::AllocGlobal;
 use std::process::Abort;
 
-/// A desk over new books with the users ann and bob, where ann has claimed `frob`. This call of its books fails from now
-/// on.
+/// A desk over new books with the users ann and bob; ann has claimed `frob`. This call of its books fails from now on.
 pub(super) fn failing_desk<B: Books + Drop>(
     rt: &(impl Abort + AllocGlobal),
     books: B,
@@ -24,7 +23,7 @@ pub(super) fn failing_desk<B: Books + Drop>(
     Desk::new(FailingBooks::new(desk.into_books(), call, fault, 0))
 }
 
-/// The answer by a fault, and its line feed.
+/// The answer that reports a fault, and its line feed.
 fn fault_line(fault: Fault) -> &'static str {
     match fault {
         Fault::Store => "{\"answer\":\"fault\",\"name\":\"Store\"}\n",
@@ -44,14 +43,14 @@ const STANDING_OF_FROB: &str = r#"{"do":"standing","name":"frob"}"#;
 const FROB_IS_HELD: &str =
     "{\"case\":null,\"charge\":0,\"name\":\"frob\",\"owners\":[\"ann\"],\"quota\":1073741824,\"shown\":\"frob\",\"state\":\"held\"}\n";
 
-/// Where no call of these books fails, `frob` stands as it did, and `nest` so.
+/// Once no call of these books fails, `frob` stands as before, and this is the standing of `nest`.
 fn assert_after<B: Books + Drop>(rt: &(impl Abort + AllocGlobal), books: B, nest: &str) {
     let mut desk = Desk::new(books);
     assert_answers(rt, &mut desk, STANDING_OF_FROB, FROB_IS_HELD);
     assert_answers(rt, &mut desk, STANDING_OF_NEST, nest);
 }
 
-/// Where this call of the books fails, the lines that are asked are answered so, and `nest` then stands so.
+/// If this call of the books fails, these lines get these answers, and this is then the standing of `nest`.
 fn assert_told<B: Books + Drop>(
     rt: &(impl Abort + AllocGlobal),
     books: B,
@@ -69,7 +68,7 @@ fn assert_told<B: Books + Drop>(
     assert_after(rt, desk.into_books().into_books(), nest);
 }
 
-/// A fault is the answer to its line, and the next one is read.
+/// A fault is the answer to its line, and the next line is read.
 #[test]
 fn a_look_that_fails_is_a_fault(rt: HostRuntime) {
     for fault in [Fault::Store, Fault::OutOfMemory] {
@@ -85,7 +84,7 @@ fn a_look_that_fails_is_a_fault(rt: HostRuntime) {
     }
 }
 
-/// What needs no write is answered as ever.
+/// Calls that write nothing are answered as usual.
 #[test]
 fn a_write_that_fails_is_a_fault(rt: HostRuntime) {
     for fault in [Fault::Store, Fault::OutOfMemory] {
@@ -111,7 +110,7 @@ fn claim(rt: &(impl Abort + AllocGlobal)) -> Call {
     }
 }
 
-/// A claim is answered by the fault of this call of the books.
+/// A claim is answered with the fault of this call of the books.
 fn assert_answer<B: Books + Drop>(
     rt: &(impl Abort + AllocGlobal),
     books: B,
@@ -153,7 +152,7 @@ fn fault_of_body<B: Books>(rt: &(impl Abort + AllocGlobal), desk: &mut Desk<B>) 
     fault
 }
 
-/// Where this call of the books fails, these are the faults in place of a standing and of bytes.
+/// If this call of the books fails, these are the faults in place of a standing and of bytes.
 fn assert_faults<B: Books + Drop>(
     rt: &(impl Abort + AllocGlobal),
     books: B,

@@ -1,25 +1,26 @@
-//! A page that is too long to be gathered: it is counted first, and then sent. Where its walks fail it is not begun, or cut.
+//! A page that is too long to be gathered: it is counted first, and then sent. If its walks fail it is not begun, or
+//! cut short.
 use super::fakes::{BooksCall, FailingBooks};
 use super::replies::{ROOT, STORE, assert_reply, tell};
 use super::{ACCEPTED, assert_answers, desk_with_users, new_books};
-use index_desk::{Desk, Keeper};
+use index_cache::Cache;
+use index_desk::{CachesAnswers, Desk};
 use index_http::IoEnd;
 use index_message::Site;
-use index_recent::Recent;
 use index_rules::{Books, Fault};
 use std::alloc::AllocGlobal;
 use std::process::Abort;
 
 mod projects;
 
-/// How many long names make a page that is too long to be gathered.
+/// The number of long names whose page is too long to be gathered.
 pub(super) const LONG_NAMES: u32 = 16_000;
 
-/// What the names of a long page begin with.
+/// The beginning of the names of a long page.
 pub(super) const LONG: &str =
     "aaaaaaaaaabbbbbbbbbbccccccccccddddddddddeeeeeeeeeeffffffffffgggggggggghhhhhhhhhhiiiiiiiiiijjjjjjjjjjkkkkkkkkkkllllllllll";
 
-/// Claims so many names that their page is too long to be gathered: it is counted first, and then sent.
+/// Claims enough names for a page that is too long to be gathered.
 fn claim_long_names<B: Books>(rt: &(impl Abort + AllocGlobal), desk: &mut Desk<B>) {
     for number in 0..LONG_NAMES {
         let line = format!(in rt.alloc();
@@ -30,34 +31,34 @@ fn claim_long_names<B: Books>(rt: &(impl Abort + AllocGlobal), desk: &mut Desk<B
     }
 }
 
-/// A desk over these books, whose walks fail after so many that don't: before their first row or behind it.
+/// A desk over these books, whose walks fail after this many that succeed: before their first row or after it.
 fn failing_after<B: Books + Drop>(
     rt: &impl AllocGlobal,
     books: B,
     failing: BooksCall,
     fault: Fault,
     after: u32,
-) -> Desk<Recent<FailingBooks<B>>> {
+) -> Desk<Cache<FailingBooks<B>>> {
     let failing = FailingBooks::new(books, failing, fault, after);
-    Desk::new(Recent::new(rt.alloc(), failing, 0))
+    Desk::new(Cache::new(rt.alloc(), failing, 0))
 }
 
-/// A desk over new books with 16,000 long names, whose walks fail after so many that don't.
+/// A desk over new books with 16,000 long names, whose walks fail after this many that succeed.
 fn desk_of_long_names<B: Books + Drop>(
     rt: &(impl Abort + AllocGlobal),
     books: B,
     failing: BooksCall,
     fault: Fault,
     after: u32,
-) -> Desk<Recent<FailingBooks<B>>> {
+) -> Desk<Cache<FailingBooks<B>>> {
     let mut desk = desk_with_users(rt, books);
     claim_long_names(rt, &mut desk);
     failing_after(rt, desk.into_books(), failing, fault, after)
 }
 
-/// The reply to a look at a long page is cut where its last walk fails: its head went out, and no more than this front, which
-/// ends before the row at which it failed. How many bytes went out is told.
-fn assert_cut<B: Keeper>(
+/// If its last walk fails, the reply with a long page is cut short: its head is sent, and no more than this front,
+/// which ends before the row at which the walk failed. The end has the number of bytes.
+fn assert_cut<B: CachesAnswers>(
     rt: &(impl Abort + AllocGlobal),
     site: &Site,
     desk: &mut Desk<B>,
@@ -70,15 +71,15 @@ fn assert_cut<B: Keeper>(
     assert_is_cut(rt, told.as_slice(), ended, head, front);
 }
 
-/// What went out is this head and no more than this front of the reply, and its length was told.
+/// The output is this head and no more than this front of the reply, and its length is reported.
 fn assert_is_cut(rt: &impl Abort, told: &[u8], ended: Result<(), IoEnd>, head: &str, front: &str) {
     assert!(rt; told.starts_with(head.as_bytes()));
     assert!(rt; front.as_bytes().starts_with(told));
     assert!(rt; ended == Err(IoEnd::Cut(told.len() as u64)));
 }
 
-/// A front of the reply with the long page: its head, and up to its rows or further. The page has 164 bytes beside its rows,
-/// of 269 bytes each beside two numbers of one to five digits.
+/// A front of the reply with the long page: its head, and up to its rows or further. The page has 164 bytes beside its
+/// rows, of 269 bytes each beside two numbers of one to five digits.
 macro_rules! front_of_long_page {
     ($($more:literal)*) => {
         concat!(
@@ -103,7 +104,7 @@ const WITH_A_ROW: &str = front_of_long_page!(
     "<a href=\"/simple/aaaaaaaaaabbbbbbbbbbccccccccccddddddddddeeeeeeeeeeffffffffffgggggggggghhhhhhhhhhiiiiiiiiiijjjjjjjjjjkkkkkkkkkkllllllllll0/\">aaaaaaaaaabbbbbbbbbbccccccccccddddddddddeeeeeeeeeeffffffffffgggggggggghhhhhhhhhhiiiiiiiiiijjjjjjjjjjkkkkkkkkkkllllllllll0</a><br>\n"
 );
 
-/// The root page is cut where its last walk fails so.
+/// The root page is cut short if its last walk fails with this fault.
 fn assert_names_cut<B: Books + Drop>(
     rt: &(impl Abort + AllocGlobal),
     site: &Site,
@@ -128,8 +129,8 @@ fn a_long_page_is_cut(rt: HostRuntime) {
     }
 }
 
-/// Nothing of the page went out, since a walk before the last failed.
-fn assert_not_begun<B: Keeper>(
+/// Nothing of the page is sent if a walk before the last fails.
+fn assert_not_begun<B: CachesAnswers>(
     rt: &(impl Abort + AllocGlobal),
     site: &Site,
     desk: &mut Desk<B>,
@@ -143,7 +144,7 @@ fn assert_not_begun<B: Keeper>(
     assert_reply(rt, site, desk, message.as_bytes(), ended, reply);
 }
 
-/// The root page is not begun where its first walk fails so, or its second.
+/// The root page is not begun if its first or second walk fails with this fault.
 fn assert_names_not_begun<B: Books + Drop>(
     rt: &(impl Abort + AllocGlobal),
     site: &Site,

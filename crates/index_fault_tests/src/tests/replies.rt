@@ -1,15 +1,15 @@
-//! Replies where the tables fail: each route, each call of the tables, both faults. And replies to messages that are
-//! decided before their end, while the peer sends no more.
+//! Replies if the tables fail: each route, each call of the tables, both faults. And replies to messages that are
+//! decided before their end, while the client sends no more.
 use super::fakes::{BooksCall, FailingBooks, failing};
 use super::{
     ACCEPTED, CLAIM, NEST_IS_FREE, STANDING_OF_NEST, assert_answers, assert_text, desk_with_users,
     new_books,
 };
-use index_desk::{Desk, Keeper};
+use index_cache::Cache;
+use index_desk::{CachesAnswers, Desk};
 use index_http::{IoEnd, answer_one};
 use index_io::{Input, Output};
 use index_message::Site;
-use index_recent::Recent;
 use index_rules::{Books, Fault};
 use std::alloc::AllocGlobal;
 use std::io::{Read, Write};
@@ -53,7 +53,7 @@ const OUT_OF_MEMORY: &str = json_reply!(
     r#"{"answer":"fault","name":"OutOfMemory"}"#
 );
 
-/// A message, the calls of the tables that it makes, and the front of its reply where none fails.
+/// A message, the calls of the tables that it makes, and the front of its reply if none of them fails.
 #[derive(Clone, Copy)]
 pub(super) struct Route {
     pub(super) message: &'static str,
@@ -81,7 +81,7 @@ pub(super) const PAGE: Route = Route {
     front: IN_HTML,
 };
 
-/// Whether there is such a page is looked at before its type.
+/// Whether the page exists is checked before its type.
 const PAGE_OF_NO_TYPE: Route = Route {
     message: "GET /simple/frob/ HTTP/1.1\r\nAccept: */*;q=0\r\n\r\n",
     calls: &[BooksCall::IsHeld],
@@ -165,8 +165,8 @@ const DELETE: Route = Route {
 
 const CHANGES: &[Route] = &[CLAIM_NEST, PUT, DELETE];
 
-/// How a desk ends that answers what a reader gives, to a writer.
-pub(super) fn tell<R: Read + Drop, W: Write, B: Keeper>(
+/// How a desk ends that answers a reader on a writer.
+pub(super) fn tell<R: Read + Drop, W: Write, B: CachesAnswers>(
     rt: &impl AllocGlobal,
     site: &Site,
     desk: &mut Desk<B>,
@@ -178,8 +178,8 @@ pub(super) fn tell<R: Read + Drop, W: Write, B: Keeper>(
     answer_one(rt.alloc(), site, &mut input, &mut output, desk, 12)
 }
 
-/// What a reader gives is answered by this reply, and ends so.
-pub(super) fn assert_reply<R: Read + Drop, B: Keeper>(
+/// The message of a reader gets this reply, and the connection ends like this.
+pub(super) fn assert_reply<R: Read + Drop, B: CachesAnswers>(
     rt: &(impl Abort + AllocGlobal),
     site: &Site,
     desk: &mut Desk<B>,
@@ -194,7 +194,7 @@ pub(super) fn assert_reply<R: Read + Drop, B: Keeper>(
 }
 
 /// The reply to a message begins so, and is whole.
-fn assert_front<B: Keeper>(
+fn assert_front<B: CachesAnswers>(
     rt: &(impl Abort + AllocGlobal),
     site: &Site,
     desk: &mut Desk<B>,
@@ -208,20 +208,20 @@ fn assert_front<B: Keeper>(
     assert!(rt; is_front && ended == Ok(()), "{message}");
 }
 
-/// A desk over new books with the users ann and bob, where ann has claimed `frob` and uploaded a file. This call of its
-/// books fails from now on, after so many that don't. It keeps no answers.
+/// A desk over new books with the users ann and bob; ann has claimed `frob` and uploaded a file. This call of its books
+/// fails from now on, after this many that succeed. It caches no answers.
 fn failing_desk<B: Books + Drop>(
     rt: &(impl Abort + AllocGlobal),
     books: B,
     failing: BooksCall,
     fault: Fault,
     after: u32,
-) -> Desk<Recent<FailingBooks<B>>> {
+) -> Desk<Cache<FailingBooks<B>>> {
     let mut desk = desk_with_users(rt, books);
     assert_answers(rt, &mut desk, CLAIM, ACCEPTED);
     assert_answers(rt, &mut desk, UPLOAD, ACCEPTED);
     let failing = FailingBooks::new(desk.into_books(), failing, fault, after);
-    Desk::new(Recent::new(rt.alloc(), failing, 0))
+    Desk::new(Cache::new(rt.alloc(), failing, 0))
 }
 
 /// Each call of the tables.
@@ -243,8 +243,8 @@ fn makes(route: &Route, call: BooksCall) -> bool {
     route.calls.contains(&call)
 }
 
-/// Where this call of the tables fails, a look that makes it is answered by Store, or ends without a reply where memory
-/// ran out. All others are answered as ever.
+/// If this call of the tables fails, a reading request that makes it gets the reply `Store`, or none if memory ran out.
+/// All others are answered as usual.
 fn assert_look<B: Books + Drop>(
     rt: &(impl Abort + AllocGlobal),
     site: &Site,
@@ -291,8 +291,8 @@ fn a_head_of_tables_that_fail(rt: HostRuntime) {
     }
 }
 
-/// Each call of the tables but the first runs out of memory. A file that the first found is answered without the tables,
-/// until this look has made a call.
+/// Each call of the tables but the first runs out of memory. A file that the first found is answered without the
+/// tables, until this look has made a call.
 fn assert_forgotten<B: Books + Drop>(
     rt: &(impl Abort + AllocGlobal),
     site: &Site,
@@ -300,7 +300,7 @@ fn assert_forgotten<B: Books + Drop>(
     look: &Route,
 ) {
     let desk = failing_desk(rt, books, BooksCall::Every, Fault::OutOfMemory, 1);
-    let books = Recent::new(rt.alloc(), desk.into_books().into_books(), 1_024);
+    let books = Cache::new(rt.alloc(), desk.into_books().into_books(), 1_024);
     let mut desk = Desk::new(books);
     for _ in 0..2 {
         assert_front(rt, site, &mut desk, FILE.message, FILE.front);
@@ -319,8 +319,8 @@ fn what_is_kept_goes_where_memory_runs_out(rt: HostRuntime) {
     }
 }
 
-/// Where this call of the tables fails, a request that makes it is answered by the fault, and changed nothing. All others
-/// are answered as ever.
+/// If this call of the tables fails, a request that makes it gets the fault as its reply, and changes nothing. All
+/// others are answered as usual.
 fn assert_change<B: Books + Drop>(
     rt: &(impl Abort + AllocGlobal),
     site: &Site,
@@ -362,7 +362,7 @@ fn a_change_of_tables_that_fail(rt: HostRuntime) {
     }
 }
 
-/// The reply to a message is decided by this front of it: no more is read, which would fail.
+/// This front of a message decides its reply: no more is read, which would fail.
 fn assert_decided<B: Books + Drop>(
     rt: &(impl Abort + AllocGlobal),
     site: &Site,

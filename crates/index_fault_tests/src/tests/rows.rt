@@ -1,4 +1,4 @@
-//! Rows, walks over them, and the sums of a check and a report end by each fault of the books.
+//! Rows, walks over them, a check and a report end with each fault of the books.
 use super::fakes::{BooksCall, TakesAll};
 use super::faults::failing_desk;
 use super::new_books;
@@ -29,7 +29,7 @@ fn fault_of_project<B: Books>(
     fault
 }
 
-/// Where this call of the books fails, these are the faults in place of the rows of the held names and of `frob`.
+/// If this call of the books fails, these are the faults in place of the rows of the held names and of `frob`.
 fn assert_rows<B: Books + Drop>(
     rt: &(impl Abort + AllocGlobal),
     books: B,
@@ -75,7 +75,7 @@ fn rows_are_answered_by_the_fault(rt: HostRuntime) {
     }
 }
 
-/// Where this call of the books fails, the walks over the held names and over the files of `frob` end so.
+/// If this call of the books fails, the walks over the held names and over the files of `frob` end like this.
 fn assert_walks<B: Books + Drop>(
     rt: &(impl Abort + AllocGlobal),
     books: B,
@@ -138,7 +138,7 @@ fn walks_end_by_the_fault(rt: HostRuntime) {
     }
 }
 
-/// How a report ends. One that ends by a fault wrote nothing, and one that does not wrote something.
+/// How a report ends. A report that failed wrote nothing, and one that succeeded wrote something.
 fn end_of_report<B: Books>(
     rt: &(impl Abort + AllocGlobal),
     desk: &mut Desk<B>,
@@ -151,7 +151,7 @@ fn end_of_report<B: Books>(
     ended
 }
 
-/// Where this call of the books fails, the check and the report end so.
+/// If this call of the books fails, the check and the report end like this.
 fn assert_sums<B: Books + Drop>(
     rt: &(impl Abort + AllocGlobal),
     books: B,

@@ -1,14 +1,14 @@
-//! Each route over a database of which a file stops at one call or another: the reply is that of where none stops, or tells
-//! of a fault of the store; and a page that is too long to be gathered is cut.
+//! Each route over a database with a file that stops at some call: the reply is the usual one or reports a failed
+//! store, and a page that is too long to be gathered is cut short.
 use super::long_pages::{HEAD_OF_LONG_PAGE, LONG, LONG_NAMES};
 use super::replies::{ROOT, STORE, UPLOAD, tell};
 use super::{ACCEPTED, CLAIM, assert_answers, desk_with_users};
 use files::{Database, File, Which, closed, new_files, opened, stopping};
-use index_desk::{Desk, Keeper};
+use index_cache::Cache;
+use index_desk::{CachesAnswers, Desk};
 use index_digest::Digest256;
 use index_http::IoEnd;
 use index_message::Site;
-use index_recent::Recent;
 use index_rules::OpenFault;
 use index_tables::{SqlBooks, Unopened};
 use sqlite::{Alter, Connection, Files};
@@ -78,7 +78,7 @@ fn new_database(rt: &(impl Abort + AllocGlobal)) -> Connection<Database> {
     }
 }
 
-/// What is sent to a client, and how the connection ends.
+/// The reply that a client gets, and how the connection ends.
 struct Reply {
     told: Vec<u8>,
     ended: Result<(), IoEnd>,
@@ -93,7 +93,7 @@ impl Drop for Reply {
     }
 }
 
-fn reply_of<B: Keeper>(
+fn reply_of<B: CachesAnswers>(
     rt: &(impl Abort + AllocGlobal),
     site: &Site,
     desk: &mut Desk<B>,
@@ -104,7 +104,7 @@ fn reply_of<B: Keeper>(
     Reply { told, ended }
 }
 
-/// The reply of the index that is there, or `None` where it is not opened.
+/// The reply of the index in a database, or `None` if it is not opened.
 fn reply_over<S: Alter + Drop>(
     rt: &(impl Abort + AllocGlobal),
     site: &Site,
@@ -114,7 +114,7 @@ fn reply_over<S: Alter + Drop>(
     assert!(rt; conn.is_autocommit());
     match SqlBooks::adopt(rt.alloc(), conn) {
         Ok(books) => {
-            let mut desk = Desk::new(Recent::new(rt.alloc(), books, 0));
+            let mut desk = Desk::new(Cache::new(rt.alloc(), books, 0));
             let reply = reply_of(rt, site, &mut desk, message);
             (
                 Some(reply),
@@ -128,7 +128,7 @@ fn reply_over<S: Alter + Drop>(
     }
 }
 
-/// The reply of an index in files of which one stops after so many calls.
+/// The reply of an index in two files, one of which stops after this many calls.
 fn reply_after(
     rt: &(impl Abort + AllocGlobal),
     site: &Site,
@@ -148,18 +148,18 @@ fn reply_after(
     }
 }
 
-/// What becomes of a message.
+/// The outcome of a message.
 #[derive(Clone, Copy, PartialEq, Eq, Debug)]
 enum Outcome {
     /// No index was opened.
     Unopened,
     Fault,
-    /// A front of the reply went out, and how many bytes that are was told.
+    /// A first part of the reply was sent, and the end has the number of its bytes.
     Cut,
     Whole,
 }
 
-/// What became of a message whose whole reply is known.
+/// The outcome of a message whose whole reply is known.
 fn outcome_of(rt: &impl Abort, reply: &Option<Reply>, whole: &[u8]) -> Outcome {
     let Some(Reply { told, ended }) = reply else {
         return Outcome::Unopened;
@@ -179,8 +179,8 @@ fn outcome_of(rt: &impl Abort, reply: &Option<Reply>, whole: &[u8]) -> Outcome {
 /// More calls than any run makes of one file.
 const ENOUGH: u64 = 1_000_000;
 
-/// Stops one of the files at its first call, then so many calls later, and so on until the reply is whole. Gives how often
-/// it told of a fault, and how often it was cut.
+/// Stops one of the files at its first call, then this many calls later, and so on until the reply is whole. Returns
+/// how often a fault was reported, and how often the reply was cut short.
 fn stop_each(
     rt: &(impl Abort + AllocGlobal),
     site: &Site,
@@ -220,7 +220,7 @@ macro_rules! reply {
     };
 }
 
-/// A look at each of the pages in JSON, at a file and at a standing.
+/// Requests for each page in JSON, a file and a standing.
 const LOOKS: &[[&str; 2]] = &[
     [
         "GET /simple/ HTTP/1.1\r\nAccept: application/vnd.pypi.simple.v1+json\r\n\r\n",
@@ -255,7 +255,7 @@ const LOOKS: &[[&str; 2]] = &[
     ],
 ];
 
-/// A message gets its reply, or tells of a fault at some stops.
+/// A message gets its reply, or at some stops a reply that reports a fault.
 fn assert_told(
     rt: &(impl Abort + AllocGlobal),
     site: &Site,
@@ -328,7 +328,7 @@ fn a_change_of_a_database_that_stops(rt: HostRuntime) {
 /// The page has 164 bytes beside its rows, of 269 bytes each beside two numbers of one to five digits.
 const LENGTH_OF_PAGE: usize = 4_441_944;
 
-/// The reply with the long page where no file stops.
+/// The reply with the long page if no file stops.
 fn long_reply(rt: &(impl Abort + AllocGlobal), site: &Site, files: &Files<File>) -> Reply {
     let files = stopping(rt, files, Which::Database, u64::MAX);
     let reply = reply_after(rt, site, files, ROOT.message).expect(rt, "an index");
@@ -337,14 +337,14 @@ fn long_reply(rt: &(impl Abort + AllocGlobal), site: &Site, files: &Files<File>)
     reply
 }
 
-/// Some stops are told as a fault, and others cut the page.
+/// Some stops are reported as a fault, and others cut the page short.
 fn assert_cut(rt: &(impl Abort + AllocGlobal), site: &Site, files: &Files<File>, whole: &[u8]) {
     let (faults, cuts) = stop_each(rt, site, files, Which::Database, 2_003, ROOT.message, whole);
     assert!(rt; faults > 0 && cuts > 0);
 }
 
-/// The page is gathered until it is too long, then counted, and then sent. A stop in the first two walks is told as a fault,
-/// and one in the last cuts the page.
+/// The page is gathered until it is too long, then counted, and then sent. A stop in the first two walks is reported as
+/// a fault, and one in the last cuts the page short.
 #[test]
 fn a_long_page_of_a_database_that_stops(rt: HostRuntime) {
     let site = &Site::new(rt.alloc()).expect(&rt, "routes");

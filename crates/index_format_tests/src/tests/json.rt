@@ -1,4 +1,4 @@
-//! Lines of JSON: what they ask, and the texts of answers and standings.
+//! Lines of JSON: the requests in them, and the texts of answers and standings.
 mod answers;
 mod lines;
 

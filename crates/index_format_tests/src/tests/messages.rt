@@ -1,10 +1,10 @@
-//! Messages, and the short texts that tell them.
-use index_fakes::ShortReader;
+//! Messages, and short texts that describe them.
 use index_io::Input;
 use index_message::{
     Allowed, HttpRequest, Message, MessageFault, Method, Resource, Site, read_message,
 };
 use index_rules::Bytes;
+use index_test_support::ShortReader;
 use std::alloc::AllocGlobal;
 use std::process::Abort;
 
@@ -39,7 +39,7 @@ fn assert_read(rt: &(impl Abort + AllocGlobal), site: &Site, reader: ShortReader
     assert_eq!(rt; told.as_slice(), text.as_bytes());
 }
 
-/// A fault, and `Head` where the reply has no body; or the method, what the path leads to, and the body.
+/// The text of a message: its fault, and `Head` if the reply has no body; or the method, the resource and the body.
 fn text_of(rt: &(impl Abort + AllocGlobal), message: &Message) -> Vec<u8> {
     let mut text = Vec::new(rt.alloc());
     match message {
@@ -49,7 +49,7 @@ fn text_of(rt: &(impl Abort + AllocGlobal), message: &Message) -> Vec<u8> {
     text
 }
 
-/// Adds a word, behind a space where others stand before it. A word of no bytes is none.
+/// Adds a word, after a space unless it is the first. An empty word is not added.
 fn add(rt: &impl Abort, text: &mut Vec<u8>, word: &[u8]) {
     if word.is_empty() {
         return;

@@ -1,4 +1,4 @@
-//! Examples of standards and of real files, and what no clause says.
+//! Examples from standards and of real files, and what no clause says.
 mod attempts;
 mod digests;
 mod file_names;

@@ -1,5 +1,5 @@
 //! The rows of requests on retention cases (PEP 541).
-ghost use Rattle.index_json.specs.Reading.{ReadsTo};
+ghost use Rattle.index_json.specs.Reading.{ObjectIsReadTo};
 ghost use Rattle.index_json.specs.Requests.{attempt_means as attempt_means_lem, case_kind as case_kind_lem, request_on_case, open_case_row, record_attempt_row, transfer_row};
 
 use crate::object_reader::{ObjectReader, Unread};
@@ -7,13 +7,13 @@ use index_retention::{CaseKind, Means};
 use index_rules::Request;
 use std::alloc::Global;
 
-/// The request on a case of an object whose `do` is this word.
+/// The request on a case of an object, whose `do` is this word.
 pub fn request_named(
     alloc: Global,
     word: &str,
     object: &mut ObjectReader<'_>,
 ) -> Result<Request, Unread>
-    ensures { ReadsTo object.old object.new result (request_on_case word.now) }
+    ensures { ObjectIsReadTo object.old object.new result (request_on_case word.now) }
 {
     match word {
         "open_case" => open_case(alloc, object),
@@ -31,7 +31,7 @@ pub fn request_named(
 
 /// Reads the keys of an `open_case`.
 fn open_case(alloc: Global, object: &mut ObjectReader<'_>) -> Result<Request, Unread>
-    ensures { ReadsTo object.old object.new result open_case_row }
+    ensures { ObjectIsReadTo object.old object.new result open_case_row }
 {
     let kind = case_kind(object)?;
     let (name, contact) = object.two_texts(alloc, "name", "contact")?;
@@ -47,7 +47,7 @@ fn open_case(alloc: Global, object: &mut ObjectReader<'_>) -> Result<Request, Un
 
 /// Reads the keys of a `record_attempt`.
 fn record_attempt(alloc: Global, object: &mut ObjectReader<'_>) -> Result<Request, Unread>
-    ensures { ReadsTo object.old object.new result record_attempt_row }
+    ensures { ObjectIsReadTo object.old object.new result record_attempt_row }
 {
     let means = attempt_means(object)?;
     let sent = object.flag("sent")?;
@@ -57,16 +57,16 @@ fn record_attempt(alloc: Global, object: &mut ObjectReader<'_>) -> Result<Reques
 
 /// Reads the keys of a `transfer`.
 fn transfer(alloc: Global, object: &mut ObjectReader<'_>) -> Result<Request, Unread>
-    ensures { ReadsTo object.old object.new result transfer_row }
+    ensures { ObjectIsReadTo object.old object.new result transfer_row }
 {
     let quiet = object.flag("quiet")?;
     let name = object.bytes(alloc, "name")?;
     Ok(Request::Transfer { name, quiet })
 }
 
-/// The kind of a case, as its text says.
+/// The kind of a case, from its text.
 fn case_kind(object: &mut ObjectReader<'_>) -> Result<CaseKind, Unread>
-    ensures { ReadsTo object.old object.new result case_kind_lem }
+    ensures { ObjectIsReadTo object.old object.new result case_kind_lem }
 {
     match object.text("kind")? {
         "continue" => Ok(CaseKind::Continue),
@@ -75,9 +75,9 @@ fn case_kind(object: &mut ObjectReader<'_>) -> Result<CaseKind, Unread>
     }
 }
 
-/// The means of an attempt, as its text says.
+/// The means of an attempt, from its text.
 fn attempt_means(object: &mut ObjectReader<'_>) -> Result<Means, Unread>
-    ensures { ReadsTo object.old object.new result attempt_means_lem }
+    ensures { ObjectIsReadTo object.old object.new result attempt_means_lem }
 {
     match object.text("means")? {
         "profile" => Ok(Means::Profile),

@@ -1,5 +1,5 @@
 //! The rows of requests on who owns a name.
-ghost use Rattle.index_json.specs.Reading.{ReadsTo};
+ghost use Rattle.index_json.specs.Reading.{ObjectIsReadTo};
 ghost use Rattle.index_json.specs.Requests.{request_on_owner};
 
 use super::files;
@@ -7,13 +7,13 @@ use crate::object_reader::{ObjectReader, Unread};
 use index_rules::Request;
 use std::alloc::Global;
 
-/// The request of an object whose `do` is this word, which is none on users or by the office.
+/// The request of an object, whose `do` is this word and not one of a request on users or by the office.
 pub fn request_named(
     alloc: Global,
     word: &str,
     object: &mut ObjectReader<'_>,
 ) -> Result<Request, Unread>
-    ensures { ReadsTo object.old object.new result (request_on_owner word.now) }
+    ensures { ObjectIsReadTo object.old object.new result (request_on_owner word.now) }
 {
     match word {
         "claim" => object

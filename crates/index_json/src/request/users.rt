@@ -1,5 +1,5 @@
 //! The rows of requests on users.
-ghost use Rattle.index_json.specs.Reading.{ReadsTo};
+ghost use Rattle.index_json.specs.Reading.{ObjectIsReadTo};
 ghost use Rattle.index_json.specs.Requests.{add_user_row, set_token_row, request_on_user};
 
 use super::names;
@@ -7,13 +7,13 @@ use crate::object_reader::{ObjectReader, Unread};
 use index_rules::Request;
 use std::alloc::Global;
 
-/// The request of an object whose `do` is this word.
+/// The request of an object, whose `do` is this word.
 pub fn request_named(
     alloc: Global,
     word: &str,
     object: &mut ObjectReader<'_>,
 ) -> Result<Request, Unread>
-    ensures { ReadsTo object.old object.new result (request_on_user word.now) }
+    ensures { ObjectIsReadTo object.old object.new result (request_on_user word.now) }
 {
     match word {
         "add_user" => add_user(alloc, object),
@@ -24,7 +24,7 @@ pub fn request_named(
 
 /// Reads the keys of an `add_user`.
 fn add_user(alloc: Global, object: &mut ObjectReader<'_>) -> Result<Request, Unread>
-    ensures { ReadsTo object.old object.new result add_user_row }
+    ensures { ObjectIsReadTo object.old object.new result add_user_row }
 {
     let office = object.flag("office")?;
     let (user, token) = object.two_texts(alloc, "user", "token_sha256")?;
@@ -37,7 +37,7 @@ fn add_user(alloc: Global, object: &mut ObjectReader<'_>) -> Result<Request, Unr
 
 /// Reads the keys of a `set_token`.
 fn set_token(alloc: Global, object: &mut ObjectReader<'_>) -> Result<Request, Unread>
-    ensures { ReadsTo object.old object.new result set_token_row }
+    ensures { ObjectIsReadTo object.old object.new result set_token_row }
 {
     let texts = object.two_texts(alloc, "user", "token_sha256");
     texts.map(|(user, token)| Request::SetToken { user, token })

@@ -1,4 +1,4 @@
-//! What is written where a case is opened, goes on or ends.
+//! The changes of a case: it is opened, goes on or ends.
 ghost use Rattle.std.specs.Prelude.{◌≡◌, true};
 ghost use Rattle.index_rules.specs.declared.change.Change.TheVariants.{Transfer};
 ghost use Rattle.index_plain.specs.Plain.{Makes, plain_tables, is_of_case, without_case};
@@ -10,7 +10,7 @@ use index_rules::{Change, UserId};
 use std::alloc::{AllocError, Global};
 
 impl PlainBooks {
-    /// Makes a change of a case, or leaves the tables as they were.
+    /// Makes a change of a case. If that fails, the tables stay as they were.
     pub(super) fn make_of_case(&mut self, alloc: Global, change: Change) -> Result<(), AllocError>
         requires case { is_of_case change ≡ true }
         ensures made { Makes change self.old self.new result }
@@ -29,7 +29,7 @@ impl PlainBooks {
         }
     }
 
-    /// Ends the case of a name, where one is open.
+    /// Ends the case of a name, if one is open.
     pub(super) fn end_case(&mut self, name: &NormalName)
         ensures tables { plain_tables self.new ≡ without_case name.now (plain_tables self.old) }
         ensures rest { self.new ≡ record self.old { cases = self.new.cases } }

@@ -1,4 +1,4 @@
-//! What is written where a file is uploaded, deleted or banned.
+//! The changes of a file: it is uploaded, deleted or banned.
 ghost use Rattle.std.specs.Prelude.{None, Option, Some};
 ghost use Rattle.index_rules.specs.declared.change.Change.TheVariants.{BanFile, Delete, Upload};
 ghost use Rattle.index_rules.specs.Maps.{Bytes};
@@ -12,7 +12,7 @@ use index_rules::{FileRecord, NameRecord, Project};
 use std::alloc::AllocError;
 
 impl PlainBooks {
-    /// The name and the file have these records, and the bytes are kept. The case ends where `ends_case`.
+    /// The name and the file have these records, and the bytes are stored. If `ends_case`, the case ends.
     pub(super) fn upload(
         &mut self,
         name: &NormalName,
@@ -40,7 +40,7 @@ impl PlainBooks {
         }
     }
 
-    /// The name and the file have these records, the bytes go, and the case ends.
+    /// The name and the file have these records, the bytes are deleted, and the case ends.
     pub(super) fn delete(
         &mut self,
         name: &NormalName,
@@ -57,7 +57,8 @@ impl PlainBooks {
         Ok(())
     }
 
-    /// The file is banned and has this record, and its bytes go. Where a project is handed in, the name has this record.
+    /// The file is banned and has this record, and its bytes are deleted. If there is a `project`, the name has this
+    /// record.
     pub(super) fn ban_file(
         &mut self,
         name: &NormalName,
@@ -73,7 +74,7 @@ impl PlainBooks {
         }
     }
 
-    /// Bans an undeleted file, which leaves the charge of its name. The name is put back if memory runs out.
+    /// Bans an undeleted file, and takes its size off the charge of its name. The name is put back if memory runs out.
     fn ban_charged(
         &mut self,
         name: &NormalName,

@@ -2,7 +2,7 @@
 ghost use Rattle.std.specs.Prelude.{◌≡◌, IfOk, false, option_map};
 ghost use Rattle.std.specs.Option.{option_map_or};
 ghost use Rattle.std.specs.BTreeMap.{IsOrdered, keys};
-ghost use Rattle.index_rules.specs.Facts.{IsBearer, IsBearerAs, Sees, at_both, caller_of, has_release_in, is_banned_in, of_both, owners_at, yank_in};
+ghost use Rattle.index_rules.specs.Facts.{IsBearer, IsBearerAs, Sees, at_both, caller_of, has_release_in, is_banned_in, of_both, owners_of_name, yank_in};
 ghost use Rattle.index_rules.specs.Maps.{bytes_cmp};
 ghost use Rattle.index_rules.specs.Results.{Returns};
 ghost use Rattle.index_rules.specs.Tables.{owners_in};
@@ -29,7 +29,7 @@ impl PlainBooks {
         Ok(View::from_parts(users, name, files))
     }
 
-    /// The caller, the user whom the call names and the bearer of the token that it brings.
+    /// The caller, the user whom the call names and the user who has the token that it brings.
     fn users_at(&self, keys: &Keys) -> Result<UsersSeen, AllocError>
         ensures { IfOk result (SeesUsers (plain_tables self.now) keys.now) }
     {
@@ -59,7 +59,7 @@ impl PlainBooks {
         })
     }
 
-    /// The record, the owners and the case of the name that the call speaks of.
+    /// The record, the owners and the case of the name that the call is about.
     fn name_at(&self, alloc: Global, keys: &Keys) -> Result<NameSeen, AllocError>
         ensures { IfOk result (SeesName (plain_tables self.now) keys.now.name) }
     {
@@ -79,9 +79,9 @@ impl PlainBooks {
         }
     }
 
-    /// The owners of the name, or none if the call speaks of no name.
+    /// The owners of the name, or none if the call is about no name.
     fn owners_by_key(&self, alloc: Global, name: &Option<NormalName>) -> Result<Owners, AllocError>
-        ensures { Returns result (owners_at (plain_tables self.now) name.now) }
+        ensures { Returns result (owners_of_name (plain_tables self.now) name.now) }
     {
         match name {
             Some(name) => self.owners_by_name(alloc, name),
@@ -89,7 +89,7 @@ impl PlainBooks {
         }
     }
 
-    /// Why a release is yanked, where it is.
+    /// Why a release is yanked, if it is.
     fn yank(
         &self,
         name: &Option<NormalName>,
@@ -123,7 +123,7 @@ impl PlainBooks {
         }
     }
 
-    /// Who bears the token with this digest.
+    /// The user who has the token with this digest.
     fn bearer(&self, token: Digest256) -> Option<(&UserId, &UserRecord)>
         ensures { let bearer = option_map (λ user. (user.0.now, user.1.now)) result in
             IsBearer (plain_tables self.now) token bearer }
@@ -131,12 +131,12 @@ impl PlainBooks {
         let user = pairs::first_at(&self.accounts.bearers, &token)?;
         match table::find(&self.accounts.users, user) {
             Some(known) => Some((user, known)),
-            // An invariant of the accounts: each bearer of a token is a user.
+            // An invariant of the accounts: each digest of a token leads to a user.
             None => unreachable!(),
         }
     }
 
-    /// A copy of the user who bears the token with this digest.
+    /// A copy of the user who has the token with this digest.
     fn caller(&self, token: Option<Digest256>) -> Result<Option<Caller>, AllocError>
         ensures { IfOk result (IsBearerAs caller_of (plain_tables self.now) token) }
     {
@@ -152,7 +152,7 @@ impl PlainBooks {
         }
     }
 
-    /// A copy of the id of the user who bears the token with this digest.
+    /// A copy of the id of the user who has the token with this digest.
     fn bearer_id(&self, token: Option<Digest256>) -> Result<Option<UserId>, AllocError>
         ensures { IfOk result (IsBearerAs (λ user. user.0) (plain_tables self.now) token) }
     {

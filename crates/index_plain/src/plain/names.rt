@@ -1,4 +1,4 @@
-//! What is written where a name is claimed, given up or prohibited.
+//! The changes of a name's state: it is claimed, relinquished, prohibited or allowed.
 ghost use Rattle.std.specs.Prelude.{◌≡◌, true};
 ghost use Rattle.index_rules.specs.declared.change.Change.TheVariants.{Claim, Prohibit, Relinquish, SetQuota};
 ghost use Rattle.index_plain.specs.Plain.{BecomesBy, Makes, Writes, is_of_name, without_all_but_record, without_yanks_and_case};
@@ -10,7 +10,7 @@ use index_rules::{Change, NameRecord, Project, UserId};
 use std::alloc::{AllocError, Global};
 
 impl PlainBooks {
-    /// Makes a change of the state of a name, or leaves the tables as they were.
+    /// Makes a change of the state of a name. If that fails, the tables stay as they were.
     pub(super) fn make_of_name(&mut self, alloc: Global, change: Change) -> Result<(), AllocError>
         requires name { is_of_name change ≡ true }
         ensures made { Makes change self.old self.new result }
@@ -56,7 +56,7 @@ impl PlainBooks {
         Ok(())
     }
 
-    /// The name is free, and its owners, its yanks and its case go.
+    /// The name is free, without owners, yanks and a case.
     fn relinquish(&mut self, name: &NormalName)
         ensures { Writes (Relinquish name.now) self.old self.new }
     {
@@ -64,7 +64,7 @@ impl PlainBooks {
         table::remove(&mut self.names, name);
     }
 
-    /// The name is prohibited, its files are deleted, and its owners, its yanks and its case go.
+    /// The name is prohibited, without owners, yanks and a case, and its files are deleted.
     fn prohibit(&mut self, name: &NormalName) -> Result<(), AllocError>
         ensures made { Makes (Prohibit name.now) self.old self.new result }
     {
@@ -75,7 +75,7 @@ impl PlainBooks {
         Ok(())
     }
 
-    /// Takes away the owners, the yanks and the case of a name.
+    /// Removes the owners, the yanks and the case of a name.
     #[tactic(auto, using(crate::proofs::OwnerLemmas::name_gone))]
     fn clear(&mut self, name: &NormalName)
         ensures { BecomesBy (without_all_but_record name.now) self.old self.new }
@@ -84,7 +84,7 @@ impl PlainBooks {
         self.end_yanks_and_case(name);
     }
 
-    /// Takes away the yanks and the case of a name.
+    /// Removes the yanks and the case of a name.
     #[tactic(auto, using(crate::proofs::OwnerLemmas::name_gone))]
     fn end_yanks_and_case(&mut self, name: &NormalName)
         ensures { BecomesBy (without_yanks_and_case name.now) self.old self.new }

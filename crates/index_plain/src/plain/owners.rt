@@ -1,4 +1,4 @@
-//! What is written where a name gets or loses an owner.
+//! The changes of a name's owners.
 ghost use Rattle.std.specs.Prelude.{◌≡◌, true};
 ghost use Rattle.index_rules.specs.declared.change.Change.TheVariants.{AddOwner, RemoveOwner};
 ghost use Rattle.index_plain.specs.Plain.{Makes, Writes, is_of_owner};
@@ -10,7 +10,7 @@ use index_rules::{Change, UserId};
 use std::alloc::{AllocError, Global};
 
 impl PlainBooks {
-    /// Makes a change of who owns a name, or leaves the tables as they were.
+    /// Makes a change of who owns a name. If that fails, the tables stay as they were.
     pub(super) fn make_of_owner(&mut self, alloc: Global, change: Change) -> Result<(), AllocError>
         requires owner { is_of_owner change ≡ true }
         ensures made { Makes change self.old self.new result }
@@ -40,7 +40,7 @@ impl PlainBooks {
         Ok(())
     }
 
-    /// The user owns the name no more, and the case ends.
+    /// The user no longer owns the name, and the case ends.
     fn remove_owner(&mut self, name: &NormalName, user: &UserId)
         ensures { Writes (RemoveOwner name.now user.now) self.old self.new }
     {

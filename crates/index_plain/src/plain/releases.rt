@@ -1,4 +1,4 @@
-//! What is written of a release: of its files and its yank.
+//! The changes of a release: of its files and its yank.
 ghost use Rattle.std.specs.Prelude.{◌≡◌, true};
 ghost use Rattle.index_rules.specs.declared.change.Change.TheVariants.{Unyank, Yank};
 ghost use Rattle.index_plain.specs.Plain.{Makes, Writes, is_of_release};
@@ -11,7 +11,7 @@ use index_text::Text;
 use std::alloc::{AllocError, Global};
 
 impl PlainBooks {
-    /// Makes a change of a release, or leaves the tables as they were.
+    /// Makes a change of a release. If that fails, the tables stay as they were.
     pub(super) fn make_of_release(
         &mut self,
         alloc: Global,
@@ -70,7 +70,7 @@ impl PlainBooks {
         Ok(())
     }
 
-    /// The release is yanked no more, and the case ends.
+    /// The release is no longer yanked, and the case ends.
     fn remove_yank(&mut self, name: &NormalName, release: &Release)
         ensures { Writes (Unyank name.now release.now) self.old self.new }
     {

@@ -1,4 +1,4 @@
-//! The rows of the tables: whole lists of them, and walks that hand them to a taker one at a time.
+//! The rows of the tables: whole lists of them, and walks that pass them to a taker one at a time.
 ghost use Rattle.std.specs.Prelude.{◌≡◌};
 ghost use Rattle.index_rules.specs.Sound.{is_undeleted_of as is_undeleted_of_lem};
 ghost use Rattle.index_rules.specs.TableRows.{file_row_in, file_rows_in, name_row as name_row_lem, name_rows_in};
@@ -42,7 +42,7 @@ impl PlainBooks {
         Ok(rows)
     }
 
-    /// Hands the held names to a taker, in byte order.
+    /// Passes the held names to a taker, in byte order.
     pub(crate) fn hand_names<K: NameTaker>(&self, taker: &mut K) -> Result<(), WalkEnd>
         ensures { HandsNames self.now (to_taker K.takes K.stops taker.old taker.new) result }
     {
@@ -52,7 +52,7 @@ impl PlainBooks {
         Ok(())
     }
 
-    /// Hands the undeleted files of a name to a taker, in byte order. It looks at all files.
+    /// Passes the undeleted files of a name to a taker, in byte order. It looks at all files.
     pub(crate) fn hand_files<K: FileTaker>(
         &self,
         name: &NormalName,
@@ -67,7 +67,7 @@ impl PlainBooks {
         Ok(())
     }
 
-    /// Hands the row of a file to a taker, where it is an undeleted one of the name.
+    /// Passes the row of a file to a taker, if it is an undeleted one of the name.
     fn hand_file<K: FileTaker>(
         &self,
         name: &NormalName,
@@ -89,7 +89,7 @@ impl PlainBooks {
         }
     }
 
-    /// A file's row. It is yanked where its release of the name is.
+    /// A file's row, yanked if its release of the name is.
     fn file_row(
         &self,
         name: &NormalName,
@@ -130,7 +130,7 @@ fn is_undeleted_of(known: &FileRecord, name: &NormalName) -> bool
     known.is_undeleted && *name == known.project
 }
 
-/// Hands the row of a name to a taker, where the name is held.
+/// Passes the row of a name to a taker, if the name is held.
 fn hand_name<K: NameTaker>(
     taker: &mut K,
     name: &NormalName,

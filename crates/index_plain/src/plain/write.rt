@@ -1,4 +1,4 @@
-//! What a change writes.
+//! The changes that calls write.
 ghost use Rattle.index_plain.specs.Plain.{Makes};
 
 use crate::plain::PlainBooks;
@@ -6,8 +6,8 @@ use index_rules::Change;
 use std::alloc::{AllocError, Global};
 
 impl PlainBooks {
-    /// Makes a change, or leaves the tables as they were. What takes memory comes first; what is written by then is
-    /// taken back where memory is refused, and what is left to do takes none.
+    /// Makes a change, or leaves the tables as they were. What needs memory comes first: if memory runs out, what is
+    /// written by then is undone, and the rest needs none.
     pub(crate) fn make(&mut self, alloc: Global, change: Change) -> Result<(), AllocError>
         ensures made { Makes change self.old self.new result }
     {

@@ -1,10 +1,10 @@
-//! Exchanges: a message and the whole reply to it, as they come in and go out.
+//! Exchanges: a message and the whole reply to it, byte for byte.
 use super::{Story, assert_story};
-use index_desk::{Desk, Keeper};
-use index_fakes::ShortReader;
+use index_desk::{CachesAnswers, Desk};
 use index_http::{IoEnd, answer_one};
 use index_io::{Input, Output};
 use index_message::Site;
+use index_test_support::ShortReader;
 use std::alloc::AllocGlobal;
 use std::io::{Read, Write};
 use std::process::Abort;
@@ -78,10 +78,10 @@ mod pages;
 mod prohibitions;
 mod yanks;
 
-/// When each message comes.
+/// The moment of each message.
 const AT: u64 = 10;
 
-/// What a request that was accepted is answered.
+/// The reply to an accepted request.
 const ACCEPTED: &str = json_reply!("200 OK", "21", r#"{"answer":"accepted"}"#);
 
 /// The office adds ann, whose token is `abc`, and bob, whose token is `hello`.
@@ -104,7 +104,7 @@ const FROB: &[[&str; 2]] = &[[CLAIM, ACCEPTED]];
 
 const CLAIM: &str = post!("abc", "28", r#"{"do":"claim","name":"frob"}"#);
 
-/// Then she uploads `frob-1.0.tar.gz`, the bytes `abc`.
+/// Then ann uploads `frob-1.0.tar.gz`, the bytes `abc`.
 const FILE: &[[&str; 2]] = &[[PUT, CREATED]];
 
 const PUT: &str = put!("/files/frob/frob-1.0.tar.gz" "X-Index-Token: abc");
@@ -112,10 +112,10 @@ const PUT: &str = put!("/files/frob/frob-1.0.tar.gz" "X-Index-Token: abc");
 const CREATED: &str =
     "HTTP/1.1 201 Created\r\nContent-Type: application/json\r\nContent-Length: 21\r\nConnection: close\r\n\r\n{\"answer\":\"accepted\"}";
 
-/// Where she uploads it again.
+/// The reply if ann uploads the file again.
 const ALREADY: &str = json_reply!("200 OK", "20", r#"{"answer":"already"}"#);
 
-/// What stands of `frob` with one file of three bytes.
+/// The standing of `frob` with one file of three bytes.
 const CHARGED: [&str; 2] = [
     look!("GET /names/frob"),
     json_reply!(
@@ -125,13 +125,13 @@ const CHARGED: [&str; 2] = [
     ),
 ];
 
-/// She deletes it.
+/// ann deletes the file.
 const DELETE: &str = look!("DELETE /files/frob/frob-1.0.tar.gz" "X-Index-Token: abc");
 
-/// It is asked for.
+/// A request for the bytes of the file.
 const GET: &str = look!("GET /files/frob/frob-1.0.tar.gz");
 
-/// The bytes of a file that are `abc`.
+/// The reply with the bytes `abc` of a file.
 const BYTES: &str = reply!(
     "200 OK",
     ["Content-Type: application/octet-stream"],
@@ -139,14 +139,14 @@ const BYTES: &str = reply!(
     "abc"
 );
 
-/// Where it is not there.
+/// The reply if the file does not exist.
 const NO_FILE: &str = json_reply!(
     "404 Not Found",
     "46",
     r#"{"answer":"refused","code":22,"name":"NoFile"}"#
 );
 
-/// Where no such name is held.
+/// The reply if the name is not held.
 const NO_PROJECT: &str = json_reply!(
     "404 Not Found",
     "49",
@@ -158,7 +158,7 @@ fn new_site(rt: &(impl Abort + AllocGlobal)) -> Site {
     Site::new(rt.alloc()).expect(rt, "routes")
 }
 
-/// Exchanges, of whose messages a read gives at most so many bytes.
+/// Exchanges, whose messages come in reads of at most this many bytes.
 #[derive(Clone, Copy)]
 struct Exchanges<'a> {
     site: &'a Site,
@@ -167,12 +167,12 @@ struct Exchanges<'a> {
 }
 
 impl Story for Exchanges<'_> {
-    fn run<R: Abort + AllocGlobal, B: Keeper>(&self, rt: &R, desk: &mut Desk<B>) {
+    fn run<R: Abort + AllocGlobal, B: CachesAnswers>(&self, rt: &R, desk: &mut Desk<B>) {
         assert_parts(rt, self.site, desk, self.parts, self.most);
     }
 }
 
-/// Asks these exchanges in order of a new desk over each kind of books: each message as it is, and at another desk each
+/// Makes these exchanges in order at a new desk over each kind of books: each message as a whole, and at another desk
 /// one byte at a time.
 fn assert_exchanges(rt: &(impl Abort + AllocGlobal), parts: &[&[[&str; 2]]]) {
     let site = &new_site(rt);
@@ -183,12 +183,12 @@ fn assert_exchanges(rt: &(impl Abort + AllocGlobal), parts: &[&[[&str; 2]]]) {
 }
 
 /// ann claims `frob`.
-fn claim_frob<B: Keeper>(rt: &(impl Abort + AllocGlobal), site: &Site, desk: &mut Desk<B>) {
+fn claim_frob<B: CachesAnswers>(rt: &(impl Abort + AllocGlobal), site: &Site, desk: &mut Desk<B>) {
     assert_parts(rt, site, desk, &[USERS, FROB], usize::MAX);
 }
 
-/// Asks these exchanges in order, of which a read gives at most so many bytes.
-fn assert_parts<B: Keeper>(
+/// Makes these exchanges in order, in reads of at most this many bytes.
+fn assert_parts<B: CachesAnswers>(
     rt: &(impl Abort + AllocGlobal),
     site: &Site,
     desk: &mut Desk<B>,
@@ -202,8 +202,8 @@ fn assert_parts<B: Keeper>(
     }
 }
 
-/// This is the reply to a message, of which a read gives at most so many bytes.
-fn assert_reply<B: Keeper>(
+/// A message that comes in reads of at most this many bytes gets this reply.
+fn assert_reply<B: CachesAnswers>(
     rt: &(impl Abort + AllocGlobal),
     site: &Site,
     desk: &mut Desk<B>,
@@ -222,14 +222,14 @@ fn assert_reply<B: Keeper>(
     assert_text(rt, told, reply, message);
 }
 
-/// What is written to a message are the bytes of this reply.
+/// The message gets exactly this reply.
 fn assert_text(rt: &(impl Abort + AllocGlobal), told: Vec<u8>, reply: &str, message: &str) {
     let told = String::from_utf8(told).expect(rt, message);
     assert_eq!(rt; told.as_str(), reply, "{message}");
 }
 
-/// How a desk ends that answers what a reader gives, to a writer.
-fn tell<R: Read + Drop, W: Write, B: Keeper>(
+/// How a desk ends that answers a reader on a writer.
+fn tell<R: Read + Drop, W: Write, B: CachesAnswers>(
     rt: &impl AllocGlobal,
     site: &Site,
     desk: &mut Desk<B>,

@@ -1,8 +1,8 @@
-//! Transcripts: constant texts that have each request as a line of JSON, and below it `= ` and its answer, as they come
-//! in and go out. A line that begins with `#` says why. An empty line says nothing. `<abc>` stands for the digest of `abc`.
+//! Transcripts: constant texts that have each request as a line of JSON, and below it `= ` and its answer, byte for
+//! byte. A line that begins with `#` says why. An empty line says nothing. `<abc>` is short for the digest of `abc`.
 use super::{Story, assert_story};
 use index_cli::apply_lines;
-use index_desk::{Desk, Keeper};
+use index_desk::{CachesAnswers, Desk};
 use index_io::{Input, Output};
 use index_rules::Books;
 use std::alloc::{AllocError, AllocGlobal};
@@ -41,7 +41,7 @@ const FILE: &str = r#"
 = {"answer":"accepted"}
 "#;
 
-/// Or she uploads it later, and bob opens a case later still.
+/// Or ann uploads the file later, and bob opens a case later still.
 const CASE: &str = r#"
 {"at":12092801,"token":"abc","do":"upload","file":"frob-1.0.tar.gz","sha256":"<abc>","hex":"616263","requires_python":""}
 = {"answer":"accepted"}
@@ -57,13 +57,13 @@ struct Transcript<'a> {
 }
 
 impl Story for Transcript<'_> {
-    fn run<R: Abort + AllocGlobal, B: Keeper>(&self, rt: &R, desk: &mut Desk<B>) {
+    fn run<R: Abort + AllocGlobal, B: CachesAnswers>(&self, rt: &R, desk: &mut Desk<B>) {
         assert_answers(rt, desk, self.requests, self.answers);
     }
 }
 
-/// Asks the requests of these texts in one run of a new desk over each kind of books. Each is answered as the texts have
-/// it.
+/// Makes the requests of these texts in one run of a new desk over each kind of books. They get the answers in the
+/// texts.
 fn assert_transcript(rt: &(impl Abort + AllocGlobal), texts: &[&str]) {
     let mut requests = String::new(rt.alloc());
     let mut answers = String::new(rt.alloc());
@@ -74,7 +74,7 @@ fn assert_transcript(rt: &(impl Abort + AllocGlobal), texts: &[&str]) {
     assert_story(rt, &Transcript { requests, answers });
 }
 
-/// The desk answers each request by the line that the answers have for it.
+/// Each request gets its line of the answers.
 fn assert_answers<B: Books>(
     rt: &(impl Abort + AllocGlobal),
     desk: &mut Desk<B>,
@@ -85,7 +85,8 @@ fn assert_answers<B: Books>(
     assert_lines(rt, requests, told.as_str(), answers);
 }
 
-/// What stands for a digest in a transcript, and the digest, as `sha256sum` prints it; the first is that of FIPS 180-4.
+/// The short form of a digest in a transcript, and the digest, as `sha256sum` prints it; the first is that of FIPS
+/// 180-4.
 const DIGESTS: &[[&str; 2]] = &[
     [
         "<abc>",
@@ -125,7 +126,7 @@ fn split(text: &str, requests: &mut String, answers: &mut String) -> fmt::Result
     Ok(())
 }
 
-/// Adds a request to others, with the digest that something stands for in it.
+/// Adds a request to others, with the digest in place of its short form.
 fn add_request(requests: &mut String, line: &str) -> Result<(), AllocError> {
     for [placeholder, digest] in DIGESTS {
         if let Some((before, after)) = line.split_once(*placeholder) {
@@ -135,7 +136,7 @@ fn add_request(requests: &mut String, line: &str) -> Result<(), AllocError> {
     writeln!(requests, "{line}")
 }
 
-/// What is told to requests is these answers.
+/// The output for these requests is these answers.
 fn assert_lines(rt: &impl Abort, requests: &str, told: &str, answers: &str) {
     let asked_and_told = requests.lines().zip(told.lines());
     for ((request, told), answer) in asked_and_told.zip(answers.lines()) {
@@ -161,7 +162,7 @@ fn answers_to<B: Books>(
     String::from_utf8(output.writer).expect(rt, "UTF-8")
 }
 
-/// A text so many times.
+/// A text this many times.
 fn repeated(rt: &(impl Abort + AllocGlobal), text: &str, times: u64) -> String {
     let mut whole = String::new(rt.alloc());
     for _ in 0..times {

@@ -133,7 +133,7 @@ pub fn transfer(context: &Context<'_>, name: &Bytes, quiet: bool) -> Result<Deci
     Ok(Decision::Change(Change::Transfer { name, candidate }))
 }
 
-/// The refusal by what stands against a transfer.
+/// The refusal for what prevents a transfer.
 fn refusal_by(fault: CaseFault) -> Refusal
     ensures { result ≡ refusal_of fault }
 {
@@ -177,8 +177,8 @@ fn is_candidate(context: &Context<'_>) -> bool
     }
 }
 
-/// Answers a case, for an owner, which ends it. Refused, in this order, as BadName, NoProject, NotOwner, NoCase;
-/// never Already.
+/// Answers a case for an owner, which ends it. Refused, in this order, as BadName, NoProject, NotOwner, NoCase; never
+/// Already.
 pub fn answer_case(context: &Context<'_>, name: &Bytes) -> Result<Decision, Stop>
     ensures { DecidesIn context.now (AnswerCase name.now) result }
 {

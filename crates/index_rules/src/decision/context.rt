@@ -1,4 +1,4 @@
-//! What a decision rests on beside its request.
+//! What a decision rests on besides its request.
 ghost use Rattle.std.specs.Prelude.{◌≡◌, Some, option_copied};
 ghost use Rattle.std.specs.List.{list_all, list_any};
 ghost use Rattle.index_rules.specs.Maps.{same};
@@ -11,7 +11,7 @@ use crate::user::UserId;
 use crate::view::{Caller, View};
 use std::alloc::Global;
 
-/// What a decision rests on beside its request. The caller is the one in view.
+/// What a decision rests on besides its request. The caller is the one in view.
 #[derive(Clone, Copy)]
 pub struct Context<'a> {
     pub alloc: Global,
@@ -24,7 +24,7 @@ pub struct Context<'a> {
 }
 
 impl<'a> Context<'a> {
-    /// The held name that the call speaks of, where it is held.
+    /// The name that the call is about, if it is held.
     pub fn project(&self) -> Option<&'a Project>
         ensures { option_copied result ≡ held_project self.now.view.now.name }
     {
@@ -48,7 +48,7 @@ impl<'a> Context<'a> {
         is_one(self.view.owners.as_slice(), user)
     }
 
-    /// Whether the user with this id owns that name, and nobody else does.
+    /// Whether the user with this id is that name's one owner.
     pub fn is_sole_owner(&self, user: &[u8]) -> bool
         ensures { result ≡ is_only_one_of self.now.view.now.owners (Some user.now) }
     {

@@ -26,8 +26,8 @@ use std::alloc::{AllocError, Global};
 /// The most bytes of a body.
 const LARGEST_BODY: usize = 16_777_216;
 
-/// Uploads a file to the project that its name decides. Refused, in this order, as BadFileName, BadText, BadDigest,
-/// TooLarge, DigestMismatch, NoProject, NotOwner, FileNameTaken, FileBanned, OverQuota; Already where it is
+/// Uploads a file to the project that its name spells. Refused, in this order, as BadFileName, BadText, BadDigest,
+/// TooLarge, DigestMismatch, NoProject, NotOwner, FileNameTaken, FileBanned, OverQuota; Already if the file is
 /// undeleted.
 pub fn upload(
     context: &Context<'_>,
@@ -59,7 +59,7 @@ pub fn upload(
     }
 }
 
-/// The decision on an upload whose parts are in order.
+/// The decision on an upload whose parts are valid.
 fn decide_upload(
     context: &Context<'_>,
     file: &Bytes,
@@ -82,7 +82,7 @@ fn decide_upload(
     }
 }
 
-/// The project with one more file of these bytes, or `None` where that file is undeleted already.
+/// The project with one more file of these bytes, or `None` if that file is undeleted already.
 fn project_with(context: &Context<'_>, body: &Sealed) -> Result<Option<Project>, Stop>
     ensures { FindsProject context.now body.now result }
 {
@@ -112,7 +112,7 @@ fn project_with(context: &Context<'_>, body: &Sealed) -> Result<Option<Project>,
     Ok(Some(project.with_file(size, context.at)?))
 }
 
-/// The upload of a file to its project, whose charge has it already.
+/// The upload of a file to its project, which has been charged for it.
 fn upload_to(
     context: &Context<'_>,
     project: Project,
@@ -140,7 +140,7 @@ fn upload_to(
     }
 }
 
-/// The project, the name and the record of a file that is uploaded.
+/// The project, the name and the record of an uploaded file.
 fn file_parts(
     alloc: Global,
     file: &Bytes,
@@ -157,7 +157,7 @@ fn file_parts(
     Ok((name, file, record))
 }
 
-/// The record of a file that is uploaded.
+/// The record of an uploaded file.
 fn record_of(
     alloc: Global,
     file: &FileName,
@@ -187,8 +187,8 @@ fn is_other(known: &FileRecord, digest: &Digest256, size: u64) -> bool
     !(*digest == known.digest && size == known.size)
 }
 
-/// Deletes a file, whose record stays. Refused, in this order, as BadFileName, NoProject, NotOwner, NoFile; Already
-/// where it is not undeleted.
+/// Deletes a file; its record stays. Refused, in this order, as BadFileName, NoProject, NotOwner, NoFile; Already if
+/// the file is not undeleted.
 pub fn delete(context: &Context<'_>, file: &Bytes) -> Result<Decision, Stop>
     ensures { DecidesIn context.now (Delete file.now) result }
 {
@@ -219,8 +219,8 @@ pub fn delete(context: &Context<'_>, file: &Bytes) -> Result<Decision, Stop>
     }))
 }
 
-/// Bans a file for good, and deletes it where it is undeleted. Refused, in this order, as NotOffice, BadFileName,
-/// NoFile; Already where it is banned.
+/// Bans a file for good, and deletes it if it is undeleted. Refused, in this order, as NotOffice, BadFileName, NoFile;
+/// Already if it is banned.
 pub fn ban_file(context: &Context<'_>, file: &Bytes) -> Result<Decision, Stop>
     ensures { DecidesIn context.now (BanFile file.now) result }
 {
@@ -248,7 +248,7 @@ pub fn ban_file(context: &Context<'_>, file: &Bytes) -> Result<Decision, Stop>
     }))
 }
 
-/// The held name without the file, where the file is undeleted.
+/// The held name without the file, if the file is undeleted.
 fn project_left(context: &Context<'_>) -> Result<Option<Project>, AllocError>
     ensures { Returns result (project_left_lem (facts_seen context.now.view.now (BanFile []))) }
 {

@@ -11,8 +11,8 @@ use crate::project::{LARGEST_QUOTA, Project};
 use crate::reading::{is_name, to_name, to_shown};
 use crate::records::NameRecord;
 
-/// Claims a free name for the caller. Refused, in this order, as BadName, NameProhibited, NameHeld; Already where
-/// the caller owns the name.
+/// Claims a free name for the caller. Refused, in this order, as BadName, NameProhibited, NameHeld; Already if the
+/// caller owns the name.
 pub fn claim(context: &Context<'_>, name: &Bytes) -> Result<Decision, Stop>
     ensures { DecidesIn context.now (Claim name.now) result }
 {
@@ -38,8 +38,8 @@ pub fn claim(context: &Context<'_>, name: &Bytes) -> Result<Decision, Stop>
     }))
 }
 
-/// Sets the quota of a held name, in bytes. Refused, in this order, as NotOffice, BadName, QuotaTooLarge,
-/// NoProject, QuotaBelowCharge; Already where the quota is this one.
+/// Sets the quota of a held name, in bytes. Refused, in this order, as NotOffice, BadName, QuotaTooLarge, NoProject,
+/// QuotaBelowCharge; Already if the name has this quota.
 pub fn set_quota(context: &Context<'_>, name: &Bytes, quota: u64) -> Result<Decision, Stop>
     ensures { DecidesIn context.now (SetQuota name.now quota) result }
 {
@@ -66,7 +66,7 @@ pub fn set_quota(context: &Context<'_>, name: &Bytes, quota: u64) -> Result<Deci
     Ok(Decision::Change(Change::SetQuota { name, project }))
 }
 
-/// Gives a held name up, which is free then. Refused, in this order, as BadName, NoProject, NotOwner, FilesRemain;
+/// Gives up a held name, which becomes free. Refused, in this order, as BadName, NoProject, NotOwner, FilesRemain;
 /// never Already.
 pub fn relinquish(context: &Context<'_>, name: &Bytes) -> Result<Decision, Stop>
     ensures { DecidesIn context.now (Relinquish name.now) result }
@@ -87,7 +87,7 @@ pub fn relinquish(context: &Context<'_>, name: &Bytes) -> Result<Decision, Stop>
     Ok(Decision::Change(Change::Relinquish { name }))
 }
 
-/// Prohibits a name, held or free. Refused, in this order, as NotOffice, BadName; Already where it is prohibited.
+/// Prohibits a name, held or free. Refused, in this order, as NotOffice, BadName; Already if it is prohibited.
 pub fn prohibit(context: &Context<'_>, name: &Bytes) -> Result<Decision, Stop>
     ensures { DecidesIn context.now (Prohibit name.now) result }
 {
@@ -104,8 +104,7 @@ pub fn prohibit(context: &Context<'_>, name: &Bytes) -> Result<Decision, Stop>
     Ok(Decision::Change(Change::Prohibit { name }))
 }
 
-/// Frees a prohibited name. Refused, in this order, as NotOffice, BadName; Already where the name is not
-/// prohibited.
+/// Frees a prohibited name. Refused, in this order, as NotOffice, BadName; Already if the name is not prohibited.
 pub fn allow(context: &Context<'_>, name: &Bytes) -> Result<Decision, Stop>
     ensures { DecidesIn context.now (Allow name.now) result }
 {

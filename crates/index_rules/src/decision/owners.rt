@@ -10,7 +10,7 @@ use crate::change::Change;
 use crate::reading::{is_name, is_user, to_name, to_user};
 
 /// Makes a user one more owner of a name. Refused, in this order, as BadUser, BadName, NoUser, NoProject, NotOwner;
-/// Already where the user owns it.
+/// Already if the user owns the name.
 pub fn add_owner(context: &Context<'_>, name: &Bytes, user: &Bytes) -> Result<Decision, Stop>
     ensures { DecidesIn context.now (AddOwner name.now user.now) result }
 {
@@ -37,8 +37,8 @@ pub fn add_owner(context: &Context<'_>, name: &Bytes, user: &Bytes) -> Result<De
     Ok(Decision::Change(Change::AddOwner { name, user }))
 }
 
-/// Takes a user from the owners of a name. Refused, in this order, as BadUser, BadName, NoUser, NoProject,
-/// NotOwner, LastOwner; Already where the user doesn't own it.
+/// Takes a user from the owners of a name. Refused, in this order, as BadUser, BadName, NoUser, NoProject, NotOwner,
+/// LastOwner; Already if the user doesn't own the name.
 pub fn remove_owner(context: &Context<'_>, name: &Bytes, user: &Bytes) -> Result<Decision, Stop>
     ensures { DecidesIn context.now (RemoveOwner name.now user.now) result }
 {

@@ -13,7 +13,7 @@ use crate::change::Change;
 use crate::reading::{is_name, is_release, is_text, to_name, to_release, to_text};
 
 /// Yanks a release for a reason (PEP 592). Refused, in this order, as BadName, BadRelease, BadText, NoProject,
-/// NotOwner, NoRelease; Already where it is yanked for this reason.
+/// NotOwner, NoRelease; Already if the release is yanked for this reason.
 pub fn yank(
     context: &Context<'_>,
     name: &Bytes,
@@ -53,7 +53,7 @@ pub fn yank(
     }))
 }
 
-/// Whether the release is yanked for just this reason.
+/// Whether the release is yanked for exactly this reason.
 fn is_yanked_for(context: &Context<'_>, reason: &Bytes) -> bool
     ensures { result ≡ option_map_or (same reason.now) context.now.view.now.yank false }
 {
@@ -64,7 +64,7 @@ fn is_yanked_for(context: &Context<'_>, reason: &Bytes) -> bool
 }
 
 /// Takes the yank off a release (PEP 592). Refused, in this order, as BadName, BadRelease, NoProject, NotOwner,
-/// NoRelease; Already where it is not yanked.
+/// NoRelease; Already if the release is not yanked.
 pub fn unyank(context: &Context<'_>, name: &Bytes, release: &Bytes) -> Result<Decision, Stop>
     ensures { DecidesIn context.now (Unyank name.now release.now) result }
 {

@@ -15,7 +15,7 @@ use crate::user::UserId;
 use index_digest::Digest256;
 
 /// Adds a user with the digest of a token. Refused, in this order, as NotOffice, BadUser, BadDigest, UserExists,
-/// TokenTaken; Already where the user is there with this flag and this digest.
+/// TokenTaken; Already if the user exists with this flag and this digest.
 pub fn add_user(
     context: &Context<'_>,
     user: &Bytes,
@@ -54,7 +54,7 @@ pub fn add_user(
 }
 
 /// Gives a user the digest of another token. Refused, in this order, as NotOffice, BadUser, BadDigest, NoUser,
-/// TokenTaken; Already where the user has this digest.
+/// TokenTaken; Already if the user has this digest.
 pub fn set_token(context: &Context<'_>, user: &Bytes, token: &Bytes) -> Result<Decision, Stop>
     ensures { DecidesIn context.now (SetToken user.now token.now) result }
 {
@@ -89,7 +89,7 @@ fn is_user_with(user: &UserRecord, office: bool, token: &Digest256) -> bool
     user.office == office && *token == user.token
 }
 
-/// Whether somebody else than the user with this id bears the token.
+/// Whether a user other than the one with this id has the token.
 fn is_taken(bearer: &Option<UserId>, user: &[u8]) -> bool
     ensures { result ≡ is_taken_lem bearer.now (Some user.now) }
 {

@@ -1,7 +1,7 @@
-//! The tables in memory: that changes and looks succeed, and what a look finds after them.
+//! The tables in memory: changes and looks succeed, and looks find the changes.
 //!
-//! A script has a line for each change that is written and each look. A look is followed by ` = ` and what it finds,
-//! where `-` stands for nothing.
+//! A script has a line for each change and each look. A look is followed by ` = ` and what it finds, and `-` stands for
+//! nothing.
 use super::{new_books, token};
 use index_plain::PlainBooks;
 use index_rules::{Books, OpenFault};
@@ -31,7 +31,7 @@ fn follow_all<B: Books>(rt: &(impl Abort + AllocGlobal), books: &mut B, scripts:
     }
 }
 
-/// Writes a line's change, or looks and finds what the line says.
+/// Writes the change of a line, or makes its look and compares what it finds.
 fn follow<B: Books>(rt: &(impl Abort + AllocGlobal), books: &mut B, line: &str) {
     match line.split_once(" = ") {
         Some((look, want)) => assert_found(rt, books, look, want),

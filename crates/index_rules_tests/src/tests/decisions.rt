@@ -1,4 +1,4 @@
-//! Decisions by what a call's keys name.
+//! Decisions, from the view of a call's keys.
 use super::requests::{call_by, claim, yank};
 use super::user;
 use index_rules::{
@@ -7,7 +7,7 @@ use index_rules::{
 use std::alloc::{AllocGlobal, Global};
 use std::process::Abort;
 
-/// What a call sees of a name that has this record and no owner, by ann, who is not of the office.
+/// The view of a call by ann, who is not of the office, on a name that has this record and no owner.
 fn view_of(rt: &(impl Abort + AllocGlobal), name: Option<NameRecord>) -> View {
     View {
         caller: Some(Caller {
@@ -26,7 +26,7 @@ fn view_of(rt: &(impl Abort + AllocGlobal), name: Option<NameRecord>) -> View {
     }
 }
 
-/// Why a call is refused, or `None` where it is not.
+/// Why a call is refused, or `None` if it is not.
 fn refusal_of(alloc: Global, call: Call, view: &View) -> Option<Refusal> {
     let decision = decide(alloc, call, view);
     let refusal = match &decision {
@@ -37,8 +37,8 @@ fn refusal_of(alloc: Global, call: Call, view: &View) -> Option<Refusal> {
     refusal
 }
 
-/// A yank of a name that is not held, for this reason, is refused so: for its reason where that is no text, and else
-/// for its name.
+/// A yank of a name that is not held is refused: because of its reason if that is not a valid text, else because of its
+/// name.
 fn assert_refusal(rt: &(impl Abort + AllocGlobal), reason: &[u8], want: Refusal) {
     let view = view_of(rt, None);
     let call = call_by("abc", yank(rt, reason));

@@ -28,7 +28,7 @@ pub(super) fn desk_with_frob<B: Books>(rt: &(impl Abort + AllocGlobal), books: B
     desk
 }
 
-/// ann's upload of so many zeros is answered so. The digest is that of 16,777,216 of them, as GNU's sha256sum prints
+/// ann's upload of this many zeros gets this answer. The digest is that of 16,777,216 zeros, as GNU's sha256sum prints
 /// it.
 fn assert_zeros<B: Books>(
     rt: &(impl Abort + AllocGlobal),
@@ -54,7 +54,7 @@ fn a_body_has_at_most_sixteen_mebibytes(rt: HostRuntime) {
     upload_zeros(&rt, new_books(&rt));
 }
 
-/// The bytes that are kept of `frob-1.0.tar.gz`, where there are any, are `abc`, or not.
+/// Whether the bytes of `frob-1.0.tar.gz` are `abc`, or `None` if there are none.
 fn assert_body<B: Books>(
     rt: &(impl Abort + AllocGlobal),
     desk: &mut Desk<B>,
@@ -72,7 +72,7 @@ fn upload_of_abc(rt: &(impl Abort + AllocGlobal)) -> Call {
     call_by("abc", upload(rt, "frob-1.0.tar.gz", OF_ABC, body))
 }
 
-/// A run over these calls is answered so.
+/// A run over these calls gives these answers.
 fn assert_run<B: Books>(
     rt: &(impl Abort + AllocGlobal),
     desk: &mut Desk<B>,
@@ -83,7 +83,7 @@ fn assert_run<B: Books>(
     assert!(rt; answers.as_slice() == want);
 }
 
-/// So many of these uploads.
+/// This many of these uploads.
 fn uploads_of_abc(rt: &(impl Abort + AllocGlobal), count: usize) -> Vec<Call> {
     let mut calls = Vec::new(rt.alloc());
     for _ in 0..count {
@@ -106,7 +106,7 @@ fn a_run_keeps_the_bytes(rt: HostRuntime) {
     run_uploads(&rt, new_books(&rt));
 }
 
-/// Whether a name stands as held.
+/// Whether the standing of a name is that of a held one.
 fn stands_held<B: Books>(rt: &(impl Abort + AllocGlobal), desk: &mut Desk<B>, text: &str) -> bool {
     let name = name(rt, text);
     let standing = desk.standing(rt.alloc(), &name).expect(rt, text);

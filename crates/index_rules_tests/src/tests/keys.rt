@@ -24,8 +24,8 @@ fn token_of(digest: Option<Digest256>) -> &'static str {
     }
 }
 
-/// The tokens of the caller and for the user, and the texts of the user, the name and the file, `-` where it is not
-/// there.
+/// The tokens of the caller and for the user, and the texts of the user, the name and the file, each `-` if it is
+/// missing.
 fn told(alloc: Global, keys: &Keys) -> Result<String, AllocError> {
     let (caller, brought) = (token_of(keys.caller), token_of(keys.token));
     let user = keys.user.as_ref().map_or("-", |user| user.text());

@@ -1,10 +1,10 @@
-//! What no clause says of `write_bytes` and `write_pieces`: which ends come.
-use index_fakes::ShortWriter;
+//! Which results `write_bytes` and `write_pieces` return, which no clause says.
 use index_io::{Output, write_bytes, write_pieces};
+use index_test_support::ShortWriter;
 use std::alloc::AllocGlobal;
 use std::process::Abort;
 
-/// Just these bytes of a text go out to a writer: the write succeeds where they are all, and else tells how many.
+/// Exactly these bytes of a text are written: the write succeeds if they are all, and else returns their number.
 fn assert_taken(
     rt: &(impl Abort + AllocGlobal),
     text: &str,
@@ -24,7 +24,7 @@ fn assert_taken(
     assert!(rt; is_taken && ended == end_of(text, taken));
 }
 
-/// How a write of a text ends of which these bytes were taken.
+/// The result of a write that took these bytes of a text.
 fn end_of(text: &str, taken: &str) -> Result<(), usize> {
     if taken == text {
         Ok(())
@@ -43,7 +43,7 @@ fn bytes_go_out_as_far_as_they_are_taken(rt: HostRuntime) {
     assert_taken(&rt, "", 0, 1, true, "");
 }
 
-/// Just these bytes of the pieces `no`, none and `record` go out, as `assert_taken` says of one text.
+/// Exactly these bytes of the pieces `no`, an empty one and `record` are written, as in `assert_taken`.
 fn assert_pieces_taken(
     rt: &(impl Abort + AllocGlobal),
     room: usize,

@@ -1,15 +1,15 @@
-//! The rows that a desk gives: whole lists, walks, the check and the report.
+//! The rows of a desk: whole lists, walks, the check and the report.
 use super::desk::{assert_answer, desk_with_frob};
 use super::requests::{claim, prohibit, upload, yank};
 use super::{OF_ABC, name, new_books};
 use index_desk::{Desk, ReportFault};
-use index_fakes::ShortWriter;
 use index_io::Output;
 use index_rules::{Answer, Books, FileRow, FileTaker, NameRow, NameTaker, WalkEnd};
+use index_test_support::ShortWriter;
 use std::alloc::AllocGlobal;
 use std::process::Abort;
 
-/// Of ann's names `frob` has a file of three bytes, whose release is yanked, and `nest` has none. `spam` is prohibited.
+/// ann's name `frob` has a file of three bytes, whose release is yanked, and `nest` has none. `spam` is prohibited.
 fn desk_with_file<B: Books>(rt: &(impl Abort + AllocGlobal), books: B) -> Desk<B> {
     let mut desk = desk_with_frob(rt, books);
     let body = Vec::from_slice(rt.alloc(), b"abc").expect(rt, "a body");
@@ -24,7 +24,7 @@ fn desk_with_file<B: Books>(rt: &(impl Abort + AllocGlobal), books: B) -> Desk<B
     desk
 }
 
-/// Takes so many rows, and keeps the names in them.
+/// Takes this many rows, and keeps the names in them.
 struct Shown {
     names: String,
     room: usize,
@@ -80,7 +80,7 @@ impl FileTaker for Shown {
     }
 }
 
-/// A walk over the held names shows these, where there is room for so many, and ends so.
+/// A walk over the held names passes these to a taker with this much room, and ends like this.
 fn assert_root<B: Books + Drop>(
     rt: &(impl Abort + AllocGlobal),
     books: B,
@@ -102,7 +102,7 @@ fn a_walk_shows_the_held_names(rt: HostRuntime) {
     assert_root(&rt, new_books(&rt), 0, "", Err(WalkEnd::Stopped));
 }
 
-/// A walk over the files of a name shows these, where there is room for so many, and ends so.
+/// A walk over the files of a name passes these to a taker with this much room, and ends like this.
 fn assert_project<B: Books + Drop>(
     rt: &(impl Abort + AllocGlobal),
     books: B,
@@ -157,7 +157,7 @@ fn is_row(row: &FileRow) -> bool {
     is_yanked && is_known && row.size == 3 && row.requires_python.as_str().is_empty()
 }
 
-/// How many files are listed of a name, each with the row of the one file; none where the name is not held.
+/// The number of files that are listed of a name, each with the row of the one file; `None` if the name is not held.
 fn listed<B: Books + Drop>(rt: &(impl Abort + AllocGlobal), books: B, text: &str) -> Option<usize> {
     let mut desk = desk_with_file(rt, books);
     let name = name(rt, text);
@@ -194,7 +194,7 @@ nest                     held              0              0     1073741824
 spam                     prohibited        0              0              0
 ";
 
-/// A report to a writer that takes so many bytes ends so, and these bytes went out.
+/// A report to a writer that takes this many bytes ends like this, and these bytes are written.
 fn assert_report<B: Books + Drop>(
     rt: &(impl Abort + AllocGlobal),
     books: B,

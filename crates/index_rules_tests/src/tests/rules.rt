@@ -14,7 +14,7 @@ alice
 az09
 abcdefghijklmnopqrstuvwxyz012345";
 
-/// In each line a text that is no user id. The first is empty, and the next has 33 bytes.
+/// In each line a text that is not a user id. The first is empty, and the next has 33 bytes.
 const NO_USERS: &str = "
 abcdefghijklmnopqrstuvwxyz0123456
 Alice
@@ -50,7 +50,7 @@ fn user_ids_are_lower_case_letters_and_digits(rt: HostRuntime) {
     assert!(rt; !is_user(&rt, "a\n"));
 }
 
-/// In each line a text that is no token's digest. The first is empty.
+/// In each line a text that is not the digest of a token. The first is empty.
 const NO_TOKENS: &str = "
 BA7816BF8F01CFEA414140DE5DAE2223B00361A396177A9CB410FF61F20015AD
 ba7816bf8f01cfea414140de5dae2223b00361a396177a9cb410ff61f20015a";
@@ -76,7 +76,7 @@ fn the_first_user_is_of_the_office(rt: HostRuntime) {
     assert!(rt; user.text() == "office" && is_of_the_office(record));
 }
 
-/// Whether this is no first user with this text for a token.
+/// Whether this user, with this text for a token, is refused as the first.
 fn is_bad_first_user(alloc: Global, user: &[u8], text: &str) -> bool {
     matches!(
         first_user(alloc, user, token(text)),

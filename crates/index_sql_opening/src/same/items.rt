@@ -1,4 +1,4 @@
-//! Lists, item by item, and what may be there.
+//! Lists and options, item by item.
 
 ghost use Rattle.std.specs.Prelude.{◌≡◌, IsTrue};
 

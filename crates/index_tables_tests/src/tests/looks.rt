@@ -68,7 +68,7 @@ fn assert_one_file<B: Books>(
     assert_eq!(rt; rows.len(), 1);
 }
 
-/// A walk hands over one file of a held name.
+/// A walk passes one file of a held name to its taker.
 fn assert_one_file_walked<B: Books>(
     rt: &(impl Abort + AllocGlobal),
     desk: &mut Desk<B>,
@@ -99,7 +99,7 @@ fn assert_one_name<B: Books>(rt: &(impl Abort + AllocGlobal), desk: &mut Desk<B>
     assert_eq!(rt; rows.len(), 1);
 }
 
-/// A walk hands over one held name.
+/// A walk passes one held name to its taker.
 fn assert_one_name_walked<B: Books>(rt: &(impl Abort + AllocGlobal), desk: &mut Desk<B>) {
     let mut count = Count { rows: 0 };
     let walked = desk.walk_root(rt.alloc(), &mut count);
@@ -130,7 +130,7 @@ frob                     held              1              3     1073741824
 spam                     prohibited        0              0              0
 ";
 
-/// The names are reported so.
+/// The report on the names is this.
 fn assert_report<B: Books>(rt: &(impl Abort + AllocGlobal), desk: &mut Desk<B>, want: &str) {
     let mut output = Output::new(Vec::new(rt.alloc()));
     let ended = desk.report(rt.alloc(), &mut output);

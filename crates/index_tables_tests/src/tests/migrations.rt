@@ -67,7 +67,7 @@ fn a_migration_makes_the_second_version(rt: HostRuntime) {
     migrate(&rt, new_database(&rt));
 }
 
-/// Tables of version 1 that are changed so are refused, and stay of the version that they tell.
+/// Tables of version 1 with this change are refused, and keep their version.
 fn assert_refused<S: Alter + Drop>(
     rt: &(impl Abort + AllocGlobal),
     conn: Connection<S>,
@@ -92,11 +92,11 @@ fn tables_that_are_not_there_are_missed(rt: HostRuntime) {
     assert_refused(&rt, new_database(&rt), third, OpenFault::OtherVersion, 3);
 }
 
-/// What version 2 has beside the tables of version 1.
+/// The table that version 2 has beside those of version 1.
 const BANS: &str = "
 CREATE TABLE bans (file TEXT NOT NULL PRIMARY KEY REFERENCES files (file)) STRICT";
 
-/// They are of version 2, and the file is banned.
+/// The tables are of version 2, and the file is banned.
 const BANNED_FILE: &str = "
 UPDATE meta SET version = 2;
 INSERT INTO bans VALUES ('frob-1.0.tar.gz')";

@@ -10,14 +10,14 @@ use sqlite::{Alter, Connection};
 use std::alloc::AllocGlobal;
 use std::process::Abort;
 
-/// How many tables and indexes a database has.
+/// The number of tables and indexes of a database.
 const COUNT: &str = "SELECT count(*) FROM sqlite_schema";
 
 /// A table `meta` of an index of this version.
 pub(super) const SECOND_VERSION: &str =
     "CREATE TABLE meta (id INTEGER PRIMARY KEY, kind TEXT NOT NULL, version INTEGER NOT NULL) STRICT; INSERT INTO meta VALUES (1, 'python-index', 2)";
 
-/// A database of which a query finds a number is not adopted, for this reason. The query then finds the same.
+/// A database in which a query finds a number is not adopted, for this reason. The query then finds the same.
 fn assert_not_adopted<S: Alter + Drop>(
     rt: &(impl Abort + AllocGlobal),
     conn: Connection<S>,
@@ -34,7 +34,7 @@ fn assert_not_adopted<S: Alter + Drop>(
     drop(conn);
 }
 
-/// An index whose row of `meta` is changed so is not adopted, for this reason.
+/// An index with this change to its row of `meta` is not adopted, for this reason.
 fn assert_changed<S: Alter + Drop>(
     rt: &(impl Abort + AllocGlobal),
     conn: Connection<S>,
@@ -140,7 +140,7 @@ fn another_row_of_meta_is_refused(rt: HostRuntime) {
     assert_changed(&rt, new_database(&rt), below, OpenFault::OtherVersion, -1);
 }
 
-/// Tables by the names of those of an index, of which one is not as an index has it.
+/// Tables with the names of an index's, one of which differs from it.
 const OTHER_SHAPE: &str =
     "CREATE TABLE users (user TEXT); CREATE TABLE names (name TEXT); CREATE TABLE owners (name TEXT); CREATE TABLE files (file TEXT); CREATE TABLE blobs (file TEXT); CREATE TABLE yanks (name TEXT); CREATE TABLE cases (name TEXT); CREATE TABLE bans (file TEXT); CREATE TABLE meta (id INTEGER PRIMARY KEY, kind TEXT NOT NULL, version INTEGER NOT NULL) STRICT; INSERT INTO meta VALUES (1, 'python-index', 2)";
 
@@ -156,7 +156,7 @@ fn tables_of_another_shape_are_refused(rt: HostRuntime) {
     );
 }
 
-/// A query of the version may take no step, and a database is not adopted, by a fault of the store. It is as it was.
+/// A query of the version may take no step, and a database is not adopted, because the store failed. It is as it was.
 fn assert_unread<S: Alter + Drop>(rt: &(impl Abort + AllocGlobal), conn: Connection<S>) {
     let mut conn = conn;
     conn.set_step_limit(Some(0));
@@ -197,7 +197,7 @@ fn an_index_is_made_in_an_empty_database_alone(rt: HostRuntime) {
     make_beside(&rt, new_database(&rt));
 }
 
-/// No index is made beside what is there, which is no table of an index.
+/// No index is made beside other objects, none of which is a table of an index.
 fn assert_among_others<S: Alter + Drop>(
     rt: &(impl Abort + AllocGlobal),
     conn: Connection<S>,

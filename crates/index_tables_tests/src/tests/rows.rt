@@ -1,4 +1,4 @@
-//! The tables as SQL finds them, and tables that SQL spoilt.
+//! The tables as SQL finds them, and tables that SQL damaged.
 use super::{
     ACCEPTED, CHARGED, DELETE, FILE, FROB, STANDING, adopt, assert_answer, assert_number,
     assert_wrong_charges, body, connection_of, desk_over, new_database, new_index, run,
@@ -95,7 +95,7 @@ fn a_prohibited_name_keeps_its_files_alone(rt: HostRuntime) {
     assert_rows(&rt, new_database(&rt), prohibited, PROHIBITED_ROWS);
 }
 
-/// So many names have a wrong charge after a statement.
+/// After a statement, this many names have a wrong charge.
 fn assert_check<S: Alter + Drop>(
     rt: &(impl Abort + AllocGlobal),
     conn: Connection<S>,
@@ -116,7 +116,7 @@ fn a_wrong_charge_is_found(rt: HostRuntime) {
     assert_check(&rt, new_database(&rt), raised, 1);
 }
 
-/// The bytes of the file are not told, by a fault of the store.
+/// The bytes of the file are not returned, because the store failed.
 fn assert_no_bytes<B: Books>(rt: &(impl Abort + AllocGlobal), desk: &mut Desk<B>) {
     let found = body(rt, desk);
     assert!(rt; matches!(&found, Err(Fault::Store)));

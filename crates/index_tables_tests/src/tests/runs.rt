@@ -10,7 +10,7 @@ use sqlite::{Alter, Connection};
 use std::alloc::AllocGlobal;
 use std::process::Abort;
 
-/// The call that a line is.
+/// The call of a line.
 fn call_of(rt: &(impl Abort + AllocGlobal), line: &str) -> Call {
     let found = read_line(rt.alloc(), line.as_bytes()).expect(rt, line);
     match found.expect(rt, line) {
@@ -19,7 +19,7 @@ fn call_of(rt: &(impl Abort + AllocGlobal), line: &str) -> Call {
     }
 }
 
-/// A run over these calls is answered so.
+/// A run over these calls gives these answers.
 fn assert_run<B: Books>(
     rt: &(impl Abort + AllocGlobal),
     desk: &mut Desk<B>,

@@ -1,4 +1,5 @@
-//! An index in files of which one stops: at its first call, at its second, and so on until a run ends without a stop.
+//! An index in two files, one of which stops: at its first call, at its second, and so on until a run ends without a
+//! stop.
 use super::new_index;
 use crashes::Left;
 use files::{Database, File, Which, closed, have_stopped, new_files, opened, stopping};
@@ -19,15 +20,15 @@ mod versions;
 enum Told {
     /// No index was opened.
     Unopened,
-    /// The work was answered by a fault of the store.
+    /// The work failed because the store did.
     Fault,
-    /// The work was done, and this was told.
+    /// The work was done, and reported as done.
     Done,
 }
 
-/// Work on a database that may be cut short, and what has to stand then.
+/// Work on a database that may be cut short, and a check of what it leaves.
 trait Trial {
-    /// How many pages are kept in memory during the work.
+    /// The number of pages that are kept in memory during the work.
     fn cache_pages(&self) -> usize {
         ALL_PAGES
     }
@@ -39,7 +40,7 @@ trait Trial {
         conn: Connection<S>,
     ) -> (Told, Connection<S>);
 
-    /// The work is done as a whole or not at all, and it is done where that was told.
+    /// The work is done as a whole or not at all, and it is done if it was reported as done.
     fn assert_whole<R: Abort + AllocGlobal, S: Alter + Drop>(
         &self,
         rt: &R,
@@ -54,14 +55,14 @@ const ALL_PAGES: usize = 64;
 /// More calls than any run makes of one file.
 const ENOUGH: u64 = 10_000;
 
-/// Work on copies of these files leaves them whole, at whichever call one of them stops.
+/// Work on copies of these files leaves them whole, whenever one of them stops.
 fn assert_stops(rt: &(impl Abort + AllocGlobal), files: &Files<File>, trial: &impl Trial) {
     let faults = stop_each(rt, files, trial, Which::Log);
     assert!(rt; faults > 0);
     stop_each(rt, files, trial, Which::Database);
 }
 
-/// Stops one of the files at each call. Gives how often the work was answered by a fault.
+/// Stops one of the files at each call. Returns how often the work failed.
 fn stop_each(
     rt: &(impl Abort + AllocGlobal),
     files: &Files<File>,
@@ -96,7 +97,7 @@ fn is_again(before: &Option<Left>, left: &Left) -> bool {
     }
 }
 
-/// Works on files. Gives what it leaves, and whether one of them has stopped.
+/// Works on files. Returns what it leaves, and whether one of them has stopped.
 fn stop_after(
     rt: &(impl Abort + AllocGlobal),
     files: Files<File>,
@@ -143,12 +144,12 @@ fn reopened(rt: &(impl Abort + AllocGlobal), files: Files<File>) -> Connection<D
     }
 }
 
-/// No index was opened, by a fault of the store.
+/// No index was opened, because the store failed.
 fn assert_store_fault(rt: &impl Abort, why: OpenFault) {
     assert_eq!(rt; why, OpenFault::Store);
 }
 
-/// The files of an index of which these exchanges were asked.
+/// The files of an index, after these exchanges.
 fn files_after(rt: &(impl Abort + AllocGlobal), parts: &[&[[&str; 2]]]) -> Files<File> {
     closed(new_index(rt, reopened(rt, new_files(rt)), parts))
 }

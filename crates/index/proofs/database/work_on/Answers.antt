@@ -1,7 +1,7 @@
 use Rattle.std.proofs.Common.{rules}
 use Rattle.sqlite.specs.WalFiles.{image_at}
 use Rattle.index.specs.declared.database.Left.TheVariants.{Shut}
-use Rattle.index.specs.Openings.{LeavesShut}
+use Rattle.index.specs.Openings.{CleanShutLeaves}
 use Rattle.index.proofs.ChainLemmas.{unfound_leads, work_leads}
 use Rattle.index.proofs.database.work_on.Goals as goal
 
@@ -14,5 +14,5 @@ returns-in-Ok-clause-leads g c = work_leads _ (image_at g.S.Start) _ (c.work_and
 pub returns-in-Some-clause-leads : goal.returns-in-Some-clause-leads
 returns-in-Some-clause-leads g c =
     let start = image_at g.S.Start in
-    let shut : LeavesShut start c.in-Some.left = search rules in
+    let shut : CleanShutLeaves start c.in-Some.left = search rules in
     record { ended = tt; cut = tt; unused = unfound_leads start (Shut c.in-Some.left) shut }

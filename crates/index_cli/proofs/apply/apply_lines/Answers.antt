@@ -5,10 +5,10 @@ use Rattle.index_cli.specs.declared.end.LineEnd.TheVariants.{ReadFault, WriteFau
 use Rattle.index_cli.proofs.Calls.{taken_none}
 use Rattle.index_cli.proofs.CauseLemmas.{HaveFailed-push, counted_push, faults_before, faults_push, none_failed}
 use Rattle.index_cli.proofs.Crashes.{lines_crash, lines_crash_history, lines_history, taken_push}
-use Rattle.index_cli.proofs.Cuts.{Charges-trans, TakesPart-none}
+use Rattle.index_cli.proofs.Cuts.{Charges-trans, PartIsTaken-none}
 use Rattle.index_cli.proofs.Fronts.{front_none, front_push, lines_front, lines_front_history}
 use Rattle.index_cli.proofs.Progress.{Progress-during, Progress-none, Progress-part, Progress-push, Progress-taken, Progress-whole, lines_push}
-use Rattle.index_cli.proofs.RunEnds.{Ends-before, failed_or_spent}
+use Rattle.index_cli.proofs.RunEnds.{LinesEnd-before, failed_or_spent}
 use Rattle.index_cli.proofs.apply.apply_lines.Goals as goal
 
 -- ---- before the first line
@@ -33,7 +33,7 @@ pub returns-in_err-size-clause-tables : goal.returns-in_err-size-clause-tables
 returns-in_err-size-clause-tables g c = λ honest one.
     let is : c.from_residual.result ≡ Err c.in_err-size.field-0.0 = search rules in
     let other : c.from_residual.result ≢ Err WriteFault = search rules in
-    Ends-before _ _ _ _ _ _ c.from_residual.result c.in_err-size.field-0.0 is other
+    LinesEnd-before _ _ _ _ _ _ c.from_residual.result c.in_err-size.field-0.0 is other
     (Progress-part _ _ _ _ _ _ _ _ (c.loop-count.invariant.progress honest one) c.in_err-size.ensures.part)
 
 pub returns-in_err-size-clause-history : goal.returns-in_err-size-clause-history
@@ -47,7 +47,7 @@ returns-in_err-size-clause-told g c = λ honest clean one.
     let other : c.from_residual.result ≢ Err WriteFault = search rules in
     let B = g.B.Books in
     lines_front B _ _ honest clean one _ _ _ _ _ _ _
-    (Ends-before _ _ _ _ _ _ c.from_residual.result c.in_err-size.field-0.0 is other
+    (LinesEnd-before _ _ _ _ _ _ c.from_residual.result c.in_err-size.field-0.0 is other
     (Progress-part _ _ _ _ _ _ _ _ c.loop-count.invariant.fronts c.in_err-size.ensures.part))
 
 pub returns-in_err-size-clause-told_history : goal.returns-in_err-size-clause-told_history
@@ -61,7 +61,7 @@ returns-in_err-size-clause-crash g c = λ honest clean one T left.
     let other : c.from_residual.result ≢ Err WriteFault = search rules in
     let B = g.B.Books in
     lines_crash B _ _ honest clean one T left _ _ _ _ _ _
-    (Ends-before _ _ _ _ _ _ c.from_residual.result c.in_err-size.field-0.0 is other
+    (LinesEnd-before _ _ _ _ _ _ c.from_residual.result c.in_err-size.field-0.0 is other
     (Progress-part _ _ _ _ _ _ _ _ c.loop-count.invariant.called c.in_err-size.ensures.part))
 
 pub returns-in_err-size-clause-crash_history : goal.returns-in_err-size-clause-crash_history
@@ -91,7 +91,7 @@ returns-in_err-size-clause-store g c =
     let told = c.loop-count.invariant.faults in (
       told.0,
       told.1,
-      Ends-before _ _ _ _ _ _ c.from_residual.result c.in_err-size.field-0.0 is other
+      LinesEnd-before _ _ _ _ _ _ c.from_residual.result c.in_err-size.field-0.0 is other
           (Progress-part _ _ _ _ _ _ _ _ told.2 c.in_err-size.ensures.part),
     )
 
@@ -102,7 +102,7 @@ returns-in_err-size-clause-stores g c =
     let told = c.loop-count.invariant.counted in (
       told.0,
       told.1,
-      Ends-before _ _ _ _ _ _ c.from_residual.result c.in_err-size.field-0.0 is other
+      LinesEnd-before _ _ _ _ _ _ c.from_residual.result c.in_err-size.field-0.0 is other
           (Progress-part _ _ _ _ _ _ _ _ told.2 c.in_err-size.ensures.part),
     )
 
@@ -160,7 +160,7 @@ pub returns-in_err-reply-clause-tables : goal.returns-in_err-reply-clause-tables
 returns-in_err-reply-clause-tables g c = λ honest one.
     let is : c.from_residual-in_err-reply.result ≡ Err c.in_err-reply.field-0.0 = search rules in
     let other : c.from_residual-in_err-reply.result ≢ Err WriteFault = search rules in
-    Ends-before _ _ _ _ _ _ c.from_residual-in_err-reply.result c.in_err-reply.field-0.0 is other
+    LinesEnd-before _ _ _ _ _ _ c.from_residual-in_err-reply.result c.in_err-reply.field-0.0 is other
     (rw (c.in_err-reply.ensures.leaves.unchanged honest)
     (Progress-taken _ _ _ _ _ _ _ _ c.in-Some.size _ (c.loop-count.invariant.progress (c.reply_to.ensures.keeps.honest honest) one)
     (rw c.in-Some.is at c.in_ok-size.ensures.line)))
@@ -177,7 +177,7 @@ returns-in_err-reply-clause-told g c = λ honest clean one.
     let leaves = c.in_err-reply.ensures.leaves in
     let B = g.B.Books in
     lines_front B _ c.loop-count.desk honest (leaves.clean clean) one _ _ _ _ _ _ _
-    (Ends-before _ _ _ _ _ _ c.from_residual-in_err-reply.result c.in_err-reply.field-0.0 is other
+    (LinesEnd-before _ _ _ _ _ _ c.from_residual-in_err-reply.result c.in_err-reply.field-0.0 is other
     (Progress-taken _ _ _ _ _ _ _ _ c.in-Some.size _ c.loop-count.invariant.fronts (rw c.in-Some.is at c.in_ok-size.ensures.line)))
 
 pub returns-in_err-reply-clause-told_history : goal.returns-in_err-reply-clause-told_history
@@ -192,7 +192,7 @@ returns-in_err-reply-clause-crash g c = λ honest clean one T left.
     let leaves = c.in_err-reply.ensures.leaves in
     let B = g.B.Books in
     lines_crash B _ _ honest (leaves.clean clean) one T (leaves.crash T left) _ _ _ _ _ _
-    (Ends-before _ _ _ _ _ _ c.from_residual-in_err-reply.result c.in_err-reply.field-0.0 is other
+    (LinesEnd-before _ _ _ _ _ _ c.from_residual-in_err-reply.result c.in_err-reply.field-0.0 is other
     (Progress-taken _ _ _ _ _ _ _ _ c.in-Some.size _ c.loop-count.invariant.called (rw c.in-Some.is at c.in_ok-size.ensures.line)))
 
 pub returns-in_err-reply-clause-crash_history : goal.returns-in_err-reply-clause-crash_history
@@ -207,7 +207,7 @@ returns-in_err-reply-clause-store g c =
     let told = c.loop-count.invariant.faults in (
       told.0,
       rw c.in_err-reply.ensures.causes.kept told.1,
-      Ends-before _ _ _ _ _ _ c.from_residual-in_err-reply.result c.in_err-reply.field-0.0 is other
+      LinesEnd-before _ _ _ _ _ _ c.from_residual-in_err-reply.result c.in_err-reply.field-0.0 is other
           (faults_before _ _ _ _ _ _ _ (Progress-taken _ _ _ _ _ _ _ _ c.in-Some.size _ told.2 (rw c.in-Some.is at c.in_ok-size.ensures.line))),
     )
 
@@ -218,7 +218,7 @@ returns-in_err-reply-clause-stores g c =
     let told = c.loop-count.invariant.counted in (
       told.0,
       rw c.in_err-reply.ensures.stores.kept told.1,
-      Ends-before _ _ _ _ _ _ c.from_residual-in_err-reply.result c.in_err-reply.field-0.0 is other
+      LinesEnd-before _ _ _ _ _ _ c.from_residual-in_err-reply.result c.in_err-reply.field-0.0 is other
           (faults_before _ _ _ _ _ _ _ (Progress-taken _ _ _ _ _ _ _ _ c.in-Some.size _ told.2 (rw c.in-Some.is at c.in_ok-size.ensures.line))),
     )
 
@@ -372,7 +372,7 @@ loop-count-preserved g c =
 
 pub returns-clause-tables : goal.returns-clause-tables
 returns-clause-tables g c = λ honest one.
-    Progress-part _ _ _ _ _ _ _ _ (c.loop-count.invariant.progress honest one) (TakesPart-none _)
+    Progress-part _ _ _ _ _ _ _ _ (c.loop-count.invariant.progress honest one) (PartIsTaken-none _)
 
 pub returns-clause-history : goal.returns-clause-history
 returns-clause-history g c = λ honest h legal stands.
@@ -383,7 +383,7 @@ pub returns-clause-told : goal.returns-clause-told
 returns-clause-told g c = λ honest clean one.
     let B = g.B.Books in
     lines_front B _ _ honest clean one _ _ _ _ _ _ (Err ReadFault)
-    (Progress-part _ _ _ _ _ _ _ _ c.loop-count.invariant.fronts (TakesPart-none _))
+    (Progress-part _ _ _ _ _ _ _ _ c.loop-count.invariant.fronts (PartIsTaken-none _))
 
 pub returns-clause-told_history : goal.returns-clause-told_history
 returns-clause-told_history g c = λ honest clean h legal stands.
@@ -394,7 +394,7 @@ pub returns-clause-crash : goal.returns-clause-crash
 returns-clause-crash g c = λ honest clean one T left.
     let B = g.B.Books in
     lines_crash B _ _ honest clean one T left _ _ _ _ _ (Err ReadFault)
-    (Progress-part _ _ _ _ _ _ _ _ c.loop-count.invariant.called (TakesPart-none _))
+    (Progress-part _ _ _ _ _ _ _ _ c.loop-count.invariant.called (PartIsTaken-none _))
 
 pub returns-clause-crash_history : goal.returns-clause-crash_history
 returns-clause-crash_history g c = λ honest clean h legal stands T left.
@@ -404,12 +404,12 @@ returns-clause-crash_history g c = λ honest clean h legal stands T left.
 pub returns-clause-store : goal.returns-clause-store
 returns-clause-store g c =
     let told = c.loop-count.invariant.faults in
-    (told.0, told.1, Progress-part _ _ _ _ _ _ _ _ told.2 (TakesPart-none _))
+    (told.0, told.1, Progress-part _ _ _ _ _ _ _ _ told.2 (PartIsTaken-none _))
 
 pub returns-clause-stores : goal.returns-clause-stores
 returns-clause-stores g c =
     let told = c.loop-count.invariant.counted in
-    (told.0, told.1, Progress-part _ _ _ _ _ _ _ _ told.2 (TakesPart-none _))
+    (told.0, told.1, Progress-part _ _ _ _ _ _ _ _ told.2 (PartIsTaken-none _))
 
 pub returns-clause-fails : goal.returns-clause-fails
 returns-clause-fails g c =

@@ -2,7 +2,7 @@ use Rattle.std.proofs.Common.{inl, refl, rules}
 use Rattle.std.proofs.lemmas.Result.{IfOk-weaker}
 use Rattle.index_cli.proofs.Calls.{AsksKept-long, AsksKept-read}
 use Rattle.index_cli.proofs.FaultTexts.{honest_or_mapped}
-use Rattle.index_cli.proofs.Progress.{TellsKept-read}
+use Rattle.index_cli.proofs.Progress.{KeptLineIsAnswered-read}
 use Rattle.index_cli.proofs.reply.reply_to.Goals as goal
 
 pub returns-then-size-gt-LONGEST_LINE : goal.returns-then-size-gt-LONGEST_LINE
@@ -22,10 +22,10 @@ returns g c =
     let short = c.if-size-gt-LONGEST_LINE.false in
     record {
       reply = λ honest one.
-          IfOk-weaker c.reply_to_read.result _ _ (λ reply told. TellsKept-read _ _ _ _ _ short told)
+          IfOk-weaker c.reply_to_read.result _ _ (λ reply told. KeptLineIsAnswered-read _ _ _ _ _ short told)
           (c.reply_to_read.ensures.reply honest one);
       lasts = λ honest clean.
-          IfOk-weaker c.reply_to_read.result _ _ (λ reply it. honest_or_mapped it (λ told. TellsKept-read _ _ _ _ _ short told))
+          IfOk-weaker c.reply_to_read.result _ _ (λ reply it. honest_or_mapped it (λ told. KeptLineIsAnswered-read _ _ _ _ _ short told))
           (c.reply_to_read.ensures.lasts honest clean);
       asks = IfOk-weaker c.reply_to_read.result _ _ (λ reply asks. AsksKept-read c.args.front.now _ c.args.size _ _ short asks)
           c.reply_to_read.ensures.asks;

@@ -1,4 +1,4 @@
-//! A project's page that is too long to be gathered. Where its walks fail it is not begun, or cut.
+//! A project's page that is too long to be gathered. If its walks fail it is not begun, or cut short.
 use super::{assert_cut, assert_not_begun, failing_after};
 use crate::tests::fakes::BooksCall;
 use crate::tests::replies::PAGE;
@@ -12,7 +12,7 @@ use std::process::Abort;
 /// The SHA-256 digest of `abc`, which each file holds.
 const DIGEST: &str = "ba7816bf8f01cfea414140de5dae2223b00361a396177a9cb410ff61f20015ad";
 
-/// A text 512 times: a file may declare Python versions of so many bytes.
+/// A text 512 times, the most bytes of declared Python versions.
 fn repeated(rt: &(impl Abort + AllocGlobal), text: &str) -> String {
     let mut whole = String::new(rt.alloc());
     for _ in 0..512 {
@@ -70,7 +70,7 @@ fn with_a_row(rt: &(impl Abort + AllocGlobal)) -> String {
     front.expect(rt, "a front")
 }
 
-/// The project's page is cut where its last walk fails so. The books are given back.
+/// The project's page is cut short if its last walk fails with this fault. The books are returned.
 fn assert_files_cut<B: Books + Drop>(
     rt: &(impl Abort + AllocGlobal),
     site: &Site,
@@ -96,7 +96,7 @@ fn a_long_page_of_a_project_is_cut(rt: HostRuntime) {
     }
 }
 
-/// The project's page is not begun where its first walk fails so, or its second. The books are given back.
+/// The project's page is not begun if its first or second walk fails with this fault. The books are returned.
 fn assert_files_not_begun<B: Books + Drop>(
     rt: &(impl Abort + AllocGlobal),
     site: &Site,

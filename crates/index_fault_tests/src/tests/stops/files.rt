@@ -1,4 +1,4 @@
-//! A database file and its log in memory, of which one stops after so many calls.
+//! A database file and its log in memory, one of which stops after a number of calls.
 use sqlite::{Connection, FileStore, Files, Options};
 use sqlite_disk::{Disk, Fuse, Memory};
 use std::alloc::AllocGlobal;
@@ -16,7 +16,7 @@ pub(super) enum Which {
     Database,
 }
 
-/// A file with these bytes, all of them synced, that stops after so many calls.
+/// A file with these bytes, all of them synced, that stops after this many calls.
 fn file(rt: &(impl Abort + AllocGlobal), bytes: &[u8], calls: u64) -> File {
     let mut memory = Memory::new(rt.alloc());
     memory.write_at(0, bytes).expect(rt, "room");
@@ -32,7 +32,7 @@ pub(super) fn new_files(rt: &(impl Abort + AllocGlobal)) -> Files<File> {
     }
 }
 
-/// Copies of two files, of which one stops after so many calls.
+/// Copies of two files, one of which stops after this many calls.
 pub(super) fn stopping(
     rt: &(impl Abort + AllocGlobal),
     files: &Files<File>,
@@ -49,8 +49,8 @@ pub(super) fn stopping(
     }
 }
 
-/// A connection to the database in these files, or the files where one of them stops. So few pages are kept in memory that a
-/// walk over a thousand names reads the file.
+/// A connection to the database in these files, or the files if one of them stops. It keeps so few pages in memory that
+/// a walk over a thousand names reads the file.
 pub(super) fn opened(
     rt: &(impl Abort + AllocGlobal),
     files: Files<File>,
@@ -68,7 +68,7 @@ pub(super) fn opened(
     }
 }
 
-/// The files of a connection, into which the log is copied as far as they go.
+/// Closes a connection and returns its files. The log is copied as far as they work.
 pub(super) fn closed(conn: Connection<Database>) -> Files<File> {
     match conn.close_files() {
         Ok(files) => files,

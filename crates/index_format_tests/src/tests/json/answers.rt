@@ -64,13 +64,13 @@ const REFUSALS: &[Refusal] = &[
     Refusal::HomePageActive,
 ];
 
-/// Their numbers, as `docs/reference/REQUESTS.md` has them.
+/// The numbers of the refusals, as `docs/reference/REQUESTS.md` has them.
 const NUMBERS: &[u8] = &[
     1, 2, 3, 4, 5, 6, 7, 8, 9, 10, 11, 12, 13, 14, 15, 16, 17, 18, 19, 20, 21, 22, 23, 24, 25, 26,
     27, 28, 29, 30, 31, 32, 33, 34, 35,
 ];
 
-/// Their texts, with their numbers and their names.
+/// The texts of the refusals, with their numbers and their names.
 const TEXTS: &str = r#"{"answer":"refused","code":1,"name":"BadMoment"}
 {"answer":"refused","code":2,"name":"BadToken"}
 {"answer":"refused","code":3,"name":"NotOffice"}

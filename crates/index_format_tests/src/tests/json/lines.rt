@@ -1,4 +1,4 @@
-//! What a line asks.
+//! The requests in lines.
 use super::{OF_A, OF_ABC};
 use index_digest::Digest256;
 use index_json::{Line, read_line};
@@ -6,7 +6,7 @@ use index_rules::{Call, Request};
 use std::alloc::AllocGlobal;
 use std::process::Abort;
 
-/// Whether a line asks something.
+/// Whether a line is a request.
 fn asks(rt: &(impl Abort + AllocGlobal), line: &[u8]) -> bool {
     let found = read_line(rt.alloc(), line).expect(rt, "a line");
     let is_there = found.is_some();
@@ -49,7 +49,7 @@ fn reads_a_claim_in_any_order(rt: HostRuntime) {
     }
 }
 
-/// Lines that ask nothing, the first of them empty, with the least numbers past a `u64`.
+/// Malformed lines, the first of them empty, with the least numbers past a `u64`.
 const NO_LINES: &str = r#"
 {}
 []
@@ -155,7 +155,7 @@ const NO_ROWS: &str = r#""do":"add_user","user":"u","token_sha256":"t"
 "do":"answer_case","name":1
 "do":"answer_case","name":"a","x":1"#;
 
-/// Each of these rows, with a moment and a token, asks something, or none does.
+/// Each of these rows, with a moment and a token, is a request, or none is.
 fn assert_rows(rt: &(impl Abort + AllocGlobal), rows: &str, are_calls: bool) {
     for members in rows.lines() {
         let line = format!(in rt.alloc(); "{{\"at\":1,\"token\":\"t\",{members}}}");

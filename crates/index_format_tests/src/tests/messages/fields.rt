@@ -5,7 +5,7 @@ use index_message::{HttpRequest, Message, read_message};
 use std::alloc::AllocGlobal;
 use std::process::Abort;
 
-/// Fields in several cases, with spaces and tabs around their values, and one that stands twice.
+/// Fields in several cases, with spaces and tabs around their values; one of them occurs twice.
 const HEAD: &[u8] = b"GET /simple/ HTTP/1.1\r
 X-INDEX-TOKEN:abc\r
 x-index-at: \t 12 \t \r
@@ -29,7 +29,7 @@ fn assert_value(rt: &impl Abort, request: &HttpRequest, name: &[u8], value: &str
     assert_eq!(rt; request.value(name), value.as_bytes());
 }
 
-/// Of fields that stand twice the first counts, and one that is missing counts as empty.
+/// Of a field that occurs twice the first counts, and a missing one counts as empty.
 #[test]
 fn values_of_fields(rt: HostRuntime) {
     let request = request(&rt);

@@ -1,9 +1,9 @@
-//! Heads at their limits, and heads that are none.
+//! Heads at their limits, and malformed heads.
 use super::{assert_message, site};
 use std::alloc::AllocGlobal;
 use std::process::Abort;
 
-/// A head with so many fields.
+/// A head with this many fields.
 fn head_of_fields(rt: &(impl Abort + AllocGlobal), count: usize) -> Vec<u8> {
     let line = b"GET /simple/ HTTP/1.1\r\n";
     let mut head = Vec::from_slice(rt.alloc(), line).expect(rt, "a line");
@@ -44,7 +44,7 @@ fn heads_that_cannot_be_read_name_head(rt: HostRuntime) {
     assert_message(&rt, &site, b"HEADER /simple/ HTTP/1.1\r\n", "BadHead");
 }
 
-/// So many bytes of a head that has not ended.
+/// This many bytes of a head that has not ended.
 fn open_head(rt: &(impl Abort + AllocGlobal), size: usize) -> Vec<u8> {
     let front = b"GET /simple/ HTTP/1.1\r\nName: ";
     let mut head = Vec::from_slice(rt.alloc(), front).expect(rt, "a front");
@@ -52,7 +52,7 @@ fn open_head(rt: &(impl Abort + AllocGlobal), size: usize) -> Vec<u8> {
     head
 }
 
-/// A head that ends after so many bytes and four more.
+/// A head of this many bytes and four more.
 fn head_of_bytes(rt: &(impl Abort + AllocGlobal), size: usize) -> Vec<u8> {
     let mut head = open_head(rt, size);
     head.extend_from_slice(b"\r\n\r\n").expect(rt, "an end");

@@ -1,14 +1,14 @@
 //! Reads that fail.
 use super::{assert_read, site};
-use index_fakes::ShortReader;
 use index_io::Input;
 use index_message::{ReadEnd, Site, read_message};
+use index_test_support::ShortReader;
 use std::alloc::AllocGlobal;
 use std::process::Abort;
 
 const UPLOAD: &[u8] = b"PUT /files/frob/frob-1.0.tar.gz HTTP/1.1\r\nContent-Length: 3\r\n\r\nabc";
 
-/// The upload in pieces of this size, of which so many come before a read fails.
+/// The upload in pieces of this size. A read fails after this many of them.
 fn upload(size: usize, good_reads: usize) -> ShortReader<'static> {
     let count = UPLOAD.len().min(size.saturating_mul(good_reads));
     ShortReader {
@@ -18,7 +18,7 @@ fn upload(size: usize, good_reads: usize) -> ShortReader<'static> {
     }
 }
 
-/// A read fails after so many pieces of the upload, and is told as itself.
+/// A read fails after this many pieces of the upload, and is reported as such.
 fn assert_fault(rt: &(impl Abort + AllocGlobal), site: &Site, size: usize, good_reads: usize) {
     let mut input = Input::new(upload(size, good_reads));
     let message = read_message(rt.alloc(), site, &mut input);
@@ -27,7 +27,7 @@ fn assert_fault(rt: &(impl Abort + AllocGlobal), site: &Site, size: usize, good_
     assert!(rt; end == Some(ReadEnd::ReadFault));
 }
 
-/// No read comes behind the body.
+/// Nothing is read beyond the body.
 fn assert_whole(rt: &(impl Abort + AllocGlobal), site: &Site, size: usize, good_reads: usize) {
     let reader = upload(size, good_reads);
     assert_read(rt, site, reader, "PUT File frob-1.0.tar.gz abc");

@@ -1,4 +1,4 @@
-//! Targets and what they lead to.
+//! Targets and their resources.
 use super::{assert_message, site};
 use index_message::Site;
 use std::alloc::AllocGlobal;
@@ -12,7 +12,7 @@ fn assert_target(rt: &(impl Abort + AllocGlobal), site: &Site, target: &str, tex
     assert_message(rt, site, message.as_slice(), text);
 }
 
-/// All from the first question mark on is no part of the path.
+/// The path ends before the first question mark.
 #[test]
 fn paths_end_before_a_question_mark(rt: HostRuntime) {
     let site = site(&rt);
@@ -44,7 +44,7 @@ fn paths_to_nothing(rt: HostRuntime) {
     assert_target(&rt, &site, "HEAD /nowhere", "NoRoute Head");
 }
 
-/// Segments are decoded once, and what they then are is not read.
+/// Segments are decoded once, and not parsed further.
 #[test]
 fn segments_are_decoded(rt: HostRuntime) {
     let site = site(&rt);
@@ -59,7 +59,7 @@ fn segments_are_decoded(rt: HostRuntime) {
     assert_target(&rt, &site, "GET /simple/a+b", "GET Project a+b");
 }
 
-/// A file of another project is not found in this one. What is no file name stands in any.
+/// A file of another project is not found in this one. A name that is not a file name belongs to any project.
 #[test]
 fn files_of_other_projects(rt: HostRuntime) {
     let site = site(&rt);

@@ -22,7 +22,8 @@ text/html;q=, application/vnd.pypi.simple.v1+json
 text/html;q=0.1;q=1, application/vnd.pypi.simple.v1+json;q=0.2
 ,, ;q=1 ,application/vnd.pypi.simple.v1+json;q=0.001, text";
 
-/// Values by which the HTML of the simple pages' own type is served. The last is an example of RFC 9110, section 12.5.1.
+/// Values by which the HTML of the simple pages' own type is served. The last is an example of RFC 9110, section
+/// 12.5.1.
 const HTML: &str = "\
 application/vnd.pypi.simple.v1+html
 application/vnd.pypi.simple.latest+html

@@ -1,10 +1,10 @@
 //! Pages that end early.
 use super::{file_row, name};
-use index_fakes::ShortWriter;
 use index_io::Output;
 use index_names::NormalName;
 use index_pages::{PageEnd, PageText, ProjectPage, Served};
 use index_rules::{FileRow, FileTaker};
+use index_test_support::ShortWriter;
 use std::alloc::AllocGlobal;
 use std::process::Abort;
 
@@ -14,7 +14,7 @@ const PAGE: &str =
 /// How many of its bytes stand before the bracket behind the files.
 const FIRST_ROW: usize = 172;
 
-/// A writer that takes so many bytes, and then none.
+/// A writer that takes this many bytes, and then none.
 fn full_output(rt: &impl AllocGlobal, size: usize) -> Output<ShortWriter> {
     Output::new(ShortWriter {
         taken: Vec::new(rt.alloc()),
@@ -24,14 +24,14 @@ fn full_output(rt: &impl AllocGlobal, size: usize) -> Output<ShortWriter> {
     })
 }
 
-/// What went out is a front of the page, of so many bytes, and one write failed.
+/// The output is a front of the page, of this many bytes, and one write failed.
 fn assert_front(rt: &impl Abort, output: &Output<ShortWriter>, size: usize) {
     assert_eq!(rt; output.failures, 1);
     assert_eq!(rt; output.writer.taken.len(), size);
     assert!(rt; PAGE.as_bytes().starts_with(output.writer.taken.as_slice()));
 }
 
-/// A page of one file ends as its writer's room does, once the row was taken or not.
+/// A page of one file ends when its writer is full, whether or not the row was taken.
 fn assert_ends(
     rt: &impl Abort,
     page: PageText<'_, '_, Output<ShortWriter>, ProjectPage, Vec<u8>>,
@@ -44,7 +44,7 @@ fn assert_ends(
     assert_eq!(rt; page.finish(), Err(PageEnd::WriteFault(size as u64)));
 }
 
-/// A writer that takes so many bytes cuts the page there.
+/// A writer that takes this many bytes cuts the page there.
 fn assert_cut(rt: &(impl Abort + AllocGlobal), frob: &NormalName, row: &FileRow, size: usize) {
     let mut output = full_output(rt, size);
     let page = PageText::project(rt.alloc(), frob, Served::Json, &mut output);
@@ -61,7 +61,7 @@ fn cut_at_each_byte(rt: HostRuntime) {
     }
 }
 
-/// After a row that was not taken no other is, and nothing more is written.
+/// After a row that was not taken no other is taken, and nothing more is written.
 fn assert_stopped(rt: &(impl Abort + AllocGlobal), frob: &NormalName, row: &FileRow) {
     let mut output = full_output(rt, 120);
     let mut page = PageText::project(rt.alloc(), frob, Served::Json, &mut output);

@@ -53,7 +53,7 @@ fn example_names(rt: HostRuntime) {
     assert_names(&rt, &rows, Served::Json, EXAMPLE);
 }
 
-/// Prohibited names are passed over, wherever they stand.
+/// Prohibited names are skipped, at any place.
 #[test]
 fn some_names(rt: HostRuntime) {
     let banned = NameRow {

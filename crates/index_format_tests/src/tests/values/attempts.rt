@@ -11,7 +11,7 @@ fn case_with_attempt(rt: &impl Abort) -> CaseState {
     case
 }
 
-/// The same case with 999 attempts that were sent, the first of them at 90 in the order of recording.
+/// `case_with_attempt` with 999 more attempts, which were sent. The first that was recorded is at 90.
 fn full_case(rt: &impl Abort) -> CaseState {
     let mut case = case_with_attempt(rt);
     note(&mut case, Means::Pages, true, 90).expect(rt, "an attempt");

@@ -118,8 +118,8 @@ fn longer_messages_of_nist(rt: HostRuntime) {
     );
 }
 
-/// In each line a text that is no digest's: none, a digit too few, one too many, upper case, the neighbours of the digits
-/// in ASCII.
+/// In each line a text that is not a digest: an empty one, a digit too few, one too many, upper case, the neighbours of
+/// the digits in ASCII.
 const NO_DIGESTS: &str = "
 ba7816bf8f01cfea414140de5dae2223b00361a396177a9cb410ff61f20015a
 ba7816bf8f01cfea414140de5dae2223b00361a396177a9cb410ff61f20015add

@@ -57,7 +57,7 @@ uWSGI-2.0.22.tar.gz uwsgi 2.0.22
 pytest-8.0.0rc1.tar.gz pytest 8.0.0rc1
 pytz-2024.2.tar.gz pytz 2024.2";
 
-/// In each line a text that is no file name. The first is empty.
+/// In each line a text that is not a file name. The first is empty.
 const NO_FILE_NAMES: &str = "
 a
 .whl
@@ -83,7 +83,7 @@ foo-1.0-py3--any.whl
 foo_-1.0-py3-none-any.whl
 foo-1.0-py3-none-any+.whl";
 
-/// Whether a name has this text, and decides these of its project and its release.
+/// Whether a name has this text, this project and this release.
 fn has_texts(name: &FileName, text: &str, project: &str, release: &str) -> bool {
     name.text() == text && name.project().text() == project && name.release().text() == release
 }

@@ -7,7 +7,7 @@ fn attempt(rt: &impl Abort, case: &mut CaseState, means: Means, sent: bool, at: 
     note(case, means, sent, at).expect(rt, "an attempt");
 }
 
-/// A transfer at a moment is answered so.
+/// A transfer at a moment gets this answer.
 fn assert_answer(
     rt: &impl Abort,
     case: &CaseState,
@@ -20,8 +20,8 @@ fn assert_answer(
     assert!(rt; answer == want, "at {at}");
 }
 
-/// The case of a name whose last upload is given. Three attempts are sent, and the third means is missing, until an attempt
-/// by it is recorded that couldn't be sent.
+/// The case of a name whose last upload is given. Three attempts are sent, and the third means is missing, until an
+/// attempt by it is recorded that couldn't be sent.
 fn case_with_each_means(rt: &impl Abort, last: Option<u64>) -> CaseState {
     let mut case = CaseState::new();
     let too_few = Err(CaseFault::TooFewAttempts);
@@ -71,7 +71,7 @@ fn year_of_the_last_upload(rt: HostRuntime) {
     assert_answer(&rt, &case, None, true, 3_628_800, Ok(()));
 }
 
-/// Where the last moments meet, nothing wraps.
+/// At the last moments nothing wraps.
 #[test]
 fn last_moments(rt: HostRuntime) {
     let last = 253_402_300_799;

@@ -35,6 +35,7 @@ returns-in_default g c =
       asks = rw (c.requires, none) (record { unchanged = λ _. refl; honest = λ h. h; clean = λ h. h; crash = λ _ left. left });
       memory = λ none. absurd (sent_memory _ _ _ _ c.send_reply.ensures.sent none);
       whole = λ _. refl;
+      unasked = λ faulty. cc faulty;
       stores = λ none. refl;
       lasts = λ honest clean. inl (honest, refl);
       cut = search rules;
@@ -62,6 +63,7 @@ returns g c =
       asks = rw (c.requires, call) (sent_ends _ _ _ _ _ _ (c.apply-answer.result, text ∙ ap (reply_text (is_head c.args.request.now.method)) reply, took) c.send_reply-2.ensures.sent);
       memory = λ none. absurd (sent_memory _ _ _ _ c.send_reply-2.ensures.sent none);
       whole = λ _. refl;
+      unasked = λ faulty. cc faulty;
       stores = λ none. absurd (sent_memory _ _ _ _ c.send_reply-2.ensures.sent none);
       lasts = λ honest clean.
           answer_lasts _ _ _ c.apply-answer.result _ _ _ _ _ _ _ (took.settles.lasts clean) honest took.settles.kept

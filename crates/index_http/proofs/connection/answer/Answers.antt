@@ -1,4 +1,4 @@
-use Rattle.std.proofs.Common.{◌≡◌, ◌∙◌, ap, inl, refl, rules, sym, true}
+use Rattle.std.proofs.Common.{◌≡◌, ◌∙◌, ap, false, inl, refl, rules, sym, true}
 use Rattle.index_message.specs.Resources.{is_reading}
 use Rattle.index_http.specs.Ends.{Stands}
 use Rattle.index_http.specs.Replies.{reply_text}
@@ -15,6 +15,7 @@ returns-in-Faulty g c = record {
   asks = rw c.in-Faulty.is (record { unchanged = λ _. refl; honest = λ h. h; clean = λ h. h; crash = λ _ left. left });
   memory = search rules;
   whole = λ none. absurd (sent_memory _ _ _ _ c.send_reply.ensures.sent none);
+  unasked = λ faulty. refl;
   stores = λ none. refl;
   lasts = λ honest clean. inl (honest, refl);
   cut = search rules;
@@ -32,6 +33,7 @@ returns-then-is_reading g c =
       asks = rw (c.in-Whole.is, reads) c.show.ensures.shown.leaves;
       memory = search rules;
       whole = λ _. rw c.in-Whole.is refl;
+      unasked = λ faulty. let none : true ≡ false = sym faulty ∙ rw c.in-Whole.is refl in cc none;
       stores = c.show.ensures.shown.stores;
       lasts = λ honest clean. rw c.in-Whole.is (look_lasts _ _ _ _ _ _ _ reads (c.show.ensures.shown.lasts honest clean));
       cut = search rules;

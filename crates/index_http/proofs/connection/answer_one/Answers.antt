@@ -1,9 +1,10 @@
-use Rattle.std.proofs.Common.{inl, inr}
+use Rattle.std.proofs.Common.{inl, inr, ap, subst, sym}
+use Rattle.index_message.specs.Messages.{IsMessage}
 use Rattle.index_rules.proofs.StandsOn.{sound_when_legal}
 use Rattle.index_message.proofs.MessageLemmas.{whole_has_head}
-use Rattle.index_http.proofs.EndLemmas.{ends_map, has_page, stands_ends}
+use Rattle.index_http.proofs.EndLemmas.{ends_map, fault_or_request, has_page, stands_ends}
 use Rattle.index_http.proofs.Failures.{failure_map}
-use Rattle.index_http.proofs.Histories.{EndsAfter-Ends}
+use Rattle.index_http.proofs.Histories.{reply_ends_by_history}
 use Rattle.index_http.proofs.connection.answer_one.Goals as goal
 
 pub returns-clause-tables : goal.returns-clause-tables
@@ -14,7 +15,7 @@ returns-clause-tables g c = λ honest clean one.
 
 pub returns-clause-history : goal.returns-clause-history
 returns-clause-history g c = λ honest h legal stands.
-    EndsAfter-Ends _ _ h legal _ _ stands _ _ _ _
+    reply_ends_by_history _ _ h legal _ _ stands _ _ _ _
     (stands_ends _ _ _ _ _ _ _ (λ later is. is honest)
     (returns-clause-tables g c (c.answer.ensures.keeps.honest honest) (g.met.B.Books.honest_is_clean _ honest) (sound_when_legal h legal _ stands).one_bearer))
 
@@ -46,10 +47,14 @@ pub returns-clause-lasts : goal.returns-clause-lasts
 returns-clause-lasts g c = λ honest clean.
     let read = c.in_ok-message.ensures.message in
     let message = c.in_ok-message.message in
+    let books = g.B.Books in
     elim (c.answer.ensures.lasts honest clean) [
       | inl stays ↦ inl stays
-      | inr shows ↦ inr (
-        (read.0, message, read.1, read.2),
-        failure_map _ _ _ _ (λ text it. (it.0, (read.0, message, read.1, read.2, it.1))) shows,
-      )
+      | inr shows ↦ elim (fault_or_request message) [
+        | inl faulty ↦ let same = c.answer.ensures.unasked faulty in inl (subst books.IsHonest (sym same) honest, ap books.failures same)
+        | inr whole ↦ inr (
+          (read.0, whole.0, whole.1, read.1, subst (λ it. IsMessage read.0 it) whole.2 read.2),
+          failure_map _ _ _ _ (λ text it. (it.0, (read.0, message, read.1, read.2, it.1))) shows,
+        )
+      ]
     ]

@@ -22,7 +22,7 @@ returns-in-Ok g c = record {
       (λ p. p.sink.ghost_name) (λ before row after h. h) (λ before row after h. h)
       page walk.new.taker walk.result _ c.finish.result fresh there.3 c.finish.ensures.page c.finish.ensures.stopped there.0 there.2 in
       let back = c.buffer-2-1.given.1 (sym (passed.0 ∙ c.project-page.ensures.sink)) in
-      let none = ap (λ b. b.bytes.items) c.project-page.ensures.kept ∙ c.new-buffer.ensures in
+      let none = ap (λ b. b.bytes.items) c.project-page.ensures.kept ∙ c.new-buffer.ensures.empty in
       rw back (ap (option_map (project_page_of c.args.served c.args.name.now)) there.1
       ∙ ap Some (sym (c.project-page.ensures.whole_page there.0) ∙ gathered _ _ _ _ _ c.in-Ok.is none passed.1.sends));
   look = search rules;

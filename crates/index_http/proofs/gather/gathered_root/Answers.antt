@@ -18,7 +18,7 @@ returns-in-Ok g c = record {
       (λ p. p.sink.ghost_name) (λ before row after h. h) (λ before row after h. h)
       page walk.new.taker walk.result _ c.finish.result fresh right c.finish.ensures.page c.finish.ensures.stopped rows (walk.ensures.walked honest clean) in
       let back = c.buffer-2-1.given.1 (sym (passed.0 ∙ c.root-page.ensures.sink)) in
-      let none = ap (λ b. b.bytes.items) c.root-page.ensures.kept ∙ c.new-buffer.ensures in
+      let none = ap (λ b. b.bytes.items) c.root-page.ensures.kept ∙ c.new-buffer.ensures.empty in
       rw back (ap Some (sym (c.root-page.ensures.whole_page rows) ∙ gathered _ _ _ _ _ c.in-Ok.is none passed.1.sends));
   look = search rules;
 }

@@ -17,14 +17,14 @@ returns-in-Some g c = record {
 pub returns-in-Ok-Some : goal.returns-in-Ok-Some
 returns-in-Ok-Some g c = record {
   shown = λ honest clean.
-      let body = rw c.in-Ok-Some.field-0-is at (c.in-Ok-Some.ensures.found (c.in-Ok-Some.ensures.look.lasts honest (c.keep_body.ensures.clean clean))).0 in
+      let body = rw c.in-Ok-Some.field-0-is at (c.in-Ok-Some.ensures.found (c.in-Ok-Some.ensures.look.lasts honest (c.cache_body.ensures.clean clean))).0 in
       shown_ends _ _ _ _ _ _ _ _ (c.file_reply-in-Ok-Some.ensures ∙ ap file_reply c.bytes-in-Ok-Some.ensures) (Some c.in-Ok-Some.body, body, refl) c.send_reply-sent.ensures.sent;
   leaves = search rules;
   sends = search rules;
   stores = λ is. absurd (sent_memory _ _ _ _ c.send_reply-sent.ensures.sent is);
   lasts = λ honest clean.
-      let then = c.in-Ok-Some.ensures.look.lasts honest (c.keep_body.ensures.clean clean) in
-      inl (c.keep_body.ensures.lasts then clean, c.keep_body.ensures.kept ∙ c.in-Ok-Some.ensures.look.kept);
+      let then = c.in-Ok-Some.ensures.look.lasts honest (c.cache_body.ensures.clean clean) in
+      inl (c.cache_body.ensures.lasts then clean, c.cache_body.ensures.kept ∙ c.in-Ok-Some.ensures.look.kept);
 }
 
 pub returns-in-Ok-None : goal.returns-in-Ok-None

@@ -4,7 +4,7 @@ use Rattle.std.specs.Prelude.{option_map}
 use Rattle.index_desk.specs.Projects.{project_rows_in}
 use Rattle.index_pages.specs.Pages.{project_page_of}
 use Rattle.index_pages.specs.Parts.{project_rest}
-use Rattle.index_pages.specs.States.{StopsText, TakesText, length_state}
+use Rattle.index_pages.specs.States.{RowTextIsTaken, StopsText, length_state}
 use Rattle.index_pages.proofs.TakerLemmas.{walks_by}
 use Rattle.index_http.specs.PagePasses.{without_stop}
 use Rattle.index_http.proofs.PassLemmas.{counted, measured_there, no_fault, rows_given, stores_kept}
@@ -20,7 +20,7 @@ returns g c = record {
       let walk = c.walk_project-walked in
       let is : without_stop true walk.result ≡ Ok true = sym c.without_stop.ensures ∙ c.in_ok-without_stop.was ∙ ap Ok c.if-not-branch.false in
       let there = rows_given _ _ rows page walk.new.taker walk.result (walk.ensures.walked honest clean) is in
-      let by = walks_by _ _ TakesText StopsText
+      let by = walks_by _ _ RowTextIsTaken StopsText
       (λ p. length_state (project_rest p.page.as_json p.name.now p.page.is_started p.page.releases.keys) p.length p.end) (λ p. none) (λ before row after h. (refl, h)) (λ before row after h. (refl, h))
       there.0 page walk.new.taker walk.result there.2 in
       let fresh = c.project-page.ensures.fresh in

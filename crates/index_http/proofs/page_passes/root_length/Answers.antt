@@ -1,7 +1,7 @@
 use Rattle.std.proofs.Common.{◌∙◌, ℕ, refl, sym, rules}
 use Rattle.index_rules.specs.TableRows.{held_rows_in}
 use Rattle.index_pages.specs.Parts.{root_rest}
-use Rattle.index_pages.specs.States.{StopsText, TakesText, length_state}
+use Rattle.index_pages.specs.States.{RowTextIsTaken, StopsText, length_state}
 use Rattle.index_pages.proofs.TakerLemmas.{walks_by}
 use Rattle.index_http.proofs.PassLemmas.{counted, no_fault, stores_kept}
 use Rattle.index_http.proofs.page_passes.root_length.Goals as goal
@@ -13,7 +13,7 @@ returns g c = record {
       let rows = held_rows_in (g.B.Books.tables c.args.desk.now) in
       let page = c.root-page.result in
       let now = c.walk_root-walked.new.taker in
-      let by = walks_by _ _ TakesText StopsText
+      let by = walks_by _ _ RowTextIsTaken StopsText
       (λ p. length_state (root_rest p.page.as_json p.page.is_started) p.length p.end) (λ p. none) (λ before row after h. (refl, h)) (λ before row after h. (refl, h))
       rows page now c.walk_root-walked.result (c.walk_root-walked.ensures.walked honest clean) in
       let right = no_fault _ _ c.walk_root-walked.result (sym c.without_stop.ensures ∙ c.in_ok-without_stop.was) in

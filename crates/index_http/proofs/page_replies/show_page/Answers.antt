@@ -18,14 +18,14 @@ returns-in-Some g c = record {
 pub returns-in-Ok-Some : goal.returns-in-Ok-Some
 returns-in-Ok-Some g c = record {
   shown = λ honest clean.
-      let is = rw c.in-Ok-Some.field-0-is at (c.in-Ok-Some.ensures.text honest (c.keep_page.ensures.clean clean)) in
+      let is = rw c.in-Ok-Some.field-0-is at (c.in-Ok-Some.ensures.text honest (c.cache_page.ensures.clean clean)) in
       shown_ends _ _ _ _ _ _ _ _ (c.page_reply-in-Ok-Some.ensures ∙ ap (page_reply c.args.served) c.as_slice.ensures.value) (shows_gathered c.args.served _ _ is) c.send_reply-sent.ensures.sent;
   leaves = search rules;
   sends = search rules;
   stores = λ is. absurd (sent_memory _ _ _ _ c.send_reply-sent.ensures.sent is);
   lasts = λ honest clean.
-      let then = c.in-Ok-Some.ensures.look.lasts honest (c.keep_page.ensures.clean clean) in
-      inl (c.keep_page.ensures.lasts then clean, c.keep_page.ensures.kept ∙ c.in-Ok-Some.ensures.look.kept);
+      let then = c.in-Ok-Some.ensures.look.lasts honest (c.cache_page.ensures.clean clean) in
+      inl (c.cache_page.ensures.lasts then clean, c.cache_page.ensures.kept ∙ c.in-Ok-Some.ensures.look.kept);
 }
 
 pub returns-in-Ok-None : goal.returns-in-Ok-None

@@ -1,11 +1,11 @@
-//! Banned files: what is left of them for those who ask.
+//! Banned files, as others see them.
 use super::{
     ACCEPTED, ALREADY, BYTES, CHARGED, FILE, FROB, GET, NO_FILE, PUT, USERS, assert_exchanges,
 };
 
 const PAGE: &str = look!("GET /simple/frob/" "Accept: application/vnd.pypi.simple.v1+json");
 
-/// The file and its page are asked for. What is kept of them at hand goes with the ban.
+/// The file and its page are asked for. The ban removes them from the cache.
 const ASKED: &[[&str; 2]] = &[
     [GET, BYTES],
     [
@@ -20,7 +20,7 @@ const ASKED: &[[&str; 2]] = &[
     CHARGED,
 ];
 
-/// The office bans the file. Its bytes are gone, the page does not list it, and nobody can upload it again.
+/// The office bans the file. Its bytes are deleted, the page does not list it, and nobody can upload it again.
 const BANNED: &[[&str; 2]] = &[
     [BAN, ACCEPTED],
     [GET, NO_FILE],

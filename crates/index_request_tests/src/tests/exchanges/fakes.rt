@@ -2,7 +2,7 @@
 use std::io;
 use std::io::{Error, ErrorKind, Write};
 
-/// Takes all bytes of so many writes, and then fails.
+/// Takes all bytes of this many writes, and then fails.
 pub(super) struct FailingWriter {
     pub(super) taken: Vec<u8>,
     pub(super) writes: u64,

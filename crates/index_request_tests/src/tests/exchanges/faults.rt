@@ -5,15 +5,15 @@ use super::{
     new_site, tell,
 };
 use crate::tests::{Story, assert_story};
-use index_desk::{Desk, Keeper};
-use index_fakes::{ShortReader, ShortWriter};
+use index_desk::{CachesAnswers, Desk};
 use index_http::IoEnd;
 use index_message::Site;
+use index_test_support::{ShortReader, ShortWriter};
 use std::alloc::AllocGlobal;
 use std::process::Abort;
 
 /// A writer takes this front of the reply to a message and then none, or fails.
-fn assert_cut<B: Keeper>(
+fn assert_cut<B: CachesAnswers>(
     rt: &(impl Abort + AllocGlobal),
     site: &Site,
     desk: &mut Desk<B>,
@@ -37,11 +37,11 @@ fn assert_cut<B: Keeper>(
     );
 }
 
-/// The upload stands. It is deleted.
+/// The upload was applied, and the file is deleted.
 const STOOD: &[[&str; 2]] = &[[PUT, ALREADY], CHARGED, [DELETE, ACCEPTED]];
 
 /// The reply to an upload is cut behind this front, by a writer that fails and by one that takes no byte.
-fn cut_upload<B: Keeper>(
+fn cut_upload<B: CachesAnswers>(
     rt: &(impl Abort + AllocGlobal),
     site: &Site,
     desk: &mut Desk<B>,
@@ -60,7 +60,7 @@ struct CutUploads<'a> {
 }
 
 impl Story for CutUploads<'_> {
-    fn run<R: Abort + AllocGlobal, B: Keeper>(&self, rt: &R, desk: &mut Desk<B>) {
+    fn run<R: Abort + AllocGlobal, B: CachesAnswers>(&self, rt: &R, desk: &mut Desk<B>) {
         claim_frob(rt, self.site, desk);
         cut_upload(rt, self.site, desk, "HTTP/1.1 2");
         cut_upload(rt, self.site, desk, "");
@@ -93,7 +93,7 @@ struct CutWheel<'a> {
 }
 
 impl Story for CutWheel<'_> {
-    fn run<R: Abort + AllocGlobal, B: Keeper>(&self, rt: &R, desk: &mut Desk<B>) {
+    fn run<R: Abort + AllocGlobal, B: CachesAnswers>(&self, rt: &R, desk: &mut Desk<B>) {
         claim_frob(rt, self.site, desk);
         assert_cut(rt, self.site, desk, WHEEL, "HTTP/1.1 2", true);
         assert_parts(rt, self.site, desk, &[WHEEL_STANDS], usize::MAX);
@@ -106,8 +106,8 @@ fn a_write_that_fails_leaves_the_wheel(rt: HostRuntime) {
     assert_story(&rt, &CutWheel { site });
 }
 
-/// After so many writes of the reply to an upload the next one fails.
-fn assert_write_fails<B: Keeper>(
+/// The write after this many writes of the reply to an upload fails.
+fn assert_write_fails<B: CachesAnswers>(
     rt: &(impl Abort + AllocGlobal),
     site: &Site,
     desk: &mut Desk<B>,
@@ -125,14 +125,14 @@ fn assert_write_fails<B: Keeper>(
     assert!(rt; ended == Err(IoEnd::WriteFault(count as u64)), "{writes}");
 }
 
-/// The reply goes out in ten writes.
+/// The reply is written in ten writes.
 #[derive(Clone, Copy)]
 struct FailWrites<'a> {
     site: &'a Site,
 }
 
 impl Story for FailWrites<'_> {
-    fn run<R: Abort + AllocGlobal, B: Keeper>(&self, rt: &R, desk: &mut Desk<B>) {
+    fn run<R: Abort + AllocGlobal, B: CachesAnswers>(&self, rt: &R, desk: &mut Desk<B>) {
         claim_frob(rt, self.site, desk);
         for writes in 0..10 {
             assert_write_fails(rt, self.site, desk, writes);
@@ -153,14 +153,14 @@ const FRONT_OF_NAMES: &str =
 
 const NAMES: &str = look!("GET /simple/" "Accept: application/vnd.pypi.simple.v1+json");
 
-/// The reply to a look is cut in its page and in its first line, by either writer.
+/// The reply with a page is cut in its text and in its first line, by either writer.
 #[derive(Clone, Copy)]
 struct CutPage<'a> {
     site: &'a Site,
 }
 
 impl Story for CutPage<'_> {
-    fn run<R: Abort + AllocGlobal, B: Keeper>(&self, rt: &R, desk: &mut Desk<B>) {
+    fn run<R: Abort + AllocGlobal, B: CachesAnswers>(&self, rt: &R, desk: &mut Desk<B>) {
         claim_frob(rt, self.site, desk);
         assert_parts(rt, self.site, desk, &[FILE], usize::MAX);
         for front in [FRONT_OF_NAMES, "HTTP/1.1 2"] {
@@ -178,7 +178,7 @@ fn a_page_is_cut(rt: HostRuntime) {
 }
 
 /// A read fails behind this front of a message. Nothing is written.
-fn assert_read_fails<B: Keeper>(
+fn assert_read_fails<B: CachesAnswers>(
     rt: &(impl Abort + AllocGlobal),
     site: &Site,
     desk: &mut Desk<B>,
@@ -202,7 +202,7 @@ struct FailReads<'a> {
 }
 
 impl Story for FailReads<'_> {
-    fn run<R: Abort + AllocGlobal, B: Keeper>(&self, rt: &R, desk: &mut Desk<B>) {
+    fn run<R: Abort + AllocGlobal, B: CachesAnswers>(&self, rt: &R, desk: &mut Desk<B>) {
         claim_frob(rt, self.site, desk);
         let message = PUT.as_bytes();
         for count in 0..message.len() {

@@ -1,4 +1,4 @@
-//! Files that are uploaded, looked at and deleted.
+//! Files that are uploaded, fetched and deleted.
 use super::{
     ACCEPTED, ALREADY, CHARGED, DELETE, FILE, FROB, GET, NO_FILE, PUT, USERS, assert_exchanges,
 };

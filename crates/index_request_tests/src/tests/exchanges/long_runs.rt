@@ -4,13 +4,13 @@ use super::{
     assert_parts, new_site,
 };
 use crate::tests::{Story, assert_story};
-use index_desk::{Desk, Keeper};
+use index_desk::{CachesAnswers, Desk};
 use index_message::Site;
 use std::alloc::AllocGlobal;
 use std::process::Abort;
 
-/// A file comes, is looked at in each way, and goes. The second look at a page or a file is answered from what was kept
-/// of the first, where the books keep it.
+/// A file is uploaded, read in each way, and deleted. The second read of a page or a file is answered from the cache,
+/// if the books have one.
 const ROUND: &[[&str; 2]] = &[
     [PUT, CREATED],
     [PUT, ALREADY],
@@ -61,7 +61,7 @@ struct LookAndChange<'a> {
 }
 
 impl Story for LookAndChange<'_> {
-    fn run<R: Abort + AllocGlobal, B: Keeper>(&self, rt: &R, desk: &mut Desk<B>) {
+    fn run<R: Abort + AllocGlobal, B: CachesAnswers>(&self, rt: &R, desk: &mut Desk<B>) {
         assert_parts(rt, self.site, desk, &[USERS, FROB], usize::MAX);
         for _ in 0..100 {
             assert_parts(rt, self.site, desk, &[ROUND], usize::MAX);

@@ -1,4 +1,4 @@
-//! Messages that ask nothing.
+//! Malformed messages.
 use super::{ACCEPTED, CLAIM, USERS, assert_exchanges};
 
 const BAD_HEAD: &str = json_reply!(
@@ -19,7 +19,7 @@ const BAD_BODY: &str = json_reply!(
     r#"{"answer":"message","name":"BadBody"}"#
 );
 
-/// The reply where a path has just these methods.
+/// The reply if a path has exactly these methods.
 macro_rules! bad_method {
     ($methods:literal) => {
         reply!(
@@ -31,7 +31,7 @@ macro_rules! bad_method {
     };
 }
 
-/// In the order in which the faults are looked for. What comes behind a message is none of it.
+/// In the order of the checks. Bytes behind a message do not belong to it.
 const FAULTY: &[[&str; 2]] = &[
     ["", BAD_HEAD],
     ["GET /simple/ HTTP/1.1\r\nHost: index\r\n", BAD_HEAD],
@@ -84,7 +84,7 @@ const FAULTY: &[[&str; 2]] = &[
     ],
 ];
 
-/// None of them changed anything.
+/// None of the messages changed anything.
 const CLAIMED: &[[&str; 2]] = &[[CLAIM, ACCEPTED]];
 
 #[test]

@@ -1,4 +1,4 @@
-//! Pages, and the ways to them.
+//! Pages, and redirects to them.
 use super::{FILE, FROB, NO_PROJECT, USERS, assert_exchanges};
 
 const ROOT: &str = look!("GET /simple/");
@@ -26,7 +26,7 @@ fn a_page_of_no_names(rt: HostRuntime) {
     assert_exchanges(&rt, &[NO_NAMES]);
 }
 
-/// The reply has 168 bytes, of which the body has 59.
+/// The reply has 168 bytes, 59 of them in the body.
 const NAMES: &[[&str; 2]] = &[[ROOT_IN_JSON, NAMES_IN_JSON], [TWO_FIELDS, NAMES_IN_JSON]];
 
 /// The values of two `Accept` fields are one list (RFC 9110, section 5.3).
@@ -68,7 +68,7 @@ fn the_page_of_a_project(rt: HostRuntime) {
     assert_exchanges(&rt, &[USERS, FROB, FILE, PROJECT]);
 }
 
-/// A way has no type (PEP 503: to the normal form).
+/// A redirect has no type (PEP 503: to the normal form).
 const WAYS: &[[&str; 2]] = &[
     [
         look!("GET /simple/Frob"),
@@ -110,7 +110,7 @@ const NOT_ACCEPTABLE: &str = json_reply!(
     r#"{"answer":"message","name":"NotAcceptable"}"#
 );
 
-/// Whether a page is there is looked at before its type.
+/// Whether a page exists is checked before its type.
 const NO_TYPE: &[[&str; 2]] = &[
     [look!("GET /simple/nest/" "Accept: */*;q=0"), NO_PROJECT],
     [look!("GET /simple/frob/" "Accept: */*;q=0"), NOT_ACCEPTABLE],

@@ -1,4 +1,4 @@
-//! Prohibited names: what is left of them for those who ask.
+//! Prohibited names, as others see them.
 use super::{ACCEPTED, CREATED, FILE, FROB, NO_FILE, NO_PROJECT, PUT, USERS, assert_exchanges};
 
 /// ann uploads a second file, the byte `a`, and yanks the release of the first.
@@ -25,7 +25,7 @@ const YANK: &str = post!(
     r#"{"do":"yank","name":"frob","release":"1.0","reason":""}"#
 );
 
-/// The office prohibits the name. It has no page and no file, is not on the page of names, and nobody can claim it.
+/// The office prohibits the name. It has no page and no file, is not on the root page, and nobody can claim it.
 const PROHIBITED: &[[&str; 2]] = &[
     [PROHIBIT, ACCEPTED],
     [STANDING, STANDS_PROHIBITED],
@@ -62,7 +62,7 @@ const NAME_PROHIBITED: &str = json_reply!(
     r#"{"answer":"refused","code":16,"name":"NameProhibited"}"#
 );
 
-/// Then it is allowed and bob's. His upload of the first file is not yanked.
+/// Then the name is allowed, and bob claims it. Bob's upload of the first file is not yanked.
 const ALLOWED: &[[&str; 2]] = &[
     [ALLOW, ACCEPTED],
     [CLAIM_BY_BOB, ACCEPTED],

@@ -21,7 +21,7 @@ const IN_HTML: &str = look!("GET /simple/frob/");
 
 const IN_JSON: &str = look!("GET /simple/frob/" "Accept: application/vnd.pypi.simple.v1+json");
 
-/// With a reason, whose signs are written otherwise in HTML.
+/// A reason, with characters that HTML escapes.
 const YANKED: &[[&str; 2]] = &[
     [YANK, ACCEPTED],
     [IN_HTML, YANKED_IN_HTML],
@@ -71,7 +71,7 @@ const YANKED_AGAIN_IN_JSON: &str = reply!(
     r#"{"files":[{"filename":"frob-1.0.tar.gz","hashes":{"sha256":"ba7816bf8f01cfea414140de5dae2223b00361a396177a9cb410ff61f20015ad"},"size":3,"url":"/files/frob/frob-1.0.tar.gz","yanked":true}],"meta":{"api-version":"1.1"},"name":"frob","versions":["1.0"]}"#
 );
 
-/// A wheel of the release is yanked from the first. It stands before the source archive.
+/// A wheel of the release is yanked from the first. It is listed before the source archive.
 const WITH_WHEEL: &[[&str; 2]] = &[
     [PUT_WHEEL, CREATED],
     [IN_HTML, WITH_WHEEL_IN_HTML],
@@ -93,7 +93,7 @@ const WITH_WHEEL_IN_JSON: &str = reply!(
     r#"{"files":[{"filename":"frob-1.0-py3-none-any.whl","hashes":{"sha256":"ba7816bf8f01cfea414140de5dae2223b00361a396177a9cb410ff61f20015ad"},"size":3,"url":"/files/frob/frob-1.0-py3-none-any.whl","yanked":true},{"filename":"frob-1.0.tar.gz","hashes":{"sha256":"ba7816bf8f01cfea414140de5dae2223b00361a396177a9cb410ff61f20015ad"},"size":3,"url":"/files/frob/frob-1.0.tar.gz","yanked":true}],"meta":{"api-version":"1.1"},"name":"frob","versions":["1.0"]}"#
 );
 
-/// Then neither is yanked.
+/// Then no release is yanked.
 const UNYANKED: &[[&str; 2]] = &[
     [UNYANK, ACCEPTED],
     [IN_HTML, UNYANKED_IN_HTML],

@@ -30,7 +30,7 @@ fn a_banned_file_does_not_come_back(rt: HostRuntime) {
     assert_transcript(&rt, &[USERS, FROB, FILE, BAN, FOR_GOOD]);
 }
 
-/// A ban outlasts the holding of the name, and its quota.
+/// A ban outlasts the name's owners, and its quota.
 const NEXT_OWNER: &str = r#"
 {"at":21,"token":"abc","do":"relinquish","name":"frob"}
 = {"answer":"accepted"}
@@ -106,7 +106,7 @@ fn a_file_of_a_free_name_is_banned(rt: HostRuntime) {
     assert_transcript(&rt, &[USERS, FROB, FILE, FREE_NAME]);
 }
 
-/// A ban is no request of an owner, and ends no case.
+/// A ban is not a request of an owner, and ends no case.
 const STILL_OPEN: &str = r#"
 {"at":40000000,"token":"office","do":"ban_file","file":"frob-1.0.tar.gz"}
 = {"answer":"accepted"}

@@ -108,7 +108,7 @@ fn cases_are_opened_and_closed(rt: HostRuntime) {
     assert_transcript(&rt, &[USERS, FROB, OPENED_AND_CLOSED]);
 }
 
-/// A request that is answered as already so ends no case.
+/// A request that is answered `already` ends no case.
 const ANSWERED: &str = r#"
 {"at":40000000,"token":"abc","do":"remove_owner","name":"frob","user":"bob"}
 = {"answer":"already"}

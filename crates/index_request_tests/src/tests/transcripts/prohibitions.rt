@@ -1,7 +1,8 @@
 //! Prohibited names.
 use super::{FILE, FROB, USERS, assert_transcript};
 
-/// Its files are deleted, and stay bound to their bytes when the name is allowed and claimed again.
+/// The files of a prohibited name are deleted, and stay bound to their bytes when the name is allowed and claimed
+/// again.
 const LOST_FILES: &str = r#"
 {"at":12,"token":"abc","do":"upload","file":"frob-1.1.tar.gz","sha256":"<a>","hex":"61","requires_python":""}
 = {"answer":"accepted"}

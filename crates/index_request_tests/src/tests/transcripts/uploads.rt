@@ -3,7 +3,7 @@ use super::{FILE, FROB, USERS, assert_transcript, repeated};
 use std::alloc::AllocGlobal;
 use std::process::Abort;
 
-/// What is declared of a file. Of several refusals the one with the least number is answered.
+/// What is declared of a file. If several refusals apply, the one with the least number is answered.
 const DECLARED: &str = r#"
 # The declared digest is compared with the bytes, and not kept as it was declared.
 {"at":11,"token":"abc","do":"upload","file":"frob-1.0.tar.gz","sha256":"<>","hex":"616263","requires_python":""}
@@ -132,7 +132,7 @@ fn a_requires_text_has_no_controls(rt: HostRuntime) {
     assert_transcript(&rt, &[USERS, FROB, PLAIN_TEXTS]);
 }
 
-/// The upload of a file whose requirement on Python is a text so many times, and its answer.
+/// The upload of a file whose requirement on Python is a text this many times, and its answer.
 fn with_requires_python(
     rt: &(impl Abort + AllocGlobal),
     text: &str,
@@ -150,7 +150,7 @@ const ACCEPTED: &str = r#"{"answer":"accepted"}"#;
 
 const BAD_TEXT: &str = r#"{"answer":"refused","code":8,"name":"BadText"}"#;
 
-/// It has at most 512 bytes.
+/// A requirement on Python has at most 512 bytes.
 #[test]
 fn a_requires_text_is_short(rt: HostRuntime) {
     for (text, times, answer) in [

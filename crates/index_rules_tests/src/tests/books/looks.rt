@@ -1,11 +1,11 @@
-//! What the looks of scripts find, told as texts.
+//! What the looks of scripts find, as texts.
 use crate::tests::{file_name, name, release, token};
 use index_digest::Digest256;
 use index_rules::{Books, FileRecord, Keys, NameRecord, View};
 use std::alloc::{AllocError, AllocGlobal, Global};
 use std::process::Abort;
 
-/// What a look finds: a word, and what it is about.
+/// What the look of a line finds: a word, and what it is about.
 pub(super) fn found_by<B: Books>(
     rt: &(impl Abort + AllocGlobal),
     books: &mut B,
@@ -88,7 +88,7 @@ fn keys_of_release(rt: &(impl Abort + AllocGlobal), about: &str) -> Keys {
     }
 }
 
-/// Who bears a token, as the caller and as the bearer.
+/// The user who bears a token, as the caller and as the bearer.
 fn told_bearer(alloc: Global, view: &View) -> Result<String, AllocError> {
     let caller = view
         .caller
@@ -98,7 +98,7 @@ fn told_bearer(alloc: Global, view: &View) -> Result<String, AllocError> {
     format!(in alloc; "{caller} {bearer}")
 }
 
-/// What the name of a file decides, what was declared, its size, and whether it is undeleted.
+/// The release and project of a file, what was declared, its size, and whether it is undeleted.
 fn told_file(alloc: Global, found: Option<&FileRecord>) -> Result<String, AllocError> {
     let Some(record) = found else {
         return String::from_str(alloc, "-");

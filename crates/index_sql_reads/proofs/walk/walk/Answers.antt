@@ -12,7 +12,7 @@ use Rattle.index_sql_reads.proofs.WalkLemmas.{fault_told, faulted_as}
 use Rattle.index_sql_reads.proofs.QueryLemmas.{begins, ends_by, handed_looks, handed_of, looks_faulty}
 use Rattle.index_sql_reads.proofs.walk.walk.Goals as goal
 
--- ---- where the query begins, of the connection inside
+-- ---- when the query begins, of the connection inside
 
 given : (g : _) (c : goal.After-conn-2-1 g) → IsGiving g.S.Store c.args.query.now (bound c.args.params.now) c.conn.inside.conn c.hand_all.ensures.handed.last c.hand_all.ensures.handed.rows
 given g c =
@@ -64,7 +64,7 @@ returns-clause-reason g c sure =
     subst (λ new. QueryEndsForReason g.H.Hand.is_row query params (on_store g.S.Store c.args.conn.now new) result) (search rules)
     (subst (λ held. QueryEndsForReason g.H.Hand.is_row query params (on_store g.S.Store held now) result) c.conn.view_is ends)
 
--- ---- where it is refused
+-- ---- if it is refused
 
 refused : (g : _) (c : goal.After-end_of g) → QueriesOnly g.S.Store c.conn.inside.conn c.query.follows.lender-at-none (not (is_fault c.end_of.result))
 refused g c =

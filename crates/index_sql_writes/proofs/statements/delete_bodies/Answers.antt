@@ -6,7 +6,7 @@ use Rattle.index_sql_schema.specs.OnStore.{on_store}
 use Rattle.index_sql_schema.specs.Records.{tables_in}
 use Rattle.index_sql_writes.specs.Writes.{AreFilesOf, deletes_bodies, deletes_shown}
 use Rattle.index_sql_writes.specs.Statements.{delete_bodies_ask}
-use Rattle.index_sql_writes.specs.Steps.{TakesStep}
+use Rattle.index_sql_writes.specs.Steps.{StepMakesChange}
 use Rattle.index_sql_writes.proofs.TakenLemmas.{at_exit, uncommitted_then}
 use Rattle.index_sql_writes.proofs.BodyLemmas.{bodies_gone}
 use Rattle.index_sql_writes.proofs.InTurn.{makes_then}
@@ -36,14 +36,14 @@ returns g c =
 pub returns-in_err-rows : goal.returns-in_err-rows
 returns-in_err-rows g c =
     let name = c.args.name.now in
-    at_exit c.from_residual.result c.in_err-rows.field-0.0 (TakesStep (deletes_bodies name) (delete_bodies_ask name) (on_store g.S.Store c.args.tx.now c.files_named.new.tx)) c.from_residual.ensures.1
+    at_exit c.from_residual.result c.in_err-rows.field-0.0 (StepMakesChange (deletes_bodies name) (delete_bodies_ask name) (on_store g.S.Store c.args.tx.now c.files_named.new.tx)) c.from_residual.ensures.1
     (record { uncommitted = c.files_named.ensures.looked.uncommitted; made = λ clean. tt; opened = λ clean. tt; asked = search rules })
 
 pub returns-in_err-delete_each : goal.returns-in_err-delete_each
 returns-in_err-delete_each g c =
     let name = c.args.name.now in
     let conn = c.args.tx.now.conn in
-    at_exit c.from_residual-in_err-delete_each.result c.in_err-delete_each.field-0.0 (TakesStep (deletes_bodies name) (delete_bodies_ask name) (on_store g.S.Store c.args.tx.now c.delete_each.new.tx)) c.from_residual-in_err-delete_each.ensures.1 (record {
+    at_exit c.from_residual-in_err-delete_each.result c.in_err-delete_each.field-0.0 (StepMakesChange (deletes_bodies name) (delete_bodies_ask name) (on_store g.S.Store c.args.tx.now c.delete_each.new.tx)) c.from_residual-in_err-delete_each.ensures.1 (record {
       uncommitted = uncommitted_then g.S.Store conn c.files_named.new.tx.conn c.delete_each.new.tx.conn c.files_named.ensures.looked.uncommitted c.delete_each.ensures.uncommitted;
       made = λ clean. tt;
       opened = λ clean. tt;

@@ -12,12 +12,12 @@ use Rattle.index_sql_writes.specs.Writes.{deletes_body, deletes_shown}
 use Rattle.index_sql_schema.specs.Index.{same_meta}
 use Rattle.index_sql_writes.specs.Asks.{CanAskFor}
 use Rattle.index_sql_writes.specs.Transaction.{MakesInTransaction}
-use Rattle.index_sql_writes.specs.Steps.{TakesSteps}
+use Rattle.index_sql_writes.specs.Steps.{ManyStepsMakeChange}
 use Rattle.index_sql_writes.proofs.TakenLemmas.{at_exit, uncommitted_none, uncommitted_then}
 use Rattle.index_sql_writes.proofs.InTurn.{one_more}
 use Rattle.std.specs.List.{AllByRecursion}
 use Rattle.sqlite.specs.State.{HasCleanDisk}
-use Rattle.index_sql_writes.specs.Asks.{AnswersBodyDeletions, ShowsFileName}
+use Rattle.index_sql_writes.specs.Asks.{RowShowsFileName, SqlDeletesBodies}
 use Rattle.index_sql_writes.proofs.GoingLemmas.{can_go_on, fault_since}
 use Rattle.index_sql_writes.proofs.statements.delete_each.Goals as goal
 
@@ -47,10 +47,10 @@ loop-row-preserved g c =
           let earlier : HasCleanDisk mid = omega (arith, did.uncommitted.survives.clean) in
           let was = before.made earlier can.can.ready in
           let going = can_go_on first mid can.can was.0 was.4 before.uncommitted.survives.limit in
-          let row = (subst (AllByRecursion ShowsFileName) split (before.shows can.shown)).0 in
-          before.asked earlier can out (subst (λ l. AnswersBodyDeletions l mid.now out) (sym split) (inr (last.now, c.in_ok-delete_shown.ensures.asked clean (record { can = going; shown = (row, tt) }), more)));
+          let row = (subst (AllByRecursion RowShowsFileName) split (before.shows can.shown)).0 in
+          before.asked earlier can out (subst (λ l. SqlDeletesBodies l mid.now out) (sym split) (inr (last.now, c.in_ok-delete_shown.ensures.asked clean (record { can = going; shown = (row, tt) }), more)));
       shows = λ all.
-          (subst (AllByRecursion ShowsFileName) split (before.shows all)).1;
+          (subst (AllByRecursion RowShowsFileName) split (before.shows all)).1;
     }
 
 pub returns-in_err-delete_shown : goal.returns-in_err-delete_shown
@@ -63,16 +63,16 @@ returns-in_err-delete_shown g c =
     let split : drop c.loop-row.row-index rows ≡ c.row-item.result ∷ rest = search (rules, drop-cons) in
     let before = c.loop-row.invariant in
     let did = c.delete_shown.ensures in
-    at_exit c.from_residual.result c.in_err-delete_shown.field-0.0 (TakesSteps IsInTransaction (MakesInTransaction (deletes_shown rows) same_meta) (CanAskFor rows) (AnswersBodyDeletions rows) (on_store g.S.Store c.args.tx.now c.delete_shown.new.tx)) c.from_residual.ensures.1 (record {
+    at_exit c.from_residual.result c.in_err-delete_shown.field-0.0 (ManyStepsMakeChange IsInTransaction (MakesInTransaction (deletes_shown rows) same_meta) (CanAskFor rows) (SqlDeletesBodies rows) (on_store g.S.Store c.args.tx.now c.delete_shown.new.tx)) c.from_residual.ensures.1 (record {
       uncommitted = uncommitted_then g.S.Store c.args.tx.now.conn c.loop-row.tx.conn c.delete_shown.new.tx.conn before.uncommitted did.uncommitted;
       made = λ clean. tt;
       asked = λ clean can store.
           let earlier : HasCleanDisk mid = omega (arith, did.uncommitted.survives.clean) in
           let was = before.made earlier can.can.ready in
           let going = can_go_on first mid can.can was.0 was.4 before.uncommitted.survives.limit in
-          let row = (subst (AllByRecursion ShowsFileName) split (before.shows can.shown)).0 in
+          let row = (subst (AllByRecursion RowShowsFileName) split (before.shows can.shown)).0 in
           elim (c.in_err-delete_shown.ensures.asked clean (record { can = going; shown = (row, tt) }) store) [
             | inl fault ↦ inl (fault_since first mid last before.uncommitted.survives.counts fault)
-            | inr refuses ↦ inr (refuses.0, before.asked earlier can (Err refuses.0) (subst (λ l. AnswersBodyDeletions l mid.now (Err refuses.0)) (sym split) (inl (refuses.0, refuses.1, refl))))
+            | inr refuses ↦ inr (refuses.0, before.asked earlier can (Err refuses.0) (subst (λ l. SqlDeletesBodies l mid.now (Err refuses.0)) (sym split) (inl (refuses.0, refuses.1, refl))))
           ];
     })

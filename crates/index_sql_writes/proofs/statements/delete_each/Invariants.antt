@@ -8,7 +8,7 @@ use Rattle.index_sql_schema.specs.Index.{meta_in}
 use Rattle.index_sql_schema.specs.Records.{tables_in}
 use Rattle.index_sql_schema.specs.RecordRows.{AreRecords}
 use Rattle.index_sql_writes.specs.Transaction.{IsInTransaction, IsUncommitted}
-use Rattle.index_sql_writes.specs.Asks.{AnswersBodyDeletions, CanAskFor, ShowsFileName}
+use Rattle.index_sql_writes.specs.Asks.{CanAskFor, RowShowsFileName, SqlDeletesBodies}
 use Rattle.index_sql_writes.specs.Writes.{deletes_shown}
 use Rattle.index_sql_writes.proofs.statements.delete_each.Given as goal
 
@@ -19,6 +19,6 @@ invariant-loop-row g l =
     record {
       uncommitted : IsUncommitted g.S.Store l.fn.tx.conn l.tx.conn;
       made : HasCleanDisk now → IsInTransaction first → IsInTransaction now × (deletes_shown (drop l.row-index l.rows) (tables_in now.now.trees) ≡ deletes_shown l.rows (tables_in first.now.trees)) × (now.committed ≡ first.committed) × (meta_in now.now.trees ≡ meta_in first.now.trees) × (AreRecords first.now → AreRecords now.now);
-      asked : HasCleanDisk now → CanAskFor l.rows first → (out : Outcome Database) → AnswersBodyDeletions (drop l.row-index l.rows) now.now out → AnswersBodyDeletions l.rows first.now out;
-      shows : AllByRecursion ShowsFileName l.rows → AllByRecursion ShowsFileName (drop l.row-index l.rows);
+      asked : HasCleanDisk now → CanAskFor l.rows first → (out : Outcome Database) → SqlDeletesBodies (drop l.row-index l.rows) now.now out → SqlDeletesBodies l.rows first.now out;
+      shows : AllByRecursion RowShowsFileName l.rows → AllByRecursion RowShowsFileName (drop l.row-index l.rows);
     }

@@ -3,7 +3,7 @@ use Rattle.sqlite_value.specs.declared.value.Value.TheVariants.{Text}
 use Rattle.sqlite.specs.Held.{state}
 use Rattle.index_sql_schema.specs.RecordRows.{IsFiledRow}
 use Rattle.index_sql_schema.proofs.ShownRecords.{known_records}
-use Rattle.index_sql_writes.specs.Asks.{ShowsFileName}
+use Rattle.index_sql_writes.specs.Asks.{RowShowsFileName}
 use Rattle.index_sql_schema.specs.StatementTexts.{select_named_text}
 use Rattle.index_sql_schema.proofs.SelectNamed as statement
 use Rattle.index_sql_writes.proofs.QueryLemmas.{shown_with, shown_unchanged, shown_keeps, refused_keeps, unchanged_makes, query_goes}
@@ -33,7 +33,7 @@ returns-in-Ok-clause-files g c clean =
       files = λ ready. statement.selects c.args.name.now old new c.in-Ok.rows.items ready.index shown;
       shown = λ can.
           let known = known_records old.now can.ready.index can.records in
-          statement.records c.args.name.now IsFiledRow ShowsFileName (λ r it. (omega arith, it.file)) old new c.in-Ok.rows.items can.ready.index shown known.1.1.1.1.0;
+          statement.records c.args.name.now IsFiledRow RowShowsFileName (λ r it. (omega arith, it.file)) old new c.in-Ok.rows.items can.ready.index shown known.1.1.1.1.0;
     }
 
 pub returns-in-Err-clause-looked : goal.returns-in-Err-clause-looked

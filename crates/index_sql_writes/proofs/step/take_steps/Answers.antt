@@ -10,11 +10,11 @@ use Rattle.index_sql_writes.specs.Transaction.{IsInTransaction}
 use Rattle.index_sql_schema.specs.Index.{same_meta}
 use Rattle.index_sql_writes.specs.Asks.{CanAsk}
 use Rattle.index_sql_writes.specs.Transaction.{MakesInTransaction}
-use Rattle.index_sql_writes.specs.Steps.{TakesSteps}
+use Rattle.index_sql_writes.specs.Steps.{ManyStepsMakeChange}
 use Rattle.index_sql_writes.proofs.TakenLemmas.{at_exit, uncommitted_none, uncommitted_then}
 use Rattle.index_sql_writes.proofs.InTurn.{one_more}
 use Rattle.sqlite.specs.State.{HasCleanDisk}
-use Rattle.index_sql_writes.specs.Asks.{AnswersAll}
+use Rattle.index_sql_writes.specs.Asks.{SqlAnswersEachAsk}
 use Rattle.index_sql_writes.proofs.GoingLemmas.{can_go_on, fault_since}
 use Rattle.index_sql_writes.specs.StepAsks.{asks_by}
 use Rattle.index_sql_writes.proofs.step.take_steps.Goals as goal
@@ -46,7 +46,7 @@ loop-step-preserved g c =
           let earlier : HasCleanDisk mid = omega (arith, did.uncommitted.survives.clean) in
           let was = before.made earlier can.ready in
           let going = can_go_on first mid can was.0 was.4 before.uncommitted.survives.limit in
-          before.asked earlier can out (subst (λ l. AnswersAll (asks_by l) mid.now out) (sym split) (inr (last.now, c.in_ok-take_step.ensures.asked clean going, more)));
+          before.asked earlier can out (subst (λ l. SqlAnswersEachAsk (asks_by l) mid.now out) (sym split) (inr (last.now, c.in_ok-take_step.ensures.asked clean going, more)));
     }
 
 pub returns-in_err-take_step-clause-taken : goal.returns-in_err-take_step-clause-taken
@@ -59,7 +59,7 @@ returns-in_err-take_step-clause-taken g c =
     let split : drop c.loop-step.step-index steps ≡ c.step-item.result ∷ rest = search (rules, drop-cons) in
     let before = c.loop-step.invariant in
     let did = c.take_step.ensures in
-    at_exit c.from_residual.result c.in_err-take_step.field-0.0 (TakesSteps IsInTransaction (MakesInTransaction (all_of steps) same_meta) CanAsk (AnswersAll (asks_by steps)) (on_store g.S.Store c.args.tx.now c.take_step.new.tx)) c.from_residual.ensures.1 (record {
+    at_exit c.from_residual.result c.in_err-take_step.field-0.0 (ManyStepsMakeChange IsInTransaction (MakesInTransaction (all_of steps) same_meta) CanAsk (SqlAnswersEachAsk (asks_by steps)) (on_store g.S.Store c.args.tx.now c.take_step.new.tx)) c.from_residual.ensures.1 (record {
       uncommitted = uncommitted_then g.S.Store c.args.tx.now.conn c.loop-step.tx.conn c.take_step.new.tx.conn before.uncommitted did.uncommitted;
       made = λ clean. tt;
       asked = λ clean can store.
@@ -68,6 +68,6 @@ returns-in_err-take_step-clause-taken g c =
           let going = can_go_on first mid can was.0 was.4 before.uncommitted.survives.limit in
           elim (c.in_err-take_step.ensures.asked clean going store) [
             | inl fault ↦ inl (fault_since first mid last before.uncommitted.survives.counts fault)
-            | inr refuses ↦ inr (refuses.0, before.asked earlier can (Err refuses.0) (subst (λ l. AnswersAll (asks_by l) mid.now (Err refuses.0)) (sym split) (inl (refuses.0, refuses.1, refl))))
+            | inr refuses ↦ inr (refuses.0, before.asked earlier can (Err refuses.0) (subst (λ l. SqlAnswersEachAsk (asks_by l) mid.now (Err refuses.0)) (sym split) (inl (refuses.0, refuses.1, refl))))
           ];
     })

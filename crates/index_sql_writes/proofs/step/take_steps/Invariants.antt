@@ -7,7 +7,7 @@ use Rattle.index_sql_writes.specs.Transaction.{IsInTransaction, IsUncommitted}
 use Rattle.index_sql_schema.specs.Index.{meta_in}
 use Rattle.index_sql_schema.specs.Records.{tables_in}
 use Rattle.index_sql_schema.specs.RecordRows.{AreRecords}
-use Rattle.index_sql_writes.specs.Asks.{AnswersAll, CanAsk}
+use Rattle.index_sql_writes.specs.Asks.{CanAsk, SqlAnswersEachAsk}
 use Rattle.index_sql_writes.specs.StepAsks.{asks_by}
 use Rattle.index_sql_writes.specs.Changed.{all_of}
 use Rattle.index_sql_writes.proofs.step.take_steps.Given as goal
@@ -20,5 +20,5 @@ invariant-loop-step g l =
       uncommitted : IsUncommitted g.S.Store l.fn.tx.conn l.tx.conn;
       made : HasCleanDisk now → IsInTransaction first → IsInTransaction now × (all_of (drop l.step-index l.steps) (tables_in now.now.trees) ≡ all_of l.steps (tables_in first.now.trees)) × (now.committed ≡ first.committed) × (meta_in now.now.trees ≡ meta_in first.now.trees) × (AreRecords first.now → AreRecords now.now);
       opened : 0 < l.step-index → HasCleanDisk now → IsTrue first.is_open;
-      asked : HasCleanDisk now → CanAsk first → (out : Outcome Database) → AnswersAll (asks_by (drop l.step-index l.steps)) now.now out → AnswersAll (asks_by l.steps) first.now out;
+      asked : HasCleanDisk now → CanAsk first → (out : Outcome Database) → SqlAnswersEachAsk (asks_by (drop l.step-index l.steps)) now.now out → SqlAnswersEachAsk (asks_by l.steps) first.now out;
     }

@@ -13,7 +13,7 @@ use std::process::Abort;
 
 const STORE_FAULT: &str = r#"{"answer":"fault","name":"Store"}"#;
 
-/// A request that is accepted, and what tells whether it was.
+/// A request that is accepted, and how to see whether it was.
 #[derive(Clone, Copy)]
 struct Asked {
     request: &'static str,
@@ -21,7 +21,7 @@ struct Asked {
     before: &'static str,
     /// The standing of `frob` after it.
     after: &'static str,
-    /// What it is answered when it is asked again.
+    /// The answer to the request if it is made again.
     again: &'static str,
 }
 
@@ -58,7 +58,7 @@ impl Trial for Asked {
 }
 
 impl Asked {
-    /// The request was accepted, or is accepted now and was not told to be.
+    /// The request was accepted; or it is accepted now, and was not reported as accepted.
     fn assert_made_or_not<B: Books>(
         &self,
         rt: &(impl Abort + AllocGlobal),
@@ -75,7 +75,7 @@ impl Asked {
     }
 }
 
-/// Whether a request is answered so.
+/// Whether a request gets this answer.
 fn is_answer<B: Books>(
     rt: &(impl Abort + AllocGlobal),
     desk: &mut Desk<B>,
@@ -90,7 +90,7 @@ fn told_by<B: Books>(rt: &(impl Abort + AllocGlobal), desk: &mut Desk<B>, reques
     told_of(rt, answer_to(rt, desk, request).as_str().trim_end())
 }
 
-/// How far a request came that was answered so.
+/// How far a request with this answer came.
 fn told_of(rt: &impl Abort, answer: &str) -> Told {
     if answer == ACCEPTED {
         return Told::Done;

@@ -6,18 +6,18 @@ use sqlite_disk::Crash;
 use std::alloc::AllocGlobal;
 use std::process::Abort;
 
-/// What becomes of that which was written to a file since it was synced. A disk may tear a write at any byte, and may make
-/// writes in any order.
+/// What becomes of the bytes that were written to a file since it was synced. A disk may tear a write at any byte, and
+/// may make writes in any order.
 #[derive(Clone, Copy, Debug)]
 pub(super) enum Outcome {
-    /// It stands, as where a program is killed.
+    /// The bytes stay, as if the program was killed.
     Kept,
     Lost,
-    /// Each second sector of 512 bytes stands, and the first.
+    /// The first and then every second sector of 512 bytes stays.
     EvenSectors,
-    /// Each second page of 4,096 bytes stands, and not the first. The file ends between its two ends.
+    /// Every second page of 4,096 bytes stays, but not the first. The file's length is between the old and the new.
     OddPages,
-    /// Other bytes stand there.
+    /// Other bytes are in their place.
     Garbled,
 }
 
@@ -29,7 +29,7 @@ const EACH_OUTCOME: &[Outcome] = &[
     Outcome::Garbled,
 ];
 
-/// Where all that was written was synced, nothing is lost.
+/// If all that was written was synced, nothing is lost.
 const KEPT: &[Outcome] = &[Outcome::Kept];
 
 /// A file as it was written, and as it was synced.
@@ -117,7 +117,7 @@ fn stands(outcome: Outcome, at: usize) -> bool {
     }
 }
 
-/// Adds the sector at a place, as far as it is within a length, with zeros where it has no bytes.
+/// Adds the sector at a place, up to a length, with zeros if it has no bytes.
 fn add_sector(rt: &impl Abort, bytes: &mut Vec<u8>, sectors: &[u8], at: usize, length: usize) {
     let end = at.saturating_add(512).min(length);
     if let Some(sector) = sectors.get(at..end.min(sectors.len())) {
@@ -131,7 +131,7 @@ fn copy(rt: &(impl Abort + AllocGlobal), file: &File) -> Vec<u8> {
     Vec::from_slice(rt.alloc(), file.inner().bytes()).expect(rt, "room")
 }
 
-/// What a run told, and what it left of its two files.
+/// What a run reported, and what it left of its two files.
 #[derive(PartialEq, Eq)]
 pub(super) struct Left {
     pub(super) told: Told,

@@ -1,4 +1,4 @@
-//! A database file and its log in memory, each of which may stop after so many calls.
+//! A database file and its log in memory, each of which may stop after a number of calls.
 use sqlite::{Connection, FileStore, Files, Options};
 use sqlite_disk::{Disk, Fuse, Memory};
 use std::alloc::AllocGlobal;
@@ -16,7 +16,7 @@ pub(super) enum Which {
     Database,
 }
 
-/// A file with these bytes, all of them synced, that stops after so many calls.
+/// A file with these bytes, all of them synced, that stops after this many calls.
 pub(super) fn file(rt: &(impl Abort + AllocGlobal), bytes: &[u8], calls: u64) -> File {
     let mut memory = Memory::new(rt.alloc());
     memory.write_at(0, bytes).expect(rt, "room");
@@ -32,7 +32,7 @@ pub(super) fn new_files(rt: &(impl Abort + AllocGlobal)) -> Files<File> {
     }
 }
 
-/// Copies of two files that stop after so many calls.
+/// Copies of two files that stop after these numbers of calls.
 fn copies(
     rt: &(impl Abort + AllocGlobal),
     files: &Files<File>,
@@ -45,7 +45,7 @@ fn copies(
     }
 }
 
-/// Copies of two files, of which one stops after so many calls.
+/// Copies of two files, one of which stops after this many calls.
 pub(super) fn stopping(
     rt: &(impl Abort + AllocGlobal),
     files: &Files<File>,
@@ -58,7 +58,7 @@ pub(super) fn stopping(
     }
 }
 
-/// One of the files makes no more calls.
+/// Whether one of the files makes no more calls.
 pub(super) fn have_stopped(files: &mut Files<File>) -> bool {
     has_stopped(&mut files.log) || has_stopped(&mut files.db)
 }
@@ -67,7 +67,7 @@ fn has_stopped(file: &mut File) -> bool {
     !file.may_be_used() || file.len().is_err()
 }
 
-/// A connection to the database in these files that keeps so many pages in memory, or the files where one of them stops.
+/// A connection to the database in these files that keeps this many pages in memory, or the files if one of them stops.
 pub(super) fn opened(
     rt: &(impl Abort + AllocGlobal),
     files: Files<File>,
@@ -86,7 +86,7 @@ pub(super) fn opened(
     }
 }
 
-/// The files of a connection, into which the log is copied as far as they go.
+/// Closes a connection and returns its files. The log is copied as far as they work.
 pub(super) fn closed(conn: Connection<Database>) -> Files<File> {
     match conn.close_files() {
         Ok(files) => files,

@@ -59,7 +59,7 @@ impl Trial for Creation {
     }
 }
 
-/// There is no index, and none was told.
+/// There is no index, and none was reported.
 fn assert_none(rt: &impl Abort, why: OpenFault, told: Told) {
     assert_eq!(rt; why, OpenFault::NotAnIndex);
     assert!(rt; told != Told::Done);
@@ -101,7 +101,7 @@ impl Trial for Migration {
     }
 }
 
-/// The tables are of version 1 without one of bans, or of version 2 with one, as they are where that was told.
+/// The tables are of version 1 without a table of bans, or of version 2 with one; of version 2 if that was reported.
 fn assert_version<S: Alter>(rt: &impl Abort, conn: &mut Connection<S>, told: Told) {
     let bans = number(rt, conn, BANS);
     assert!(rt; told != Told::Done || bans == 1);

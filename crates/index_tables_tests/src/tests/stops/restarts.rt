@@ -36,7 +36,7 @@ fn files_hold_one_index(rt: HostRuntime) {
     assert_adopted(&rt, reopened(&rt, files), &[[STANDING, CHARGED]]);
 }
 
-/// Files with nothing in them hold no index, and none is made for a user who has no user id.
+/// Files without contents hold no index, and none is made for a user whose id is not valid.
 fn assert_no_office<S: Alter + Drop>(
     rt: &(impl Abort + AllocGlobal),
     conn: Connection<S>,
@@ -53,7 +53,7 @@ fn files_with_nothing_in_them_hold_no_index(rt: HostRuntime) {
     drop(assert_no_office(&rt, reopened(&rt, files)));
 }
 
-/// The index tells version 9.
+/// The index has version 9.
 fn with_version_9<S: Alter + Drop>(rt: &impl Abort, conn: Connection<S>) -> Connection<S> {
     let mut conn = conn;
     run(rt, &mut conn, "UPDATE meta SET version = 9");

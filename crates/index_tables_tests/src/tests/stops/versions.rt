@@ -1,4 +1,5 @@
-//! A stop at each call of the database file while a version is read: that of an index, and that of tables that others made.
+//! A stop at each call of the database file while a version is read: that of an index, and that of tables that others
+//! made.
 use super::super::opening::SECOND_VERSION;
 use super::super::{
     CHARGED, FILE, FROB, STANDING, VERSION, adopt, assert_adopted, assert_number, refused, run,
@@ -55,7 +56,7 @@ fn the_version_of_an_index_is_read_or_not(rt: HostRuntime) {
     assert_unread(&rt, &files_after(&rt, &[FROB, FILE]), &Adoption);
 }
 
-/// What a refusal for this reason tells.
+/// How far an opening came that was refused for this reason.
 fn told_by(rt: &impl Abort, why: OpenFault) -> Told {
     if why == OpenFault::NotAnIndex {
         return Told::Done;

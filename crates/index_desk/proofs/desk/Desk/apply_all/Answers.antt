@@ -8,7 +8,7 @@ use Rattle.index_rules.specs.Facts.{HasOneBearer}
 use Rattle.index_rules.proofs.Counts.{NotFewer-more}
 use Rattle.index_rules.proofs.RunLemmas.{Runs-push, HasFailed-push}
 use Rattle.index_rules.proofs.OneBearer.{HasOneBearer-tables_after}
-use Rattle.index_desk.proofs.CrashLemmas.{LastsAll-push, LeavesAll-push}
+use Rattle.index_desk.proofs.CrashLemmas.{LastsAll-push, CallsLeaveTables-push}
 use Rattle.index_desk.proofs.TakeLemmas.{runs_keep, stores_push, takes_in_turn}
 use Rattle.index_desk.proofs.desk.Desk.apply_all.Goals as goal
 
@@ -33,7 +33,7 @@ loop-call-preserved g c =
       crash = λ honest clean one T left.
           let clean_then = applied.keeps.clean clean in
           rw c.push_reserved.ensures.items
-          (LeavesAll-push (tables c.args.self.now) c.loop-call.yielded c.loop-call.answers.items (tables c.loop-call.self) c.in-Some.call c.apply-answer.result (g.B.Books.may_leave c.loop-call.self) _ _ T
+          (CallsLeaveTables-push (tables c.args.self.now) c.loop-call.yielded c.loop-call.answers.items (tables c.loop-call.self) c.in-Some.call c.apply-answer.result (g.B.Books.may_leave c.loop-call.self) _ _ T
           (λ then. before.runs then one) (before.crash honest clean_then one) (applied.takes.settles.lasts clean) applied.keeps.honest (applied.takes.settles.nothing_new T left)
           (λ then. applied.takes.crash then clean (before.one then one) T left));
       honest = λ honest. before.honest (applied.keeps.honest honest);

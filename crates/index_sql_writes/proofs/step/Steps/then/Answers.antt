@@ -2,7 +2,7 @@ use Rattle.std.proofs.Common.{◌≡◌, ◌<◌, ◌≤◌, [], ◌∷◌, ◌+
 use Rattle.std.proofs.lemmas.List.{length-set, length-take-le, take_more_set}
 use Rattle.index_sql_writes.proofs.step.Steps.then.Goals as goal
 
--- there is room for one more where fewer than all are taken
+-- there is room for one more if fewer than all are taken
 room : {X : Type 0} (most count : ℕ) (places taken : List X) → count ≤ most → length places ≡ most → take count places ≡ taken → length taken < most → count < length places
 room most count places taken fits all is fewer =
     let counted : length taken ≡ count = ap length (sym is) ∙ length-take-le count places (omega arith) in

@@ -2,7 +2,7 @@ use Rattle.std.proofs.Common.{◌≡◌, is_ok, rules, subst}
 use Rattle.index_io.specs.Counts.{next_count}
 use Rattle.index_rules.specs.StoreFaults.{CountsStoreFault, fails_by_store}
 use Rattle.index_tables.specs.BooksState.{BooksState}
-use Rattle.index_tables.specs.LooksUp.{LooksUp}
+use Rattle.index_tables.specs.LooksUp.{SqlLooks}
 use Rattle.index_tables.proofs.KeptLemmas.{looks_up}
 use Rattle.index_tables.proofs.books.SqlBooksBooks.bytes_of.Goals as goal
 
@@ -12,5 +12,5 @@ returns-clause-looks g c =
     let old : BooksState _ = record { conn = c.self.inside.conn; failures = c.self.inside.failures; stores = c.self.inside.stores } in
     let count : new.failures ≡ next_count old.failures (is_ok c.find_body-body.result) = search rules in
     let stores : CountsStoreFault old.stores new.stores (fails_by_store c.find_body-body.result) = search rules in
-    subst (λ before. LooksUp g.S.Store before new (is_ok c.find_body-body.result) (fails_by_store c.find_body-body.result)) c.self.view_is
+    subst (λ before. SqlLooks g.S.Store before new (is_ok c.find_body-body.result) (fails_by_store c.find_body-body.result)) c.self.view_is
     (looks_up g.S.Store old new _ _ c.find_body-body.ensures.looks count stores)

@@ -1,0 +1,192 @@
+-- Wrong counts of faults, and wrong answers to lines, do not meet the words of the contracts.
+use Rattle.std.proofs.Common.{◌≡◌, ◌≢◌, ◌∙◌, ◌⊎◌, ◌+◌, ◌<◌, ℕ, List, [], ◌∷◌, ◌++◌, length, Option, Some, None, Ok, refl, sym, ap, subst, inl, inr, arith, append-nil, length-append}
+use Rattle.std.proofs.lemmas.List.{append_assoc, append_cancel_left, append_cancel_right}
+use Rattle.std.proofs.lemmas.List.Elements.{All-head, All-tail}
+use Rattle.index_io.specs.Counts.{last_count}
+use Rattle.index_cli.specs.Causes.{LinesReportFaults}
+use Rattle.index_cli.specs.Ends.{LinesEnd}
+use Rattle.index_cli.specs.Connections.{AddsReply}
+use Rattle.index_cli.specs.Lines.{Charges, HasNoFeed, PartIsTaken, TakesLine, line_feed, lines_of, longest_line}
+use Rattle.index_cli.specs.Telling.{TextAnswersLines}
+use Rattle.index_cli.specs.LineFronts.{TextAnswersFront, TextAnswersToFault}
+use Rattle.index_desk.specs.Rules.{Rules, by_history, by_tables}
+use Rattle.index_json.specs.AnswerText.{answer_text_of, bad_body_text}
+use Rattle.index_rules.specs.declared.answer.Answer.TheVariants as answer
+use Rattle.index_rules.specs.declared.answer.Fault.TheVariants.{Store}
+use Rattle.index_rules.specs.Maps.{Bytes}
+use Rattle.index_rules.specs.Tables.{Tables}
+use Rattle.index.specs.RefutedLines.{RefutesAdded, RefutesCounts, RefutesFaults, RefutesLineCounts, RefutesLongLine, RefutesNumbers, RefutesStoreLine, store_line, with_feed}
+use Rattle.index.proofs.WrongTexts.{accepted_is_told, store_is_told}
+
+-- ---- faults
+
+pub refutes_counts : (before now : ℕ) → RefutesCounts before now
+refutes_counts before now = record {
+  failed = λ faults low few it. elim it [
+    | inl enough ↦ absurd (omega (arith, few, enough))
+    | inr last ↦ absurd (omega (arith, low, last))
+  ];
+  counted = λ faults low other it. elim it [
+    | inl is ↦ other is
+    | inr last ↦ let is = last.0 in absurd (omega (arith, low, is))
+  ];
+}
+
+-- the text of one line, from the text of all
+one_text : (said first more : Bytes) → more ≡ [] → said ++ line_feed ∷ [] ≡ (first ++ line_feed ∷ []) ++ more → first ≡ said
+one_text said first more none is =
+    let same : said ++ line_feed ∷ [] ≡ first ++ line_feed ∷ [] = is ∙ ap (λ (it : Bytes). (first ++ line_feed ∷ []) ++ it) none ∙ append-nil (first ++ line_feed ∷ []) in
+    sym (append_cancel_right said first (line_feed ∷ []) same)
+
+-- the number of faults that one line reports
+one_number : (faults one others : ℕ) (n : ℕ) → faults ≡ one + others → others ≡ 0 → one ≡ n → faults ≡ n
+one_number faults one others n sum none is = omega (arith, sum, none, is)
+
+store_number : (line : Bytes) (T : Tables) (faults : ℕ) → LinesReportFaults faults (line ∷ []) store_line T → faults ≡ 1
+store_number line T faults (first, more, one, others, fault, (none, no_others), sum, text) =
+    one_number faults one others 1 sum no_others (store_is_told first one (one_text (answer_text_of (answer.Fault Store)) first more none text) fault)
+
+accepted_number : (line : Bytes) (T : Tables) (faults : ℕ) → LinesReportFaults faults (line ∷ []) (with_feed (answer_text_of answer.Accepted)) T → faults ≡ 0
+accepted_number line T faults (first, more, one, others, fault, (none, no_others), sum, text) =
+    one_number faults one others 0 sum no_others (accepted_is_told first one (one_text (answer_text_of answer.Accepted) first more none text) fault)
+
+pub refutes_faults : (line : Bytes) (T : Tables) (faults : ℕ) → RefutesFaults line T faults
+refutes_faults line T faults = record {
+  store = λ other it. other (store_number line T faults it);
+  accepted = λ other it. other (accepted_number line T faults it);
+  none = λ text other it. other it.1;
+}
+
+-- a run over one line reports one fault
+one_reported : (T : Tables) (given line had : Bytes) (left : Option Bytes) (faults : ℕ) → lines_of given ≡ line ∷ []
+    → LinesEnd (LinesReportFaults faults) T (Some given) left (Some had) (Some (had ++ store_line)) (Ok 1) → faults ≡ 1
+one_reported T given line had left faults is it =
+    let text : store_line ≡ it.text = append_cancel_left had store_line it.text it.wrote in
+    let lines : lines_of it.input ≡ line ∷ [] = ap lines_of it.is_input ∙ is in
+    let told = subst (λ (text : Bytes). LinesReportFaults faults (lines_of it.input) text T) (sym text) it.told in
+    store_number line T faults (subst (λ (lines : List Bytes). LinesReportFaults faults lines store_line T) lines told)
+
+pub refutes_store_line : (T : Tables) (given line had : Bytes) (left : Option Bytes) (before faults : ℕ) → lines_of given ≡ line ∷ [] → before < last_count
+    → RefutesStoreLine T given line had left before faults
+refutes_store_line T given line had left before faults is low = record {
+  failed = λ failed it. let one = one_reported T given line had left faults is it in elim failed [
+    | inl enough ↦ absurd (omega (arith, one, enough))
+    | inr last ↦ absurd (omega (arith, low, last))
+  ];
+  counted = λ counted it. let one = one_reported T given line had left faults is it in elim counted [
+    | inl same ↦ absurd (omega (arith, one, same))
+    | inr last ↦ let at = last.0 in absurd (omega (arith, low, at))
+  ];
+}
+
+-- ---- a line that is too long
+
+whole_text : (first more text : Bytes) → first ≡ bad_body_text → more ≡ [] → text ≡ (first ++ line_feed ∷ []) ++ more → text ≡ with_feed bad_body_text
+whole_text first more text is none whole =
+    whole ∙ ap (λ (it : Bytes). (first ++ line_feed ∷ []) ++ it) none ∙ append-nil (first ++ line_feed ∷ []) ∙ ap (λ (it : Bytes). it ++ line_feed ∷ []) is
+
+module _ {S : Type 0} (rules : Rules S) (line text : Bytes) (long : longest_line < length line) where
+  long_text : (s s' : S) → TextAnswersLines rules s (line ∷ []) text s' → text ≡ with_feed bad_body_text
+  long_text s s' (first, more, between, one, (none, same), whole) = whole_text first more text (one.1 long).0 none whole
+
+  long_state : (s s' : S) → TextAnswersLines rules s (line ∷ []) text s' → s' ≡ s
+  long_state s s' (first, more, between, one, (none, same), whole) = same ∙ (one.1 long).1
+
+  shut_text : (s : S) → TextAnswersToFault rules s (line ∷ []) text → text ≡ with_feed bad_body_text
+  shut_text s (first, more, between, whole, one, inl later) = absurd later
+  shut_text s (first, more, between, whole, one, inr (fault, none)) = whole_text first more text (one.1 long).0 none whole
+
+  front_text : (s : S) (T : Tables) → TextAnswersFront rules s (line ∷ []) text T → text ≡ with_feed bad_body_text
+  front_text s T (inl told) = long_text s told.0 told.1
+  front_text s T (inr shut) = shut_text s shut
+
+pub refutes_long_line : (line text : Bytes) → longest_line < length line → RefutesLongLine line text
+refutes_long_line line text long = record {
+  tables = λ T T' other it. other (long_text by_tables line text long T T' it);
+  history = λ h T' other it. other (long_text by_history line text long h it.after it.told);
+  front = λ T T' other it. other (front_text by_tables line text long T T' it);
+  past = λ h T' other it. other (front_text by_history line text long h T' it);
+  changed = λ T T' changed it. changed (long_state by_tables line text long T T' it);
+  crash = λ T T' none it. none (it.3.1 long).1;
+  crash_history = λ h T' none it. none (it.3.1 long).1;
+}
+
+-- ---- numbers
+
+not_all_read : (most now : ℕ) (given rest : Bytes) → most + length rest < length given → ¬ Charges most now (Some given) (Some rest)
+not_all_read most now given rest few it =
+    let size : length given ≡ length it.0 + length rest = ap length it.1 ∙ length-append it.0 rest in
+    let sum : now + length it.0 ≡ most = it.2 in
+    absurd (omega (arith, few, size, sum))
+
+not_ended : (byte : ℕ) (rest kept : Bytes) (new : Option Bytes) → ¬ TakesLine None kept (Some (byte ∷ rest)) new
+not_ended byte rest kept None it = absurd it.0
+not_ended byte rest kept (Some left) it =
+    let size : length (byte ∷ rest) ≡ 0 = ap length (it.0 ∙ it.1) in
+    absurd (omega (arith, size))
+
+has_feed : (line : Bytes) → ¬ HasNoFeed (line ++ line_feed ∷ [])
+has_feed [] none = All-head (λ byte. byte ≢ line_feed) line_feed [] none refl
+has_feed (byte ∷ line) none = has_feed line (All-tail (λ byte. byte ≢ line_feed) byte (line ++ line_feed ∷ []) none)
+
+no_feed_taken : (line rest : Bytes) → ¬ PartIsTaken (Some (line ++ line_feed ∷ rest)) (Some rest)
+no_feed_taken line rest (part, none, is) =
+    let same : line ++ line_feed ∷ [] ≡ part = append_cancel_right (line ++ line_feed ∷ []) part rest (append_assoc line (line_feed ∷ []) rest ∙ is) in
+    has_feed line (subst HasNoFeed (sym same) none)
+
+not_more_left : (given rest : Bytes) → length given < length rest → ¬ PartIsTaken (Some given) (Some rest)
+not_more_left given rest more (part, none, is) =
+    let size : length given ≡ length part + length rest = ap length is ∙ length-append part rest in
+    absurd (omega (arith, more, size))
+
+refutes_numbers : RefutesNumbers
+refutes_numbers = record {
+  charged = λ before now old new more it. let sum = it.2 in absurd (omega (arith, more, sum));
+  most = not_all_read;
+  ended = not_ended;
+  part = no_feed_taken;
+  more = not_more_left;
+  count = λ requests count other it. other it;
+  early = λ early requests count all it. absurd (omega (arith, all, it));
+}
+
+-- ---- closed connections
+
+none_added : (replies : List Bytes) (sent : Option Bytes) → ¬ AddsReply (Some replies) (Some replies) sent
+none_added replies sent (reply, is, later) =
+    let both : Some replies ≡ Some (replies ++ reply ∷ []) = later in
+    let same : replies ≡ replies ++ reply ∷ [] = cc in
+    let size : length replies ≡ length replies + 1 = ap length same ∙ length-append replies (reply ∷ []) in
+    absurd (omega (arith, size))
+
+other_added : (replies : List Bytes) (sent : Option Bytes) (other : Bytes) → (¬ (sent ≡ Some other)) → ¬ AddsReply (Some replies) (Some (replies ++ other ∷ [])) sent
+other_added replies sent other differs (reply, is, later) =
+    let both : Some (replies ++ other ∷ []) ≡ Some (replies ++ reply ∷ []) = later in
+    let same : replies ++ other ∷ [] ≡ replies ++ reply ∷ [] = cc in
+    let last : other ∷ [] ≡ reply ∷ [] = append_cancel_left replies (other ∷ []) (reply ∷ []) same in
+    let reply_is : other ≡ reply = cc in
+    differs (is ∙ ap (λ (it : Bytes). Some it) (sym reply_is))
+
+none_lost : (replies : List Bytes) (sent : Option Bytes) → ¬ AddsReply (Some replies) None sent
+none_lost replies sent (reply, is, later) =
+    let no : None ≡ Some (replies ++ reply ∷ []) = later in
+    cc no
+
+refutes_added : (replies : List Bytes) (sent : Option Bytes) → RefutesAdded replies sent
+refutes_added replies sent = record {
+  none = none_added replies sent;
+  other = other_added replies sent;
+  lost = none_lost replies sent;
+}
+
+-- ---- all of them
+
+pub refutes_line_counts : RefutesLineCounts
+refutes_line_counts = record {
+  counts = refutes_counts;
+  faults = refutes_faults;
+  store = refutes_store_line;
+  long = refutes_long_line;
+  numbers = refutes_numbers;
+  added = refutes_added;
+}

@@ -1,0 +1,7 @@
+//! A cache of files and pages over the books of an index.
+#![tactic(auto)]
+
+mod cache;
+mod entries;
+
+pub use cache::Cache;

@@ -1,9 +1,0 @@
--- What is left where the first bodies go.
-use Rattle.std.proofs.Common.{◌≡◌, ap, ◌∙◌, List, ◌+◌, drop}
-use Rattle.std.proofs.lemmas.List.{drop-drop}
-use Rattle.index_recent.specs.declared.kept.KeptBody.{KeptBody}
-use Rattle.index_recent.specs.Kept.{AreNewest}
-
--- one more goes
-pub newest_still : (kept mid left : List KeptBody) → AreNewest kept mid → left ≡ drop 1 mid → AreNewest kept left
-newest_still kept mid left (gone, is) first = (gone + 1, first ∙ ap (drop 1) is ∙ drop-drop 1 gone kept)

@@ -1,2 +1,0 @@
-mod KeptLemmas
-mod SparedLemmas

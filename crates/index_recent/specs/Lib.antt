@@ -1,4 +1,0 @@
-pub mod Kept
-pub mod Room
-pub mod Shown
-pub mod Spared
