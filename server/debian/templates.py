@@ -21,6 +21,8 @@ RUN = (
     ("index.service", "index@%i.service"),
     ("index-health.service", "index-health@%i.service"),
     ("/index.prom", "/index-%i.prom"),
+    ("127.0.0.1/8080", "127.0.0.1/%i"),
+    ("port 8080", "port %i"),
 )
 # a folder for the copies of each
 FOLDER = "ExecStartPre=/bin/mkdir -p -m 700 /var/backups/index/%i\n"

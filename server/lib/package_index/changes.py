@@ -1,4 +1,4 @@
-"""nginx's log of changes, with what was rotated away of it."""
+"""nginx's log of changes, with what was rotated away of it; one for each nginx that stands before the index."""
 from __future__ import annotations
 
 import datetime
@@ -6,16 +6,17 @@ import glob
 import gzip
 import json
 import os
-from typing import Iterator, List
+from typing import Iterator, List, Optional, Sequence, Tuple
 
 
-def is_since(line: str, since: datetime.datetime) -> bool:
-    """Whether a line of nginx's log of changes is from this moment on. One whose time can't be read is."""
+def moment_of(line: str, since: datetime.datetime) -> Optional[datetime.datetime]:
+    """The moment of a line of nginx's log of changes if it is from `since` on. If it can't be read it is `since`."""
     try:
         said = json.loads(line)
-        return datetime.datetime.fromisoformat(said.get("at") or said.get("time")) >= since
+        moment = datetime.datetime.fromisoformat(said.get("at") or said.get("time"))
+        return moment if moment >= since else None
     except (ValueError, TypeError, AttributeError):
-        return True
+        return since
 
 
 def rotated(log: str) -> List[str]:
@@ -34,13 +35,25 @@ def lines_of(path: str) -> Iterator[str]:
             yield from plain
 
 
-def changes_since(log: str, since: datetime.datetime, target: str) -> str:
-    """Gathers the lines of nginx's log of changes, and of those that were rotated away, into a file. Returns what to
-    say of it."""
-    found = rotated(log)
-    if not found:
-        return f"There is no {log}. Look for POST, PUT and DELETE in nginx's other logs since then."
-    lines = [line for path in found for line in lines_of(path) if line.strip() and is_since(line, since)]
-    with open(target, "w") as made:
-        made.writelines(lines)
-    return f"nginx passed on {len(lines)} of them. They are in {target}, oldest first."
+def dated(log: str, since: datetime.datetime) -> Iterator[Tuple[datetime.datetime, str]]:
+    """The lines of a log from a moment on, each with the latest moment up to it."""
+    latest = since
+    for path in rotated(log):
+        for line in lines_of(path):
+            moment = moment_of(line, since) if line.strip() else None
+            if moment:
+                latest = max(latest, moment)
+                yield latest, f"{line.rstrip()}\n"
+
+
+def changes_since(logs: Sequence[str], since: datetime.datetime, target: str) -> str:
+    """Gathers the lines of logs of changes, and of those that were rotated away, into a file. Returns what to say of
+    it."""
+    said = [f"There is no {log}. Look for POST, PUT and DELETE in nginx's other logs since then." for log in logs
+            if not rotated(log)]
+    if len(said) < len(logs):
+        lines = sorted((it for log in logs for it in dated(log, since)), key=lambda it: it[0])
+        with open(target, "w") as made:
+            made.writelines(line for _, line in lines)
+        said.insert(0, f"nginx passed on {len(lines)} of them. They are in {target}, oldest first.")
+    return "\n   ".join(said)

@@ -8,21 +8,25 @@ import ssl
 import time
 from typing import NamedTuple, Optional
 
+from package_index.ends import Refused
+
 LOOPBACK = "127.0.0.1"
-# a server that asks its readers for a password answers 401 without one
-ANSWERS = 200, 401
+# a server that asks its readers for a password answers 401 without one, and 507 once a look found little room
+ANSWERS = 200, 401, 507
 # OpenSSL's X509_V_FLAG_PARTIAL_CHAIN: a certificate is believed by itself
 PARTIAL_CHAIN = ssl.VerifyFlags(0x80000)
 
 
 class Front(NamedTuple):
-    """The name for which nginx answers, and its port on this machine."""
+    """The name for which nginx answers, its port, and its address: this machine's, if no other is given."""
     host: str
     port: int
+    address: str = LOOPBACK
 
 
 def front_of(conf: str) -> Optional[Front]:
-    """What a file such as packages.conf serves; None if it is not there. One that can't be read is an OSError."""
+    """What a file such as packages.conf serves through TLS; None if it is not there, or serves without. One that can't
+    be read is an OSError, and one that names no server, as one that a full disk cut off, is refused."""
     try:
         with open(conf, encoding="utf-8", errors="replace") as kept:
             text = kept.read()
@@ -30,11 +34,13 @@ def front_of(conf: str) -> Optional[Front]:
         return None
     host = re.search(r"^\s*server_name\s+([^\s;]+)", text, re.M)
     port = re.search(r"^\s*listen\s+(?:\S*:)?(\d+)\s+ssl\b", text, re.M)
-    return Front(host[1], int(port[1])) if host and port else None
+    if not host:
+        raise Refused(f"{conf} names no server: is it whole?")
+    return Front(host[1], int(port[1])) if port else None
 
 
 def connect(front: Front, trust: ssl.SSLContext, patience: float) -> ssl.SSLSocket:
-    plain = socket.create_connection((LOOPBACK, front.port), timeout=patience)
+    plain = socket.create_connection((front.address, front.port), timeout=patience)
     try:
         return trust.wrap_socket(plain, server_hostname=front.host)
     except OSError:

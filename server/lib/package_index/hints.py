@@ -8,7 +8,7 @@ import re
 
 HINTS: dict[str, str] = {
     "BadToken": "No user has this token[, which comes from {source}]. Correct it there, or ask the office for another.",
-    "NotOffice": "Only a user of the office may do this. A case may be closed by its candidate too.",
+    "NotOffice": "Only a user of the office may do this.",
     "BadUser": "A user id is 1 to 32 of the letters a to z and the digits 0 to 9.",
     "BadName": "This is not a project's name: letters, digits, `.`, `_` and `-`, with a letter or digit at both ends.",
     "BadFileName": "The index takes no such file name. Rename the project or the version.",
@@ -29,15 +29,15 @@ HINTS: dict[str, str] = {
                 "(add_owner).",
     "NameHeld": "It belongs to {owners}. Ask for `indexctl owner add YOU {name}`, choose another name, or open a case.",
     "LastOwner": "{user} is its only owner. Add another first, or give it up by `indexctl name relinquish {name}`.",
-    "FilesRemain": "It still has {files}. Delete them first by `indexctl file delete`; `indexctl files` lists "
+    "FilesRemain": "It still has {files}. Delete them first by `indexctl file delete`; `indexctl files {name}` lists "
                    "them.",
     "NoFile": "No such file was ever uploaded. Is it spelled right?",
     "NoRelease": "No file of this release is there.[ The name has {releases}.]",
     "FileNameTaken": "This file name stands for other bytes for good. Raise the version, or build so that the same "
                      "source gives the same bytes.",
     "FileBanned": "The office has banned this file for good. Raise the version.",
-    "OverQuota": "The project's quota is full[: {charge} of {quota}]. Delete files that nobody needs (`indexctl files` "
-                 "lists them), or ask the office for more.",
+    "OverQuota": "The project's quota is full[: {charge} of {quota}]. Delete files that nobody needs (`indexctl files "
+                 "{name}` lists them), or ask the office for more.",
     "QuotaBelowCharge": "Its files have {charge}, and the quota can't be less. Delete files first.",
     "CaseOpen": "{candidate} has opened a case on it already, and a name has one at a time.",
     "OwnerCandidate": "You own this name already.",

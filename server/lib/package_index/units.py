@@ -44,13 +44,13 @@ def want_units_of(db: str, units: Sequence[str]) -> None:
 
 
 def beside(unit: str) -> List[str]:
-    """A unit that serves an index, with the timers of that index: index@8081.service has index-health@8081.timer. Two
-    timers are for all indexes."""
+    """A unit that serves an index, with the timers of that index: index@8081.service has index-health@8081.timer. Other
+    units are for all indexes."""
     kind, at, port = unit.partition(".")[0].partition("@")
     if kind != "index":
         return [unit]
     own = [f"index-{timer}{at}{port}.timer" for timer in ("backup", "health")]
-    return [unit, *own, "index-alarms.timer", "index-certificate.timer"]
+    return [unit, *own, "index-alarms.timer", "index-certificate.timer", "index-uncache-follow.service"]
 
 
 def not_enabled(units: Sequence[str]) -> List[str]:
