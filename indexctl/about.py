@@ -4,9 +4,13 @@ from __future__ import annotations
 from typing import Tuple
 
 Pairs = Tuple[Tuple[str, str], ...]
+# that of the newest section of CHANGELOG.md
+VERSION = "0.4.0"
 ABOUT = """indexctl asks a Python package index for what its owners and its office need each day: tokens, users, names,
 owners, files, quotas and retention cases. It speaks HTTP alone, so it works from any machine that reaches the index.
 Only a user of the office may use the commands that are marked by (office)."""
+# the pauses between trials are half a minute, and nginx waits before it says that the index is away
+AGAIN = "how often to try again; 6, for half a minute, or a minute and a half if nginx waits for the index"
 ENVIRONMENT: Pairs = (
     ("INDEX_URL", "the address of the index, such as https://packages.example. It and the next four stand in place of "
      "a profile, unless you name one by --profile"),

@@ -53,7 +53,11 @@ def build(target: str) -> None:
 def main() -> int:
     parser = argparse.ArgumentParser(description="Makes one file of indexctl, which runs by Python 3.8 or later.")
     parser.add_argument("target", metavar="TARGET", help="the file to write")
-    build(parser.parse_args().target)
+    target = parser.parse_args().target
+    try:
+        build(target)
+    except OSError as end:
+        sys.exit(f"build.py: {target} can't be written: {end.strerror}")
     return 0
 
 

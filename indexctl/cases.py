@@ -12,27 +12,15 @@ FEWEST_SENT = 3
 
 
 @dataclass(frozen=True)
-class CaseRow:
+class CaseRow(Case):
     """An open case with what it lacks, and when it can be ready: a row of `case list`, and of the office's page."""
     name: str
-    kind: str
-    candidate: str
     owners: List[str]
-    opened: int
-    attempts: int
-    sent: int
-    profile: bool
-    author: bool
-    pages: bool
-    first: Optional[int]
     year: str
     lacks: List[str]
     ready: bool
     earliest: int
     latest: int
-    contact: str
-    work: str
-    why: str
 
     def has(self, means: str) -> bool:
         """Whether an attempt was made by these means."""
@@ -63,10 +51,8 @@ def case_row(found: Standing, case: Case, now: int, refusal: Optional[str]) -> C
     latest = earliest if year == "over" else max(earliest, bound)
     if year == "not over":
         lacks.append(f"a year since the latest upload, until {due(bound)} at the latest")
-    return CaseRow(name=found.name, kind=case.kind, candidate=case.candidate, owners=found.owners, opened=case.opened,
-                   attempts=case.attempts, sent=case.sent, profile=case.profile, author=case.author, pages=case.pages,
-                   first=case.first, year=year, lacks=lacks, ready=not lacks and year == "over", earliest=earliest,
-                   latest=latest, contact=case.contact, work=case.work, why=case.why)
+    return CaseRow(**vars(case), name=found.name, owners=found.owners, year=year, lacks=lacks,
+                   ready=not lacks and year == "over", earliest=earliest, latest=latest)
 
 
 def lacks_attempts(row: CaseRow) -> bool:

@@ -2,13 +2,18 @@
 from __future__ import annotations
 
 import argparse
+import re
+import shutil
 import textwrap
 from dataclasses import dataclass
-from typing import Any, Callable, Dict, List, Optional, Sequence, Tuple
+from typing import Any, Callable, Dict, List, NoReturn, Optional, Sequence, Tuple
 
-from indexctl.about import ABOUT, ENVIRONMENT, FILES, STATUSES
+from indexctl.about import ABOUT, AGAIN, ENVIRONMENT, FILES, STATUSES, VERSION
+from indexctl.near import MOST_SHOWN, is_near
 
 Run = Callable[[argparse.Namespace], Optional[int]]
+# of a line of help, however wide the terminal is
+MOST_COLUMNS = 118
 
 
 @dataclass(frozen=True)
@@ -46,6 +51,31 @@ def command(path: str, summary: str, *arguments: Argument) -> Callable[[Run], Ru
     return keep
 
 
+def meant(noun: str, word: str) -> List[str]:
+    """The commands that a word behind this noun may mean: one of the noun, or the list of what it names, or any."""
+    paths = [it.path for it in COMMANDS]
+    nouns = [] if noun else [it for it in dict.fromkeys(path.split()[0] for path in paths) if is_near(it, word)]
+    own = [it for it in paths if noun and it.startswith(f"{noun} ") and is_near(it.split()[1], word)]
+    lists = [it for it in paths if noun and it == f"{noun}s"]
+    return (nouns or own or lists or [it for it in paths if it.split()[-1] == word])[:MOST_SHOWN]
+
+
+class Parser(argparse.ArgumentParser):
+    """A parser that says which command was perhaps meant by one that is none."""
+
+    def error(self, message: str) -> NoReturn:
+        found = re.search("(?:COMMAND|VERB): invalid choice: '([^']*)'", message)
+        near = meant(" ".join(self.prog.split()[1:]), found[1]) if found else []
+        asked = f" Did you mean {' or '.join(f'`indexctl {it}`' for it in near)}?" if near else ""
+        super().error(f"{message}{asked}")
+
+
+def add_common(parser: argparse.ArgumentParser, profile: Any, again: Any) -> None:
+    """The options that each command takes, which may also stand before it."""
+    parser.add_argument("--profile", default=profile, metavar="NAME", help="the index of this profile")
+    parser.add_argument("--again", type=int, default=again, metavar="N", help=AGAIN)
+
+
 def more_text(function: Run) -> str:
     """What a command's docstring adds to its summary."""
     return textwrap.dedent(f"    {function.__doc__ or ''}").strip()
@@ -55,25 +85,39 @@ def sentence(summary: str) -> str:
     return f"{summary[0].upper()}{summary[1:]}."
 
 
+def columns() -> int:
+    """How wide help is: as argparse has it, but no wider than what one can read."""
+    return min(MOST_COLUMNS, shutil.get_terminal_size().columns - 2)
+
+
+def wrapped(text: str) -> str:
+    """Paragraphs as wide as the terminal. One that is indented, or lines of a file of settings, stand as they are."""
+    def paragraph(part: str) -> str:
+        if part.startswith(("    ", "[")):
+            return part
+        return textwrap.fill(part, columns(), break_long_words=False, break_on_hyphens=False)
+    return "\n\n".join(map(paragraph, text.split("\n\n")))
+
+
 def epilog() -> str:
     """What the help of the whole says of the environment, files and statuses."""
     parts = [("environment", ENVIRONMENT), ("files", FILES), ("status", STATUSES)]
 
     def entry(head: str, text: str) -> str:
-        return textwrap.fill(text, 100, initial_indent=f"  {head:<24}", subsequent_indent=" " * 26,
-                             break_on_hyphens=False)
+        return textwrap.fill(text, min(100, columns()), initial_indent=f"  {head:<24}", subsequent_indent=" " * 26,
+                             break_long_words=False, break_on_hyphens=False)
     return "\n\n".join(f"{title}:\n" + "\n".join(entry(*it) for it in pairs) for title, pairs in parts)
 
 
 def parsers(commands: Sequence[Command]) -> Tuple[argparse.ArgumentParser, Dict[str, argparse.ArgumentParser]]:
     """The parser of the whole command line, and that of each command by its path."""
     plain = argparse.RawDescriptionHelpFormatter
-    top = argparse.ArgumentParser(prog="indexctl", description=ABOUT, epilog=epilog(), formatter_class=plain)
-    top.set_defaults(profile=None, again=6, yes=False, json=False)
-    common = argparse.ArgumentParser(add_help=False)
-    common.add_argument("--profile", default=argparse.SUPPRESS, metavar="NAME", help="the index of this profile")
-    common.add_argument("--again", type=int, default=argparse.SUPPRESS, metavar="N",
-                        help="how often to try again; 6, about half a minute")
+    top = Parser(prog="indexctl", description=wrapped(ABOUT), epilog=epilog(), formatter_class=plain)
+    top.add_argument("--version", action="version", version=f"indexctl {VERSION}")
+    add_common(top, None, 6)
+    top.set_defaults(yes=False, json=False)
+    common = Parser(add_help=False)
+    add_common(common, argparse.SUPPRESS, argparse.SUPPRESS)
     nouns = {"": top.add_subparsers(metavar="COMMAND", dest="noun", required=True)}
     made: Dict[str, argparse.ArgumentParser] = {}
     for it in commands:
@@ -83,7 +127,7 @@ def parsers(commands: Sequence[Command]) -> Tuple[argparse.ArgumentParser, Dict[
             summary = f"{', '.join(other.path.split()[1] for other in verbs)}"
             group = nouns[""].add_parser(noun, help=summary, description=f"indexctl {noun}: {summary}")
             nouns[noun] = group.add_subparsers(metavar="VERB", dest="verb", required=True)
-        about = f"{sentence(it.summary)}\n\n{more_text(it.function)}".strip()
+        about = wrapped(f"{sentence(it.summary)}\n\n{more_text(it.function)}".strip())
         parser = nouns[noun].add_parser(verb, help=it.summary, formatter_class=plain, parents=[common],
                                         description=about)
         for given in it.arguments:

@@ -5,7 +5,7 @@ from contextlib import suppress
 from typing import List, Sequence
 
 from indexctl.ends import Stop
-from indexctl.standings import find_page
+from indexctl.standings import listed_names
 from indexctl.transport import Index
 from package_index.names import normal
 
@@ -40,6 +40,5 @@ def not_held(index: Index, name: str) -> str:
     known: List[str] = []
     # several indexes behind one address have no list
     with suppress(Stop):
-        listed = find_page(index, "/simple/", "projects", "name") or {"projects": []}
-        known = [it["name"] for it in listed["projects"]]
+        known = listed_names(index)
     return f"Nobody holds {name}.{did_you_mean(normal(name), known) or ' `indexctl names` lists all names.'}"

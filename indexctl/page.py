@@ -8,12 +8,15 @@ import html
 import os
 import pkgutil
 import re
+import string
 import urllib.parse
 from contextlib import suppress
-from typing import Iterator, List, Sequence, Sized, Tuple, Union
+from itertools import islice, starmap
+from typing import Dict, Iterable, Iterator, List, Optional, Sequence, Sized, Tuple, Union
 
 from indexctl.cases import FEWEST_SENT, MEANS, CaseRow, lacks_attempts, ready_text
 from indexctl.ends import WRONG, Stop
+from indexctl.lookalikes import alike
 from indexctl.quotas import HIGH, OwnedName, Overview, QuotaRow, by_fullness
 from indexctl.terminal import printable
 from indexctl.units import YEAR, counted, due, human, moment
@@ -21,6 +24,11 @@ from indexctl.units import YEAR, counted, due, human, moment
 # the HTML of a cell, or that and a number to sort by
 Cell = Union[str, Tuple[str, Union[int, str]]]
 TOP = 95
+# From so many rows on a browser lays out what is in sight alone, which spares most of the time that a search takes; a
+# screen reader, too, gets the rest only as it comes into sight. So many rows of a table are one part then.
+MANY, MOST_TOGETHER = 1_000, 50
+# of names that look alike, so many are shown of a group
+MOST_ALIKE = 12
 THERE, MISSING, UNKNOWN = ("yes", "✓"), ("no", "–"), ("", "?")
 
 
@@ -34,13 +42,19 @@ def text_of(value: object) -> str:
     return html.escape(printable(value))
 
 
+def kind_of(kind: str, rows: Sized) -> str:
+    """The class of a list or table of these rows."""
+    return f"{kind} many" if len(rows) >= MANY else kind
+
+
 def none_line(rows: Sized) -> str:
     """The line that shows as long as a part has no rows, or none that are searched for."""
     return f'<p class="none soft"{" hidden" if rows else ""}>None.</p>'
 
 
-def table_of(heads: Sequence[str], rows: Sequence[Sequence[Cell]]) -> str:
-    """A table of these rows, and the line that shows if there are none."""
+def table_of(kind: str, heads: Sequence[str], rows: Iterable[Sequence[Cell]], inside: Sized) -> Iterator[str]:
+    """A table of these rows, and the line that shows if there are none. The style has the columns of each kind. It is
+    long by what the rows have `inside`."""
     def cell(head: str, content: Cell) -> str:
         if isinstance(content, str):
             return f'<td role="cell" data-head="{head}">{content}</td>'
@@ -49,11 +63,16 @@ def table_of(heads: Sequence[str], rows: Sequence[Sequence[Cell]]) -> str:
     def line(row: Sequence[Cell]) -> str:
         first = f'<th scope="row" role="rowheader">{row[0]}</th>'
         return f'<tr role="row" data-find>{first}{"".join(map(cell, heads[1:], row[1:]))}</tr>\n'
-    # a telephone gets rows as blocks, and a browser forgets then what they were unless it is said
-    head = "".join(f'<th scope="col" role="columnheader">{it}</th>' for it in heads)
-    table = (f'<div class="box"><table role="table"><thead role="rowgroup"><tr role="row">{head}</tr></thead>\n'
-             f'<tbody role="rowgroup">\n{"".join(map(line, rows))}</tbody></table></div>')
-    return (table if rows else "") + none_line(rows)
+    if inside:
+        # rows are no rows of a table for the style, and a browser forgets then what they were unless it is said
+        head = "".join(f'<th scope="col" role="columnheader">{it}</th>' for it in heads)
+        yield (f'<div class="box"><table role="table" class="{kind_of(kind, inside)}">'
+               f'<thead role="rowgroup"><tr role="row">{head}</tr></thead>\n')
+        lines = map(line, rows)
+        for part in iter(lambda: "".join(islice(lines, MOST_TOGETHER)), ""):
+            yield f'<tbody role="rowgroup">\n{part}</tbody>'
+        yield "</table></div>"
+    yield none_line(inside)
 
 
 def due_of(row: CaseRow, now: int) -> Tuple[int, str]:
@@ -118,7 +137,23 @@ def case_card(row: CaseRow, now: int) -> str:
         f'<ul class="marks">{marks}</ul><dl>{texts}</dl></article>\n'))
 
 
-def quota_part(found: Overview) -> str:
+def alike_part(found: Overview) -> Iterator[str]:
+    """Names that look alike, a line for each group."""
+    def shown(name: str) -> str:
+        return f'<span><b>{text_of(name)}</b> <span class="soft">{text_of(", ".join(found.owners[name]))}</span></span>'
+
+    def line(names: Sequence[str]) -> str:
+        more = f"<span>and {len(names) - MOST_ALIKE} more</span>" if len(names) > MOST_ALIKE else ""
+        return f'<li data-find>{"".join(map(shown, names[:MOST_ALIKE]))}{more}</li>\n'
+    groups = alike(found.owners)
+    if groups:
+        yield f'<div class="box"><ul class="{kind_of("alike", groups)}">'
+        yield from map(line, groups)
+        yield "</ul></div>"
+    yield none_line(groups)
+
+
+def quota_part(found: Overview) -> Iterator[str]:
     def cells(row: QuotaRow) -> List[Cell]:
         kind = "top" if row.full >= TOP else "high" if row.full >= HIGH else ""
         bar = f'<span class="bar {kind}"><i style="width:{min(100, row.full):.1f}%"></i></span>'
@@ -126,46 +161,51 @@ def quota_part(found: Overview) -> str:
         return [text_of(row.name), (full, f"{row.full:.3f}"), (human(row.charge), row.charge),
                 (human(row.quota), row.quota), text_of(", ".join(row.owners))]
     rows = sorted(found.quotas, key=by_fullness)
-    return table_of(["name", "full", "charge", "quota", "owners"], [cells(it) for it in rows])
+    return table_of("quotas", ["name", "full", "charge", "quota", "owners"], map(cells, rows), rows)
 
 
-def owner_part(found: Overview) -> str:
+def owner_part(found: Overview) -> Iterator[str]:
     def cells(user: str, owned: Sequence[OwnedName]) -> List[Cell]:
         marked = "".join(f'<span class="tag{" alone" if it.alone else ""}">{text_of(it.name)}</span>'
                          for it in owned)
         count, alone = len(owned), sum(it.alone for it in owned)
         return [text_of(user), (str(count), count), (str(alone), alone), f'<span class="names">{marked}</span>']
-    return table_of(["user", "owns", "alone", "names"], [cells(*it) for it in sorted(found.owned.items())])
+    names = [it for owned in found.owned.values() for it in owned]
+    return table_of("owners", ["user", "owns", "alone", "names"], starmap(cells, sorted(found.owned.items())), names)
 
 
-def page_of(url: str, found: Overview, cases: Sequence[CaseRow], now: int) -> str:
-    """The page of the office: one HTML file that asks for nothing else."""
+def page_of(url: str, found: Overview, cases: Sequence[CaseRow], now: int) -> Iterator[str]:
+    """The page of the office, in pieces: one HTML file that asks for nothing else."""
     ready = sum(it.ready for it in cases)
     tiles = ((found.held, "held names"), (len(cases), "open cases"), (ready, "ready for a transfer"),
              (found.full, f"quotas at {HIGH} % or above"), (found.alone, "names with one owner"))
     # as they stand between their tags: the digest is of all that stands there
     style, script = (f"\n{part_of_page(name)}" for name in ("page.css", "page.js"))
-    digest = base64.b64encode(hashlib.sha256(script.encode()).digest()).decode()
-    host = html.escape(urllib.parse.urlsplit(url).netloc)
-    return part_of_page("page.html").format(
-        digest=digest, host=host, when=moment(now), style=style, script=script,
-        tiles="".join(f"<li><b>{number}</b>{what}</li>" for number, what in tiles), due=due_part(cases, now),
-        cases="".join(case_card(it, now) for it in cases) + none_line(cases), quotas=quota_part(found),
-        owners=owner_part(found))
+    parts: Dict[Optional[str], Iterable[str]] = {
+        "digest": [base64.b64encode(hashlib.sha256(script.encode()).digest()).decode()],
+        "host": [html.escape(urllib.parse.urlsplit(url).netloc)], "when": [moment(now)], "style": [style],
+        "script": [script], "tiles": (f"<li><b>{number}</b>{what}</li>" for number, what in tiles),
+        "due": [due_part(cases, now)], "cases": [*(case_card(it, now) for it in cases), none_line(cases)],
+        "alike": alike_part(found), "quotas": quota_part(found), "owners": owner_part(found)}
+    for text, part, *_ in string.Formatter().parse(part_of_page("page.html")):
+        yield text
+        yield from parts.get(part, ())
 
 
-def put_whole(path: str, text: str, is_synced: bool = True) -> None:
+def put_whole(path: str, pieces: Iterable[str], is_synced: bool = True) -> None:
     """Writes a file as a whole or not at all: beside it first, and then in its place."""
     part = f"{path}.part"
     try:
         with open(part, "w", encoding="utf-8") as out:
-            out.write(text)
+            out.writelines(pieces)
             out.flush()
             if is_synced:
                 os.fsync(out.fileno())
         os.chmod(part, 0o644)
         os.replace(part, path)
-    except OSError as end:
+    except BaseException as end:
         with suppress(OSError):
             os.remove(part)
-        raise Stop(WRONG, f"{path} can't be written: {end.strerror}. What was there stays.") from end
+        if isinstance(end, OSError):
+            raise Stop(WRONG, f"{path} can't be written: {end.strerror}. What was there stays.") from end
+        raise

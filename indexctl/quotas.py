@@ -43,20 +43,30 @@ def quota_rows(names: Iterable[Standing], above: float) -> List[QuotaRow]:
 
 @dataclass
 class Overview:
-    """What the office's page shows of the held names: how many there are, and the names that somebody has to look at,
-    which are the open cases, the quotas that are nearly full, and what one owner owns alone; with `is_whole` all."""
+    """What the office's page shows of the held names: the owners of each, which tell names that look alike, and the
+    names that somebody has to look at, which are the open cases, the quotas that are nearly full, and what one owner
+    owns alone; with `is_whole` all."""
     is_whole: bool = False
-    held: int = 0
+    owners: Dict[str, Tuple[str, ...]] = field(default_factory=dict)
     full: int = 0
     alone: int = 0
     quotas: List[QuotaRow] = field(default_factory=list)
     owned: Dict[str, List[OwnedName]] = field(default_factory=dict)
 
+    @property
+    def held(self) -> int:
+        """How many names are held."""
+        return len(self.owners)
+
     def look_at(self, names: Iterable[Standing]) -> Iterator[Standing]:
         """Takes in each name as it comes, and gives those with an open case. No other is kept whole."""
+        # each group of owners once, however many names it has
+        groups: Dict[Tuple[str, ...], Tuple[str, ...]] = {}
         for found in names:
             row, is_alone = quota_row(found), len(found.owners) == 1
-            self.held, self.full, self.alone = self.held + 1, self.full + (row.full >= HIGH), self.alone + is_alone
+            owners = tuple(found.owners)
+            self.owners[found.name] = groups.setdefault(owners, owners)
+            self.full, self.alone = self.full + (row.full >= HIGH), self.alone + is_alone
             if self.is_whole or row.full >= HIGH:
                 self.quotas.append(row)
             if self.is_whole or is_alone:

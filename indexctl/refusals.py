@@ -7,12 +7,15 @@ from typing import Dict, Mapping
 
 from indexctl.cases import case_row
 from indexctl.ends import Stop
+from indexctl.near import not_held
 from indexctl.standings import Standing, find_files, find_standing
 from indexctl.transport import Index
 from indexctl.units import YEAR, counted, due, human
 from package_index.hints import HINTS, fields_of, hint
 from package_index.names import read_file_name
 
+# what a person who mistypes a file's name has to know beside
+OF_FILE_NAMES = " A file's name has `_` for the hyphens of its project's name."
 OF_STANDING = {"owners", "charge", "quota", "candidate", "lacks", "latest"}
 OF_FILES = {"files", "releases"}
 
@@ -21,6 +24,9 @@ def hint_of(index: Index, answer: str, row: Mapping[str, object]) -> str:
     """What to do about a refusal. The owners and the case are looked up if the sentence names them."""
     name, file = str(row.get("name", "")), read_file_name(str(row.get("file", "")))
     name = name or (file.project if file else "")
+    if answer == "NoProject" and name and row.get("do") != "upload":
+        # who doesn't upload has mistyped the name, and must not be led to claim it
+        return not_held(index, name) + (OF_FILE_NAMES if file else "")
     known = {"source": index.setting.source, "user": str(row.get("user", "")), "name": name}
     asked = fields_of(HINTS.get(answer, ""))
     # the refusal stands, even if nothing more can be looked up
@@ -30,7 +36,8 @@ def hint_of(index: Index, answer: str, row: Mapping[str, object]) -> str:
         if name and asked & OF_FILES:
             files, releases = find_files(index, name)
             known.update(files=counted(len(files), "file"), releases=", ".join(releases) or "no files at all")
-    return hint(answer, **{key: text for key, text in known.items() if text})
+    more = " A case may be closed by its candidate too." if row.get("do") == "close_case" else ""
+    return hint(answer, **{key: text for key, text in known.items() if text}) + (more if answer == "NotOffice" else "")
 
 
 def known_of_standing(found: Standing) -> Dict[str, str]:

@@ -39,7 +39,7 @@ def read_secret(path: str, what: str) -> str:
         with open(path, encoding="ascii") as kept:
             mode, text = os.fstat(kept.fileno()).st_mode, kept.read(MOST_SECRET + 1).strip()
     except (OSError, UnicodeDecodeError) as end:
-        raise Stop(WRONG, f"{what}: {path} can't be read: {end}") from end
+        raise Stop(WRONG, f"{what}: {path} can't be read: {getattr(end, 'strerror', end)}") from end
     if os.name == "nt":
         # the modes of Windows say nothing of other users
         mode = 0

@@ -1,58 +1,12 @@
-"""Completion for bash and the manual page, made of the commands as `command_line` has them."""
+"""The manual page, made of the commands as `command_line` has them."""
 from __future__ import annotations
 
 import argparse
 import re
-from typing import Dict, List
+from typing import List
 
-from indexctl.about import ABOUT, ENVIRONMENT, FILES, STATUSES
-from indexctl.command_line import COMMANDS, Command, argument, command, more_text, parsers, sentence
-
-COMPLETION = """# bash completion for indexctl, made by `indexctl completion bash`
-_indexctl() {
-    local word=${COMP_WORDS[COMP_CWORD]} path="" at
-    for ((at = 1; at < COMP_CWORD; at++)); do
-        case ${COMP_WORDS[at]} in -*) continue ;; esac
-        case "$path ${COMP_WORDS[at]}" in
-@PATHS@            *) break ;;
-        esac
-        path="$path ${COMP_WORDS[at]}"
-    done
-    local words=""
-    case "$path" in
-@AFTER@    esac
-    mapfile -t COMPREPLY < <(compgen -W "$words" -- "$word")
-}
-complete -o default -F _indexctl indexctl
-"""
-
-
-# what each command takes beside its own arguments
-COMMON_OPTIONS = ("--help", "--profile", "--again")
-
-
-def completed(it: Command) -> List[str]:
-    """What may follow the name of a command: the choices of its arguments, and its options."""
-    choices = [choice for given in it.arguments if not given.is_option for choice in given.settings.get("choices", ())]
-    options = [name for given in it.arguments for name in given.names if name.startswith("--")]
-    return [*choices, *COMMON_OPTIONS, *options]
-
-
-@command("completion", "prints the completion of the shell", argument("shell", choices=("bash",), metavar="bash"))
-def completion(args: argparse.Namespace) -> None:
-    """Put it where your shell finds it, as into ~/.local/share/bash-completion/completions/indexctl."""
-    after: Dict[str, List[str]] = {"": []}
-    for it in COMMANDS:
-        noun, _, verb = it.path.rpartition(" ")
-        if noun and noun not in after:
-            after[noun] = []
-            after[""].append(noun)
-        after[noun].append(verb)
-        after[it.path] = completed(it)
-    paths = "".join(f'            " {path}") ;;\n' for path in after if path)
-    lines = "".join(f'        "{f" {path}" if path else ""}") words="{" ".join(words)}" ;;\n'
-                    for path, words in after.items())
-    print(COMPLETION.replace("@PATHS@", paths).replace("@AFTER@", lines), end="")
+from indexctl.about import ABOUT, AGAIN, ENVIRONMENT, FILES, STATUSES, VERSION
+from indexctl.command_line import COMMANDS, Command, command, more_text, parsers, sentence
 
 
 def roff(text: str) -> str:
@@ -90,12 +44,12 @@ def manual_of(it: Command, parser: argparse.ArgumentParser) -> List[str]:
 def man(args: argparse.Namespace) -> None:
     """Read it by `indexctl man | man -l -`, or put it into /usr/local/share/man/man1/indexctl.1."""
     made = parsers(COMMANDS)[1]
-    lines = ['.TH INDEXCTL 1 "" "" "Python package index"', ".SH NAME",
+    lines = [f'.TH INDEXCTL 1 "" "indexctl {VERSION}" "Python package index"', ".SH NAME",
              "indexctl \\- asks a Python package index for what its owners and its office need",
              ".SH SYNOPSIS", ".B indexctl", "\\fINOUN VERB\\fR [\\fIOPTION\\fR ...] \\fIWORD\\fR ...",
              ".SH DESCRIPTION", roff(ABOUT), ".SH OPTIONS", "Each command that asks the index takes these.",
              ".TP", ".B \\-\\-profile NAME", "the index of this profile.",
-             ".TP", ".B \\-\\-again N", "how often to try again; 6, about half a minute.", ".SH COMMANDS"]
+             ".TP", ".B \\-\\-again N", f"{roff(AGAIN)}.", ".SH COMMANDS"]
     for it in COMMANDS:
         lines += manual_of(it, made[it.path])
     for title, pairs in (("ENVIRONMENT", ENVIRONMENT), ("FILES", FILES), ("EXIT STATUS", STATUSES)):

@@ -129,9 +129,10 @@ def find_files(index: Index, name: str) -> Tuple[List[str], List[str]]:
     return [it["filename"] for it in found["files"]], [str(it) for it in found.get("versions", [])]
 
 
-def side_by_side(function: Callable[[Item], Result], items: Sequence[Item], what: str) -> Iterator[Result]:
-    """What a function gives for each item, in their order and as it comes. Several threads ask; the first failure ends
-    the walk."""
+def side_by_side(function: Callable[[Sequence[Item]], List[Result]], items: Sequence[Item],
+                 what: str) -> Iterator[Result]:
+    """What a function gives for the items, some at a time, in their order and as it comes. Several threads ask; the
+    first failure ends the walk."""
     length = max(1, min(MOST_AT_ONCE, len(items) // (4 * SIDE_BY_SIDE)))
     starts: queue.SimpleQueue[int] = queue.SimpleQueue()
     given: queue.SimpleQueue[Tuple[int, List[Result], Optional[BaseException]]] = queue.SimpleQueue()
@@ -145,7 +146,7 @@ def side_by_side(function: Callable[[Item], Result], items: Sequence[Item], what
             except queue.Empty:
                 return
             try:
-                given.put((at, [function(item) for item in items[at:at + length]], None))
+                given.put((at, function(items[at:at + length]), None))
             except BaseException as end:
                 given.put((at, [], end))
                 return
@@ -164,13 +165,14 @@ def side_by_side(function: Callable[[Item], Result], items: Sequence[Item], what
             yield from found.pop(due)
 
 
-def walked_standing(index: Index, name: str) -> Standing:
-    """How a name of the index's list stands. A reply that is no standing of this name is asked for once more, by
+def walked_standings(index: Index, names: Sequence[str]) -> List[Standing]:
+    """How names of the index's list stand. A reply that is no standing of its name is asked for once more, by
     `find_standing`, which says what it is."""
-    found = object_of(index.glance(path_of(name)) or b"")
-    if found and is_standing(found) and found["name"] == normal(name):
-        return standing_of(found)
-    return find_standing(index, name)
+    def standing(name: str, body: Optional[bytes]) -> Standing:
+        found = object_of(body or b"")
+        is_own = found and is_standing(found) and found["name"] == normal(name)
+        return standing_of(found) if found and is_own else find_standing(index, name)
+    return [standing(*it) for it in zip(names, index.glances([path_of(name) for name in names]))]
 
 
 def listed_names(index: Index, is_fresh: bool = False) -> List[str]:
@@ -188,4 +190,4 @@ def held_names(index: Index, is_fresh: bool = False) -> Iterator[Standing]:
     Each is asked for each time: the index gives no sign by which a standing that was kept could be known to be as it
     was."""
     names = listed_names(index, is_fresh)
-    return (it for it in side_by_side(functools.partial(walked_standing, index), names, "names") if it.state == "held")
+    return (it for it in side_by_side(functools.partial(walked_standings, index), names, "names") if it.state == "held")

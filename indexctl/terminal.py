@@ -28,7 +28,9 @@ def paint(text: str, colour: Optional[str], stream: Optional[TextIO] = None) -> 
 
 def printable(value: object) -> str:
     """The text of a value, without characters that move the cursor or turn the direction of writing."""
-    return "".join(it if it.isprintable() else f"\\u{ord(it):04x}" for it in str(value))
+    text = str(value)
+    # nearly each text is
+    return text if text.isprintable() else "".join(it if it.isprintable() else f"\\u{ord(it):04x}" for it in text)
 
 
 class Progress:
@@ -136,10 +138,12 @@ def listing(args: argparse.Namespace, rows: Sequence[Any], columns: Columns,
 
 
 def print_block(pairs: Mapping[str, str], most: int) -> None:
-    """Prints the cells of one row below each other, for a terminal that is too narrow for a table."""
+    """Prints the cells of one row below each other, for a terminal that is too narrow for a table; those without a text
+    are left out. A word that is too long for a line, such as a digest, is left to the terminal, so that it can be
+    copied."""
     wide = max(map(len, pairs)) + 2
     for at, (head, text) in enumerate(pairs.items()):
-        lines = textwrap.wrap(text, max(20, most - wide - 1), break_on_hyphens=False) or [""]
+        lines = textwrap.wrap(text, max(20, most - wide - 1), break_long_words=False, break_on_hyphens=False)
         for number, line in enumerate(lines):
             front = f"{head if not number else '':{wide}}"
             print(f"{paint(front, 'dim')}{line if at else paint(line, 'bold')}".rstrip())

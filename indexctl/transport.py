@@ -11,9 +11,10 @@ import threading
 import time
 import urllib.parse
 import urllib.request
+from contextlib import suppress
 from dataclasses import dataclass, replace
 from http.client import HTTPConnection, HTTPMessage, HTTPSConnection
-from typing import Any, Callable, Dict, Iterable, Optional, Tuple
+from typing import Any, Callable, Dict, Iterable, List, Optional, Sequence, Tuple
 
 from indexctl.ends import REFUSED, UNREACHED, WRONG, Stop
 from indexctl.settings import Setting, is_loopback
@@ -26,7 +27,13 @@ PASSING = (500, 502, 503, 504)
 MOST_SECONDS = 90
 # what OpenSSL calls a certificate that is not valid yet, or no more
 OUT_OF_TIME = (9, 10)
+# and an authority that does not say what its key is for
+NO_KEY_USAGE = 92
+# what OpenSSL calls an answer that is not of TLS, such as one in plain HTTP
+NO_TLS = "WRONG_VERSION_NUMBER"
 JSON_PAGE = "application/vnd.pypi.simple.v1+json"
+# so many requests go out at once: a few kilobytes, which a server takes in also while it waits for us to read
+MOST_AHEAD = 16
 # a reply that is read at a glance: its status, one length, and no coding, in a head that is not longer than this
 MOST_HEAD, PIECE = 16_384, 65_536
 LENGTH = re.compile(rb"\r\ncontent-length: *([0-9]{1,9})(?=\r\n)")
@@ -54,6 +61,22 @@ class Request:
     is_once: bool = False
 
 
+class PlainConnection(HTTPConnection):
+    """A connection that finds the address of its host once, since an index without nginx ends it after each reply."""
+    found: Optional[Tuple[socket.AddressFamily, Any]] = None
+
+    def connect(self) -> None:
+        found, self.found = self.found, None
+        if found:
+            self.sock = socket.socket(found[0])
+            self.sock.settimeout(self.timeout)
+            self.sock.connect(found[1])
+        else:
+            super().connect()
+            found = self.sock.family, self.sock.getpeername()
+        self.found = found
+
+
 class NotSent(Exception):
     """There is no connection, so nothing of a request went out."""
 
@@ -61,8 +84,8 @@ class NotSent(Exception):
 class Index:
     """The index at an address. What passes by itself is asked again, with a pause."""
 
-    def __init__(self, setting: Setting, again: int = 6) -> None:
-        self.setting, self.again = setting, max(0, again)
+    def __init__(self, setting: Setting, again: int = 6, patience: float = MOST_SECONDS) -> None:
+        self.setting, self.again, self.patience = setting, max(0, again), patience
         self.parts, self.kept = urllib.parse.urlsplit(setting.url), threading.local()
         self.headers: Dict[str, str] = {"User-Agent": "indexctl"}
         if setting.basic:
@@ -74,8 +97,8 @@ class Index:
 
     def opened(self, host: str, port: Optional[int]) -> HTTPConnection:
         if self.trust:
-            return HTTPSConnection(host, port, timeout=MOST_SECONDS, context=self.trust)
-        return HTTPConnection(host, port, timeout=MOST_SECONDS)
+            return HTTPSConnection(host, port, timeout=self.patience, context=self.trust)
+        return PlainConnection(host, port, timeout=self.patience)
 
     def connection(self) -> HTTPConnection:
         """A new connection, which is not open yet, through the proxy of the network if the environment names one."""
@@ -97,6 +120,9 @@ class Index:
             if isinstance(end, socket.gaierror) and end.errno == socket.EAI_NONAME:
                 raise Stop(WRONG, f"There is no host {connection.host}, which {self.setting.place} names. Is the "
                                   "address right?") from end
+            if getattr(end, "reason", "") == NO_TLS:
+                raise Stop(WRONG, f"What answers at {self.setting.url}, which {self.setting.place} names, does not "
+                                  "speak TLS. Is the address right?") from end
             raise NotSent(end) from end
 
     def once(self, request: Request) -> Reply:
@@ -144,25 +170,28 @@ class Index:
             self.leave()
             raise
 
-    def glance(self, path: str) -> Optional[bytes]:
-        """The body of a plain reply of 200 to a GET, or None for all else, which `ask` has to look at.
+    def glances(self, paths: Sequence[str]) -> List[Optional[bytes]]:
+        """The bodies of plain replies of 200 to GETs, each None for any other, which `ask` has to look at.
 
         A walk over all names asks so: to make a request by http.client and to read a head by it takes most of its
-        time."""
+        time. On a connection that the last reply has kept several go out at once."""
         headers = {"Host": self.parts.netloc, "Accept-Encoding": "identity", **self.headers}
-        lines = f"GET {path} HTTP/1.1", *(f"{name}: {value}" for name, value in headers.items()), "", ""
-        try:
-            peer = self.kept_connection().sock
-            peer.sendall("\r\n".join(lines).encode("latin-1"))
-            body, is_last = read_plain(peer)
-        except (NotSent, OSError):
-            body, is_last = None, True
-        except BaseException:
-            self.leave()
-            raise
-        if is_last:
-            self.leave()
-        return body
+        rest = "".join((" HTTP/1.1\r\n", *(f"{name}: {value}\r\n" for name, value in headers.items()), "\r\n"))
+        found: List[Optional[bytes]] = []
+        # where nobody answers the others are not tried, of which each may take as long
+        with suppress(NotSent, OSError):
+            while len(found) < len(paths):
+                ahead = paths[len(found):len(found) + getattr(self.kept, "ahead", 1)]
+                is_last = True
+                try:
+                    peer = self.kept_connection().sock
+                    peer.sendall("".join(f"GET {path}{rest}" for path in ahead).encode("latin-1"))
+                    is_last = read_plain(peer, len(ahead), found)
+                finally:
+                    self.kept.ahead = 1 if is_last else MOST_AHEAD
+                    if is_last:
+                        self.leave()
+        return found + [None] * (len(paths) - len(found))
 
     def ask(self, what: str, request: Request) -> Reply:
         """The reply, once it is none that passes by itself. Stops if there is no such reply after all trials."""
@@ -187,32 +216,39 @@ class Index:
                 note(f"{what}: {why}. Again in {pause:g} s.")
                 time.sleep(pause)
         maybe = " It may have been done, and is in no record then." if is_repeat and request.method != "GET" else ""
-        raise Stop(UNREACHED, f"{what}: {why}, {counted(self.again + 1, 'time')}. The index does not answer now."
-                              f"{maybe} Run this again later.")
+        raise Stop(UNREACHED, f"{what}: {why}, {counted(self.again + 1, 'time')}. The index at {self.setting.url} does "
+                              f"not answer now.{maybe} Run this again later.")
 
 
-def read_plain(peer: socket.socket) -> Tuple[Optional[bytes], bool]:
-    """The body of a reply of 200 with a length and as it is, or None for any other; and whether nothing more may be
-    asked on this connection."""
-    given = b""
-    while b"\r\n\r\n" not in given:
-        more = peer.recv(PIECE)
-        if not more or len(given) > MOST_HEAD:
-            return None, True
-        given += more
-    first, _, body = given.partition(b"\r\n\r\n")
-    head = first.lower() + b"\r\n"
-    lengths = LENGTH.findall(head)
-    if not head.startswith(b"http/1.1 200 ") or head.count(b"\r\ncontent-length") != len(lengths) or len(lengths) != 1:
-        return None, True
-    length = int(lengths[0])
-    while len(body) < length:
-        more = peer.recv(PIECE)
-        if not more:
-            return None, True
-        body += more
-    is_plain = len(body) == length and not CODED.search(head)
-    return body if is_plain else None, not is_plain or b"\r\nconnection: close\r\n" in head
+def read_plain(peer: socket.socket, count: int, found: List[Optional[bytes]]) -> bool:
+    """Reads so many replies, or fewer if one is the last on its connection: the body of each of 200 with a length and
+    as it is, or None for any other. Gives whether nothing more may be asked on this connection."""
+    given, is_last = b"", False
+    while count and not is_last:
+        while b"\r\n\r\n" not in given:
+            more = peer.recv(PIECE)
+            if not more or len(given) > MOST_HEAD:
+                found.append(None)
+                return True
+            given += more
+        first, _, given = given.partition(b"\r\n\r\n")
+        head = first.lower() + b"\r\n"
+        lengths = LENGTH.findall(head)
+        is_plain = (head.startswith(b"http/1.1 200 ") and head.count(b"\r\ncontent-length") == len(lengths) == 1
+                    and not CODED.search(head))
+        length, count = int(lengths[0]) if is_plain else 0, count - 1
+        while len(given) < length:
+            more = peer.recv(PIECE)
+            if not more:
+                found.append(None)
+                return True
+            given += more
+        body, given = given[:length], given[length:]
+        # what comes behind the last reply is none that was asked for
+        is_plain = is_plain and bool(count or not given)
+        found.append(body if is_plain else None)
+        is_last = not is_plain or b"\r\nconnection: close\r\n" in head
+    return is_last
 
 
 def untrusted(url: str, end: ssl.SSLCertVerificationError) -> str:
@@ -220,6 +256,9 @@ def untrusted(url: str, end: ssl.SSLCertVerificationError) -> str:
     if end.verify_code in OUT_OF_TIME:
         return (f"The certificate of {url} is not valid at this time: {end.verify_message}. Is your clock right? If it "
                 "is, tell the operator of the index.")
+    if end.verify_code == NO_KEY_USAGE:
+        return (f"The authority that vouches for {url} has no keyUsage, which Python asks for from 3.13 on. Tell the "
+                "operator of the index, and use an older Python until then.")
     return (f"The certificate of {url} is not trusted: {end.verify_message}. INDEX_CA, or `ca` of the profile, may "
             "name a file of certificates to trust.")
 
@@ -233,7 +272,8 @@ def first_words(reply: Reply) -> str:
 def object_of(body: bytes) -> Optional[Dict[str, Any]]:
     """The JSON object that a body is, or None."""
     try:
-        found = json.loads(body)
+        # text, not bytes: else it is guessed first which of five codings they have
+        found = json.loads(str(body, "utf-8"))
     except (ValueError, RecursionError):
         return None
     return found if isinstance(found, dict) else None

@@ -96,6 +96,9 @@ def files_in(folder: str) -> List[str]:
 
 def files_of(paths: Sequence[str]) -> List[File]:
     """The files of these paths, wheels first. Nothing has gone out as long as this can fail."""
+    for path in paths:
+        if not os.path.exists(path):
+            raise Stop(WRONG, f"{path}: there is no such file or folder.")
     try:
         found = [it for path in paths for it in (files_in(path) if os.path.isdir(path) else [path])]
         return sorted((File(path) for path in found), key=lambda it: (not it.is_wheel, it.name))

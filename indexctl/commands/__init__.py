@@ -1,6 +1,7 @@
 """The commands, by subject. Importing this package makes them known, in the order in which help lists them."""
 from indexctl.commands import tokens, users, names, files, listings, contents, cases, work, site
-from indexctl import shell
+from indexctl import completion, shell
 from indexctl.command_line import COMMANDS
 
-__all__ = ["COMMANDS", "tokens", "users", "names", "files", "listings", "contents", "cases", "work", "site", "shell"]
+__all__ = ["COMMANDS", "tokens", "users", "names", "files", "listings", "contents", "cases", "work", "site",
+           "completion", "shell"]

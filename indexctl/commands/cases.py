@@ -26,7 +26,7 @@ def means_text(row: CaseRow) -> str:
 
 CASE_COLUMNS: Columns = {
     **texts("name", "kind", "candidate", "owners"), "opened": lambda row: moment(row.opened),
-    "attempts": lambda row: f"{row.attempts}, of which {row.sent} were sent", "by": means_text, "ready": ready_text,
+    "attempts": lambda row: f"{row.sent} of {row.attempts} sent", "by": means_text, "ready": ready_text,
     "lacks": lacks_text, "tried": lambda row: str(row.contact), **texts("work", "why")}
 
 

@@ -2,6 +2,7 @@
 from __future__ import annotations
 
 import argparse
+import unicodedata
 from typing import Dict, List, Optional, Sequence
 
 from indexctl.changes import Desk
@@ -9,16 +10,18 @@ from indexctl.command_line import argument, command
 from indexctl.commands.arguments import FILES, NAME, RELEASE, YES
 from indexctl.commands.cached import tell_uncache
 from indexctl.contents import FileRow, find_contents, releases_of
+from indexctl.ends import WRONG, Stop
 from indexctl.names import check_names, project_of
 from indexctl.near import did_you_mean, not_held
 from indexctl.terminal import confirm, confirm_on_terminal
 from indexctl.transport import Index
 from indexctl.units import human
+from indexctl.uploads import MOST_TEXT
 
 
 def tell_files(index: Index, projects: Dict[str, str]) -> str:
     """What is there of these files, each with its project: sizes, yanks, and what was perhaps meant by a slip."""
-    found = {it: find_contents(index, it, is_fresh=True) for it in sorted({*projects.values()})}
+    found = {it: find_contents(index, it, is_fresh=True) for it in set(projects.values())}
     return " ".join(tell_file(index, file, project, found[project]) for file, project in projects.items())
 
 
@@ -61,11 +64,21 @@ def file_ban(args: argparse.Namespace) -> int:
 def release_yank(args: argparse.Namespace) -> int:
     """On a terminal it shows the files of the release first, and asks."""
     check_names(args.name)
+    check_reason(args.reason)
     desk = Desk(args)
     confirm_on_terminal(args, tell_release(desk.index, args.name, args.release))
     desk.change(f"yank {args.name} {args.release}", do="yank", name=args.name, release=args.release,
                 reason=args.reason)
     return desk.status()
+
+
+def check_reason(text: str) -> None:
+    """Stops unless the index takes this reason: a refusal would not say which of its rules it is."""
+    size = len(text.encode("utf-8", "surrogateescape"))
+    if size > MOST_TEXT:
+        raise Stop(WRONG, f"A reason has {MOST_TEXT} bytes at most, and this one has {size}.")
+    if any(unicodedata.category(it) == "Cc" for it in text):
+        raise Stop(WRONG, "A reason is one line, without tabs and other control characters.")
 
 
 def tell_release(index: Index, name: str, release: str) -> str:

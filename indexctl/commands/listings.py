@@ -10,11 +10,12 @@ from indexctl.command_line import argument, command
 from indexctl.commands.arguments import JSON, NAME, NAMES, USER
 from indexctl.ends import REFUSED, Stop
 from indexctl.names import check_names, check_users
+from indexctl.near import not_held
 from indexctl.quotas import quota_row, quota_rows
 from indexctl.standings import Standing, find_standing, held_names
 from indexctl.terminal import Columns, listing, texts
 from indexctl.transport import Index
-from indexctl.units import human, size_of
+from indexctl.units import counted, human, size_of
 
 
 @dataclass(frozen=True)
@@ -44,6 +45,8 @@ def held(index: Index, name: str) -> Standing:
     """The standing of a name that has to be held."""
     check_names(name)
     found = find_standing(index, name)
+    if found.state == "free":
+        raise Stop(REFUSED, not_held(index, name))
     if found.state != "held":
         raise Stop(REFUSED, f"{name} is {found.state}, and has no owner, quota or case.")
     return found
@@ -52,10 +55,12 @@ def held(index: Index, name: str) -> Standing:
 @command("quota set", "gives a name another quota (office)", NAME,
          argument("size", metavar="SIZE", help="5GiB, 700MB or a number of bytes; +1GiB adds to what the name has"))
 def quota_set(args: argparse.Namespace) -> int:
+    # a slip in the size is told before the index is asked for what the name has
+    size_of(args.size)
     desk = Desk(args)
     found = held(desk.index, args.name)
     wanted = size_of(args.size, found.quota)
-    desk.change(f"quota of {found.name}: {human(found.quota)} becomes {human(wanted)} ({wanted} bytes)",
+    desk.change(f"quota of {found.name}: {human(found.quota)} becomes {human(wanted)} ({counted(wanted, 'byte')})",
                 do="set_quota", name=args.name, quota=wanted)
     return desk.status()
 

@@ -9,7 +9,8 @@ from indexctl.commands.arguments import NAME, NAMES, USER, YES
 from indexctl.commands.cached import tell_uncache
 from indexctl.names import check_names, check_users
 from indexctl.standings import find_files, find_standing
-from indexctl.terminal import confirm
+from indexctl.terminal import confirm, confirm_on_terminal
+from indexctl.transport import Index
 from indexctl.units import counted
 from package_index.names import normal
 
@@ -75,6 +76,17 @@ def owner_add(args: argparse.Namespace) -> int:
     return each_owner(args, "add_owner", "{name}: add owner {user}")
 
 
-@command("owner remove", "takes a user off the owners of names", USER, NAMES)
+@command("owner remove", "takes a user off the owners of names", USER, NAMES, YES)
 def owner_remove(args: argparse.Namespace) -> int:
+    """On a terminal it shows who stays, and asks: only another owner can take you back."""
+    check_users(args.user)
+    check_names(*args.names)
+    index = Desk(args).index
+    confirm_on_terminal(args, " ".join(tell_owners(index, args.user, name) for name in args.names))
     return each_owner(args, "remove_owner", "{name}: remove owner {user}")
+
+
+def tell_owners(index: Index, user: str, name: str) -> str:
+    """Who owns a name once this user does no more."""
+    others = [it for it in find_standing(index, name).owners if it != user]
+    return f"{name} will be owned by {', '.join(others) or 'nobody else'}, and no longer by {user}."

@@ -13,7 +13,7 @@ from indexctl.ends import REFUSED, UNREACHED, WRONG, Stop
 from indexctl.interrupts import told_if_interrupted
 from indexctl.names import DIGEST, check_users, sha256
 from indexctl.standings import Standing, held_names
-from indexctl.terminal import confirm
+from indexctl.terminal import confirm, note
 
 
 def digest_of(args: argparse.Namespace) -> Tuple[str, Optional[str]]:
@@ -61,6 +61,8 @@ def user_rotate(args: argparse.Namespace) -> int:
     digest, token = digest_of(args)
     row = {"do": "set_token", "user": args.user, "token_sha256": digest}
     give_token(desk, f"user {args.user}: another token", row, token)
+    if not desk.status():
+        note(f"The token before has ended: what used it, such as a pipeline of {args.user}, needs this one.")
     return desk.status()
 
 

@@ -41,6 +41,7 @@ def upload(args: argparse.Namespace) -> int:
         return 0
     desk = Desk(args)
     desk.token()
+    note(f"uploading to {desk.setting.url}, which {desk.setting.place} names")
     try:
         cases = cases_on(desk, [file.project for file in files])
         for file in files:
@@ -78,9 +79,9 @@ def tell_ended(desk: Desk, cases: Dict[str, Case], project: str) -> None:
          argument("folder", metavar="DIR", help="a folder that is there"),
          argument("--all", action="store_true", help="with the quotas of all names, and all owners"))
 def page(args: argparse.Namespace) -> None:
-    """The page, DIR/index.html, is one file with open cases, what is due, quotas that are nearly full, and names with
-    one owner. It asks for nothing from elsewhere. It is replaced as a whole. With a token of the office it also has the
-    year since the latest upload."""
+    """The page, DIR/index.html, is one file with open cases, what is due, names that look alike, quotas that are nearly
+    full, and names with one owner. It asks for nothing from elsewhere. It is replaced as a whole. With a token of the
+    office it also has the year since the latest upload."""
     if not os.path.isdir(args.folder):
         raise Stop(WRONG, f"{args.folder} is not a folder.")
     desk, now, found = Desk(args), int(time.time()), Overview(args.all)

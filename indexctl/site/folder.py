@@ -48,7 +48,7 @@ def put_changed(path: str, text: str) -> bool:
     with suppress(OSError, UnicodeDecodeError), open(path, encoding="utf-8", newline="") as before:
         if before.read() == text:
             return False
-    put_whole(path, text, is_synced=False)
+    put_whole(path, [text], is_synced=False)
     return True
 
 

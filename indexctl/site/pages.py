@@ -6,7 +6,7 @@ import urllib.parse
 from typing import Iterator, List, Sequence, Tuple
 
 from indexctl.contents import FileRow
-from indexctl.page import part_of_page, text_of
+from indexctl.page import kind_of, part_of_page, text_of
 from indexctl.site.about import About
 from indexctl.site.projects import Project, Release, file_path
 from indexctl.standings import Case, Standing
@@ -23,6 +23,7 @@ def list_page(url: str, projects: Sequence[Project]) -> str:
     """The list of all projects."""
     host = text_of(urllib.parse.urlsplit(url).netloc)
     return part_of_page("site/list.html").format(host=host, count=counted(len(projects), "project"),
+                                                 kind=kind_of("projects", projects),
                                                  projects="".join(map(list_row, projects)))
 
 

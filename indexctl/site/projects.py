@@ -1,16 +1,14 @@
 """What the pages say of a project: how its name stands, its releases, and what its newest wheel says."""
 from __future__ import annotations
 
-import functools
 import itertools
 import urllib.parse
 from dataclasses import dataclass
 from typing import Dict, List, Optional, Sequence, Tuple
 
 from indexctl.contents import FileRow, find_contents
-from indexctl.ends import WRONG, Stop
 from indexctl.site.about import NOTHING, About, read_about
-from indexctl.standings import Standing, find_page, find_standing, side_by_side
+from indexctl.standings import Standing, find_standing, listed_names, side_by_side
 from indexctl.transport import Index, Request
 from indexctl.versions import is_final, is_release
 
@@ -74,10 +72,5 @@ def find_project(index: Index, kept: Dict[str, About], name: str) -> Optional[Pr
 
 def find_projects(index: Index, kept: Dict[str, About]) -> List[Project]:
     """All projects, in the order of their names."""
-    listed = find_page(index, "/simple/", "projects", "name")
-    if listed is None:
-        raise Stop(WRONG, f"{index.setting.url} leads to several indexes, which have no list of names together. Make "
-                          "the pages of each by an address of its own.")
-    names = [it["name"] for it in listed["projects"]]
-    found = side_by_side(functools.partial(find_project, index, kept), names, "projects")
+    found = side_by_side(lambda names: [find_project(index, kept, it) for it in names], listed_names(index), "projects")
     return sorted((it for it in found if it), key=lambda it: it.standing.name)

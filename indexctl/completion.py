@@ -1,0 +1,159 @@
+"""Completion in bash: the script has the commands and their options, and asks for what the index has as you type."""
+from __future__ import annotations
+
+import argparse
+import re
+import threading
+from contextlib import suppress
+from dataclasses import dataclass
+from typing import Dict, List, Optional, Sequence
+
+from indexctl.command_line import COMMANDS, Command, argument, command
+from indexctl.contents import find_contents, releases_of
+from indexctl.ends import Stop
+from indexctl.settings import find_setting
+from indexctl.standings import listed_names
+from indexctl.transport import Index
+from package_index.names import normal
+
+SCRIPT = """# bash completion for indexctl, made by `indexctl completion bash`
+_indexctl() {
+    local word=${COMP_WORDS[COMP_CWORD]} path="" at
+    for ((at = 1; at < COMP_CWORD; at++)); do
+        case ${COMP_WORDS[at]} in -*) continue ;; esac
+        case "$path ${COMP_WORDS[at]}" in
+@PATHS@            *) break ;;
+        esac
+        path="$path ${COMP_WORDS[at]}"
+    done
+    local words="" asks=""
+    case "$path" in
+@AFTER@    esac
+    COMPREPLY=()
+    if [[ -n $asks && $word != -* ]]; then
+        mapfile -t COMPREPLY < <("${COMP_WORDS[0]/#\\~/$HOME}" completion bash -- \\
+            "${COMP_WORDS[@]:1:COMP_CWORD}" 2> /dev/null)
+    fi
+    if [[ ${#COMPREPLY[@]} = 0 ]]; then
+        mapfile -t COMPREPLY < <(compgen -W "$words" -- "$word")
+    fi
+}
+complete -o default -F _indexctl indexctl
+"""
+# what each command takes beside its own arguments
+COMMON_OPTIONS = ("--help", "--profile", "--again")
+WITH_VALUE = {"--profile", "--again"}
+# a person waits for no answer longer than so many seconds, and reads no longer list of files
+PATIENCE, MOST_PROJECTS = 1.0, 8
+# bash takes such a text as it is: what else a server gives may be a command
+PLAIN = re.compile("[A-Za-z0-9._+-]+")
+
+
+@dataclass(frozen=True)
+class Line:
+    """What stands on a command line: the words that the command got so far, the one that is typed and what it names,
+    and the profile."""
+    given: List[str]
+    typed: str
+    kind: str
+    profile: Optional[str]
+
+
+def completed(it: Command) -> List[str]:
+    """What may follow the name of a command: the choices of its arguments, and its options."""
+    choices = [choice for given in it.arguments if not given.is_option for choice in given.settings.get("choices", ())]
+    options = [name for given in it.arguments for name in given.names if name.startswith("--")]
+    return [*choices, *COMMON_OPTIONS, *options]
+
+
+def script_of(commands: Sequence[Command]) -> str:
+    """The script that completes these commands."""
+    after: Dict[str, List[str]] = {"": ["--help", "--version"]}
+    for it in commands:
+        noun, _, verb = it.path.rpartition(" ")
+        if noun and noun not in after:
+            after[noun] = []
+            after[""].append(noun)
+        after[noun].append(verb)
+        after[it.path] = completed(it)
+    asking = {it.path for it in commands if any(given.settings.get("metavar") in FINDERS for given in it.arguments)}
+    paths = "".join(f'            " {path}") ;;\n' for path in after if path)
+    lines = "".join(f'        "{f" {path}" if path else ""}") words="{" ".join(words)}"'
+                    f'{" asks=yes" if path in asking else ""} ;;\n' for path, words in after.items())
+    return SCRIPT.replace("@PATHS@", paths).replace("@AFTER@", lines)
+
+
+def read_line(words: Sequence[str]) -> Optional[Line]:
+    """What stands on a line of these words, or None if the index has nothing for the last of them."""
+    found = next((it for it in COMMANDS if it.path in (words[0], " ".join(words[:2]))), None)
+    size = len(found.path.split()) if found else 0
+    if not found or len(words) <= size:
+        return None
+    with_value = WITH_VALUE | {name for it in found.arguments if "action" not in it.settings for name in it.names}
+    given, profile, option = [], None, ""
+    # bash makes three words of --profile=NAME
+    for word in (it for it in words[size:-1] if it != "="):
+        if option:
+            profile, option = word if option == "--profile" else profile, ""
+        elif word.startswith("-"):
+            option = word if word in with_value else ""
+        else:
+            given.append(word)
+    places = [it for it in found.arguments if not it.is_option]
+    at = min(len(given), len(places) - 1) if places and places[-1].settings.get("nargs") else len(given)
+    if option or at >= len(places):
+        return None
+    return Line(given, words[-1], places[at].settings.get("metavar", ""), profile)
+
+
+def names_that_begin(index: Index, line: Line) -> List[str]:
+    begin = re.sub("[-_.]+", "-", line.typed).lower()
+    return [it for it in sorted({normal(it) for it in listed_names(index)}) if it.startswith(begin)]
+
+
+def files_that_begin(index: Index, line: Line) -> List[str]:
+    """The files of the names that may be meant; if these are many, how their files begin."""
+    begin = re.sub("[-_.]+", "-", line.typed).lower()
+    names = sorted({normal(it) for it in listed_names(index)})
+    meant = [it for it in names if it.startswith(begin) or begin.startswith(f"{it}-")]
+    if len(meant) > MOST_PROJECTS:
+        return [f"{it.replace('-', '_')}-" for it in meant]
+    found = [it.file for name in meant for it in find_contents(index, name) or []]
+    return sorted(it for it in found if it.startswith(line.typed))
+
+
+def releases_that_begin(index: Index, line: Line) -> List[str]:
+    found = releases_of("", find_contents(index, line.given[0]) or [])
+    return [it.release for it in found if it.release.startswith(line.typed.lower())]
+
+
+FINDERS = {"NAME": names_that_begin, "FILE": files_that_begin, "RELEASE": releases_that_begin}
+
+
+def found_in_time(line: Line) -> List[str]:
+    """What the index has for a line, or nothing if it can't be asked or takes too long. It needs no token."""
+    found: List[str] = []
+
+    def look() -> None:
+        with suppress(Stop, OSError):
+            index = Index(find_setting(argparse.Namespace(profile=line.profile)), 0, PATIENCE)
+            found.extend(FINDERS[line.kind](index, line))
+    looking = threading.Thread(target=look, daemon=True)
+    looking.start()
+    looking.join(PATIENCE)
+    return [] if looking.is_alive() else [it for it in found if PLAIN.fullmatch(it) and it not in line.given]
+
+
+@command("completion", "prints the completion of the shell", argument("shell", choices=("bash",), metavar="bash"),
+         argument("words", nargs="*", metavar="WORD",
+                  help="the words of a command line behind `--`, of which the last is typed: prints what the index has "
+                       "for it"))
+def completion(args: argparse.Namespace) -> None:
+    """Put it where your shell finds it, as into ~/.local/share/bash-completion/completions/indexctl. It completes
+    names, files and releases from the index."""
+    if not args.words:
+        print(script_of(COMMANDS), end="")
+        return
+    line = read_line(args.words)
+    if line and line.kind in FINDERS:
+        print("".join(f"{it}\n" for it in found_in_time(line)), end="")
