@@ -85,7 +85,7 @@ def bench_page_memory(program):
 
 
 def bench_file_memory(program):
-    """What stays of a large file that went in and out, in a server that keeps nothing at hand and in one that does."""
+    """What stays of a large file that went in and out, in a server that caches nothing and in one that does."""
     for keep in (0, 64 * MEBIBYTE):
         with Index(program, keep=keep) as index:
             accepted(index.claim("big"))

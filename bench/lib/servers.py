@@ -1,15 +1,19 @@
-"""What bench and bench-behind-nginx share: what is installed here, and bytes that all servers have to give."""
+"""What bench and bench-behind-nginx share: what is installed here, other servers, and bytes that all have to give."""
 import gzip
-import os
 import subprocess
+import sys
 import urllib.request
 
-from support.serving import JSON_PAGE
+from support.places import is_program
+from support.server.front import Nginx
+from support.serving import JSON_PAGE, Running, free_port, listens
+
+FILES = "server {{ listen 127.0.0.1:{port}; root {root}; gzip_static on; }}\n"
 
 
 def want_program(path):
     """Ends the run if the built program is missing."""
-    if not os.access(path, os.X_OK):
+    if not is_program(path):
         raise SystemExit(f"no program is at {path}: `tools/build` builds it; --program PATH names another")
 
 
@@ -33,3 +37,27 @@ def check_same(addresses, wanted, encoding="identity"):
     for name, url in addresses.items():
         if fetched(url, encoding) != wanted:
             raise SystemExit(f"the bytes of {name} at {url} are not those of the index")
+
+
+class Files(Nginx):
+    """nginx alone, with plain files, and pages compressed beforehand."""
+
+    def __init__(self, folder, root):
+        super().__init__(folder)
+        self.put("conf.d/files.conf", FILES.format(port=self.port, root=root))
+
+
+class Python(Running):
+    """`python3 -m http.server`, with the same files."""
+
+    def __init__(self, root):
+        self.port = free_port()
+        command = [sys.executable, "-m", "http.server", str(self.port), "--bind", "127.0.0.1", "--directory", root]
+        super().__init__(command, stdout=subprocess.DEVNULL, stderr=subprocess.DEVNULL)
+
+    def __enter__(self):
+        super().__enter__()
+        if not listens(self.port):
+            self.__exit__()
+            raise SystemExit("http.server does not listen")
+        return self
