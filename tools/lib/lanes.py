@@ -28,7 +28,7 @@ def kit():
     try:
         said = subprocess.run(["rt", "doc"], stdout=subprocess.PIPE, text=True, check=True).stdout.strip()
     except (OSError, subprocess.CalledProcessError) as error:
-        sys.exit(f"the Rattle kit's command rt does not run: {error}")
+        sys.exit(f"the kit's command rt does not run: {error}. README.md says which kit you need, and from whom")
     loader = importlib.machinery.SourceFileLoader("rt", f"{os.path.dirname(said)}/bin/rt")
     made = importlib.util.module_from_spec(importlib.util.spec_from_loader("rt", loader))
     loader.exec_module(made)

@@ -2,7 +2,7 @@
 import re
 import textwrap
 
-COMMAND = "crates/index_words/src/command.rt"
+COMMAND = "crates/index_args/src/command.rt"
 CONSTANT = re.compile(r'^(const VERSION: &str = ")(\S+) \((.*)\)(";)$', re.M)
 SECTION = re.compile(r"^## (\S+), ([^\n]*)\n\n(.*?)(?=^## |\Z)", re.M | re.S)
 NOT_YET, COLUMNS = "not yet released", 72

@@ -1,8 +1,11 @@
-"""The plot of the rates in docs/operators/PERFORMANCE.md: docs/operators/rates.svg, a bar for each."""
+"""The plot of the rates in docs/operators/PERFORMANCE.md and in the last run of bench/bench: docs/operators/rates.svg,
+a bar for each."""
 import re
 from html import escape
 
-PAGE, PLOT = "docs/operators/PERFORMANCE.md", "docs/operators/rates.svg"
+from pages.files import read
+
+PAGE, LAST_RUN, PLOT = "docs/operators/PERFORMANCE.md", "bench/README.md", "docs/operators/rates.svg"
 TABLE = re.compile(r"^\| Requests a second \|(.*)\|\n\|[-:| ]+\|\n((?:\|.*\n)+)", re.M)
 RUN = re.compile(r"^(\w[\w-]*) {2,}(.*): requests a second, .*\n((?: +\S.*\n)+)", re.M)
 BAR = re.compile(r"^ +(\S+) ([\d,]+) \(", re.M)
@@ -12,6 +15,11 @@ WIDTH, LEFT, RIGHT, HEAD, STEP, BAR_HEIGHT = 720, 170, 90, 30, 22, 14
 
 def cells(line):
     return [cell.strip().replace("`", "") for cell in line.strip().strip("|").split("|")]
+
+
+def measured():
+    """The two pages that have rates, one after the other."""
+    return read(PAGE) + read(LAST_RUN)
 
 
 def rates_of(page):
